@@ -1,4 +1,5 @@
 use Rattle.std.specs.Prelude.{◌≡◌, ℕ, ◌+◌, ◌*◌, ◌^◌, Bool, true, false, ◌==◌, List, [], ◌∷◌, Option, codes, find}
+use Rattle.std.specs.Str.{bytes_eq}
 use Rattle.tags.specs.declared.tag.Tag.{Tag}
 use Rattle.tags.specs.declared.tag.Tag.TheVariants.{Purpose, Algorithm, KeySize, BlockMode, Digest, Padding, CallerNonce, MinMacLength, EarlyBootOnly, ActiveDatetime, OriginationExpireDatetime, UsageExpireDatetime, MaxUsesPerBoot, UsageCountLimit, UserId, UserSecureId, NoAuthRequired, UserAuthType, AuthTimeout, UnlockedDeviceRequired, ApplicationId, ApplicationData, CreationDatetime, Origin, OsVersion, OsPatchlevel, Nonce, MacLength}
 use Rattle.tags.specs.declared.tag.TagType.{TagType}
@@ -124,3 +125,7 @@ repeats types.EnumRep = true
 repeats types.UintRep = true
 repeats types.UlongRep = true
 repeats _ = false
+
+-- the tag of a name
+abbrev pub tag_named : List ℕ → Option Tag
+tag_named name = find (λ tag. bytes_eq (name_of tag) name) all_tags

@@ -13,6 +13,7 @@ mod plan;
 mod policy;
 mod rule;
 mod secrets;
+mod settled;
 mod tag;
 
 pub use bytes::{Bytes, NoMemory};
@@ -25,4 +26,5 @@ pub use plan::Plan;
 pub use policy::{POLICY_ROWS, Policy, PolicyRow};
 pub use rule::{Rule, RuleTable};
 pub use secrets::DeviceSecrets;
+pub use settled::Settled;
 pub use tag::{Tag, TagType};

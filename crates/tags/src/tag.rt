@@ -1,6 +1,6 @@
 ghost use Rattle.std.specs.Prelude.{◌≡◌, ◌≢◌, ◌^◌, ◌<◌, ◌%◌, IfSome, IfNone};
 ghost use Rattle.tags.specs.declared.tag.Tag.{Tag};
-ghost use Rattle.tags.specs.Tag.{type_number, type_of, low_of, number_of, name_of, repeats};
+ghost use Rattle.tags.specs.Tag.{type_number, type_of, low_of, number_of, name_of, repeats, tag_named};
 
 /// The type of a tag's value.
 #[derive(Clone, Copy, Debug, PartialEq, Eq)]
@@ -233,6 +233,45 @@ impl Tag {
             Tag::Nonce => "NONCE",
             Tag::MacLength => "MAC_LENGTH",
         }
+    }
+
+    /// The table's rows.
+    pub const ALL: [Tag; 28] = [
+        Tag::Purpose,
+        Tag::Algorithm,
+        Tag::KeySize,
+        Tag::BlockMode,
+        Tag::Digest,
+        Tag::Padding,
+        Tag::CallerNonce,
+        Tag::MinMacLength,
+        Tag::EarlyBootOnly,
+        Tag::ActiveDatetime,
+        Tag::OriginationExpireDatetime,
+        Tag::UsageExpireDatetime,
+        Tag::MaxUsesPerBoot,
+        Tag::UsageCountLimit,
+        Tag::UserId,
+        Tag::UserSecureId,
+        Tag::NoAuthRequired,
+        Tag::UserAuthType,
+        Tag::AuthTimeout,
+        Tag::UnlockedDeviceRequired,
+        Tag::ApplicationId,
+        Tag::ApplicationData,
+        Tag::CreationDatetime,
+        Tag::Origin,
+        Tag::OsVersion,
+        Tag::OsPatchlevel,
+        Tag::Nonce,
+        Tag::MacLength,
+    ];
+
+    /// The tag of a name.
+    pub fn of_name(name: &str) -> Option<Tag>
+        ensures { result ≡ tag_named name.now }
+    {
+        Tag::ALL.iter().copied().find(|tag| tag.name() == name)
     }
 
     /// The tag with these 28 low bits, whatever its type.
