@@ -55,10 +55,10 @@ abbrev pub has_live_key : Setup → History → Option Operation → Bool
 has_live_key setup past None = false
 has_live_key setup past (Some o) = is_live setup past o.key.id
 
--- the output of a finish: the whole output of the operation over its text and the last input
-abbrev pub output_of : History → Option Operation → List ℕ → List ℕ
-output_of past None input = []
-output_of past (Some o) input = whole o.plan o.key.blob (text_of past o.number ++ input)
+-- the output of a finish: the whole output of the operation over its text with the last input
+abbrev pub output_of : Option Operation → List ℕ → List ℕ
+output_of None text = []
+output_of (Some o) text = whole o.plan o.key.blob text
 
 -- The answer by the rules: the first broken one of the call's table, or the reply with its fields.
 abbrev pub answer_by_rules : Setup → History → ℕ → Act → Reply
@@ -72,7 +72,7 @@ answer_by_rules setup past client (CreateOperation key params forced) =
     (Done (record no_fields { op = Some (count_of is_begin past + 1) }))
 answer_by_rules setup past client (EnterFinish op input signature) =
     broken_or (first_broken (step_rules (is_own client (operation_at setup past op)) (has_live_key setup past (operation_at setup past op))))
-    (Done (record no_fields { out = Some (output_of past (operation_at setup past op) input) }))
+    (Done (record no_fields { out = Some (output_of (operation_at setup past op) (text_of past op ++ input)) }))
 answer_by_rules setup past client _ = Broken (record { table = L; number = 1 }) InvalidArgument
 
 -- the answer to an event over the entries before it, with the bytes that were drawn for it

@@ -1,5 +1,6 @@
 -- The keys behind a history.
-use Rattle.std.specs.Prelude.{ℕ, ◌+◌, Bool, true, false, ◌&&◌, ◌||◌, not, ◌==◌, List, [], ◌∷◌, ◌++◌, Option, Some, None, if◌then◌else◌, is_some, unwrap_or, filter, find}
+use Rattle.std.specs.Prelude.{ℕ, ◌+◌, Bool, true, false, ◌&&◌, ◌||◌, not, ◌==◌, List, [], ◌∷◌, ◌++◌, Option, Some, None, if◌then◌else◌, unwrap_or, filter, find}
+use Rattle.std.specs.List.{list_any}
 use Rattle.std.specs.Str.{bytes_eq}
 use Rattle.tags.specs.declared.code.Code.{Code}
 use Rattle.tags.specs.declared.code.Code.TheVariants.{SystemError}
@@ -115,4 +116,4 @@ key_named setup past uid alias = find (is_named 0 uid alias) (keys_of setup past
 
 -- whether a key of this number has not ended
 abbrev pub is_live : Setup → History → ℕ → Bool
-is_live setup past id = is_some (find (λ (key : KeyRecord). key.id == id) (keys_of setup past))
+is_live setup past id = list_any (λ (key : KeyRecord). key.id == id) (keys_of setup past)
