@@ -20,12 +20,12 @@ if_built event hold = if is_built event.act hold then Some (record { event = eve
 
 -- an object with a reading, the act's name, a client where the act has one, and the act's fields
 abbrev pub line_in : Data → Option Line
-line_in object = do
-  reading ← reading_of object
-  name ← name_of object
-  client ← client_of name object
-  act ← act_of name object
-  hold ← hold_of name object
+line_in members = do
+  reading ← reading_of members
+  name ← name_of members
+  client ← client_of name members
+  act ← act_of name members
+  hold ← hold_of name members
   if_built (record { reading = reading; client = client; act = act }) hold
 
 -- the event that a line spells, and whether an enter waits for its leave; None is a malformed line

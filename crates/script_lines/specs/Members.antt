@@ -44,7 +44,7 @@ two_of value = if is_some (at 2 value) then None else (at 0 value >>= λ first. 
 
 -- a member that has to be there
 abbrev pub needed : {A : Type 0} → (Data → Option A) → List ℕ → Data → Option A
-needed kind name object = get name object >>= kind
+needed kind name members = get name members >>= kind
 
 -- a member of a kind, or what stands for an absent one
 abbrev pub kind_or : {A : Type 0} → A → (Data → Option A) → Option Data → Option A
@@ -53,11 +53,11 @@ kind_or default kind (Some value) = kind value
 
 -- a member that may be absent, and then has a value all the same
 abbrev pub defaulted : {A : Type 0} → A → (Data → Option A) → List ℕ → Data → Option A
-defaulted default kind name object = kind_or default kind (get name object)
+defaulted default kind name members = kind_or default kind (get name members)
 
 abbrev pub present : {A : Type 0} → (Data → Option A) → Data → Option (Option A)
 present kind value = kind value >>= λ x. Some (Some x)
 
 -- a member that may be absent
 abbrev pub optional : {A : Type 0} → (Data → Option A) → List ℕ → Data → Option (Option A)
-optional kind name object = kind_or None (present kind) (get name object)
+optional kind name members = kind_or None (present kind) (get name members)

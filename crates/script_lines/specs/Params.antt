@@ -63,4 +63,4 @@ list_of (Some value) = text_or_pairs (as_str value) (as_array value)
 
 -- the encoded list of the member `params`; the empty list where it is absent
 abbrev pub params_of : Data → Option (List ℕ)
-params_of object = list_of (get (codes "params") object)
+params_of members = list_of (get (codes "params") members)
