@@ -33,7 +33,8 @@ pub fn event_of(alloc: Global, line: &[u8]) -> Result<Line, LineFault>
     line_in(alloc, &object)
 }
 
-fn parsed(alloc: Global, line: &[u8]) -> Result<Value, LineFault>
+/// The JSON value of a line.
+pub fn parsed(alloc: Global, line: &[u8]) -> Result<Value, LineFault>
     ensures { SaysOf view result (spec_parsed line.now) }
 {
     let Ok(text) = str::from_utf8(line) else {
@@ -101,7 +102,8 @@ fn hold_of(name: ActName, object: &Value) -> Result<bool, LineFault>
     }
 }
 
-fn act_of(alloc: Global, name: ActName, object: &Value) -> Result<Act, LineFault>
+/// The act of a name, with its fields from the members of the line.
+pub fn act_of(alloc: Global, name: ActName, object: &Value) -> Result<Act, LineFault>
     ensures { Says result (spec_act_of name (view object.now)) }
 {
     match name {

@@ -20,4 +20,4 @@ mod tests;
 
 pub use event::event_of;
 pub use fault::LineFault;
-pub use reply::{MALFORMED_LINE, line_of, malformed_line};
+pub use reply::{line_of, malformed_line};

@@ -10,7 +10,7 @@ use std::alloc::{AllocError, Global};
 use tags::{Bytes, NoMemory, Settled};
 
 /// The answer to a line that spells no event.
-pub const MALFORMED_LINE: &[u8] = b"{\"code\":20,\"rule\":\"L1\"}\n";
+const MALFORMED_LINE: &[u8] = b"{\"code\":20,\"rule\":\"L1\"}\n";
 
 /// The answer to a line that spells no event. It takes no memory.
 pub fn malformed_line() -> &'static [u8]
