@@ -2,7 +2,8 @@
 
 ghost use Rattle.std.specs.Prelude.{◌≡◌, ℕ, ◌+◌, ◌-◌, ◌^◌, ◌<◌, ◌≤◌, List, ◌++◌, [], length, take, drop, IfOk, IfSome, IfNone, OnErr};
 ghost use Rattle.std.specs.Io.KnownBytes.{Consumes, Keeps, IsAtEnd, ReadConsumes};
-ghost use Rattle.ks_outside.specs.Faults.{HasCause};
+ghost use Rattle.ks_outside.specs.Faults.{HasCause, Rises};
+ghost use Rattle.keystore_program.specs.Finds.{Finds};
 ghost use Rattle.keystore_program.specs.Window.{HasNoFeedBelow, IsFirstFeed};
 
 use ks_outside::{Failed, Source};
@@ -17,6 +18,21 @@ pub const LINE_LIMIT: usize = 262_144;
 pub const SCRIPT_LIMIT: u64 = 1 << 30;
 
 const LINE_FEED: u8 = b'\n';
+
+/// What a reader found next in its source.
+#[derive(Clone, Copy, Debug, PartialEq, Eq)]
+pub enum Found {
+    /// a line of so many bytes and its LF, at the front of the held bytes
+    Line { count: usize },
+    /// the end of the source: what is held, if anything, is the last line
+    End,
+    /// more bytes than a line may have
+    TooLong,
+    /// as many bytes as a script may not reach
+    ScriptTooLong,
+    /// a read failed
+    Fault,
+}
 
 /// A buffer of one line and one byte more, over a source: it holds the bytes that were taken and not passed on.
 #[derive(Drop)]
@@ -131,12 +147,28 @@ impl LineReader {
         ensures none { IfNone result (HasNoFeedBelow self.new.bytes (length self.new.bytes)) }
         ensures same { self.new ≡ self.old }
         ensures bound { length self.new.bytes ≤ 262145 }
+        ensures taken { self.new.taken ≤ 2 ^ 30 }
     {
         let window = &self.buffer[self.start..self.end];
         let length = window.len();
         let found = first_feed(window, self.scanned);
         self.scanned = found.unwrap_or(length);
         found
+    }
+
+    /// How many bytes are held.
+    fn held(&self) -> usize
+        ensures { result ≡ length self.now.bytes }
+    {
+        self.end - self.start
+    }
+
+    /// How many bytes were taken in all.
+    fn taken(&self) -> u64
+        ensures value { result ≡ self.now.taken }
+        ensures bound { result ≤ 2 ^ 30 }
+    {
+        self.taken
     }
 
     /// Takes more bytes from the source, one at least where there is one.
@@ -177,5 +209,36 @@ impl LineReader {
     {
         self.start = self.start + count + 1;
         self.scanned = 0;
+    }
+
+    /// Takes bytes from the source until a line, its end or a limit is found.
+    pub fn fill<S: Source>(&mut self, source: &mut S) -> Found
+        ensures bytes { (piece : List ℕ) × (self.new.bytes ≡ self.old.bytes ++ piece) × (self.new.taken ≡ self.old.taken + length piece)
+            × Consumes (S.content source.old) (S.content source.new) piece }
+        ensures taken { self.new.taken ≤ 2 ^ 30 }
+        ensures found { Finds (S.content source.new) self.new result }
+        ensures later { S.fault_count source.old ≤ S.fault_count source.new }
+        ensures fault { result ≡ Found.Fault → Rises (S.fault_count source.old) (S.fault_count source.new) }
+    {
+        'reads: loop {
+            if let Some(count) = self.line_end() {
+                return if count <= LINE_LIMIT {
+                    Found::Line { count }
+                } else {
+                    Found::TooLong
+                };
+            }
+            if self.held() > LINE_LIMIT {
+                return Found::TooLong;
+            }
+            if self.taken() == SCRIPT_LIMIT {
+                return Found::ScriptTooLong;
+            }
+            match self.read(source) {
+                Ok(0) => return Found::End,
+                Ok(_) => {}
+                Err(Failed) => return Found::Fault,
+            }
+        }
     }
 }
