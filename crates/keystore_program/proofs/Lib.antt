@@ -1,2 +1,5 @@
+pub mod Going
+pub mod LineLemmas
+pub mod Sessions
 pub mod Windows
 pub mod Writing

@@ -20,7 +20,7 @@ pub record FindsEnd (left : Option (List ℕ)) (held : Held) : Type 0 where
   pub few : held.taken < 2 ^ 30
 
 pub record FindsTooLong (held : Held) : Type 0 where
-  pub free : HasNoFeedBelow held.bytes 262145
+  pub free : HasNoFeedBelow held.bytes (length held.bytes)
   pub long : 262144 < length held.bytes
 
 pub record FindsScriptTooLong (held : Held) : Type 0 where

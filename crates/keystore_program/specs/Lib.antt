@@ -1,6 +1,11 @@
+pub mod Ends
 pub mod Finds
+pub mod Follows
+pub mod Halts
 pub mod Held
 pub mod Lines
+pub mod Serving
+pub mod Session
 pub mod Status
 pub mod Window
 pub mod Words

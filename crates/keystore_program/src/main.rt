@@ -1,8 +1,62 @@
+//! `keystore2`: the key service of an Android device for symmetric keys, over a script of calls.
+//!
+//! The one contract is that of `run_words`, in the module `run`: a legal history follows the lines of the input, and its
+//! text is what was written. This file hands the process's words, input and output to it.
 #![tactic(auto)]
 
 mod reader;
+mod run;
+mod serve;
+mod session;
 mod status;
+#[cfg(test)]
+mod tests;
 mod words;
 mod writer;
 
-fn main() {}
+use crate::run::run_words;
+use crate::status::Status;
+use ks_outside::{EmptyDisk, EmptyEntropy, ReaderSource, WriterSink};
+use std::process::ExitCode;
+use std::{env, io};
+use tags::{DeviceSecrets, Policy};
+
+/// The words behind the program's name.
+fn words_of(rt: &HostRuntime) -> io::Result<Vec<String>> {
+    let mut words = Vec::new(rt.alloc());
+    for word in env::args(rt)?.skip(1) {
+        words.push(word)?;
+    }
+    Ok(words)
+}
+
+/// Serves the words over standard input and output.
+fn run_process(rt: &HostRuntime) -> io::Result<Status> {
+    let alloc = rt.alloc();
+    let words = words_of(rt)?;
+    let Ok(policy) = Policy::demo(alloc) else {
+        return Ok(Status::Memory);
+    };
+    let device = DeviceSecrets::demo();
+    let mut source = ReaderSource::new(rt.reader());
+    let mut sink = WriterSink::new(io::writer(rt));
+    let (mut disk, mut entropy) = (EmptyDisk, EmptyEntropy);
+    Ok(run_words(
+        alloc,
+        words.as_slice(),
+        &device,
+        &policy,
+        &mut source,
+        &mut sink,
+        &mut disk,
+        &mut entropy,
+    ))
+}
+
+fn main(rt: HostRuntime) -> ExitCode {
+    let status = run_process(&rt).unwrap_or(Status::Memory);
+    if status != Status::Ok {
+        let _ = eprintln!(rt; "keystore2: {status}");
+    }
+    ExitCode::from(status.number())
+}

@@ -157,7 +157,7 @@ impl LineReader {
     }
 
     /// How many bytes are held.
-    fn held(&self) -> usize
+    pub fn held(&self) -> usize
         ensures { result ≡ length self.now.bytes }
     {
         self.end - self.start
@@ -222,11 +222,7 @@ impl LineReader {
     {
         'reads: loop {
             if let Some(count) = self.line_end() {
-                return if count <= LINE_LIMIT {
-                    Found::Line { count }
-                } else {
-                    Found::TooLong
-                };
+                return Found::Line { count };
             }
             if self.held() > LINE_LIMIT {
                 return Found::TooLong;

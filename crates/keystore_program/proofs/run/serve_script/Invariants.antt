@@ -1,0 +1,21 @@
+use Rattle.std.proofs.Common.{◌≡◌, ℕ, ◌+◌, ◌-◌, ◌^◌, ◌≤◌, [], length}
+use Rattle.rule_model.specs.Setup.{Setup}
+use Rattle.keystore_program.specs.Session.{StandsFor, entries_in}
+use Rattle.keystore_program.proofs.Going.{Going}
+use Rattle.keystore_program.proofs.run.serve_script.Given as goal
+
+abbrev pub invariant-lines : goal.invariant-lines
+invariant-lines g l = record {
+  going : (setup : Setup) → StandsFor setup l.fn.session []
+      → Going setup (g.S.Source.content l.fn.source) (g.S.Source.content l.source) (g.K.Sink.content l.fn.sink) (g.K.Sink.content l.sink) l.session l.reader.bytes l.reader.taken l.served;
+  entries : entries_in l.session ≤ l.served;
+  bytes : l.served + length l.reader.bytes ≤ l.reader.taken;
+  taken : l.reader.taken ≤ 2 ^ 30;
+  source : g.S.Source.fault_count l.fn.source ≤ g.S.Source.fault_count l.source;
+  sink : g.K.Sink.fault_count l.fn.sink ≤ g.K.Sink.fault_count l.sink;
+  disk : l.disk ≡ l.fn.disk;
+  entropy : l.entropy ≡ l.fn.entropy;
+}
+
+abbrev pub decreases-lines : goal.decreases-lines
+decreases-lines g l = 2 ^ 30 - l.reader.taken + length l.reader.bytes

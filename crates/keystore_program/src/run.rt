@@ -1,0 +1,120 @@
+//! The top call: a script from a source, served line by line into a sink.
+
+ghost use Rattle.std.specs.Prelude.{◌≡◌, ◌↔◌, ℕ, ◌+◌, ◌-◌, ◌^◌, ◌<◌, ◌≤◌, [], true, false};
+ghost use Rattle.ks_outside.specs.Faults.{Rises};
+ghost use Rattle.rule_model.specs.Setup.{Setup};
+ghost use Rattle.keystore_program.specs.Ends.{Ends, fresh_setup};
+ghost use Rattle.keystore_program.specs.Session.{StandsFor, entries_in};
+ghost use Rattle.keystore_program.specs.Words.{is_run as is_run_form};
+
+use crate::reader::{Found, LineReader};
+use crate::serve::serve_line;
+use crate::session::Session;
+use crate::status::Status;
+use crate::words::is_run;
+use keystore_core::Engine;
+use ks_outside::{Disk, Entropy, Sink, Source};
+use std::alloc::Global;
+use tags::{DeviceSecrets, Policy};
+
+/// The slots of an engine where the words do not say.
+const SLOTS: usize = 16;
+
+/// Serves a script line by line: each line is served and answered before the next one is read.
+fn serve_script<S: Source, K: Sink, D: Disk, N: Entropy>(
+    alloc: Global,
+    session: &mut Session,
+    reader: &mut LineReader,
+    source: &mut S,
+    sink: &mut K,
+    disk: &mut D,
+    entropy: &mut N,
+) -> Status
+    requires nothing { reader.old.bytes ≡ [] }
+    requires untaken { reader.old.taken ≡ 0 }
+    requires fresh { entries_in session.old ≡ 0 }
+    ensures ends { (setup : Setup) → StandsFor setup session.old [] →
+        Ends setup (S.content source.old) (S.content source.new) (K.content sink.old) (K.content sink.new) result }
+    ensures read_fault { result ≡ Status.ReadFault → Rises (S.fault_count source.old) (S.fault_count source.new) }
+    ensures write_fault { result ≡ Status.WriteFault → Rises (K.fault_count sink.old) (K.fault_count sink.new) }
+    ensures source_later { S.fault_count source.old ≤ S.fault_count source.new }
+    ensures sink_later { K.fault_count sink.old ≤ K.fault_count sink.new }
+    ensures disk { disk.new ≡ disk.old }
+    ensures entropy { entropy.new ≡ entropy.old }
+{
+    let mut served = 0u64;
+    'lines: loop {
+        match reader.fill(source) {
+            Found::Line { count } => {
+                let line = reader.line(count);
+                if let Err(halt) = serve_line(alloc, session, sink, disk, entropy, line) {
+                    return halt.status();
+                }
+                reader.pass(count);
+                served += 1;
+            }
+            Found::End => {
+                let line = reader.line(reader.held());
+                if line.is_empty() {
+                    return Status::Ok;
+                }
+                return match serve_line(alloc, session, sink, disk, entropy, line) {
+                    Ok(()) => Status::Ok,
+                    Err(halt) => halt.status(),
+                };
+            }
+            Found::TooLong => return Status::LineTooLong { line: served + 1 },
+            Found::ScriptTooLong => return Status::ScriptTooLong,
+            Found::Fault => return Status::ReadFault,
+        }
+    }
+}
+
+/// Serves the words of the command line. By now they are `run --fresh`: a fresh store serves the script of `source`,
+/// and each reply line is written to `sink` before the next line is read. The disk and the entropy are not called yet.
+pub fn run_words<S: Source, K: Sink, D: Disk, N: Entropy>(
+    alloc: Global,
+    words: &[String],
+    device: &DeviceSecrets,
+    policy: &Policy,
+    source: &mut S,
+    sink: &mut K,
+    disk: &mut D,
+    entropy: &mut N,
+) -> Status
+    // Status 2 exactly where the words are no form, and then nothing is read or written.
+    ensures usage { (result ≡ Status.Usage) ↔ (is_run_form words.now ≡ false) }
+    ensures untouched { result ≡ Status.Usage → (source.new ≡ source.old) × (sink.new ≡ sink.old) }
+
+    // One legal history follows the lines of the source with a text, as each status says.
+    ensures ends { is_run_form words.now ≡ true →
+        Ends (fresh_setup device.now policy.now) (S.content source.old) (S.content source.new) (K.content sink.old) (K.content sink.new) result }
+
+    // The causes of the other statuses.
+    ensures read_fault { result ≡ Status.ReadFault → Rises (S.fault_count source.old) (S.fault_count source.new) }
+    ensures write_fault { result ≡ Status.WriteFault → Rises (K.fault_count sink.old) (K.fault_count sink.new) }
+    ensures source_later { S.fault_count source.old ≤ S.fault_count source.new }
+    ensures sink_later { K.fault_count sink.old ≤ K.fault_count sink.new }
+    ensures disk { disk.new ≡ disk.old }
+    ensures entropy { entropy.new ≡ entropy.old }
+{
+    if !is_run(words) {
+        return Status::Usage;
+    }
+    let Ok(engine) = Engine::fresh(alloc, device, policy, SLOTS) else {
+        return Status::Memory;
+    };
+    let Ok(mut reader) = LineReader::new(alloc) else {
+        return Status::Memory;
+    };
+    let mut session = Session::new(engine);
+    serve_script(
+        alloc,
+        &mut session,
+        &mut reader,
+        source,
+        sink,
+        disk,
+        entropy,
+    )
+}

@@ -1,0 +1,64 @@
+//! A line of a script, served and answered.
+
+ghost use Rattle.std.specs.Prelude.{◌≡◌, ◌+◌, ◌-◌, ◌^◌, ◌<◌, ◌≤◌, Err};
+ghost use Rattle.ks_outside.specs.Faults.{Rises};
+ghost use Rattle.rule_model.specs.Entries.{History};
+ghost use Rattle.rule_model.specs.Setup.{Setup};
+ghost use Rattle.keystore_program.specs.Serving.{ServesLine};
+ghost use Rattle.keystore_program.specs.Session.{StandsFor, entries_in};
+
+use crate::session::Session;
+use crate::status::Status;
+use crate::writer::write_all;
+use ks_outside::{Disk, Entropy, Sink};
+use std::alloc::Global;
+
+/// Why a run stops at a line.
+#[derive(Clone, Copy, Debug, PartialEq, Eq)]
+pub enum Halt {
+    /// memory was wanting
+    Memory,
+    /// the sink failed
+    Write,
+}
+
+impl Halt {
+    ghost use Rattle.keystore_program.specs.Halts.{status_of};
+
+    /// The status of a run that stops so.
+    pub fn status(self) -> Status
+        ensures { result ≡ status_of self }
+    {
+        match self {
+            Halt::Memory => Status::Memory,
+            Halt::Write => Status::WriteFault,
+        }
+    }
+}
+
+/// Serves a line and writes its text.
+pub fn serve_line<K: Sink, D: Disk, N: Entropy>(
+    alloc: Global,
+    session: &mut Session,
+    sink: &mut K,
+    disk: &mut D,
+    entropy: &mut N,
+    line: &[u8],
+) -> Result<(), Halt>
+    requires { entries_in session.old < 2 ^ 62 - 2 }
+    ensures serves { (setup : Setup) (past : History) → StandsFor setup session.old past →
+        ServesLine setup past session.new line.now (K.content sink.old) (K.content sink.new) result }
+    ensures entries { entries_in session.new ≤ entries_in session.old + 1 }
+    ensures later { K.fault_count sink.old ≤ K.fault_count sink.new }
+    ensures cause { result ≡ Err Halt.Write → Rises (K.fault_count sink.old) (K.fault_count sink.new) }
+    ensures disk { disk.new ≡ disk.old }
+    ensures entropy { entropy.new ≡ entropy.old }
+{
+    let Ok(text) = session.line(alloc, disk, entropy, line) else {
+        return Err(Halt::Memory);
+    };
+    let Ok(()) = write_all(sink, text.as_slice()) else {
+        return Err(Halt::Write);
+    };
+    Ok(())
+}

@@ -1,0 +1,197 @@
+//! Scripts from their bytes to their text, and each status.
+
+use crate::run::run_words;
+use crate::status::Status;
+use ks_outside::{EmptyDisk, EmptyEntropy, MemorySink, MemorySource};
+use std::alloc::Global;
+use std::process::Abort;
+use std::test::Fail;
+use tags::{DeviceSecrets, Policy};
+
+const CONNECT: &str = "{\"t\":[0,1000],\"do\":\"connect\",\"uid\":10001}\n";
+
+const IMPORT: &str =
+    "{\"t\":[0,1000],\"c\":1,\"do\":\"importKey\",\"key\":{\"domain\":0,\"alias\":\"m\"},\"params\":[[\"PURPOSE\",2],[\"PURPOSE\",3],[\"ALGORITHM\",128],[\"DIGEST\",4],[\"MIN_MAC_LENGTH\",64],[\"NO_AUTH_REQUIRED\",true]],\"format\":3,\"material\":\"0b0b0b0b0b0b0b0b0b0b0b0b0b0b0b0b0b0b0b0b\"}\n";
+
+const BEGIN: &str =
+    "{\"t\":[0,1000],\"c\":1,\"do\":\"createOperation\",\"key\":{\"domain\":0,\"alias\":\"m\"},\"params\":[[\"PURPOSE\",2],[\"MAC_LENGTH\",256]]}\n";
+
+const FINISH: &str =
+    "{\"t\":[0,1000],\"c\":1,\"do\":\"finish\",\"op\":1,\"input\":\"4869205468657265\"}\n";
+
+const FINISH_OF_TWO: &str =
+    "{\"t\":[0,1000],\"c\":2,\"do\":\"finish\",\"op\":1,\"input\":\"4869205468657265\"}\n";
+
+const CONNECTED: &str = "{\"client\":1,\"code\":0}\n";
+
+const IMPORTED: &str = "{\"code\":0,\"key\":1}\n";
+
+const BEGUN: &str = "{\"code\":0,\"op\":1}\n";
+
+const MAC: &str =
+    "{\"code\":0,\"out\":\"b0344c61d8db38535ca8afceaf0bf12b881dc200c9833da726e9376c2e32cff7\"}\n";
+
+const MALFORMED: &str = "{\"code\":20,\"rule\":\"L1\"}\n";
+
+/// Runs a script whose reads and writes fail where it is said, and compares its status and its text.
+fn run_case(
+    rt: &impl Abort,
+    alloc: Global,
+    script: &[u8],
+    failing: (&[u64], &[u64]),
+    status: Status,
+    text: &str,
+) -> Result<(), Fail> {
+    let words = vec![in alloc;
+        String::from_str(alloc, "run")?,
+        String::from_str(alloc, "--fresh")?,
+    ]?;
+    let mut source = MemorySource::new(script, failing.0);
+    let mut sink = MemorySink::with_room(alloc, 4096, 64, failing.1)?;
+    let policy = Policy::demo(alloc)?;
+    let ended = run_words(
+        alloc,
+        words.as_slice(),
+        &DeviceSecrets::demo(),
+        &policy,
+        &mut source,
+        &mut sink,
+        &mut EmptyDisk,
+        &mut EmptyEntropy,
+    );
+    assert_eq!(rt; ended, status, "{text}");
+    assert_eq!(rt; sink.written(), text.as_bytes());
+    Ok(())
+}
+
+#[test]
+fn scripts_give_their_texts(rt: HostRuntime) -> Result<(), Fail> {
+    let alloc = rt.alloc();
+    let none: (&[u64], &[u64]) = (&[], &[]);
+    let whole = [CONNECT, IMPORT, BEGIN, FINISH].concat(alloc)?;
+    let known = [CONNECTED, IMPORTED, BEGUN, MAC].concat(alloc)?;
+    let cases = [
+        ("", ""),
+        ("\n", MALFORMED),
+        ("{}", MALFORMED),
+        (
+            "{}\n{}",
+            "{\"code\":20,\"rule\":\"L1\"}\n{\"code\":20,\"rule\":\"L1\"}\n",
+        ),
+        (CONNECT, CONNECTED),
+        (IMPORT, "{\"code\":20,\"rule\":\"K1\"}\n"),
+        (BEGIN, "{\"code\":20,\"rule\":\"B1\"}\n"),
+        (FINISH, "{\"code\":-28,\"rule\":\"S1\"}\n"),
+        (whole.as_str(), known.as_str()),
+        (whole.as_str().trim_end(), known.as_str()),
+    ];
+    for (script, text) in cases {
+        run_case(&rt, alloc, script.as_bytes(), none, Status::Ok, text)?;
+    }
+    let twice = [whole.as_str(), FINISH].concat(alloc)?;
+    let gone = [known.as_str(), "{\"code\":-28,\"rule\":\"S1\"}\n"].concat(alloc)?;
+    run_case(
+        &rt,
+        alloc,
+        twice.as_bytes(),
+        none,
+        Status::Ok,
+        gone.as_str(),
+    )?;
+    let other = [CONNECT, IMPORT, BEGIN, FINISH_OF_TWO, IMPORT, FINISH].concat(alloc)?;
+    let ended = [
+        CONNECTED,
+        IMPORTED,
+        BEGUN,
+        "{\"code\":-28,\"rule\":\"S1\"}\n{\"code\":0,\"key\":2}\n{\"code\":-33,\"rule\":\"S4\"}\n",
+    ]
+    .concat(alloc)?;
+    run_case(
+        &rt,
+        alloc,
+        other.as_bytes(),
+        none,
+        Status::Ok,
+        ended.as_str(),
+    )
+}
+
+/// A connect that is filled with spaces to so many bytes, without its LF.
+fn padded(alloc: Global, length: usize) -> Result<String, Fail> {
+    let mut line = String::from_str(alloc, CONNECT.trim_end())?;
+    while line.len() < length {
+        line.push(' ')?;
+    }
+    Ok(line)
+}
+
+#[test]
+fn each_status_comes_where_it_should(rt: HostRuntime) -> Result<(), Fail> {
+    let alloc = rt.alloc();
+    let none: (&[u64], &[u64]) = (&[], &[]);
+    let two = [CONNECT, IMPORT].concat(alloc)?;
+    run_case(
+        &rt,
+        alloc,
+        two.as_bytes(),
+        (&[1], &[]),
+        Status::ReadFault,
+        "",
+    )?;
+    run_case(
+        &rt,
+        alloc,
+        two.as_bytes(),
+        (&[], &[1]),
+        Status::WriteFault,
+        "",
+    )?;
+    run_case(
+        &rt,
+        alloc,
+        two.as_bytes(),
+        (&[], &[2]),
+        Status::WriteFault,
+        CONNECTED,
+    )?;
+    let both = [CONNECTED, IMPORTED].concat(alloc)?;
+    run_case(
+        &rt,
+        alloc,
+        two.as_bytes(),
+        (&[2], &[]),
+        Status::ReadFault,
+        both.as_str(),
+    )?;
+    let limit = padded(alloc, 262_144)?;
+    run_case(&rt, alloc, limit.as_bytes(), none, Status::Ok, CONNECTED)?;
+    let long = [CONNECT, padded(alloc, 262_145)?.as_str(), "\n"].concat(alloc)?;
+    run_case(
+        &rt,
+        alloc,
+        long.as_bytes(),
+        none,
+        Status::LineTooLong { line: 2 },
+        CONNECTED,
+    )?;
+    let mut sink = MemorySink::with_room(alloc, 1, 1, &[])?;
+    for text in ["", "run", "run --slots", "--fresh run", "run --fresh x"] {
+        let words: Vec<String> = text
+            .split_whitespace()
+            .map(|word| String::from_str(alloc, word))
+            .try_collect(alloc)?;
+        let ended = run_words(
+            alloc,
+            words.as_slice(),
+            &DeviceSecrets::demo(),
+            &Policy::demo(alloc)?,
+            &mut MemorySource::new(CONNECT.as_bytes(), &[]),
+            &mut sink,
+            &mut EmptyDisk,
+            &mut EmptyEntropy,
+        );
+        assert_eq!(rt; ended, Status::Usage, "{text}");
+    }
+    assert_eq!(rt; sink.written().len(), 0);
+    Ok(())
+}
