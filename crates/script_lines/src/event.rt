@@ -8,7 +8,6 @@ ghost use Rattle.script_lines.specs.Lines.{event_of as spec_event_of, line_in as
 
 use crate::LineFault;
 use crate::act_name::{ActName, name_of};
-use crate::built::is_built;
 use crate::key_acts::{
     clear_namespace, create_operation, delete_key, generate_key, get_key_entry,
     get_number_of_entries, grant, import_key, list_entries_batched, ungrant,
@@ -25,7 +24,7 @@ use std::str;
 
 /// The event that a line spells, without its LF, and whether an enter waits for its leave.
 ///
-/// A line is `Malformed` exactly where it is no JSON object of a script (RFC 8259), or its act is not built yet.
+/// A line is `Malformed` exactly where it is no JSON object of a script (RFC 8259), or its act is not built yet, or it is to wait for its leave.
 pub fn event_of(alloc: Global, line: &[u8]) -> Result<Line, LineFault>
     ensures { Says result (spec_event_of line.now) }
 {
@@ -55,7 +54,7 @@ fn line_in(alloc: Global, object: &Value) -> Result<Line, LineFault>
     let client = client_of(name, object)?;
     let act = act_of(alloc, name, object)?;
     let hold = hold_of(name, object)?;
-    if !is_built(&act, hold) {
+    if !act.is_built() || hold {
         return Err(LineFault::Malformed);
     }
     Ok(Line {

@@ -5,7 +5,6 @@
 #![tactic(auto)]
 
 mod act_name;
-mod built;
 mod event;
 mod fault;
 mod key_acts;
