@@ -1,12 +1,12 @@
 -- The acts of a script: their names, and which members stand for their fields.
-use Rattle.std.specs.Prelude.{ℕ, List, [], ◌∷◌, codes, Bool, true, false, if◌then◌else◌, Option, Some, None, find}
+use Rattle.std.specs.Prelude.{ℕ, List, [], ◌∷◌, codes, Bool, true, false, if◌then◌else◌, Option, Some, find}
 use Rattle.std.specs.Str.{bytes_eq}
 use Rattle.tags.specs.declared.descriptor.Descriptor.{Descriptor}
 use Rattle.rule_model.specs.declared.event.Act.{Act}
 use Rattle.rule_model.specs.declared.event.Act.TheVariants as acts
 use Rattle.rule_model.specs.declared.event.Reading.{Reading}
 use Rattle.serde_json.specs.Data.{Data}
-use Rattle.serde_json.specs.Find.{get, as_bool, as_str}
+use Rattle.serde_json.specs.Find.{as_bool, as_str}
 use Rattle.script_lines.specs.Members.{◌>>=◌, u32_of, u64_of, hex_of, hex_32_of, two_of, needed, defaulted, optional}
 use Rattle.script_lines.specs.Params.{params_of}
 use Rattle.script_lines.specs.declared.act_name.ActName.{ActName}

@@ -1,7 +1,6 @@
 -- What a line of a script spells.
 use Rattle.std.specs.Prelude.{ℕ, List, Bool, ◌&&◌, not, if◌then◌else◌, Option, Some, None}
 use Rattle.std.specs.Str.{is_utf8}
-use Rattle.rule_model.specs.declared.event.Act.{Act}
 use Rattle.rule_model.specs.declared.event.Event.{Event}
 use Rattle.rule_model.specs.declared.event.Line.{Line}
 use Rattle.serde_json.specs.Data.{Data}

@@ -1,9 +1,9 @@
 -- The members of a script line, as JSON values (RFC 8259), and the kinds that they have.
-use Rattle.std.specs.Prelude.{ℕ, ◌^◌, ◌==◌, nat_lt, List, [], codes, length, Bool, false, if◌then◌else◌, Option, Some, None, option_map, option_and_then, is_some, Result, Ok, Err}
+use Rattle.std.specs.Prelude.{ℕ, ◌^◌, ◌==◌, nat_lt, List, length, if◌then◌else◌, Option, Some, None, is_some, Result, Ok, Err}
 use Rattle.hex.specs.Hex.{decode_of}
 use Rattle.hex.specs.declared.error.FromHexError.{FromHexError}
 use Rattle.serde_json.specs.Data.{Data}
-use Rattle.serde_json.specs.Find.{get, at, as_number, as_u64, as_str, as_bool}
+use Rattle.serde_json.specs.Find.{get, at, as_number, as_u64, as_str}
 
 -- what the first finds is handed to the second
 infixl 10 ◌>>=◌

@@ -1,5 +1,5 @@
 -- Encoded authorization lists, and the pairs that spell them in a script.
-use Rattle.std.specs.Prelude.{ℕ, zero, suc, ◌+◌, ◌-◌, ◌^◌, nat_le, nat_lt, List, [], ◌∷◌, ◌++◌, codes, length, Bool, true, false, if◌then◌else◌, Option, Some, None}
+use Rattle.std.specs.Prelude.{ℕ, suc, ◌^◌, nat_lt, List, [], ◌∷◌, ◌++◌, codes, length, Bool, true, false, if◌then◌else◌, Option, Some, None}
 use Rattle.std.specs.Int.{bytes_high_first}
 use Rattle.tags.specs.Tag.{type_of, number_of, tag_named}
 use Rattle.tags.specs.declared.tag.TagType.{TagType}

@@ -3,9 +3,7 @@ use Rattle.std.specs.Prelude.{ℕ, ℤ, pos, List, [], ◌∷◌, ◌++◌, code
 use Rattle.std.specs.Str.Lossy.{utf8_lossy}
 use Rattle.tags.specs.Code.{code_number}
 use Rattle.tags.specs.Rule.{rule_text}
-use Rattle.tags.specs.declared.rule.Rule.{Rule}
 use Rattle.tags.specs.declared.rule.RuleTable.TheVariants as tables
-use Rattle.tags.specs.declared.code.Code.{Code}
 use Rattle.tags.specs.declared.code.Code.TheVariants.{InvalidArgument}
 use Rattle.tags.specs.declared.settled.Settled.{Settled}
 use Rattle.tags.specs.declared.settled.Settled.TheVariants.{Kept, Lost}
