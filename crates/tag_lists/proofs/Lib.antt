@@ -1,0 +1,5 @@
+pub mod Tags
+pub mod Gathering
+pub mod Canonical
+pub mod Fields
+pub mod Laws
