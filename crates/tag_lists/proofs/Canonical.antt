@@ -98,7 +98,7 @@ passes p before h = passes_by (repeats (type_of p.tag)) p before refl h
 
 -- ---- what stood before
 
-value_small : (s : Shape) (v : ParamValue) → FitsShape s v → number_in v < 2 ^ 64
+pub value_small : (s : Shape) (v : ParamValue) → FitsShape s v → number_in v < 2 ^ 64
 value_small Short (Number n) h = omega (arith, h)
 value_small Long (Number n) h = h
 value_small Truth (Number n) h = absurd h

@@ -14,7 +14,7 @@ use Rattle.tag_lists.specs.declared.fault.ListFault.{ListFault}
 use Rattle.tag_lists.specs.declared.fault.ListFault.TheVariants.{UnknownTag, WrongKind, Repeated, Truncated, Trailing}
 use Rattle.tag_lists.specs.Order.{shape_of, Fits, MayStandBeside, MayBeListed, IsInOrder, IsCanonical, with_param, with_params, canonical}
 use Rattle.tag_lists.specs.Spelling.{spelled_value, spelled, spelling, IsListOf}
-use Rattle.tag_lists.specs.Reading.{◌>>=◌, tag_numbered, tag_with_low, stands, is_wrong_flag, value_at, known_at, tagged_at, param_at, params_at, whole, listed}
+use Rattle.tag_lists.specs.Reading.{◌>>=◌, Gives, tag_numbered, tag_with_low, stands, is_wrong_flag, value_at, known_at, tagged_at, param_at, params_at, whole, listed}
 use Rattle.tag_lists.proofs.Tags.{numbered_is, number_from_tag, number_fits}
 use Rattle.tag_lists.proofs.Canonical.{follows, passes, all-with_param, back-with_param, AreApart, apart_more, apart_none, beside_sym, Stays, stays-with_params, canonical_is, may_from_order, all_two}
 use Rattle.tag_lists.proofs.Fields.{IsBytes, IsBytes-drop, bind_ok, guard_ok, ok_is, Takes, Takes-then, wide2, wide4, number_takes, number_again, value_takes, value_again}
@@ -170,3 +170,7 @@ pub canonical_listed : (bytes : List ℕ) (list : List Param) → IsBytes bytes 
 canonical_listed bytes list fits e =
     let t = listed_takes bytes list fits e in
     rw t.is (canonical_from t.order t.few t.may)
+
+pub is_found : (bytes : List ℕ) (r : Result (List Param) ListFault) → IsBytes bytes → Gives (λ list. list) r (listed bytes) → IfOk r (λ list. IsListOf bytes list)
+is_found bytes (Ok list) fits given = listed_takes bytes list fits given
+is_found bytes (Err e) fits given = tt

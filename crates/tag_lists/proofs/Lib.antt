@@ -3,3 +3,4 @@ pub mod Gathering
 pub mod Canonical
 pub mod Fields
 pub mod Laws
+pub mod Lookups
