@@ -1,5 +1,5 @@
 -- Reading parameters one after the other into a map, as a loop does.
-use Rattle.std.proofs.Common.{◌≡◌, ℕ, suc, ◌-◌, ◌+◌, ◌≤◌, ◌<◌, Bool, true, false, cond, ltb, eqb, List, [], ◌∷◌, map, length, Result, Ok, Err, refl, sym, ap, ◌∙◌, arith}
+use Rattle.std.proofs.Common.{◌≡◌, ℕ, suc, ◌-◌, ◌+◌, ◌≤◌, ◌<◌, Bool, true, false, cond, ltb, eqb, List, [], ◌∷◌, map, length, Result, Ok, refl, sym, ap, ◌∙◌, arith}
 use Rattle.std.specs.declared.cmp.Ordering.TheVariants.{Less, Equal, Greater}
 use Rattle.std.specs.Ordering.{nat_cmp, match_ordering}
 use Rattle.std.proofs.lemmas.Bool.{eqb-true}
@@ -9,7 +9,7 @@ use Rattle.tags.specs.declared.param.Param.{Param}
 use Rattle.tag_lists.specs.declared.fault.ListFault.{ListFault}
 use Rattle.tag_lists.specs.declared.fault.ListFault.TheVariants.{UnknownTag, WrongKind, Repeated, Truncated, Trailing, Memory}
 use Rattle.tag_lists.specs.Order.{rank, with_param}
-use Rattle.tag_lists.specs.Reading.{◌>>=◌, Fails, param_at, params_at}
+use Rattle.tag_lists.specs.Reading.{Fails, param_at, params_at}
 
 -- the entries of a map whose keys are the ranks
 abbrev pub by_rank : List Param → List (ℕ × Param)

@@ -1,5 +1,5 @@
 -- What a list says of a tag.
-use Rattle.std.specs.Prelude.{ℕ, Bool, true, false, ◌&&◌, ◌==◌, List, Option, find}
+use Rattle.std.specs.Prelude.{ℕ, Bool, false, ◌&&◌, ◌==◌, List, Option, find}
 use Rattle.std.specs.List.{filter, list_any}
 use Rattle.tags.specs.declared.tag.Tag.{Tag}
 use Rattle.tags.specs.declared.param.Param.{Param}

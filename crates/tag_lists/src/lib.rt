@@ -9,6 +9,8 @@ mod fault;
 mod list;
 mod reading;
 mod shape;
+#[cfg(test)]
+mod tests;
 mod writing;
 
 pub use fault::ListFault;

@@ -1,4 +1,4 @@
-use Rattle.std.proofs.Common.{ltb, leb, rules, subst, sym, ap, ◌∙◌, take, drop}
+use Rattle.std.proofs.Common.{ltb, leb, rules, subst, sym, ap, ◌∙◌, take}
 use Rattle.std.specs.List.Sorted.{IsNonDecreasingBy}
 use Rattle.std.proofs.lemmas.List.Sorted.{IsPartitionPoint-from_clause, IsPartitionedBy-leb, IsPartitionedBy-ltb, IsNonDecreasingBy-drop}
 use Rattle.tags.specs.Tag.{low_of}

@@ -1,7 +1,6 @@
-use Rattle.std.proofs.Common.{◌∙◌, arith, ap, sym, ◌≡◌, ◌-◌, ◌+◌, [], length}
+use Rattle.std.proofs.Common.{arith, []}
 use Rattle.std.proofs.lemmas.Result.{err_from_is_err_and}
 use Rattle.std.specs.Map.{values_of}
-use Rattle.tag_lists.specs.Order.{with_param}
 use Rattle.tag_lists.specs.Reading.{params_at}
 use Rattle.tag_lists.proofs.Gathering.{inserts, goes_on, ends, is_done}
 use Rattle.tag_lists.proofs.reading.params_at.Goals as goal
