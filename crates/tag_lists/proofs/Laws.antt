@@ -173,3 +173,7 @@ canonical_listed bytes list fits e =
 pub is_found : (bytes : List ℕ) (r : Result (List Param) ListFault) → IsBytes bytes → Gives (λ list. list) r (listed bytes) → IfOk r (λ list. IsListOf bytes list)
 is_found bytes (Ok list) fits given = listed_takes bytes list fits given
 is_found bytes (Err e) fits given = tt
+
+pub is_canonical : (bytes : List ℕ) (r : Result (List Param) ListFault) → IsBytes bytes → Gives (λ list. list) r (listed bytes) → IfOk r (λ list. IsCanonical list)
+is_canonical bytes (Ok list) fits given = canonical_listed bytes list fits given
+is_canonical bytes (Err e) fits given = tt

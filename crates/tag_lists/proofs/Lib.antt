@@ -1,6 +1,7 @@
 pub mod Tags
 pub mod Gathering
 pub mod Canonical
+pub mod Edits
 pub mod Fields
 pub mod Laws
 pub mod Lookups

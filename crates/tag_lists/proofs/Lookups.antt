@@ -8,7 +8,7 @@ use Rattle.std.proofs.lemmas.List.{get_or-drop, length-drop}
 use Rattle.tags.specs.declared.tag.Tag.{Tag}
 use Rattle.tags.specs.declared.param.Param.{Param}
 use Rattle.tags.specs.Tag.{type_of, low_of}
-use Rattle.tag_lists.specs.Order.{shape_of, Fits, StandsBefore, IsInOrder}
+use Rattle.tag_lists.specs.Order.{shape_of, Fits, rank, StandsBefore, IsInOrder}
 use Rattle.tag_lists.specs.Lookups.{is_of, all_of}
 use Rattle.tag_lists.proofs.Canonical.{value_small}
 
@@ -30,7 +30,7 @@ filter_take p (x ∷ xs) (suc n) passes fails =
     let first : p x ≡ true = passes 0 x (omega arith) (omega arith) in
     rw first (ap (λ ys. x ∷ ys) (filter_take p xs n (λ k d lt in_list. passes (suc k) d (omega (arith, lt)) (omega (arith, in_list))) (λ k d le in_list. fails (suc k) d (omega (arith, le)) (omega (arith, in_list)))))
 
-all_at : (P : Param → Type 0) (xs : List Param) → AllByRecursion P xs → (k : ℕ) (d : Param) → k < length xs → P (get_or xs k d)
+pub all_at : (P : Param → Type 0) (xs : List Param) → AllByRecursion P xs → (k : ℕ) (d : Param) → k < length xs → P (get_or xs k d)
 all_at P [] h k d lt = absurd (omega (arith, lt))
 all_at P (x ∷ xs) h zero d lt = h.0
 all_at P (x ∷ xs) h (suc k) d lt = all_at P xs h.1 k d (omega (arith, lt))
@@ -70,3 +70,13 @@ find-filter p (x ∷ xs) = elim (p x) as (λ b. slice_get (cond b (x ∷ filter 
 pub list_any-filter : (p q : Param → Bool) (xs : List Param) → list_any q (filter p xs) ≡ list_any (λ x. p x && q x) xs
 list_any-filter p q [] = refl
 list_any-filter p q (x ∷ xs) = elim (p x) as (λ b. list_any q (cond b (x ∷ filter p xs) (filter p xs)) ≡ ((b && q x) || list_any (λ y. p y && q y) xs)) [ true ↦ ap (λ r. q x || r) (list_any-filter p q xs) | false ↦ list_any-filter p q xs ]
+
+-- the ranks do not fall
+pub ranks_rise : (ps : List Param) → IsInOrder ps → IsNonDecreasingBy rank ps
+ranks_rise [] ordered i j d le lt = absurd (omega (arith, lt))
+ranks_rise (p ∷ ps) ordered zero zero d le lt = omega arith
+ranks_rise (p ∷ ps) ordered zero (suc j) d le lt =
+    let before = all_at (StandsBefore p) ps ordered.0 j d (omega (arith, lt)) in
+    omega (arith, before.rises)
+ranks_rise (p ∷ ps) ordered (suc i) zero d le lt = absurd (omega (arith, le))
+ranks_rise (p ∷ ps) ordered (suc i) (suc j) d le lt = ranks_rise ps ordered.1 i j d (omega (arith, le)) (omega (arith, lt))

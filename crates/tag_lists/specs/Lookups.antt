@@ -1,5 +1,5 @@
 -- What a list says of a tag.
-use Rattle.std.specs.Prelude.{ℕ, Bool, false, ◌&&◌, ◌==◌, List, Option, find}
+use Rattle.std.specs.Prelude.{ℕ, Bool, false, not, ◌&&◌, ◌==◌, List, Option, find}
 use Rattle.std.specs.List.{filter, list_any}
 use Rattle.tags.specs.declared.tag.Tag.{Tag}
 use Rattle.tags.specs.declared.param.Param.{Param}
@@ -24,6 +24,10 @@ one_of tag list = find (is_of tag) list
 -- the parameters of the tag
 abbrev pub all_of : Tag → List Param → List Param
 all_of tag list = filter (is_of tag) list
+
+-- the list without the parameters of the tag
+abbrev pub without : Tag → List Param → List Param
+without tag list = filter (λ p. not (is_of tag p)) list
 
 -- a parameter of the tag has this number
 abbrev pub has_number : Tag → ℕ → List Param → Bool

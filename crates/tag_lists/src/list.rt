@@ -1,13 +1,14 @@
-ghost use Rattle.std.specs.Prelude.{◌≡◌, ℕ, ◌≤◌, List, [], length, drop, IfOk, Ok};
+ghost use Rattle.std.specs.Prelude.{◌≡◌, ℕ, ◌<◌, ◌≤◌, List, [], length, drop, IfOk, Ok};
 ghost use Rattle.std.specs.Option.{option_copied};
 ghost use Rattle.std.specs.List.{list_any};
 ghost use Rattle.tags.specs.declared.param.Param.{Param};
-ghost use Rattle.tag_lists.specs.Order.{MayBeListed, IsCanonical, canonical};
+ghost use Rattle.tag_lists.specs.Order.{Fits, IsCanonical, MayBeListed, canonical, with_param};
 ghost use Rattle.tag_lists.specs.Spelling.{spelling, IsListOf};
 ghost use Rattle.tag_lists.specs.Reading.{Gives, listed};
 ghost use Rattle.tag_lists.specs.Lookups as spec;
 
 use crate::fault::ListFault;
+use crate::shape::{is_tag, rank};
 use crate::{reading, writing};
 use std::alloc::Global;
 use std::marker::Model;
@@ -98,6 +99,7 @@ impl AuthList {
     pub fn read(alloc: Global, bytes: &[u8]) -> Result<AuthList, ListFault>
         // What is read is spelled so, in some order.
         ensures found { IfOk result (λ list. IsListOf bytes.now list) }
+        ensures canonical { IfOk result (λ list. IsCanonical list) }
 
         // What is spelled so is read.
         ensures only { (order : List Param) → length order ≤ 65535 → MayBeListed order → bytes.now ≡ spelling order → Gives (λ list. list) result (Ok (canonical order)) }
@@ -143,5 +145,27 @@ impl AuthList {
         ensures { result ≡ spec.has_number tag value self.now }
     {
         any_number(of_tag(&self.params, tag), value)
+    }
+
+    /// The list without the parameters of the tag. It takes no memory.
+    pub fn without(self, tag: Tag) -> AuthList
+        ensures { result ≡ spec.without tag self }
+    {
+        let AuthList { mut params } = self;
+        params.retain(|param| !is_tag(param.tag, tag));
+        AuthList { params }
+    }
+
+    /// The list with this parameter in place of those of its tag.
+    pub fn with(self, param: Param) -> Result<AuthList, NoMemory>
+        requires fits { Fits param }
+        requires room { length self < 65535 }
+        ensures { IfOk result (λ list. list ≡ with_param param (spec.without param.tag self)) }
+    {
+        let AuthList { mut params } = self.without(param.tag);
+        let own = rank(&param);
+        let place = params.partition_point(|other| rank(other) < own);
+        params.insert(place, param)?;
+        Ok(AuthList { params })
     }
 }

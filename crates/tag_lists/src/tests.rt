@@ -1,7 +1,7 @@
 use crate::{AuthList, ListFault};
 use std::alloc::Global;
 use std::test::Fail;
-use tags::Tag;
+use tags::{Param, ParamValue, Tag};
 
 // The format's tags, as its description lists them: the 28 low bits and the type.
 const TAGS: [(u32, u32); 28] = [
@@ -355,5 +355,38 @@ fn the_longest_list_is_sorted(rt: HostRuntime) -> Result<(), Fail> {
     assert_eq!(rt; list.params().len(), 65535);
     assert!(rt; list.has(Tag::UserSecureId, 1) && list.has(Tag::UserSecureId, 65535));
     assert!(rt; !list.has(Tag::UserSecureId, 0) && !list.has(Tag::UserSecureId, 65536));
+    Ok(())
+}
+
+#[test]
+fn a_parameter_takes_the_place_of_its_tags_others(rt: HostRuntime) -> Result<(), Fail> {
+    let alloc = rt.alloc();
+    let bytes =
+        b"\x00\x04\x20\x00\x00\x01\x00\x00\x00\x02\x20\x00\x00\x01\x00\x00\x00\x03\x30\x00\x00\x03\x00\x00\x00\x80\x70\x00\x01\xf7\x01";
+    let Ok(list) = AuthList::read(alloc, bytes) else {
+        assert!(rt; false, "the list was not read");
+        return Ok(());
+    };
+    let kept = list.without(Tag::Purpose);
+    if kept.params().len() > 100 {
+        assert!(rt; false, "the list is too long");
+        return Ok(());
+    }
+    let size = Param {
+        tag: Tag::KeySize,
+        value: ParamValue::Number(256),
+    };
+    let Ok(list) = kept.with(size) else {
+        assert!(rt; false, "no memory");
+        return Ok(());
+    };
+    let Ok(written) = list.write(alloc) else {
+        assert!(rt; false, "no memory");
+        return Ok(());
+    };
+    assert_eq!(rt;
+        written.as_slice(),
+        b"\x00\x02\x30\x00\x00\x03\x00\x00\x01\x00\x70\x00\x01\xf7\x01".as_slice()
+    );
     Ok(())
 }
