@@ -6,8 +6,10 @@
 
 mod entry;
 mod event;
+mod forms;
 mod reply;
 
 pub use entry::{Entry, KeyRecord, Stepped};
 pub use event::{Act, Event, Line, Reading};
+pub use forms::mac_bytes;
 pub use reply::{Broken, Entries, Fields, NO_FIELDS, Reply};

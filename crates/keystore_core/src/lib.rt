@@ -1,0 +1,14 @@
+//! The engine: it takes the events of the service one after another, and answers each by the rules.
+//!
+//! Its one contract is that of `Engine::step`: an engine that stands for a history stands, after a step, for the
+//! history with the step's entry, and that entry may follow the history by the definitions of `rule_model`.
+#![tactic(auto)]
+
+mod clients;
+mod engine;
+mod keys;
+mod operations;
+mod rules;
+mod tables;
+
+pub use engine::Engine;

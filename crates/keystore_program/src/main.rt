@@ -1,0 +1,8 @@
+#![tactic(auto)]
+
+mod reader;
+mod status;
+mod words;
+mod writer;
+
+fn main() {}

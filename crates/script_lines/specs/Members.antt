@@ -1,0 +1,63 @@
+-- The members of a script line, as JSON values (RFC 8259), and the kinds that they have.
+use Rattle.std.specs.Prelude.{ℕ, ◌^◌, ◌==◌, nat_lt, List, [], codes, length, Bool, false, if◌then◌else◌, Option, Some, None, option_map, option_and_then, is_some, Result, Ok, Err}
+use Rattle.hex.specs.Hex.{decode_of}
+use Rattle.hex.specs.declared.error.FromHexError.{FromHexError}
+use Rattle.serde_json.specs.Data.{Data}
+use Rattle.serde_json.specs.Find.{get, at, as_number, as_u64, as_str, as_bool}
+
+-- what the first finds is handed to the second
+infixl 10 ◌>>=◌
+abbrev pub ◌>>=◌ : {A B : Type 0} → Option A → (A → Option B) → Option B
+None >>= f = None
+Some x >>= f = f x
+
+-- ---- kinds
+
+-- a whole number of at most 64 bits
+abbrev pub u64_of : Data → Option ℕ
+u64_of value = as_number value >>= as_u64
+
+-- a whole number of at most 32 bits
+abbrev pub u32_of : Data → Option ℕ
+u32_of value = u64_of value >>= λ n. if nat_lt n (2 ^ 32) then Some n else None
+
+abbrev pub ok_of : {T : Type 0} → Result T FromHexError → Option T
+ok_of (Ok x) = Some x
+ok_of (Err e) = None
+
+-- the bytes that a hex text spells, in either case of its digits
+abbrev pub bytes_of_hex : List ℕ → Option (List ℕ)
+bytes_of_hex text = ok_of (decode_of text)
+
+abbrev pub hex_of : Data → Option (List ℕ)
+hex_of value = as_str value >>= bytes_of_hex
+
+-- hex of 32 bytes
+abbrev pub hex_32_of : Data → Option (List ℕ)
+hex_32_of value = hex_of value >>= λ bytes. if length bytes == 32 then Some bytes else None
+
+-- an array of exactly two
+abbrev pub two_of : Data → Option (Data × Data)
+two_of value = if is_some (at 2 value) then None else (at 0 value >>= λ first. at 1 value >>= λ second. Some (first, second))
+
+-- ---- members
+
+-- a member that has to be there
+abbrev pub needed : {A : Type 0} → (Data → Option A) → List ℕ → Data → Option A
+needed kind name members = get name members >>= kind
+
+-- a member of a kind, or what stands for an absent one
+abbrev pub kind_or : {A : Type 0} → A → (Data → Option A) → Option Data → Option A
+kind_or default kind None = Some default
+kind_or default kind (Some value) = kind value
+
+-- a member that may be absent, and then has a value all the same
+abbrev pub defaulted : {A : Type 0} → A → (Data → Option A) → List ℕ → Data → Option A
+defaulted default kind name members = kind_or default kind (get name members)
+
+abbrev pub present : {A : Type 0} → (Data → Option A) → Data → Option (Option A)
+present kind value = kind value >>= λ x. Some (Some x)
+
+-- a member that may be absent
+abbrev pub optional : {A : Type 0} → (Data → Option A) → List ℕ → Data → Option (Option A)
+optional kind name members = kind_or None (present kind) (get name members)

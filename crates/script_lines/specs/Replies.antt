@@ -1,0 +1,101 @@
+-- The line that a reply spells: the compact JSON text of an object with its members in byte order, and LF.
+use Rattle.std.specs.Prelude.{ℕ, ℤ, pos, List, [], ◌∷◌, ◌++◌, codes, map, Option, Some, None}
+use Rattle.std.specs.Str.Lossy.{utf8_lossy}
+use Rattle.tags.specs.Code.{code_number}
+use Rattle.tags.specs.Rule.{rule_text}
+use Rattle.tags.specs.declared.rule.Rule.{Rule}
+use Rattle.tags.specs.declared.rule.RuleTable.TheVariants as tables
+use Rattle.tags.specs.declared.code.Code.{Code}
+use Rattle.tags.specs.declared.code.Code.TheVariants.{InvalidArgument}
+use Rattle.tags.specs.declared.settled.Settled.{Settled}
+use Rattle.tags.specs.declared.settled.Settled.TheVariants.{Kept, Lost}
+use Rattle.rule_model.specs.declared.reply.Fields.{Fields}
+use Rattle.rule_model.specs.declared.reply.Reply.{Reply}
+use Rattle.rule_model.specs.declared.reply.Reply.TheVariants.{Done, Broken, Stopped}
+use Rattle.hex.specs.Hex.{encode_lower}
+use Rattle.serde_json.specs.Data.{Data, number, string, array, object, unsigned, item, no_items, Members, no_members, put}
+use Rattle.serde_json.specs.Find.{of_integer}
+use Rattle.serde_json.specs.View.{items_of}
+use Rattle.serde_json.specs.Written.{compact_text}
+
+-- ---- values
+
+abbrev pub number_data : ℕ → Data
+number_data n = number (unsigned n)
+
+abbrev pub signed_data : ℤ → Data
+signed_data z = number (of_integer z)
+
+-- bytes as lower-case hex
+abbrev pub hex_data : List ℕ → Data
+hex_data bytes = string (encode_lower bytes)
+
+-- text as it is; bytes that are no UTF-8 as the replacement character U+FFFD
+abbrev pub text_data : List ℕ → Data
+text_data text = string (utf8_lossy text)
+
+-- an entry of a listing: the alias and the key's id
+abbrev pub entry_data : List ℕ × ℕ → Data
+entry_data entry = array (item (text_data entry.0) (item (number_data entry.1) no_items))
+
+abbrev pub entries_data : List (List ℕ × ℕ) → Data
+entries_data entries = array (items_of (map entry_data entries))
+
+-- ---- members
+
+-- the members, with this one where there is such a field
+abbrev pub with_field : {A : Type 0} → (A → Data) → List ℕ → Option A → Members → Members
+with_field written name None members = members
+with_field written name (Some x) members = put name (written x) members
+
+abbrev pub with_numbers : Fields → Members → Members
+with_numbers fields members =
+    with_field number_data (codes "nspace") fields.nspace
+    (with_field number_data (codes "domain") fields.domain
+    (with_field number_data (codes "uses") fields.uses
+    (with_field number_data (codes "count") fields.count
+    (with_field number_data (codes "grant") fields.grant
+    (with_field number_data (codes "pruned") fields.pruned
+    (with_field number_data (codes "ticket") fields.ticket
+    (with_field number_data (codes "challenge") fields.challenge
+    (with_field number_data (codes "op") fields.op
+    (with_field number_data (codes "key") fields.key
+    (with_field number_data (codes "client") fields.client members))))))))))
+
+abbrev pub with_bytes : Fields → Members → Members
+with_bytes fields members =
+    with_field entries_data (codes "entries") fields.entries
+    (with_field hex_data (codes "list") fields.list
+    (with_field hex_data (codes "blob") fields.blob
+    (with_field hex_data (codes "out") fields.out
+    (with_field hex_data (codes "nonce") fields.nonce
+    (with_field text_data (codes "alias") fields.alias members)))))
+
+-- `code` is always there, `rule` where a rule is broken, and each field that there is, by its name
+abbrev pub reply_members : Reply → Members
+reply_members (Done fields) = with_bytes fields (with_numbers fields (put (codes "code") (signed_data (pos 0)) no_members))
+reply_members (Broken rule code) = put (codes "rule") (string (rule_text rule)) (put (codes "code") (signed_data (code_number code)) no_members)
+reply_members (Stopped code) = put (codes "code") (signed_data (code_number code)) no_members
+
+-- ---- lines
+
+-- the compact text of an object, and LF
+abbrev pub object_line : Members → List ℕ
+object_line members = compact_text (object members) ++ 10 ∷ []
+
+abbrev pub settled_text : Settled → List ℕ
+settled_text Kept = codes "kept"
+settled_text Lost = codes "lost"
+
+-- how an earlier change was settled, where that was due
+abbrev pub settled_line : Option Settled → List ℕ
+settled_line None = []
+settled_line (Some settled) = object_line (put (codes "settled") (string (settled_text settled)) no_members)
+
+-- the lines of a step: how an earlier change was settled, where that was due, and the reply
+abbrev pub line_of : Option Settled → Reply → List ℕ
+line_of settled reply = settled_line settled ++ object_line (reply_members reply)
+
+-- the answer to a line that spells no event: rule L1 with INVALID_ARGUMENT
+abbrev pub malformed_line : List ℕ
+malformed_line = line_of None (Broken (record { table = tables.L; number = 1 }) InvalidArgument)

@@ -1,0 +1,133 @@
+//! The event that a line spells.
+
+ghost use Rattle.std.specs.Prelude.{◌≡◌};
+ghost use Rattle.serde_json.specs.View.{view};
+ghost use Rattle.script_lines.specs.Reads.{Says, SaysOf};
+ghost use Rattle.script_lines.specs.Acts.{act_of as spec_act_of, client_of as spec_client_of, hold_of as spec_hold_of, reading_of as spec_reading_of};
+ghost use Rattle.script_lines.specs.Lines.{event_of as spec_event_of, line_in as spec_line_in, parsed as spec_parsed};
+
+use crate::LineFault;
+use crate::act_name::{ActName, name_of};
+use crate::key_acts::{
+    clear_namespace, create_operation, delete_key, generate_key, get_key_entry,
+    get_number_of_entries, grant, import_key, list_entries_batched, ungrant,
+};
+use crate::members::{flag_or_false, needed_u64, two_of, u64_of};
+use crate::service_acts::{
+    add_auth_token, connect, device_locked, device_unlocked, restart, user_removed,
+};
+use crate::step_acts::{abort, finish, leave, update, update_aad};
+use rule_model::{Act, Event, Line, Reading};
+use serde_json::Value;
+use std::alloc::Global;
+use std::str;
+
+/// The event that a line spells, without its LF, and whether an enter waits for its leave.
+///
+/// A line is `Malformed` exactly where it is no JSON object of a script (RFC 8259), or its act is not built yet, or it is to wait for its leave.
+pub fn event_of(alloc: Global, line: &[u8]) -> Result<Line, LineFault>
+    ensures { Says result (spec_event_of line.now) }
+{
+    let object = parsed(alloc, line)?;
+    line_in(alloc, &object)
+}
+
+/// The JSON value of a line.
+pub fn parsed(alloc: Global, line: &[u8]) -> Result<Value, LineFault>
+    ensures { SaysOf view result (spec_parsed line.now) }
+{
+    let Ok(text) = str::from_utf8(line) else {
+        return Err(LineFault::Malformed);
+    };
+    match Value::from_str(alloc, text) {
+        Ok(value) => Ok(value),
+        Err(error) if error.is_memory() => Err(LineFault::Memory),
+        Err(_) => Err(LineFault::Malformed),
+    }
+}
+
+fn line_in(alloc: Global, object: &Value) -> Result<Line, LineFault>
+    ensures { Says result (spec_line_in (view object.now)) }
+{
+    let reading = reading_of(object)?;
+    let name = name_of(object)?;
+    let client = client_of(name, object)?;
+    let act = act_of(alloc, name, object)?;
+    let hold = hold_of(name, object)?;
+    if !act.is_built() || hold {
+        return Err(LineFault::Malformed);
+    }
+    Ok(Line {
+        event: Event {
+            reading,
+            client,
+            act,
+        },
+        hold,
+    })
+}
+
+fn reading_of(object: &Value) -> Result<Reading, LineFault>
+    ensures { Says result (spec_reading_of (view object.now)) }
+{
+    let Some(value) = object.get("t") else {
+        return Err(LineFault::Malformed);
+    };
+    let Some((boot, wall)) = two_of(value) else {
+        return Err(LineFault::Malformed);
+    };
+    let boot = u64_of(boot)?;
+    let wall = u64_of(wall)?;
+    Ok(Reading { boot, wall })
+}
+
+fn client_of(name: ActName, object: &Value) -> Result<u64, LineFault>
+    ensures { Says result (spec_client_of name (view object.now)) }
+{
+    if name.has_client() {
+        needed_u64(object, "c")
+    } else {
+        Ok(0)
+    }
+}
+
+fn hold_of(name: ActName, object: &Value) -> Result<bool, LineFault>
+    ensures { Says result (spec_hold_of name (view object.now)) }
+{
+    if name.is_enter() {
+        flag_or_false(object, "hold")
+    } else {
+        Ok(false)
+    }
+}
+
+/// The act of a name, with its fields from the members of the line.
+pub fn act_of(alloc: Global, name: ActName, object: &Value) -> Result<Act, LineFault>
+    ensures { Says result (spec_act_of name (view object.now)) }
+{
+    match name {
+        ActName::Connect => connect(object),
+        ActName::Disconnect => Ok(Act::Disconnect),
+        ActName::GenerateKey => generate_key(alloc, object),
+        ActName::ImportKey => import_key(alloc, object),
+        ActName::CreateOperation => create_operation(alloc, object),
+        ActName::UpdateAad => update_aad(alloc, object),
+        ActName::Update => update(alloc, object),
+        ActName::Finish => finish(alloc, object),
+        ActName::Abort => abort(object),
+        ActName::GetKeyEntry => get_key_entry(alloc, object),
+        ActName::DeleteKey => delete_key(alloc, object),
+        ActName::Grant => grant(alloc, object),
+        ActName::Ungrant => ungrant(alloc, object),
+        ActName::GetNumberOfEntries => get_number_of_entries(object),
+        ActName::ListEntriesBatched => list_entries_batched(alloc, object),
+        ActName::AddAuthToken => add_auth_token(alloc, object),
+        ActName::DeviceLocked => device_locked(object),
+        ActName::DeviceUnlocked => device_unlocked(object),
+        ActName::EarlyBootEnded => Ok(Act::EarlyBootEnded),
+        ActName::ClearNamespace => clear_namespace(object),
+        ActName::UserRemoved => user_removed(object),
+        ActName::Leave => leave(object),
+        ActName::Restart => restart(alloc, object),
+    }
+}

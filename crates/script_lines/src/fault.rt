@@ -1,0 +1,44 @@
+use std::alloc::{AllocError, AllocFailed};
+use tags::NoMemory;
+
+/// Why a line gave no event.
+#[derive(Clone, Copy, Debug, PartialEq, Eq)]
+pub enum LineFault {
+    /// the line spells no event
+    Malformed,
+    /// want of memory, and nothing else
+    Memory,
+}
+
+impl From<AllocError> for LineFault {
+    ghost use Rattle.std.specs.Prelude.{◌≡◌};
+    ghost use Rattle.script_lines.specs.declared.fault.LineFault.TheVariants.{Memory};
+
+    ghost from_gives = { λ _ fault. fault ≡ Memory };
+
+    fn from(_fault: AllocError) -> Self {
+        LineFault::Memory
+    }
+}
+
+impl From<NoMemory> for LineFault {
+    ghost use Rattle.std.specs.Prelude.{◌≡◌};
+    ghost use Rattle.script_lines.specs.declared.fault.LineFault.TheVariants.{Memory};
+
+    ghost from_gives = { λ _ fault. fault ≡ Memory };
+
+    fn from(_fault: NoMemory) -> Self {
+        LineFault::Memory
+    }
+}
+
+impl<T: Drop> From<AllocFailed<T>> for LineFault {
+    ghost use Rattle.std.specs.Prelude.{◌≡◌};
+    ghost use Rattle.script_lines.specs.declared.fault.LineFault.TheVariants.{Memory};
+
+    ghost from_gives = { λ _ fault. fault ≡ Memory };
+
+    fn from(_fault: AllocFailed<T>) -> Self {
+        LineFault::Memory
+    }
+}

@@ -1,0 +1,56 @@
+//! The acts on operations.
+
+ghost use Rattle.std.specs.Prelude.{◌≡◌};
+ghost use Rattle.serde_json.specs.View.{view};
+ghost use Rattle.script_lines.specs.Reads.{Says};
+ghost use Rattle.script_lines.specs.declared.act_name.ActName.TheVariants as names;
+ghost use Rattle.script_lines.specs.Acts.{act_of};
+
+use crate::LineFault;
+use crate::members::{hex_or_empty, needed_u64, optional_hex};
+use rule_model::Act;
+use serde_json::Value;
+use std::alloc::Global;
+
+pub fn update_aad(alloc: Global, object: &Value) -> Result<Act, LineFault>
+    ensures { Says result (act_of names.UpdateAad (view object.now)) }
+{
+    let op = needed_u64(object, "op")?;
+    let input = hex_or_empty(alloc, object, "input")?;
+    Ok(Act::EnterAad { op, input })
+}
+
+pub fn update(alloc: Global, object: &Value) -> Result<Act, LineFault>
+    ensures { Says result (act_of names.Update (view object.now)) }
+{
+    let op = needed_u64(object, "op")?;
+    let input = hex_or_empty(alloc, object, "input")?;
+    Ok(Act::EnterUpdate { op, input })
+}
+
+pub fn finish(alloc: Global, object: &Value) -> Result<Act, LineFault>
+    ensures { Says result (act_of names.Finish (view object.now)) }
+{
+    let op = needed_u64(object, "op")?;
+    let input = hex_or_empty(alloc, object, "input")?;
+    let signature = optional_hex(alloc, object, "signature")?;
+    Ok(Act::EnterFinish {
+        op,
+        input,
+        signature,
+    })
+}
+
+pub fn abort(object: &Value) -> Result<Act, LineFault>
+    ensures { Says result (act_of names.Abort (view object.now)) }
+{
+    let op = needed_u64(object, "op")?;
+    Ok(Act::Abort { op })
+}
+
+pub fn leave(object: &Value) -> Result<Act, LineFault>
+    ensures { Says result (act_of names.Leave (view object.now)) }
+{
+    let ticket = needed_u64(object, "ticket")?;
+    Ok(Act::Leave { ticket })
+}
