@@ -1,7 +1,7 @@
 use Rattle.std.proofs.Common.{◌≡◌, ◌∙◌, ap, rules, subst, sym}
 use Rattle.std.proofs.lemmas.Fn.{filter_same}
 use Rattle.tag_lists.specs.Order.{IsCanonical}
-use Rattle.tag_lists.specs.Lookups.{is_of, without}
+use Rattle.tag_lists.specs.Lookups.{without}
 use Rattle.tag_lists.proofs.Edits.{canonical-without}
 use Rattle.tag_lists.proofs.list.AuthList.without.Goals as goal
 
