@@ -1,7 +1,7 @@
 -- The two laws: what is read is spelled so, and what is spelled so is read.
 use Rattle.std.proofs.Common.{◌≡◌, ℕ, zero, suc, ◌-◌, ◌^◌, ◌%◌, ◌≤◌, Bool, true, false, not, ◌&&◌, cond, ltb, eqb, List, [], ◌∷◌, ◌++◌, length, drop, Option, Some, None, Result, Ok, Err, refl, sym, ap, subst, ◌∙◌, append_assoc, arith}
-use Rattle.std.specs.Prelude.{is_some, IfOk}
-use Rattle.std.specs.List.{flat_map, AllByRecursion}
+use Rattle.std.specs.Prelude.{is_some, IfOk, ◌↔◌}
+use Rattle.std.specs.List.{flat_map, AllByRecursion, Contains}
 use Rattle.std.proofs.lemmas.Bool.{eqb-true, ltb-false}
 use Rattle.std.proofs.lemmas.List.{append-nil, nil_from_length}
 use Rattle.std.proofs.lemmas.List.Concat.{flat_map-cons}
@@ -16,6 +16,7 @@ use Rattle.tag_lists.specs.Spelling.{spelled_value, spelled, spelling, IsListOf}
 use Rattle.tag_lists.specs.Reading.{◌>>=◌, Gives, tag_numbered, tag_with_low, stands, is_wrong_flag, value_at, known_at, tagged_at, param_at, params_at, whole, listed}
 use Rattle.tag_lists.proofs.Tags.{numbered_is, number_from_tag, number_fits}
 use Rattle.tag_lists.proofs.Canonical.{follows, passes, all-with_param, back-with_param, AreApart, apart_more, apart_none, beside_sym, stays-with_params, canonical_is, may_from_order, all_two}
+use Rattle.tag_lists.proofs.Members.{same_members}
 use Rattle.tag_lists.proofs.Fields.{IsBytes, IsBytes-drop, bind_ok, guard_ok, ok_is, Takes, Takes-then, wide2, wide4, number_takes, number_again, value_takes, value_again}
 
 -- ---- one parameter
@@ -144,6 +145,7 @@ listed_takes bytes list fits e =
           ∙ append-nil (big_bytes 2 (big_number 2 bytes) ++ flat_map spelled t.order)
           ∙ ap (λ (k : ℕ). big_bytes 2 k ++ flat_map spelled t.order) (sym t.count);
       is = sym w.1 ∙ t.is;
+      members = λ p. subst (λ l. Contains t.order p ↔ Contains l p) (sym (sym w.1 ∙ t.is)) (same_members t.order t.may p);
     }
 
 pub listed_again : (order : List Param) → length order ≤ 65535 → MayBeListed order → listed (spelling order) ≡ Ok (canonical order)

@@ -5,3 +5,4 @@ pub mod Edits
 pub mod Fields
 pub mod Laws
 pub mod Lookups
+pub mod Members

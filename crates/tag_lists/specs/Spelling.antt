@@ -1,6 +1,6 @@
 -- The bytes of authorization lists. Numbers are big-endian.
-use Rattle.std.specs.Prelude.{◌≡◌, ℕ, ◌≤◌, List, [], ◌∷◌, ◌++◌, length}
-use Rattle.std.specs.List.{flat_map}
+use Rattle.std.specs.Prelude.{◌≡◌, ◌↔◌, ℕ, ◌≤◌, List, [], ◌∷◌, ◌++◌, length}
+use Rattle.std.specs.List.{flat_map, Contains}
 use Rattle.byteorder.specs.Endian.{big_bytes}
 use Rattle.tags.specs.declared.param.Param.{Param}
 use Rattle.tags.specs.declared.param.ParamValue.{ParamValue}
@@ -26,10 +26,11 @@ spelled p = big_bytes 4 (number_of p.tag) ++ spelled_value (shape_of (type_of p.
 abbrev pub spelling : List Param → List ℕ
 spelling ps = big_bytes 2 (length ps) ++ flat_map spelled ps
 
--- the bytes spell these parameters in some order, and the list has them in canonical order
+-- the bytes spell these parameters in some order, and the list has them, and no others, in canonical order
 pub record IsListOf (bytes : List ℕ) (list : List Param) : Type 0 where
   pub order : List Param
   pub few : length order ≤ 65535
   pub may : MayBeListed order
   pub spells : bytes ≡ spelling order
   pub is : list ≡ canonical order
+  pub members : (p : Param) → Contains order p ↔ Contains list p
