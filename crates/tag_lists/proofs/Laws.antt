@@ -1,0 +1,181 @@
+-- The two laws: what is read is spelled so, and what is spelled so is read.
+use Rattle.std.proofs.Common.{◌≡◌, ℕ, zero, suc, ◌-◌, ◌^◌, ◌%◌, ◌≤◌, Bool, true, false, not, ◌&&◌, cond, ltb, eqb, List, [], ◌∷◌, ◌++◌, length, drop, Option, Some, None, Result, Ok, Err, refl, sym, ap, subst, ◌∙◌, append_assoc, arith}
+use Rattle.std.specs.Prelude.{is_some, IfOk, ◌↔◌}
+use Rattle.std.specs.List.{flat_map, AllByRecursion, Contains}
+use Rattle.std.proofs.lemmas.Bool.{eqb-true, ltb-false}
+use Rattle.std.proofs.lemmas.List.{append-nil, nil_from_length}
+use Rattle.std.proofs.lemmas.List.Concat.{flat_map-cons}
+use Rattle.byteorder.specs.Endian.{big_number, big_bytes}
+use Rattle.tags.specs.declared.tag.Tag.{Tag}
+use Rattle.tags.specs.declared.param.Param.{Param}
+use Rattle.tags.specs.Tag.{type_of, number_of, repeats}
+use Rattle.tag_lists.specs.declared.fault.ListFault.{ListFault}
+use Rattle.tag_lists.specs.declared.fault.ListFault.TheVariants.{UnknownTag, WrongKind, Repeated, Truncated, Trailing}
+use Rattle.tag_lists.specs.Order.{shape_of, Fits, MayStandBeside, MayBeListed, IsCanonical, with_param, with_params, canonical}
+use Rattle.tag_lists.specs.Spelling.{spelled_value, spelled, spelling, IsListOf}
+use Rattle.tag_lists.specs.Reading.{◌>>=◌, Gives, tag_numbered, tag_with_low, stands, is_wrong_flag, value_at, known_at, tagged_at, param_at, params_at, whole, listed}
+use Rattle.tag_lists.proofs.Tags.{numbered_is, number_from_tag, number_fits}
+use Rattle.tag_lists.proofs.Canonical.{follows, passes, all-with_param, back-with_param, AreApart, apart_more, apart_none, beside_sym, stays-with_params, canonical_is, may_from_order, all_two}
+use Rattle.tag_lists.proofs.Members.{same_members}
+use Rattle.tag_lists.proofs.Fields.{IsBytes, IsBytes-drop, bind_ok, guard_ok, ok_is, Takes, Takes-then, wide2, wide4, number_takes, number_again, value_takes, value_again}
+
+-- ---- one parameter
+
+pub record TakesParam (before : List Param) (bytes : List ℕ) (x : Param × List ℕ) : Type 0 where
+  pub takes : Takes bytes (spelled x.0) x.1
+  pub fits : Fits x.0
+  pub follows : AllByRecursion (MayStandBeside x.0) before
+
+-- the value of a known tag
+record TakesKnown (before : List Param) (tag : Tag) (bytes : List ℕ) (x : Param × List ℕ) : Type 0 where
+  tag_is : tag ≡ x.0.tag
+  takes : Takes bytes (spelled_value (shape_of (type_of x.0.tag)) x.0.value) x.1
+  fits : Fits x.0
+  follows : AllByRecursion (MayStandBeside x.0) before
+
+known_takes : (at : ℕ) (before : List Param) (tag : Tag) (bytes : List ℕ) (x : Param × List ℕ) → IsBytes bytes → known_at at before tag bytes ≡ Ok x → TakesKnown before tag bytes x
+unfolding known_at
+known_takes at before tag bytes x fits e =
+    let read : Result (Param × List ℕ) ListFault = value_at at (shape_of (type_of tag)) bytes >>= λ v. Ok (record { tag = tag; value = v.0 }, v.1) in
+    let a = guard_ok (is_wrong_flag (shape_of (type_of tag)) bytes) (WrongKind at) (cond (not (repeats (type_of tag)) && stands tag before) (Err (Repeated at)) read) x e in
+    let b = guard_ok (not (repeats (type_of tag)) && stands tag before) (Repeated at) read x a.1 in
+    let v = bind_ok (value_at at (shape_of (type_of tag)) bytes) (λ v. Ok (record { tag = tag; value = v.0 }, v.1)) x b.1 in
+    let t = value_takes (shape_of (type_of tag)) at bytes v.0 fits a.0 v.1 in
+    let made : Param × List ℕ = (record { tag = tag; value = v.0.0 }, v.0.1) in
+    subst (λ (y : Param × List ℕ). TakesKnown before tag bytes y) (ok_is made x v.2) (record { tag_is = refl; takes = t.0; fits = t.1; follows = follows made.0 before b.0 })
+
+never : {A : Type 0} (b : Bool) (d f : ListFault) (x : A) → cond b (Err d) (Err f) ≡ Ok x → ⊥
+never true d f x e = cc
+never false d f x e = cc
+
+tagged_takes : (at : ℕ) (before : List Param) (bytes : List ℕ) (found : Option Tag) (x : Param × List ℕ) → IsBytes bytes → 4 ≤ length bytes → tag_numbered (big_number 4 bytes) ≡ found
+    → tagged_at at before (big_number 4 bytes) found (drop 4 bytes) ≡ Ok x → TakesParam before bytes x
+tagged_takes at before bytes None x fits long is e = absurd (never (is_some (tag_with_low (big_number 4 bytes % 2 ^ 28))) (WrongKind at) (UnknownTag at) x e)
+tagged_takes at before bytes (Some tag) x fits long is e =
+    let n = number_takes 4 wide4 bytes fits long in
+    let k = known_takes at before tag (drop 4 bytes) x (IsBytes-drop 4 bytes fits) e in
+    let number : big_number 4 bytes ≡ number_of x.0.tag = sym (number_from_tag (big_number 4 bytes) tag is) ∙ ap number_of k.tag_is in
+    let first : Takes bytes (big_bytes 4 (number_of x.0.tag)) (drop 4 bytes) = subst (λ (m : ℕ). Takes bytes (big_bytes 4 m) (drop 4 bytes)) number n.0 in
+    record { takes = Takes-then bytes (big_bytes 4 (number_of x.0.tag)) (drop 4 bytes) (spelled_value (shape_of (type_of x.0.tag)) x.0.value) x.1 first k.takes; fits = k.fits; follows = k.follows }
+
+pub param_takes : (at : ℕ) (before : List Param) (bytes : List ℕ) (x : Param × List ℕ) → IsBytes bytes → param_at at before bytes ≡ Ok x → TakesParam before bytes x
+unfolding param_at
+param_takes at before bytes x fits e =
+    let g = guard_ok (ltb (length bytes) 4) (Truncated at) (tagged_at at before (big_number 4 bytes) (tag_numbered (big_number 4 bytes)) (drop 4 bytes)) x e in
+    tagged_takes at before bytes (tag_numbered (big_number 4 bytes)) x fits (ltb-false _ _ g.0) refl g.1
+
+known_again : (at : ℕ) (before : List Param) (p : Param) (rest : List ℕ) → Fits p → AllByRecursion (MayStandBeside p) before → known_at at before p.tag (spelled_value (shape_of (type_of p.tag)) p.value ++ rest) ≡ Ok (p, rest)
+unfolding known_at
+known_again at before p rest fits beside =
+    let v = value_again (shape_of (type_of p.tag)) p.value rest fits in
+    rw (v.right, passes p before beside, v.again at) refl
+
+pub param_again : (at : ℕ) (before : List Param) (p : Param) (rest : List ℕ) → Fits p → AllByRecursion (MayStandBeside p) before → param_at at before (spelled p ++ rest) ≡ Ok (p, rest)
+unfolding param_at
+param_again at before p rest fits beside =
+    let value : List ℕ = spelled_value (shape_of (type_of p.tag)) p.value in
+    let a = number_again 4 (number_of p.tag) (value ++ rest) (number_fits p.tag) in
+    ap (param_at at before) (append_assoc (big_bytes 4 (number_of p.tag)) value rest)
+    ∙ rw (a.long, a.number, a.behind, numbered_is p.tag) (known_again at before p rest fits beside)
+
+-- ---- several parameters
+
+pub record TakesParams (n : ℕ) (before : List Param) (bytes : List ℕ) (x : List Param × List ℕ) : Type 0 where
+  pub order : List Param
+  pub count : length order ≡ n
+  pub takes : Takes bytes (flat_map spelled order) x.1
+  pub is : x.0 ≡ with_params before order
+  pub may : MayBeListed order
+  pub apart : AreApart before order
+
+pub params_take : (n total : ℕ) (before : List Param) (bytes : List ℕ) (x : List Param × List ℕ) → IsBytes bytes → AllByRecursion Fits before → params_at n total before bytes ≡ Ok x → TakesParams n before bytes x
+unfolding params_at
+params_take zero total before bytes x fits fs e =
+    subst (λ (y : List Param × List ℕ). TakesParams 0 before bytes y) (ok_is (before, bytes) x e) (record { order = []; count = refl; takes = record { parts = refl; rest_fits = fits }; is = refl; may = tt; apart = tt })
+params_take (suc n) total before bytes x fits fs e =
+    let a = bind_ok (param_at (total - length bytes) before bytes) (λ p. params_at n total (with_param p.0 before) p.1) x e in
+    let p : Param = a.0.0 in
+    let t = param_takes (total - length bytes) before bytes a.0 fits a.1 in
+    let r = params_take n total (with_param p before) a.0.1 x t.takes.rest_fits (all-with_param Fits p before t.fits fs) a.2 in
+    let back = λ (q : Param) (h : AllByRecursion (MayStandBeside q) (with_param p before)). back-with_param q p before t.fits fs h in
+    let both = Takes-then bytes (spelled p) a.0.1 (flat_map spelled r.order) x.1 t.takes r.takes in
+    record {
+      order = p ∷ r.order;
+      count = omega (arith, r.count);
+      takes = subst (λ (text : List ℕ). Takes bytes text x.1) (sym (flat_map-cons spelled p r.order)) both;
+      is = r.is;
+      may = (t.fits, all_two (λ q. AllByRecursion (MayStandBeside q) (with_param p before)) (λ q. AllByRecursion (MayStandBeside q) (with_param p before)) (MayStandBeside p) (λ q h k. beside_sym q p (back q h).0) r.order r.apart r.apart, r.may);
+      apart = (t.follows, all_two (λ q. AllByRecursion (MayStandBeside q) (with_param p before)) (λ q. AllByRecursion (MayStandBeside q) (with_param p before)) (λ q. AllByRecursion (MayStandBeside q) before) (λ q h k. (back q h).1) r.order r.apart r.apart);
+    }
+
+pub params_again : (ps : List Param) (total : ℕ) (before : List Param) (rest : List ℕ) → MayBeListed ps → AreApart before ps → params_at (length ps) total before (flat_map spelled ps ++ rest) ≡ Ok (with_params before ps, rest)
+unfolding params_at
+params_again [] total before rest may apart = refl
+params_again (p ∷ ps) total before rest may apart =
+    let behind : List ℕ = flat_map spelled ps ++ rest in
+    let regrouped : flat_map spelled (p ∷ ps) ++ rest ≡ spelled p ++ behind = ap (λ (t : List ℕ). t ++ rest) (flat_map-cons spelled p ps) ∙ append_assoc (spelled p) (flat_map spelled ps) rest in
+    ap (params_at (suc (length ps)) total before) regrouped
+    ∙ rw (param_again (total - length (spelled p ++ behind)) before p behind may.0 apart.0) (params_again ps total (with_param p before) rest may.2 (apart_more p before ps may.1 apart.1))
+
+-- ---- the whole list
+
+ended : {A : Type 0} (b : Bool) (d : ListFault) (x y : A) → cond b (Ok x) (Err d) ≡ Ok y → (b ≡ true) × (x ≡ y)
+ended true d x y e = (refl, ok_is x y e)
+ended false d x y e = absurd cc
+
+pub listed_takes : (bytes : List ℕ) (list : List Param) → IsBytes bytes → listed bytes ≡ Ok list → IsListOf bytes list
+unfolding listed
+listed_takes bytes list fits e =
+    let total : ℕ = length bytes in
+    let g = guard_ok (ltb (length bytes) 2) (Truncated 0) (params_at (big_number 2 bytes) total [] (drop 2 bytes) >>= λ read. whole total read) list e in
+    let b = bind_ok (params_at (big_number 2 bytes) total [] (drop 2 bytes)) (λ read. whole total read) list g.1 in
+    let read : List Param × List ℕ = b.0 in
+    let w = ended (eqb (length read.1) 0) (Trailing (total - length read.1)) read.0 list b.2 in
+    let n = number_takes 2 wide2 bytes fits (ltb-false _ _ g.0) in
+    let t = params_take (big_number 2 bytes) total [] (drop 2 bytes) read (IsBytes-drop 2 bytes fits) tt b.1 in
+    let nothing : read.1 ≡ [] = nil_from_length read.1 (eqb-true _ _ w.0) in
+    let both = (Takes-then bytes (big_bytes 2 (big_number 2 bytes)) (drop 2 bytes) (flat_map spelled t.order) read.1 n.0 t.takes).parts in
+    record {
+      order = t.order;
+      few = omega (arith, t.count, n.1);
+      may = t.may;
+      spells =
+          both
+          ∙ ap (λ (r : List ℕ). (big_bytes 2 (big_number 2 bytes) ++ flat_map spelled t.order) ++ r) nothing
+          ∙ append-nil (big_bytes 2 (big_number 2 bytes) ++ flat_map spelled t.order)
+          ∙ ap (λ (k : ℕ). big_bytes 2 k ++ flat_map spelled t.order) (sym t.count);
+      is = sym w.1 ∙ t.is;
+      members = λ p. subst (λ l. Contains t.order p ↔ Contains l p) (sym (sym w.1 ∙ t.is)) (same_members t.order t.may p);
+    }
+
+pub listed_again : (order : List Param) → length order ≤ 65535 → MayBeListed order → listed (spelling order) ≡ Ok (canonical order)
+unfolding listed
+listed_again order few may =
+    let text : List ℕ = flat_map spelled order in
+    let a = number_again 2 (length order) text (omega (arith, few)) in
+    let total : ℕ = length (spelling order) in
+    let read : params_at (length order) total [] text ≡ Ok (canonical order, []) = ap (params_at (length order) total []) (sym (append-nil text)) ∙ params_again order total [] [] may (apart_none order) in
+    rw (a.long, a.number, a.behind, read) refl
+
+-- a canonical list is the list of its own spelling
+pub canonical_again : (list : List Param) → IsCanonical list → listed (spelling list) ≡ Ok list
+canonical_again list is = listed_again list is.few (may_from_order list is.fit is.ordered) ∙ ap (λ l. Ok l) (canonical_is list is.ordered)
+
+-- a list that was read is canonical
+pub canonical_from : (order : List Param) → length order ≤ 65535 → MayBeListed order → IsCanonical (canonical order)
+canonical_from order few may =
+    let s = stays-with_params order [] 0 may (apart_none order) (record { few = omega arith; fit = tt; ordered = tt }) in
+    record { few = omega (arith, s.few, few); fit = s.fit; ordered = s.ordered }
+
+pub canonical_listed : (bytes : List ℕ) (list : List Param) → IsBytes bytes → listed bytes ≡ Ok list → IsCanonical list
+canonical_listed bytes list fits e =
+    let t = listed_takes bytes list fits e in
+    rw t.is (canonical_from t.order t.few t.may)
+
+pub is_found : (bytes : List ℕ) (r : Result (List Param) ListFault) → IsBytes bytes → Gives (λ list. list) r (listed bytes) → IfOk r (λ list. IsListOf bytes list)
+is_found bytes (Ok list) fits given = listed_takes bytes list fits given
+is_found bytes (Err e) fits given = tt
+
+pub is_canonical : (bytes : List ℕ) (r : Result (List Param) ListFault) → IsBytes bytes → Gives (λ list. list) r (listed bytes) → IfOk r (λ list. IsCanonical list)
+is_canonical bytes (Ok list) fits given = canonical_listed bytes list fits given
+is_canonical bytes (Err e) fits given = tt

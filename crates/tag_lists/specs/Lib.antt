@@ -1,0 +1,4 @@
+pub mod Order
+pub mod Spelling
+pub mod Reading
+pub mod Lookups

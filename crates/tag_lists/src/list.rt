@@ -1,0 +1,171 @@
+ghost use Rattle.std.specs.Prelude.{◌≡◌, ℕ, ◌<◌, ◌≤◌, List, [], length, drop, IfOk, Ok};
+ghost use Rattle.std.specs.Option.{option_copied};
+ghost use Rattle.std.specs.List.{list_any};
+ghost use Rattle.tags.specs.declared.param.Param.{Param};
+ghost use Rattle.tag_lists.specs.Order.{Fits, IsCanonical, MayBeListed, canonical, with_param};
+ghost use Rattle.tag_lists.specs.Spelling.{spelling, IsListOf};
+ghost use Rattle.tag_lists.specs.Reading.{Gives, listed};
+ghost use Rattle.tag_lists.specs.Lookups as spec;
+
+use crate::fault::ListFault;
+use crate::shape::{is_tag, rank};
+use crate::{reading, writing};
+use std::alloc::Global;
+use std::marker::Model;
+use tags::{Bytes, NoMemory, Param, ParamValue, Tag};
+
+/// An authorization list: at most 65,535 parameters of at most 65,535 bytes each, in canonical order, that is by the
+/// tag's 28 low bits and then by value, an equal pair once. Only tags of a REP type repeat.
+#[derive(Debug, Drop)]
+pub struct AuthList {
+    params: Vec<Param>,
+}
+
+impl Model for AuthList {
+    ghost use Rattle.std.specs.Prelude.{List};
+    ghost use Rattle.tags.specs.declared.param.Param.{Param};
+    ghost use Rattle.tag_lists.specs.Order.{IsCanonical};
+
+    ghost Value = { List Param };
+
+    ghost view = { λ list. list.params.items };
+
+    ghost invariant = { λ list. IsCanonical list.params.items };
+}
+
+// Whether a value is this number.
+fn is_number(number: u64, value: &ParamValue) -> bool
+    ensures { result ≡ spec.is_number number value.now }
+{
+    match value {
+        ParamValue::Number(own) => *own == number,
+        ParamValue::Flag => false,
+        ParamValue::Raw(_) => false,
+    }
+}
+
+// The parameters from a place on.
+fn behind(params: &[Param], place: usize) -> &[Param]
+    requires { place ≤ length params.now }
+    ensures { result.now ≡ drop place params.now }
+{
+    &params[place..]
+}
+
+// The parameters of a tag, which stand side by side.
+fn of_tag(params: &[Param], tag: Tag) -> &[Param]
+    requires { IsCanonical params.now }
+    ensures { result.now ≡ spec.all_of tag params.now }
+{
+    let low = tag.low();
+    let from = params.partition_point(|param| param.tag.low() < low);
+    let rest = behind(params, from);
+    let count = rest.partition_point(|param| param.tag.low() <= low);
+    &rest[..count]
+}
+
+// Whether a parameter has this number.
+fn any_number(params: &[Param], number: u64) -> bool
+    ensures { result ≡ list_any (λ p. spec.is_number number p.value) params.now }
+{
+    params.iter().any(|param| is_number(number, &param.value))
+}
+
+// The list that the bytes spell.
+fn list_of(alloc: Global, bytes: &[u8]) -> Result<AuthList, ListFault>
+    ensures { Gives (λ list. list) result (listed bytes.now) }
+{
+    Ok(AuthList {
+        params: reading::listed(alloc, bytes)?,
+    })
+}
+
+impl AuthList {
+    /// The list of no parameters. It takes no memory.
+    pub fn empty(alloc: Global) -> AuthList
+        ensures { result ≡ [] }
+    {
+        AuthList {
+            params: Vec::new(alloc),
+        }
+    }
+
+    /// The list that the bytes spell, in any order. The format is two bytes of count, and for each parameter four bytes
+    /// of tag and its value: four bytes of ENUM, ENUM_REP, UINT and UINT_REP, eight of ULONG, ULONG_REP and DATE, the
+    /// byte 01 of BOOL, and two bytes of length and the bytes of BYTES. Numbers are big-endian.
+    ///
+    /// The fault of least offset is given; of several at one offset the first of `UnknownTag`, `WrongKind`, `Repeated`
+    /// and `Truncated`. `Memory` comes where memory is wanted.
+    pub fn read(alloc: Global, bytes: &[u8]) -> Result<AuthList, ListFault>
+        // What is read is spelled so, in some order.
+        ensures found { IfOk result (λ list. IsListOf bytes.now list) }
+        ensures canonical { IfOk result (λ list. IsCanonical list) }
+
+        // What is spelled so is read.
+        ensures only { (order : List Param) → length order ≤ 65535 → MayBeListed order → bytes.now ≡ spelling order → Gives (λ list. list) result (Ok (canonical order)) }
+
+        // Which list, and which fault it is.
+        ensures exact { Gives (λ list. list) result (listed bytes.now) }
+    {
+        list_of(alloc, bytes)
+    }
+
+    /// The one canonical spelling of the list, which reads as this list again.
+    pub fn write(&self, alloc: Global) -> Result<Bytes, NoMemory>
+        ensures spells { IfOk result (λ bytes. bytes ≡ spelling self.now) }
+        ensures again { IfOk result (λ bytes. listed bytes ≡ Ok self.now) }
+    {
+        Ok(Bytes::of(writing::spelling(alloc, &self.params)?))
+    }
+
+    /// The parameters. It takes no memory.
+    pub fn params(&self) -> &[Param]
+        ensures params { result.now ≡ self.now }
+        ensures canonical { IsCanonical self.now }
+    {
+        &self.params
+    }
+
+    /// The first parameter of the tag, and the only one where its type is not a REP type. It takes no memory.
+    pub fn one(&self, tag: Tag) -> Option<&Param>
+        ensures { option_copied result ≡ spec.one_of tag self.now }
+    {
+        of_tag(&self.params, tag).first()
+    }
+
+    /// The parameters of the tag, by value. It takes no memory.
+    pub fn all(&self, tag: Tag) -> &[Param]
+        ensures { result.now ≡ spec.all_of tag self.now }
+    {
+        of_tag(&self.params, tag)
+    }
+
+    /// Whether a parameter of the tag has this number. It takes no memory.
+    pub fn has(&self, tag: Tag, value: u64) -> bool
+        ensures { result ≡ spec.has_number tag value self.now }
+    {
+        any_number(of_tag(&self.params, tag), value)
+    }
+
+    /// The list without the parameters of the tag. It takes no memory.
+    pub fn without(self, tag: Tag) -> AuthList
+        ensures { result ≡ spec.without tag self }
+    {
+        let AuthList { mut params } = self;
+        params.retain(|param| !is_tag(param.tag, tag));
+        AuthList { params }
+    }
+
+    /// The list with this parameter in place of those of its tag.
+    pub fn with(self, param: Param) -> Result<AuthList, NoMemory>
+        requires fits { Fits param }
+        requires room { length self < 65535 }
+        ensures { IfOk result (λ list. list ≡ with_param param (spec.without param.tag self)) }
+    {
+        let AuthList { mut params } = self.without(param.tag);
+        let own = rank(&param);
+        let place = params.partition_point(|other| rank(other) < own);
+        params.insert(place, param)?;
+        Ok(AuthList { params })
+    }
+}

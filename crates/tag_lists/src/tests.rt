@@ -1,0 +1,392 @@
+use crate::{AuthList, ListFault};
+use std::alloc::Global;
+use std::test::Fail;
+use tags::{Param, ParamValue, Tag};
+
+// The format's tags, as its description lists them: the 28 low bits and the type.
+const TAGS: [(u32, u32); 28] = [
+    (1, 2),
+    (2, 1),
+    (3, 3),
+    (4, 2),
+    (5, 2),
+    (6, 2),
+    (7, 7),
+    (8, 3),
+    (305, 7),
+    (400, 6),
+    (401, 6),
+    (402, 6),
+    (404, 3),
+    (405, 3),
+    (501, 3),
+    (502, 10),
+    (503, 7),
+    (504, 1),
+    (505, 3),
+    (509, 7),
+    (601, 9),
+    (700, 9),
+    (701, 6),
+    (702, 1),
+    (705, 3),
+    (706, 3),
+    (1001, 9),
+    (1003, 3),
+];
+
+// A parameter: the 28 low bits, the tag, and the value's bytes.
+type Row = (u32, u32, Vec<u8>);
+
+// So many bytes from a place on.
+fn piece(bytes: &[u8], at: usize, n: usize) -> Option<&[u8]> {
+    if at <= bytes.len() && n <= bytes.len() - at {
+        Some(&bytes[at..at + n])
+    } else {
+        None
+    }
+}
+
+// The number of big-endian bytes.
+fn number(bytes: &[u8]) -> u64 {
+    let mut number = 0u64;
+    for byte in bytes {
+        number = number.wrapping_mul(256).wrapping_add(*byte as u64);
+    }
+    number
+}
+
+// The bytes of a value of a type, or nothing where they are cut.
+fn plain_value(kind: u32, at: usize, bytes: &[u8]) -> Option<&[u8]> {
+    match kind {
+        1 | 2 | 3 | 4 => piece(bytes, at, 4),
+        5 | 6 | 10 => piece(bytes, at, 8),
+        7 => piece(bytes, at, 1),
+        _ => {
+            let size = number(piece(bytes, at, 2)?) % 65536;
+            piece(bytes, at, 2 + size as usize)
+        }
+    }
+}
+
+// The type of the tag of these 28 low bits, or 0.
+fn plain_kind(low: u32) -> u32 {
+    for (known, kind) in TAGS {
+        if known == low {
+            return kind;
+        }
+    }
+    0
+}
+
+// The parameter at a place, as the format's description reads.
+fn plain_row(alloc: Global, bytes: &[u8], place: usize, rows: &[Row]) -> Result<Row, ListFault> {
+    let at = place as u64;
+    let Some(head) = piece(bytes, place, 4) else {
+        return Err(ListFault::Truncated { at });
+    };
+    let tag = (number(head) % (1 << 32)) as u32;
+    let low = tag % (1 << 28);
+    let kind = plain_kind(low);
+    if kind == 0 {
+        return Err(ListFault::UnknownTag { at });
+    }
+    let value = plain_value(kind, place.saturating_add(4), bytes);
+    let is_wrong_flag = match value {
+        Some(flag) => kind == 7 && number(flag) != 1,
+        None => false,
+    };
+    if kind != tag / (1 << 28) || is_wrong_flag {
+        return Err(ListFault::WrongKind { at });
+    }
+    let may_repeat = kind == 2 || kind == 4 || kind == 10;
+    if !may_repeat && rows.iter().any(|row| row.0 == low) {
+        return Err(ListFault::Repeated { at });
+    }
+    match value {
+        Some(value) => Ok((low, tag, Vec::from_slice(alloc, value)?)),
+        None => Err(ListFault::Truncated { at }),
+    }
+}
+
+// The parameters of the bytes, in canonical order.
+fn plain_rows(alloc: Global, bytes: &[u8]) -> Result<Vec<Row>, ListFault> {
+    let Some(head) = piece(bytes, 0, 2) else {
+        return Err(ListFault::Truncated { at: 0 });
+    };
+    let mut rows: Vec<Row> = Vec::new(alloc);
+    let mut at = 2usize;
+    for _ in 0..number(head) {
+        let row = plain_row(alloc, bytes, at, &rows)?;
+        at = at.saturating_add(4).saturating_add(row.2.len());
+        rows.push(row)?;
+    }
+    if at < bytes.len() {
+        return Err(ListFault::Trailing { at: at as u64 });
+    }
+    rows.sort()?;
+    rows.dedup();
+    Ok(rows)
+}
+
+// The canonical spelling of what the bytes spell.
+fn plain_spelling(alloc: Global, bytes: &[u8]) -> Result<Vec<u8>, ListFault> {
+    let rows = plain_rows(alloc, bytes)?;
+    let mut out = Vec::new(alloc);
+    out.extend_from_slice(&((rows.len() % 65536) as u16).to_be_bytes())?;
+    for row in &rows {
+        out.extend_from_slice(&row.1.to_be_bytes())?;
+        out.extend_from_slice(&row.2)?;
+    }
+    Ok(out)
+}
+
+// What `read` and then `write` make of the bytes.
+fn again(alloc: Global, bytes: &[u8]) -> Result<Vec<u8>, ListFault> {
+    let list = AuthList::read(alloc, bytes)?;
+    match list.write(alloc) {
+        Ok(bytes) => Ok(bytes.into_vec()),
+        Err(_) => Err(ListFault::Memory),
+    }
+}
+
+// The next number of a xorshift generator.
+fn next(state: &mut u64) -> u64 {
+    let mut x = *state;
+    x ^= x.wrapping_mul(1 << 13);
+    x ^= x / (1 << 7);
+    x ^= x.wrapping_mul(1 << 17);
+    *state = x;
+    x
+}
+
+// A parameter, often right.
+fn put_made_up(bytes: &mut Vec<u8>, state: &mut u64) -> Result<(), Fail> {
+    let (low, own) = TAGS[(next(state) % 28) as usize];
+    let kind = if next(state) % 32 == 0 {
+        (next(state) % 16) as u32
+    } else {
+        own
+    };
+    bytes.extend_from_slice(&(kind % 16 * (1 << 28) + low % 1024).to_be_bytes())?;
+    match kind {
+        5 | 6 | 10 => bytes.extend_from_slice(&(next(state) % 3).to_be_bytes())?,
+        7 => bytes.push((next(state) % 8 / 2 % 2) as u8)?,
+        9 => {
+            let size = next(state) % 4;
+            bytes.extend_from_slice(&(size as u16).to_be_bytes())?;
+            for _ in 0..size {
+                bytes.push((next(state) % 256) as u8)?;
+            }
+        }
+        _ => bytes.extend_from_slice(&((next(state) % 3) as u32).to_be_bytes())?,
+    }
+    Ok(())
+}
+
+// Bytes that are often, and not always, a list.
+fn made_up(alloc: Global, state: &mut u64) -> Result<Vec<u8>, Fail> {
+    let mut bytes = Vec::new(alloc);
+    let count = next(state) % 6;
+    bytes.extend_from_slice(&(count as u16).to_be_bytes())?;
+    for _ in 0..count {
+        put_made_up(&mut bytes, state)?;
+    }
+    match next(state) % 8 {
+        0 => {
+            bytes.pop();
+        }
+        1 => bytes.push(1)?,
+        _ => {}
+    }
+    Ok(bytes)
+}
+
+#[test]
+fn random_bytes_read_as_a_plain_reader_reads_them(rt: HostRuntime) -> Result<(), Fail> {
+    let alloc = rt.alloc();
+    let mut state = 88172645463325252u64;
+    let mut lists = 0u32;
+    for round in 0..4000u32 {
+        let bytes = made_up(alloc, &mut state)?;
+        match (again(alloc, &bytes), plain_spelling(alloc, &bytes)) {
+            (Ok(read), Ok(plain)) => {
+                assert_eq!(rt; read.as_slice(), plain.as_slice(), "in round {round}");
+                lists = lists.saturating_add(1);
+            }
+            (Err(read), Err(plain)) => assert_eq!(rt; read, plain, "in round {round}"),
+            _ => assert!(rt; false, "one reads and one does not in round {round}"),
+        }
+    }
+    assert!(rt; lists > 1000 && lists < 3000, "{lists} lists");
+    Ok(())
+}
+
+#[test]
+fn each_fault_has_its_offset(rt: HostRuntime) {
+    let cases: [(&[u8], ListFault); 25] = [
+        (b"", ListFault::Truncated { at: 0 }),
+        (b"\x00", ListFault::Truncated { at: 0 }),
+        (b"\x00\x01", ListFault::Truncated { at: 2 }),
+        (b"\x00\x01\x20\x00\x00", ListFault::Truncated { at: 2 }),
+        (
+            b"\x00\x01\x20\x00\x00\x01\x00\x00",
+            ListFault::Truncated { at: 2 },
+        ),
+        (
+            b"\x00\x01\x70\x00\x09\x99\x01",
+            ListFault::UnknownTag { at: 2 },
+        ),
+        (b"\x00\x01\x00\x00\x00\x00", ListFault::UnknownTag { at: 2 }),
+        (
+            b"\x00\x01\x10\x00\x00\x01\x00\x00\x00\x02",
+            ListFault::WrongKind { at: 2 },
+        ),
+        (
+            b"\x00\x01\x80\x00\x02\x59\x00\x00",
+            ListFault::WrongKind { at: 2 },
+        ),
+        (
+            b"\x00\x01\x70\x00\x01\xf7\x02",
+            ListFault::WrongKind { at: 2 },
+        ),
+        (
+            b"\x00\x01\x70\x00\x01\xf7\x00",
+            ListFault::WrongKind { at: 2 },
+        ),
+        (b"\x00\x01\x70\x00\x01\xf7", ListFault::Truncated { at: 2 }),
+        (
+            b"\x00\x02\x70\x00\x01\xf7\x01\x70\x00\x01\xf7\x01",
+            ListFault::Repeated { at: 7 },
+        ),
+        (
+            b"\x00\x02\x70\x00\x01\xf7\x01\x70\x00\x01\xf7\x02",
+            ListFault::WrongKind { at: 7 },
+        ),
+        (
+            b"\x00\x02\x70\x00\x01\xf7\x01\x70\x00\x01\xf7",
+            ListFault::Repeated { at: 7 },
+        ),
+        (
+            b"\x00\x02\x30\x00\x00\x03\x00\x00\x00\x80\x30\x00\x00\x03\x00\x00\x01\x00",
+            ListFault::Repeated { at: 10 },
+        ),
+        (
+            b"\x00\x02\x30\x00\x00\x03\x00\x00\x00\x80\x30\x00\x00\x03\x00\x00",
+            ListFault::Repeated { at: 10 },
+        ),
+        (
+            b"\x00\x02\x90\x00\x02\x59\x00\x01\xaa\x90\x00\x02\x59\x00\x01\xbb",
+            ListFault::Repeated { at: 9 },
+        ),
+        (
+            b"\x00\x01\x90\x00\x02\x59\x00\x02\xaa",
+            ListFault::Truncated { at: 2 },
+        ),
+        (
+            b"\x00\x01\x90\x00\x02\x59\x00",
+            ListFault::Truncated { at: 2 },
+        ),
+        (
+            b"\x00\x02\x70\x00\x09\x99\x01\x70\x00\x01\xf7\x02",
+            ListFault::UnknownTag { at: 2 },
+        ),
+        (
+            b"\x00\x01\x70\x00\x01\xf7\x01\x00",
+            ListFault::Trailing { at: 7 },
+        ),
+        (b"\x00\x00\xff", ListFault::Trailing { at: 2 }),
+        (
+            b"\x00\x02\x70\x00\x01\xf7\x01",
+            ListFault::Truncated { at: 7 },
+        ),
+        (
+            b"\xff\xff\x20\x00\x00\x01\x00\x00\x00\x02\x70\x00\x01\xf7\x01",
+            ListFault::Truncated { at: 15 },
+        ),
+    ];
+    for (bytes, fault) in cases {
+        match AuthList::read(rt.alloc(), bytes) {
+            Ok(_) => assert!(rt; false, "{bytes:?} was read"),
+            Err(found) => assert_eq!(rt; found, fault, "of {bytes:?}"),
+        }
+    }
+}
+
+#[test]
+fn two_parameters_read_alike_in_either_order(rt: HostRuntime) -> Result<(), Fail> {
+    let alloc = rt.alloc();
+    let canonical = b"\x00\x02\x20\x00\x00\x01\x00\x00\x00\x02\x70\x00\x01\xf7\x01";
+    let other = b"\x00\x02\x70\x00\x01\xf7\x01\x20\x00\x00\x01\x00\x00\x00\x02";
+    let twice =
+        b"\x00\x03\x20\x00\x00\x01\x00\x00\x00\x02\x70\x00\x01\xf7\x01\x20\x00\x00\x01\x00\x00\x00\x02";
+    for bytes in [canonical.as_slice(), other.as_slice(), twice.as_slice()] {
+        let Ok(list) = AuthList::read(alloc, bytes) else {
+            assert!(rt; false, "{bytes:?} was not read");
+            continue;
+        };
+        assert_eq!(rt; list.params().len(), 2);
+        assert!(rt; list.has(Tag::Purpose, 2) && !list.has(Tag::Purpose, 3));
+        assert!(rt; list.one(Tag::NoAuthRequired).is_some() && list.one(Tag::KeySize).is_none());
+        assert_eq!(rt; list.all(Tag::Purpose).len(), 1);
+        let Ok(written) = list.write(alloc) else {
+            assert!(rt; false, "no memory");
+            continue;
+        };
+        assert_eq!(rt; written.as_slice(), canonical.as_slice());
+    }
+    assert!(rt; AuthList::empty(alloc).params().is_empty());
+    Ok(())
+}
+
+#[test]
+fn the_longest_list_is_sorted(rt: HostRuntime) -> Result<(), Fail> {
+    let alloc = rt.alloc();
+    let mut bytes = Vec::new(alloc);
+    bytes.extend_from_slice(b"\xff\xff")?;
+    for i in 0..65535u64 {
+        bytes.extend_from_slice(b"\xa0\x00\x01\xf6")?;
+        bytes.extend_from_slice(&(65535 - i).to_be_bytes())?;
+    }
+    let Ok(list) = AuthList::read(alloc, &bytes) else {
+        assert!(rt; false, "the list was not read");
+        return Ok(());
+    };
+    assert_eq!(rt; list.params().len(), 65535);
+    assert!(rt; list.has(Tag::UserSecureId, 1) && list.has(Tag::UserSecureId, 65535));
+    assert!(rt; !list.has(Tag::UserSecureId, 0) && !list.has(Tag::UserSecureId, 65536));
+    Ok(())
+}
+
+#[test]
+fn a_parameter_takes_the_place_of_its_tags_others(rt: HostRuntime) -> Result<(), Fail> {
+    let alloc = rt.alloc();
+    let bytes =
+        b"\x00\x04\x20\x00\x00\x01\x00\x00\x00\x02\x20\x00\x00\x01\x00\x00\x00\x03\x30\x00\x00\x03\x00\x00\x00\x80\x70\x00\x01\xf7\x01";
+    let Ok(list) = AuthList::read(alloc, bytes) else {
+        assert!(rt; false, "the list was not read");
+        return Ok(());
+    };
+    let kept = list.without(Tag::Purpose);
+    if kept.params().len() > 100 {
+        assert!(rt; false, "the list is too long");
+        return Ok(());
+    }
+    let size = Param {
+        tag: Tag::KeySize,
+        value: ParamValue::Number(256),
+    };
+    let Ok(list) = kept.with(size) else {
+        assert!(rt; false, "no memory");
+        return Ok(());
+    };
+    let Ok(written) = list.write(alloc) else {
+        assert!(rt; false, "no memory");
+        return Ok(());
+    };
+    assert_eq!(rt;
+        written.as_slice(),
+        b"\x00\x02\x30\x00\x00\x03\x00\x00\x01\x00\x70\x00\x01\xf7\x01".as_slice()
+    );
+    Ok(())
+}

@@ -1,0 +1,50 @@
+ghost use Rattle.std.specs.Prelude.{◌≡◌, ◌≤◌, ◌++◌, length, IfOk, OnOk};
+ghost use Rattle.std.specs.List.{AllByRecursion};
+ghost use Rattle.tag_lists.specs.Order.{Fits, FitsShape};
+ghost use Rattle.tag_lists.specs.Spelling as spec;
+
+use crate::shape::{Shape, shape_of};
+use std::alloc::{AllocError, Global};
+use tags::{Param, ParamValue};
+
+// Adds a value.
+fn put_value(out: &mut Vec<u8>, shape: Shape, value: &ParamValue) -> Result<(), AllocError>
+    requires { FitsShape shape value.now }
+    ensures { OnOk result (out.new.items ≡ out.old.items ++ spec.spelled_value shape value.now) }
+{
+    match (shape, value) {
+        (Shape::Short, ParamValue::Number(number)) => {
+            out.extend_from_slice(&(*number as u32).to_be_bytes())
+        }
+        (Shape::Long, ParamValue::Number(number)) => out.extend_from_slice(&number.to_be_bytes()),
+        (Shape::Truth, ParamValue::Flag) => out.extend_from_slice(&[1]),
+        (Shape::Sized, ParamValue::Raw(bytes)) => {
+            out.extend_from_slice(&(bytes.len() as u16).to_be_bytes())?;
+            out.extend_from_slice(bytes.as_slice())
+        }
+        _ => Ok(()),
+    }
+}
+
+// Adds a parameter.
+fn put_param(out: &mut Vec<u8>, param: &Param) -> Result<(), AllocError>
+    requires { Fits param.now }
+    ensures { OnOk result (out.new.items ≡ out.old.items ++ spec.spelled param.now) }
+{
+    out.extend_from_slice(&param.tag.number().to_be_bytes())?;
+    put_value(out, shape_of(param.tag.kind()), &param.value)
+}
+
+// The spelling of a list.
+pub(crate) fn spelling(alloc: Global, params: &[Param]) -> Result<Vec<u8>, AllocError>
+    requires few { length params.now ≤ 65535 }
+    requires fit { AllByRecursion Fits params.now }
+    ensures { IfOk result (λ bytes. bytes.items ≡ spec.spelling params.now) }
+{
+    let mut out = Vec::new(alloc);
+    out.extend_from_slice(&(params.len() as u16).to_be_bytes())?;
+    'params: for param in params {
+        put_param(&mut out, param)?;
+    }
+    Ok(out)
+}
