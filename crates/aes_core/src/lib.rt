@@ -6,5 +6,9 @@
 #![tactic(auto)]
 
 mod block_cipher;
+mod boxes;
+mod rounds;
+mod schedule;
+mod state;
 
 pub use block_cipher::BlockCipher;
