@@ -1,8 +1,6 @@
 mod Vectors
 mod TableLemmas
-mod XorSums
-mod FieldLemmas
-mod StateLemmas
+mod MixLemmas
 mod ScheduleLemmas
 mod RoundLemmas
-pub mod CipherLemmas
+mod KeyLemmas

@@ -5,12 +5,9 @@ use Rattle.std.proofs.lemmas.Bool.{agree_below, agree_below_at}
 use Rattle.std.proofs.lemmas.Bool.Decides.{Decides-eqb}
 use Rattle.aes_core.specs.Field.{x_times, times_bits, times, inverse_up_to, inverse, affine, sub_byte, affine_back, inv_sub_byte}
 use Rattle.aes_core.specs.Expansion.{power_of_x}
+use Rattle.aes_core.specs.Laws.FieldLaws.{same_at}
 use Rattle.aes_core.specs.declared.boxes.TheConstants.{S_BOX, INV_S_BOX}
 use Rattle.aes_core.specs.declared.schedule.TheConstants.{POWERS}
-
--- two functions that agree below n, as a computed test says
-pub same_at : (f g : ℕ → ℕ) (n b : ℕ) → agree_below (λ k. f k == g k) (λ _. true) n ≡ true → b < n → f b ≡ g b
-same_at f g n b same below = (Decides-eqb (f b) (g b)).0 (agree_below_at (λ k. f k == g k) (λ _. true) n b same below)
 
 s_box_same : agree_below (λ k. get_or S_BOX k 0 == sub_byte k) (λ _. true) 256 ≡ true
 unfolding sub_byte affine inverse inverse_up_to times times_bits x_times

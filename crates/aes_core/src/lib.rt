@@ -5,10 +5,12 @@
 //! order; they invert in the field of 256 elements and hold no table.
 #![tactic(auto)]
 
+mod aes_key;
 mod block_cipher;
 mod boxes;
 mod rounds;
 mod schedule;
 mod state;
 
+pub use aes_key::AesKey;
 pub use block_cipher::BlockCipher;

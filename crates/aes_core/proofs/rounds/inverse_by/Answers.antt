@@ -16,5 +16,5 @@ unfolding inverse_by inv_rounds
 returns c =
     let none_left : c.args.nr - 1 - c.rounds.done ≡ 0 = omega arith in
     let last : c.rounds.state ≡ inv_rounds c.args.schedule.now (c.args.nr - 1) (add_round_key c.args.block (round_key c.args.schedule.now c.args.nr)) =
-        rw none_left at c.rounds.invariant in
+    rw none_left at c.rounds.invariant in
     cc

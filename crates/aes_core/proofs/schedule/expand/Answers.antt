@@ -14,7 +14,7 @@ next_word-next-requires-clause-before c =
 pub push_word-requires : goal.push_word-requires
 push_word-requires c =
     let before : length c.words.words ≡ 4 * c.words.i =
-        ap length c.words.invariant ∙ expanded_length (words_of c.args.key.now) c.args.key.now c.words.i (whole_words c.args.key.now c.requires) in
+    ap length c.words.invariant ∙ expanded_length (words_of c.args.key.now) c.args.key.now c.words.i (whole_words c.args.key.now c.requires) in
     let few : length c.args.key.now ≤ 32 = elim (key_sizes (length c.args.key.now) c.requires) [ inl e ↦ omega arith | inr more ↦ elim more [ inl e ↦ omega arith | inr e ↦ omega arith ] ] in
     omega arith
 

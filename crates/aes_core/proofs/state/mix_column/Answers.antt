@@ -1,5 +1,5 @@
 use Rattle.std.proofs.Common.{arith}
-use Rattle.aes_core.proofs.FieldLemmas.{mixed_column}
+use Rattle.aes_core.proofs.MixLemmas.{mixed_column}
 use Rattle.aes_core.proofs.state.mix_column.Goals as goal
 
 pub returns : goal.returns

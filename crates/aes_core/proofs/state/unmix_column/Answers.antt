@@ -2,7 +2,7 @@ use Rattle.std.proofs.Common.{◌≡◌, ◌<◌, refl, ◌∙◌, ap, arith}
 use Rattle.std.specs.Int.Bits.{bit_xor}
 use Rattle.std.proofs.lemmas.Nat.{xor_comm}
 use Rattle.aes_core.specs.Field.{x_times}
-use Rattle.aes_core.proofs.FieldLemmas.{unmixed_by_mixed}
+use Rattle.aes_core.proofs.MixLemmas.{unmixed_by_mixed}
 use Rattle.aes_core.proofs.state.unmix_column.Goals as goal
 
 pub returns : goal.returns

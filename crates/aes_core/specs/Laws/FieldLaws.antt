@@ -4,12 +4,14 @@ use Rattle.std.specs.Int.Bits.{bit_xor, xor_assoc, xor_self, xor_zero_r, xor_zer
 use Rattle.std.proofs.lemmas.Nat.{xor_comm, xor_of_8}
 use Rattle.std.proofs.lemmas.Bool.{agree_below, agree_below_at, ltb-true}
 use Rattle.std.proofs.lemmas.Bool.Decides.{Decides-eqb}
-use Rattle.aes_core.specs.Field.{add, x_times, times_bits, times, sub_byte, inv_sub_byte}
+use Rattle.aes_core.specs.Field.{x_times, times_bits, times, inverse_up_to, inverse, affine, sub_byte, affine_back, inv_sub_byte}
 use Rattle.aes_core.specs.State.{mixed, unmixed}
-use Rattle.aes_core.specs.declared.boxes.TheConstants.{S_BOX, INV_S_BOX}
-use Rattle.aes_core.proofs.TableLemmas.{same_at, s_box_at, inv_s_box_at}
-use Rattle.aes_core.proofs.XorSums.{interchange, Sum, value, same_sums}
-use Rattle.aes_core.proofs.XorSums.Sum.{None_of, Term, Both}
+use Rattle.aes_core.specs.Laws.XorSums.{interchange, Sum, value, same_sums}
+use Rattle.aes_core.specs.Laws.XorSums.Sum.{None_of, Term, Both}
+
+-- two functions that agree below n, as a computed test says
+pub same_at : (f g : ℕ → ℕ) (n b : ℕ) → agree_below (λ k. f k == g k) (λ _. true) n ≡ true → b < n → f b ≡ g b
+same_at f g n b same below = (Decides-eqb (f b) (g b)).0 (agree_below_at (λ k. f k == g k) (λ _. true) n b same below)
 
 -- ---- the product with x
 
@@ -84,14 +86,13 @@ times_sum4 k w x y z lw lx ly lz =
     times_sum k (bit_xor (bit_xor w x) y) z (sum_byte (bit_xor w x) y (sum_byte w x lw lx) ly) lz
     ∙ ap (λ t. bit_xor t (times k z)) (times_sum k (bit_xor w x) y (sum_byte w x lw lx) ly ∙ ap (λ t. bit_xor t (times k y)) (times_sum k w x lw lx))
 
-sum4_of : Sum → Sum → Sum → Sum → Sum
+abbrev pub sum4_of : Sum → Sum → Sum → Sum → Sum
 sum4_of w x y z = Both (Both (Both w x) y) z
 
 -- the terms of a 4 by 4 sum, by the diagonals on which one variable of a turned row stands
 regrouped : (t0 t1 t2 t3 t4 t5 t6 t7 t8 t9 t10 t11 t12 t13 t14 t15 : ℕ) →
     sum4 (sum4 t0 t1 t2 t3) (sum4 t4 t5 t6 t7) (sum4 t8 t9 t10 t11) (sum4 t12 t13 t14 t15)
     ≡ sum4 (sum4 t0 t7 t10 t13) (sum4 t1 t4 t11 t14) (sum4 t2 t5 t8 t15) (sum4 t3 t6 t9 t12)
-unfolding sum4_of
 regrouped t0 t1 t2 t3 t4 t5 t6 t7 t8 t9 t10 t11 t12 t13 t14 t15 =
     same_sums (t0 ∷ t1 ∷ t2 ∷ t3 ∷ t4 ∷ t5 ∷ t6 ∷ t7 ∷ t8 ∷ t9 ∷ t10 ∷ t11 ∷ t12 ∷ t13 ∷ t14 ∷ t15 ∷ [])
     (sum4_of
@@ -199,107 +200,34 @@ unmixed_byte a b c d la lb lc ld = sum4_byte (times 14 a) (times 11 b) (times 13
 
 -- ---- the S-box
 
-s_box_bytes : agree_below (λ k. nat_lt (get_or S_BOX k 0) 256) (λ _. true) 256 ≡ true
-s_box_bytes = refl
+sub_bytes_stay : agree_below (λ k. nat_lt (sub_byte k) 256) (λ _. true) 256 ≡ true
+unfolding sub_byte affine inverse inverse_up_to times times_bits x_times
+sub_bytes_stay = refl
 
 pub sub_byte_byte : (b : ℕ) → b < 256 → sub_byte b < 256
-sub_byte_byte b below =
-    let P : ℕ → Type 0 = λ n. n < 256 in
-    subst P (s_box_at b below) (ltb-true (get_or S_BOX b 0) 256 (agree_below_at (λ k. nat_lt (get_or S_BOX k 0) 256) (λ _. true) 256 b s_box_bytes below))
+sub_byte_byte b below = ltb-true (sub_byte b) 256 (agree_below_at (λ k. nat_lt (sub_byte k) 256) (λ _. true) 256 b sub_bytes_stay below)
 
-inv_s_box_bytes : agree_below (λ k. nat_lt (get_or INV_S_BOX k 0) 256) (λ _. true) 256 ≡ true
-inv_s_box_bytes = refl
+inv_sub_bytes_stay : agree_below (λ k. nat_lt (inv_sub_byte k) 256) (λ _. true) 256 ≡ true
+unfolding inv_sub_byte affine_back inverse inverse_up_to times times_bits x_times
+inv_sub_bytes_stay = refl
 
 pub inv_sub_byte_byte : (b : ℕ) → b < 256 → inv_sub_byte b < 256
-inv_sub_byte_byte b below =
-    let P : ℕ → Type 0 = λ n. n < 256 in
-    subst P (inv_s_box_at b below) (ltb-true (get_or INV_S_BOX b 0) 256 (agree_below_at (λ k. nat_lt (get_or INV_S_BOX k 0) 256) (λ _. true) 256 b inv_s_box_bytes below))
+inv_sub_byte_byte b below = ltb-true (inv_sub_byte b) 256 (agree_below_at (λ k. nat_lt (inv_sub_byte k) 256) (λ _. true) 256 b inv_sub_bytes_stay below)
 
-there_and_back : agree_below (λ k. get_or INV_S_BOX (get_or S_BOX k 0) 0 == k) (λ _. true) 256 ≡ true
+there_and_back : agree_below (λ k. inv_sub_byte (sub_byte k) == k) (λ _. true) 256 ≡ true
+unfolding sub_byte affine inv_sub_byte affine_back inverse inverse_up_to times times_bits x_times
 there_and_back = refl
 
 pub sub_byte_undone : (b : ℕ) → b < 256 → inv_sub_byte (sub_byte b) ≡ b
-sub_byte_undone b below =
-    sym (inv_s_box_at (sub_byte b) (sub_byte_byte b below))
-    ∙ ap (λ n. get_or INV_S_BOX n 0) (sym (s_box_at b below))
-    ∙ same_at (λ k. get_or INV_S_BOX (get_or S_BOX k 0) 0) (λ k. k) 256 b there_and_back below
+sub_byte_undone b below = same_at (λ k. inv_sub_byte (sub_byte k)) (λ k. k) 256 b there_and_back below
 
-back_and_there : agree_below (λ k. get_or S_BOX (get_or INV_S_BOX k 0) 0 == k) (λ _. true) 256 ≡ true
+back_and_there : agree_below (λ k. sub_byte (inv_sub_byte k) == k) (λ _. true) 256 ≡ true
+unfolding sub_byte affine inv_sub_byte affine_back inverse inverse_up_to times times_bits x_times
 back_and_there = refl
 
 pub inv_sub_byte_undone : (b : ℕ) → b < 256 → sub_byte (inv_sub_byte b) ≡ b
-inv_sub_byte_undone b below =
-    sym (s_box_at (inv_sub_byte b) (inv_sub_byte_byte b below))
-    ∙ ap (λ n. get_or S_BOX n 0) (sym (inv_s_box_at b below))
-    ∙ same_at (λ k. get_or S_BOX (get_or INV_S_BOX k 0) 0) (λ k. k) 256 b back_and_there below
+inv_sub_byte_undone b below = same_at (λ k. sub_byte (inv_sub_byte k)) (λ k. k) 256 b back_and_there below
 
 -- a sum with the same byte twice
 pub add_undone : (a k : ℕ) → bit_xor (bit_xor a k) k ≡ a
 add_undone a k = xor_assoc a k k ∙ ap (λ y. bit_xor a y) (xor_self k) ∙ xor_zero_r a
-
--- ---- the code's way to mix
-
-turned : (a b c d : ℕ) → sum4 a b c d ≡ sum4 b c d a
-unfolding sum4_of
-turned a b c d =
-    same_sums (a ∷ b ∷ c ∷ d ∷ []) (sum4_of (Term 0) (Term 1) (Term 2) (Term 3)) (sum4_of (Term 1) (Term 2) (Term 3) (Term 0)) refl
-
--- 2 a + 3 b + c + d is a, all four, and 2 (a + b)
-pub mixed_by_all : (a b c d all : ℕ) → a < 256 → b < 256 → all ≡ sum4 a b c d → bit_xor (bit_xor a all) (x_times (bit_xor a b)) ≡ mixed a b c d
-unfolding mixed times times_bits sum4_of
-mixed_by_all a b c d all la lb is_all =
-    ap (λ t. bit_xor (bit_xor a t) (x_times (bit_xor a b))) is_all
-    ∙ ap (λ t. bit_xor (bit_xor a (sum4 a b c d)) t) (x_times_sum a b la lb)
-    ∙ same_sums (a ∷ b ∷ c ∷ d ∷ x_times a ∷ x_times b ∷ [])
-    (Both (Both (Term 0) (sum4_of (Term 0) (Term 1) (Term 2) (Term 3))) (Both (Term 4) (Term 5)))
-    (sum4_of (Both (Term 4) None_of) (Both (Term 1) (Both (Term 5) None_of)) (Term 2) (Term 3))
-    refl
-
-pub mixed_column : (a b c d : ℕ) → a < 256 → b < 256 → c < 256 → d < 256 →
-    (bit_xor (bit_xor a (sum4 a b c d)) (x_times (bit_xor a b)) ≡ mixed a b c d)
-    × (bit_xor (bit_xor b (sum4 a b c d)) (x_times (bit_xor b c)) ≡ mixed b c d a)
-    × (bit_xor (bit_xor c (sum4 a b c d)) (x_times (bit_xor c d)) ≡ mixed c d a b)
-    × (bit_xor (bit_xor d (sum4 a b c d)) (x_times (bit_xor d a)) ≡ mixed d a b c)
-mixed_column a b c d la lb lc ld = (
-  mixed_by_all a b c d (sum4 a b c d) la lb refl,
-  mixed_by_all b c d a (sum4 a b c d) lb lc (turned a b c d),
-  mixed_by_all c d a b (sum4 a b c d) lc ld (turned a b c d ∙ turned b c d a),
-  mixed_by_all d a b c (sum4 a b c d) ld la (turned a b c d ∙ turned b c d a ∙ turned c d a b),
-)
-
--- 4 (a + c), by its terms, and a + 4 (a + c) times x
-four_times : (a c : ℕ) → a < 256 → c < 256 → x_times (x_times (bit_xor a c)) ≡ bit_xor (x_times (x_times a)) (x_times (x_times c))
-four_times a c la lc = ap x_times (x_times_sum a c la lc) ∙ x_times_sum (x_times a) (x_times c) (x_times_byte a la) (x_times_byte c lc)
-
-eased_times : (a c e : ℕ) → a < 256 → c < 256 → e ≡ bit_xor (x_times (x_times a)) (x_times (x_times c)) →
-    x_times (bit_xor a e) ≡ bit_xor (x_times a) (bit_xor (x_times (x_times (x_times a))) (x_times (x_times (x_times c))))
-eased_times a c e la lc is_e =
-    let lxa : x_times (x_times a) < 256 = x_times_byte (x_times a) (x_times_byte a la) in
-    let lxc : x_times (x_times c) < 256 = x_times_byte (x_times c) (x_times_byte c lc) in
-    ap (λ t. x_times (bit_xor a t)) is_e
-    ∙ x_times_sum a (bit_xor (x_times (x_times a)) (x_times (x_times c))) la (sum_byte (x_times (x_times a)) (x_times (x_times c)) lxa lxc)
-    ∙ ap (λ t. bit_xor (x_times a) t) (x_times_sum (x_times (x_times a)) (x_times (x_times c)) lxa lxc)
-
--- InvMixColumns is MixColumns after 4 (a + c) is added to a and c, and 4 (b + d) to b and d
-pub unmixed_by_mixed : (a b c d e o : ℕ) → a < 256 → b < 256 → c < 256 → d < 256 → e ≡ x_times (x_times (bit_xor a c)) → o ≡ x_times (x_times (bit_xor b d)) →
-    mixed (bit_xor a e) (bit_xor b o) (bit_xor c e) (bit_xor d o) ≡ unmixed a b c d
-unfolding mixed unmixed times times_bits sum4_of
-unmixed_by_mixed a b c d e o la lb lc ld is_e is_o =
-    let even : e ≡ bit_xor (x_times (x_times a)) (x_times (x_times c)) = is_e ∙ four_times a c la lc in
-    let odd : o ≡ bit_xor (x_times (x_times b)) (x_times (x_times d)) = is_o ∙ four_times b d lb ld in
-    ap (λ t. sum4 (bit_xor t 0) (bit_xor (bit_xor b o) (bit_xor (x_times (bit_xor b o)) 0)) (bit_xor c e) (bit_xor d o)) (eased_times a c e la lc even)
-    ∙ ap (λ t. sum4 (bit_xor (bit_xor (x_times a) (bit_xor (x_times (x_times (x_times a))) (x_times (x_times (x_times c))))) 0) (bit_xor (bit_xor b o) (bit_xor t 0)) (bit_xor c e) (bit_xor d o)) (eased_times b d o lb ld odd)
-    ∙ ap (λ t. sum4 (bit_xor (bit_xor (x_times a) (bit_xor (x_times (x_times (x_times a))) (x_times (x_times (x_times c))))) 0) (bit_xor (bit_xor b o) (bit_xor (bit_xor (x_times b) (bit_xor (x_times (x_times (x_times b))) (x_times (x_times (x_times d))))) 0)) (bit_xor c t) (bit_xor d o)) even
-    ∙ ap (λ t. sum4 (bit_xor (bit_xor (x_times a) (bit_xor (x_times (x_times (x_times a))) (x_times (x_times (x_times c))))) 0) (bit_xor (bit_xor b t) (bit_xor (bit_xor (x_times b) (bit_xor (x_times (x_times (x_times b))) (x_times (x_times (x_times d))))) 0)) (bit_xor c (bit_xor (x_times (x_times a)) (x_times (x_times c)))) (bit_xor d t)) odd
-    ∙ same_sums (a ∷ b ∷ c ∷ d ∷ x_times a ∷ x_times b ∷ x_times c ∷ x_times d ∷
-    x_times (x_times a) ∷ x_times (x_times b) ∷ x_times (x_times c) ∷ x_times (x_times d) ∷
-    x_times (x_times (x_times a)) ∷ x_times (x_times (x_times b)) ∷ x_times (x_times (x_times c)) ∷ x_times (x_times (x_times d)) ∷ [])
-    (sum4_of (Both (Both (Term 4) (Both (Term 12) (Term 14))) None_of)
-    (Both (Both (Term 1) (Both (Term 9) (Term 11))) (Both (Both (Term 5) (Both (Term 13) (Term 15))) None_of))
-    (Both (Term 2) (Both (Term 8) (Term 10)))
-    (Both (Term 3) (Both (Term 9) (Term 11))))
-    (sum4_of (Both (Term 4) (Both (Term 8) (Both (Term 12) None_of)))
-    (Both (Term 1) (Both (Term 5) (Both (Term 13) None_of)))
-    (Both (Term 2) (Both (Term 10) (Both (Term 14) None_of)))
-    (Both (Term 3) (Both (Term 15) None_of)))
-    refl

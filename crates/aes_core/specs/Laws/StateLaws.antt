@@ -5,7 +5,7 @@ use Rattle.std.proofs.lemmas.List.FromFn.{fill_by_all}
 use Rattle.aes_core.specs.Block.{IsBytes, IsBlock}
 use Rattle.aes_core.specs.Field.{add, sub_byte, inv_sub_byte}
 use Rattle.aes_core.specs.State.{byte_at, column_of, state_of, sub_bytes, shift_rows, mixed, mix_columns, add_round_key, inv_shift_rows, inv_sub_bytes, unmixed, inv_mix_columns}
-use Rattle.aes_core.proofs.FieldLemmas.{sub_byte_byte, inv_sub_byte_byte, sub_byte_undone, inv_sub_byte_undone, mixed_byte, unmixed_byte, mixed_undone, unmixed_undone, sum_byte, add_undone}
+use Rattle.aes_core.specs.Laws.FieldLaws.{sub_byte_byte, inv_sub_byte_byte, sub_byte_undone, inv_sub_byte_undone, mixed_byte, unmixed_byte, mixed_undone, unmixed_undone, sum_byte, add_undone}
 
 -- a block is the state of its bytes
 pub block_is : (s : List ℕ) → length s ≡ 16 → s ≡ state_of (byte_at s)

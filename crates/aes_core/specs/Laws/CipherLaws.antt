@@ -4,8 +4,8 @@ use Rattle.aes_core.specs.Block.{IsBytes, IsBlock}
 use Rattle.aes_core.specs.State.{sub_bytes, shift_rows, mix_columns, add_round_key, inv_shift_rows, inv_sub_bytes, inv_mix_columns}
 use Rattle.aes_core.specs.Expansion.{key_expansion, round_key, rounds_of}
 use Rattle.aes_core.specs.Cipher.{rounds, cipher_by, inv_rounds, inverse_by, cipher, inverse_cipher, IsKey}
-use Rattle.aes_core.proofs.StateLemmas.{sub_bytes_block, inv_sub_bytes_block, sub_bytes_undone, inv_sub_bytes_undone, shift_rows_block, inv_shift_rows_block, shift_rows_undone, inv_shift_rows_undone, mix_columns_block, inv_mix_columns_block, mix_columns_undone, inv_mix_columns_undone, add_round_key_block, add_round_key_undone}
-use Rattle.aes_core.proofs.ScheduleLemmas.{key_expansion_bytes, round_key_bytes}
+use Rattle.aes_core.specs.Laws.StateLaws.{sub_bytes_block, inv_sub_bytes_block, sub_bytes_undone, inv_sub_bytes_undone, shift_rows_block, inv_shift_rows_block, shift_rows_undone, inv_shift_rows_undone, mix_columns_block, inv_mix_columns_block, mix_columns_undone, inv_mix_columns_undone, add_round_key_block, add_round_key_undone}
+use Rattle.aes_core.specs.Laws.ScheduleLaws.{key_expansion_bytes, round_key_bytes}
 
 -- SubBytes and ShiftRows, and back
 abbrev substituted : List ℕ → List ℕ
@@ -100,7 +100,7 @@ by_undone w nr s hw h =
     let start : IsBlock (add_round_key s (round_key w 0)) = add_block w 0 s hw h in
     let last : IsBlock (rounds w (nr - 1) (add_round_key s (round_key w 0))) = rounds_block w (nr - 1) (add_round_key s (round_key w 0)) hw start in
     ap (λ t. add_round_key (restored (inv_rounds w (nr - 1) t)) (round_key w 0))
-        (add_round_key_undone (substituted (rounds w (nr - 1) (add_round_key s (round_key w 0)))) (round_key w nr) (substituted_block (rounds w (nr - 1) (add_round_key s (round_key w 0))) last))
+    (add_round_key_undone (substituted (rounds w (nr - 1) (add_round_key s (round_key w 0)))) (round_key w nr) (substituted_block (rounds w (nr - 1) (add_round_key s (round_key w 0))) last))
     ∙ ap (λ t. add_round_key (restored t) (round_key w 0)) (rounds_undone w (nr - 1) (add_round_key s (round_key w 0)) hw start)
     ∙ ap (λ t. add_round_key t (round_key w 0)) (substituted_undone (add_round_key s (round_key w 0)) start)
     ∙ add_round_key_undone s (round_key w 0) h
@@ -111,7 +111,7 @@ inverse_by_undone w nr s hw h =
     let start : IsBlock (add_round_key s (round_key w nr)) = add_block w nr s hw h in
     let last : IsBlock (inv_rounds w (nr - 1) (add_round_key s (round_key w nr))) = inv_rounds_block w (nr - 1) (add_round_key s (round_key w nr)) hw start in
     ap (λ t. add_round_key (substituted (rounds w (nr - 1) t)) (round_key w nr))
-        (add_round_key_undone (restored (inv_rounds w (nr - 1) (add_round_key s (round_key w nr)))) (round_key w 0) (restored_block (inv_rounds w (nr - 1) (add_round_key s (round_key w nr))) last))
+    (add_round_key_undone (restored (inv_rounds w (nr - 1) (add_round_key s (round_key w nr)))) (round_key w 0) (restored_block (inv_rounds w (nr - 1) (add_round_key s (round_key w nr))) last))
     ∙ ap (λ t. add_round_key t (round_key w nr)) (inv_rounds_undone w (nr - 1) (add_round_key s (round_key w nr)) hw start)
     ∙ add_round_key_undone s (round_key w nr) h
 
