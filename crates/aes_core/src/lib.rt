@@ -11,6 +11,8 @@ mod boxes;
 mod rounds;
 mod schedule;
 mod state;
+#[cfg(test)]
+mod tests;
 
 pub use aes_key::AesKey;
 pub use block_cipher::BlockCipher;

@@ -81,4 +81,3 @@ key_expansion_bytes key h = expanded_bytes (words_of key) key (4 * (rounds_of ke
 
 pub round_key_bytes : (schedule : List ℕ) (round : ℕ) → IsBytes schedule → IsBytes (round_key schedule round)
 round_key_bytes schedule round h = bytes_take 16 (drop (16 * round) schedule) (bytes_drop (16 * round) schedule h)
-
