@@ -1,7 +1,7 @@
 -- What the code of a key rests on: its schedule stands for the key, and is long enough for its rounds.
-use Rattle.std.proofs.Common.{◌≡◌, ℕ, ◌+◌, ◌-◌, ◌*◌, ◌/◌, ◌≤◌, Bool, true, List, length, take, ap, ◌∙◌, arith}
+use Rattle.std.proofs.Common.{◌≡◌, ℕ, ◌+◌, ◌-◌, ◌*◌, ◌/◌, ◌≤◌, true, List, length, take, ap, ◌∙◌, arith}
 use Rattle.aes_core.specs.Expansion.{key_expansion, words_of, rounds_of}
-use Rattle.aes_core.specs.Cipher.{is_key_size, IsKey}
+use Rattle.aes_core.specs.Cipher.{is_key_size}
 use Rattle.aes_core.specs.Held.{key_in}
 use Rattle.aes_core.specs.declared.aes_key.AesKey.{AesKey}
 use Rattle.aes_core.proofs.ScheduleLemmas.{begins_with_key, key_expansion_length}

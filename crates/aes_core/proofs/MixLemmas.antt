@@ -1,9 +1,9 @@
 -- The code's way to mix a column: fewer products with x than the definition has.
-use Rattle.std.proofs.Common.{◌≡◌, ℕ, ◌<◌, List, [], ◌∷◌, refl, ◌∙◌, ap}
+use Rattle.std.proofs.Common.{◌≡◌, ℕ, ◌<◌, [], ◌∷◌, refl, ◌∙◌, ap}
 use Rattle.std.specs.Int.Bits.{bit_xor}
 use Rattle.aes_core.specs.Field.{x_times, times_bits, times}
 use Rattle.aes_core.specs.State.{mixed, unmixed}
-use Rattle.aes_core.specs.Laws.XorSums.{Sum, value, same_sums}
+use Rattle.aes_core.specs.Laws.XorSums.{same_sums}
 use Rattle.aes_core.specs.Laws.XorSums.Sum.{None_of, Term, Both}
 use Rattle.aes_core.specs.Laws.FieldLaws.{x_times_sum, x_times_byte, sum_byte, sum4, sum4_of}
 

@@ -1,5 +1,5 @@
 -- One round more, as the loops of the code take it.
-use Rattle.std.proofs.Common.{◌≡◌, ℕ, zero, suc, ◌+◌, List, ◌∙◌, ap, sym, add-one}
+use Rattle.std.proofs.Common.{◌≡◌, ℕ, ◌+◌, List, ◌∙◌, ap, sym, add-one}
 use Rattle.aes_core.specs.State.{sub_bytes, shift_rows, mix_columns, add_round_key, inv_shift_rows, inv_sub_bytes, inv_mix_columns}
 use Rattle.aes_core.specs.Expansion.{round_key}
 use Rattle.aes_core.specs.Cipher.{rounds, inv_rounds}

@@ -1,14 +1,10 @@
 -- The key schedule: its length, that it is of bytes, and that it begins with the key.
-use Rattle.std.proofs.Common.{◌≡◌, ℕ, zero, suc, ◌+◌, ◌-◌, ◌*◌, ◌/◌, ◌%◌, ◌<◌, ◌≤◌, ◌==◌, nat_lt, Bool, true, false, cond, ◌&&◌, ◌||◌, List, [], ◌∷◌, ◌++◌, length, take, drop, get_or, ◌⊎◌, inl, inr, refl, sym, ◌∙◌, ap, subst, arith, lit<, length-take, length-drop, length-append, add-one}
-use Rattle.std.proofs.lemmas.List.{take-append-le, take_at, take_all, length-take-le, get_or-take, get_or_past, get_or-drop, drop-take, take-append-drop}
-use Rattle.std.proofs.lemmas.Bool.{or_cases, eqb-true, cond_both, cases_lt, lt-ltb, le-ltb}
+use Rattle.std.proofs.Common.{◌≡◌, ℕ, zero, suc, ◌+◌, ◌-◌, ◌*◌, ◌<◌, ◌≤◌, ◌==◌, true, cond, ◌||◌, List, ◌++◌, length, take, drop, ◌⊎◌, inl, inr, refl, sym, ◌∙◌, ap, arith, length-take, length-drop, length-append, add-one}
+use Rattle.std.proofs.lemmas.List.{take-append-le, take_all, drop-take}
+use Rattle.std.proofs.lemmas.Bool.{or_cases, eqb-true, cases_lt, lt-ltb, le-ltb}
 use Rattle.std.proofs.Math.Seq.{take-add}
-use Rattle.aes_core.specs.Block.{IsBytes}
-use Rattle.aes_core.specs.Field.{add, x_times, sub_byte}
-use Rattle.aes_core.specs.Expansion.{word, word_of, add_words, rot_word, sub_word, power_of_x, round_constant, changed, next_word, with_next, expanded, words_of, rounds_of, key_expansion, round_key}
-use Rattle.aes_core.specs.Cipher.{is_key_size, IsKey}
-use Rattle.aes_core.specs.Laws.FieldLaws.{sub_byte_byte, x_times_byte, sum_byte}
-use Rattle.aes_core.specs.Laws.StateLaws.{bytes_cons, bytes_none}
+use Rattle.aes_core.specs.Expansion.{word, add_words, changed, next_word, expanded, words_of, rounds_of, key_expansion}
+use Rattle.aes_core.specs.Cipher.{is_key_size}
 
 -- the front of a longer front
 first_of_front : (m k : ℕ) (xs : List ℕ) → take m (take (m + k) xs) ≡ take m xs

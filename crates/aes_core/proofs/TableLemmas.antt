@@ -1,8 +1,7 @@
 -- The tables of the code are held against the definitions at each of their places, by computing.
-use Rattle.std.proofs.Common.{◌≡◌, ℕ, ◌+◌, ◌*◌, ◌/◌, ◌%◌, ◌<◌, ◌==◌, Bool, true, List, [], ◌∷◌, get_or, refl}
+use Rattle.std.proofs.Common.{◌≡◌, ℕ, ◌*◌, ◌/◌, ◌%◌, ◌<◌, ◌==◌, true, get_or, refl}
 use Rattle.std.specs.Int.Bits.{bit_xor}
-use Rattle.std.proofs.lemmas.Bool.{agree_below, agree_below_at}
-use Rattle.std.proofs.lemmas.Bool.Decides.{Decides-eqb}
+use Rattle.std.proofs.lemmas.Bool.{agree_below}
 use Rattle.aes_core.specs.Field.{x_times, times_bits, times, inverse_up_to, inverse, affine, sub_byte, affine_back, inv_sub_byte}
 use Rattle.aes_core.specs.Expansion.{power_of_x}
 use Rattle.aes_core.specs.Laws.FieldLaws.{same_at}

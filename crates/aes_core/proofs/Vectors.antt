@@ -1,5 +1,5 @@
 -- The definitions on the vectors of FIPS 197.
-use Rattle.std.proofs.Common.{◌≡◌, ℕ, List, [], ◌∷◌, refl, Bool, true, ◌==◌}
+use Rattle.std.proofs.Common.{◌≡◌, ℕ, List, [], ◌∷◌, refl}
 use Rattle.aes_core.specs.Field.{x_times, times_bits, times, inverse_up_to, inverse, affine, sub_byte, affine_back, inv_sub_byte}
 use Rattle.aes_core.specs.State.{state_of, sub_bytes, shift_rows, mixed, mix_columns, add_round_key, inv_shift_rows, inv_sub_bytes, unmixed, inv_mix_columns}
 use Rattle.aes_core.specs.Expansion.{add_words, rot_word, sub_word, power_of_x, round_constant, changed, next_word, expanded, key_expansion}

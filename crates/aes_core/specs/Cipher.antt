@@ -1,5 +1,5 @@
 -- AES on one block (FIPS 197 section 5): the cipher (5.1) and the inverse cipher (5.3).
-use Rattle.std.specs.Prelude.{ℕ, zero, suc, ◌+◌, ◌-◌, ◌*◌, Bool, ◌||◌, ◌==◌, ◌≡◌, true, List, length}
+use Rattle.std.specs.Prelude.{ℕ, zero, suc, ◌-◌, Bool, ◌||◌, ◌==◌, ◌≡◌, true, List, length}
 use Rattle.aes_core.specs.Block.{IsBytes}
 use Rattle.aes_core.specs.State.{sub_bytes, shift_rows, mix_columns, add_round_key, inv_shift_rows, inv_sub_bytes, inv_mix_columns}
 use Rattle.aes_core.specs.Expansion.{key_expansion, round_key, rounds_of}

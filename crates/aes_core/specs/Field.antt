@@ -1,6 +1,6 @@
 -- Bytes as elements of the field of 256 elements (FIPS 197 section 4), and the S-box (section 5.1.1).
 -- A byte's bit i is the coefficient of x^i; products are taken modulo x^8 + x^4 + x^3 + x + 1.
-use Rattle.std.specs.Prelude.{ℕ, zero, suc, ◌+◌, ◌-◌, ◌*◌, ◌/◌, ◌%◌, Bool, true, false, if◌then◌else◌, ◌==◌, nat_lt, bit_xor}
+use Rattle.std.specs.Prelude.{ℕ, zero, suc, ◌*◌, ◌/◌, ◌%◌, true, false, if◌then◌else◌, ◌==◌, nat_lt, bit_xor}
 use Rattle.std.specs.Int.{w8, rotate_left}
 
 -- the sum of two elements (4.1)

@@ -125,10 +125,9 @@ fn changed(nk: usize, i: usize, before: [u8; 4]) -> [u8; 4]
     ensures { result ≡ changed nk i before }
 {
     if i % nk == 0 {
-        add_words(
-            sub_word(rot_word(before)),
-            [power_of_x(i / nk - 1), 0, 0, 0],
-        )
+        let turned = sub_word(rot_word(before));
+        let constant = [power_of_x(i / nk - 1), 0, 0, 0];
+        add_words(turned, constant)
     } else if nk == 8 && i % 8 == 4 {
         sub_word(before)
     } else {

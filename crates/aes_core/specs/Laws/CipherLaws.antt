@@ -1,5 +1,5 @@
 -- The cipher and the inverse cipher send blocks to blocks, and each undoes the other.
-use Rattle.std.proofs.Common.{◌≡◌, ℕ, zero, suc, ◌-◌, List, refl, sym, ◌∙◌, ap}
+use Rattle.std.proofs.Common.{◌≡◌, ℕ, zero, suc, ◌-◌, List, refl, ◌∙◌, ap}
 use Rattle.aes_core.specs.Block.{IsBytes, IsBlock}
 use Rattle.aes_core.specs.State.{sub_bytes, shift_rows, mix_columns, add_round_key, inv_shift_rows, inv_sub_bytes, inv_mix_columns}
 use Rattle.aes_core.specs.Expansion.{key_expansion, round_key, rounds_of}

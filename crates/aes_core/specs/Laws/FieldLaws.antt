@@ -1,13 +1,13 @@
 -- Facts of the field: the product with x respects sums, so do all products, and MixColumns is undone.
-use Rattle.std.proofs.Common.{◌≡◌, ℕ, zero, suc, ◌+◌, ◌*◌, ◌/◌, ◌%◌, ◌<◌, ◌==◌, nat_lt, Bool, true, false, cond, List, [], ◌∷◌, get_or, refl, sym, ◌∙◌, ap, subst, arith, lit<}
-use Rattle.std.specs.Int.Bits.{bit_xor, xor_assoc, xor_self, xor_zero_r, xor_zero_l}
-use Rattle.std.proofs.lemmas.Nat.{xor_comm, xor_of_8}
+use Rattle.std.proofs.Common.{◌≡◌, ℕ, zero, suc, ◌/◌, ◌%◌, ◌<◌, ◌==◌, nat_lt, Bool, true, false, cond, [], ◌∷◌, refl, ◌∙◌, ap, lit<}
+use Rattle.std.specs.Int.Bits.{bit_xor, xor_assoc, xor_self, xor_zero_r}
+use Rattle.std.proofs.lemmas.Nat.{xor_of_8}
 use Rattle.std.proofs.lemmas.Bool.{agree_below, agree_below_at, ltb-true}
 use Rattle.std.proofs.lemmas.Bool.Decides.{Decides-eqb}
 use Rattle.aes_core.specs.Field.{x_times, times_bits, times, inverse_up_to, inverse, affine, sub_byte, affine_back, inv_sub_byte}
 use Rattle.aes_core.specs.State.{mixed, unmixed}
-use Rattle.aes_core.specs.Laws.XorSums.{interchange, Sum, value, same_sums}
-use Rattle.aes_core.specs.Laws.XorSums.Sum.{None_of, Term, Both}
+use Rattle.aes_core.specs.Laws.XorSums.{interchange, Sum, same_sums}
+use Rattle.aes_core.specs.Laws.XorSums.Sum.{Term, Both}
 
 -- two functions that agree below n, as a computed test says
 pub same_at : (f g : ℕ → ℕ) (n b : ℕ) → agree_below (λ k. f k == g k) (λ _. true) n ≡ true → b < n → f b ≡ g b

@@ -1,10 +1,10 @@
 -- The key schedule of a key is of bytes.
-use Rattle.std.proofs.Common.{◌≡◌, ℕ, zero, suc, ◌+◌, ◌-◌, ◌*◌, ◌/◌, ◌%◌, ◌<◌, ◌==◌, nat_lt, Bool, true, false, cond, ◌&&◌, List, [], ◌∷◌, ◌++◌, length, take, drop, get_or, sym, subst, lit<}
+use Rattle.std.proofs.Common.{ℕ, zero, suc, ◌+◌, ◌-◌, ◌*◌, ◌/◌, ◌%◌, ◌<◌, ◌==◌, nat_lt, cond, ◌&&◌, List, [], ◌∷◌, ◌++◌, take, drop, get_or, sym, subst, lit<}
 use Rattle.std.proofs.lemmas.List.{get_or-drop}
 use Rattle.std.proofs.lemmas.Bool.{cond_both}
 use Rattle.aes_core.specs.Block.{IsBytes}
-use Rattle.aes_core.specs.Field.{add, x_times, sub_byte}
-use Rattle.aes_core.specs.Expansion.{word, word_of, add_words, rot_word, sub_word, power_of_x, round_constant, changed, next_word, with_next, expanded, words_of, rounds_of, key_expansion, round_key}
+use Rattle.aes_core.specs.Field.{add, sub_byte}
+use Rattle.aes_core.specs.Expansion.{word, word_of, add_words, rot_word, sub_word, power_of_x, round_constant, changed, next_word, expanded, words_of, rounds_of, key_expansion, round_key}
 use Rattle.aes_core.specs.Laws.FieldLaws.{sub_byte_byte, x_times_byte, sum_byte}
 use Rattle.aes_core.specs.Laws.StateLaws.{bytes_cons, bytes_none}
 

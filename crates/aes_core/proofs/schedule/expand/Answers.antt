@@ -1,4 +1,4 @@
-use Rattle.std.proofs.Common.{◌≡◌, ◌+◌, ◌*◌, ◌/◌, ◌≤◌, ◌⊎◌, inl, inr, length, ap, ◌∙◌, arith}
+use Rattle.std.proofs.Common.{◌≡◌, ◌+◌, ◌*◌, ◌≤◌, inl, inr, length, ap, ◌∙◌, arith}
 use Rattle.aes_core.specs.Expansion.{expanded, words_of, rounds_of, key_expansion}
 use Rattle.aes_core.proofs.ScheduleLemmas.{key_sizes, whole_words, expanded_length, expanded_more}
 use Rattle.aes_core.proofs.schedule.expand.Goals as goal

@@ -1,4 +1,4 @@
-use Rattle.std.proofs.Common.{◌≡◌, ◌+◌, ◌/◌, Bool, true, length, ap, ◌∙◌, sym, subst, rules, arith}
+use Rattle.std.proofs.Common.{◌≡◌, ◌+◌, ◌/◌, true, length, ap, ◌∙◌, sym, subst, rules, arith}
 use Rattle.aes_core.specs.Expansion.{key_expansion, rounds_of}
 use Rattle.aes_core.specs.Cipher.{is_key_size, IsKey}
 use Rattle.aes_core.specs.Held.{key_in}

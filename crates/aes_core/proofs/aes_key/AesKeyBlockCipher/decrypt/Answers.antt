@@ -1,5 +1,5 @@
-use Rattle.std.proofs.Common.{◌≡◌, ap, ◌∙◌}
-use Rattle.aes_core.specs.Expansion.{key_expansion, rounds_of}
+use Rattle.std.proofs.Common.{ap, ◌∙◌}
+use Rattle.aes_core.specs.Expansion.{rounds_of}
 use Rattle.aes_core.specs.Cipher.{inverse_by, inverse_cipher}
 use Rattle.aes_core.specs.Held.{key_in}
 use Rattle.aes_core.specs.KeyOf.{key_of}

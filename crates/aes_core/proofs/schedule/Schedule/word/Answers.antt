@@ -1,4 +1,4 @@
-use Rattle.std.proofs.Common.{◌≡◌, ◌+◌, ◌*◌, ◌≤◌, ◌∙◌, ap, sym, take, length, length-take, arith}
+use Rattle.std.proofs.Common.{◌+◌, ◌*◌, ◌≤◌, ◌∙◌, ap, sym, length, length-take, arith}
 use Rattle.aes_core.specs.Expansion.{word}
 use Rattle.aes_core.proofs.ScheduleLemmas.{piece_of_front}
 use Rattle.aes_core.proofs.schedule.Schedule.word.Goals as goal
