@@ -75,8 +75,8 @@ size_is cipher_of inverse_of s c i plan nonce text given made at = ap length at.
 same_eqb : (a b c d : ℕ) → (a ≡ b → c ≡ d) → (c ≡ d → a ≡ b) → (a == b) ≡ (c == d)
 same_eqb a b c d there back =
     elim (cases_eq a b) [
-        inl e ↦ eq-eqb a b e ∙ sym (eq-eqb c d (there e))
-        | inr ne ↦ ne_eqb a b ne ∙ sym (ne_eqb c d (λ e. ne (back e)))
+      | inl e ↦ eq-eqb a b e ∙ sym (eq-eqb c d (there e))
+      | inr ne ↦ ne_eqb a b ne ∙ sym (ne_eqb c d (λ e. ne (back e)))
     ]
 
 -- without a padding
@@ -99,28 +99,28 @@ open_end : {C : Type 0} (cipher_of inverse_of : C → List ℕ → List ℕ) (s 
 open_end cipher_of inverse_of s c i plan nonce text given made at few lazy whole_out =
     let size = size_is cipher_of inverse_of s c i plan nonce text given made at in
     elim (cases_eq (length s.held) 16) [
-        inl full ↦
-            let whole : length text % 16 ≡ 0 = omega (arith, size) in
-            let some : 16 ≤ length text = omega (arith, size) in
-            ap (λ t. cond (t && nat_le 16 (length text)) (ok_or (unpad (made text)) Padding) (Err Length)) (eq-eqb (length text % 16) 0 whole)
-            ∙ ap (λ t. cond t (ok_or (unpad (made text)) Padding) (Err Length)) (le-leb 16 (length text) some)
-            ∙ ap (λ t. ok_or (unpad t) Padding) (block_more cipher_of inverse_of s c i plan nonce text given made text s.held at at.going.text_is full)
-            ∙ ap (λ t. ok_or t Padding) (unpad-append given (out_of cipher_of inverse_of s s.held) (whole_out full))
-            ∙ behind_ok_or given (unpad (out_of cipher_of inverse_of s s.held))
-            ∙ ap (λ t. behind given (cond t (ok_or (unpad (out_of cipher_of inverse_of s s.held)) Padding) (Err Length))) (sym (eq-eqb (length s.held) 16 full))
-        | inr part ↦
-            let no : (length text % 16 == 0 && nat_le 16 (length text)) ≡ false =
-                elim (cases_eq (length s.held) 0) [
-                    inl empty ↦
-                        let none : length text ≡ 0 = lazy empty in
-                        let short : length text < 16 = omega (arith, none) in
-                        and_right (length text % 16 == 0) (nat_le 16 (length text)) (lt-leb 16 (length text) short)
-                    | inr some ↦
-                        let rest : length text % 16 ≡ 0 → ⊥ = λ e. some (omega (arith, size, e, few, part)) in
-                        and_left (length text % 16 == 0) (nat_le 16 (length text)) (ne_eqb (length text % 16) 0 rest)
-                ] in
-            ap (λ t. cond t (ok_or (unpad (made text)) Padding) (Err Length)) no
-            ∙ ap (λ t. behind given (cond t (ok_or (unpad (out_of cipher_of inverse_of s s.held)) Padding) (Err Length))) (sym (ne_eqb (length s.held) 16 part))
+      | inl full ↦
+          let whole : length text % 16 ≡ 0 = omega (arith, size) in
+          let some : 16 ≤ length text = omega (arith, size) in
+          ap (λ t. cond (t && nat_le 16 (length text)) (ok_or (unpad (made text)) Padding) (Err Length)) (eq-eqb (length text % 16) 0 whole)
+          ∙ ap (λ t. cond t (ok_or (unpad (made text)) Padding) (Err Length)) (le-leb 16 (length text) some)
+          ∙ ap (λ t. ok_or (unpad t) Padding) (block_more cipher_of inverse_of s c i plan nonce text given made text s.held at at.going.text_is full)
+          ∙ ap (λ t. ok_or t Padding) (unpad-append given (out_of cipher_of inverse_of s s.held) (whole_out full))
+          ∙ behind_ok_or given (unpad (out_of cipher_of inverse_of s s.held))
+          ∙ ap (λ t. behind given (cond t (ok_or (unpad (out_of cipher_of inverse_of s s.held)) Padding) (Err Length))) (sym (eq-eqb (length s.held) 16 full))
+      | inr part ↦
+          let no : (length text % 16 == 0 && nat_le 16 (length text)) ≡ false =
+          elim (cases_eq (length s.held) 0) [
+            | inl empty ↦
+                let none : length text ≡ 0 = lazy empty in
+                let short : length text < 16 = omega (arith, none) in
+                and_right (length text % 16 == 0) (nat_le 16 (length text)) (lt-leb 16 (length text) short)
+            | inr some ↦
+                let rest : length text % 16 ≡ 0 → ⊥ = λ e. some (omega (arith, size, e, few, part)) in
+                and_left (length text % 16 == 0) (nat_le 16 (length text)) (ne_eqb (length text % 16) 0 rest)
+          ] in
+          ap (λ t. cond t (ok_or (unpad (made text)) Padding) (Err Length)) no
+          ∙ ap (λ t. behind given (cond t (ok_or (unpad (out_of cipher_of inverse_of s s.held)) Padding) (Err Length))) (sym (ne_eqb (length s.held) 16 part))
     ]
 
 never_back : (padded : Bool) → (padded && not true) ≡ false
@@ -136,7 +136,7 @@ blocks_end : {C : Type 0} (cipher_of inverse_of : C → List ℕ → List ℕ) (
 blocks_end cipher_of inverse_of s c i plan nonce text given made true true at few waits lazy size =
     let short = waits refl in
     ap Ok (block_more cipher_of inverse_of s c i plan nonce text given made (pad text) (pad s.held) at
-        (ap pad at.going.text_is ∙ pad_joined at.going.blocks s.held at.going.each) (length-pad s.held short))
+    (ap pad at.going.text_is ∙ pad_joined at.going.blocks s.held at.going.each) (length-pad s.held short))
 blocks_end cipher_of inverse_of s c i plan nonce text given made false true at few waits lazy size =
     open_end cipher_of inverse_of s c i plan nonce text given made at few (lazy refl) (size refl refl)
 blocks_end cipher_of inverse_of s c i plan nonce text given made true false at few waits lazy size = plain_end cipher_of inverse_of s c i plan nonce text given made at (waits refl)
@@ -157,7 +157,7 @@ unfolding whole
 finishes_ecb cipher_of inverse_of s c i nonce text seal padded r out h completes size =
     finishes_from (whole_blocks seal padded (raw c i (Ecb seal padded) nonce) text) (last cipher_of inverse_of s seal padded) (take (front (Ecb seal padded) text) (raw c i (Ecb seal padded) nonce text)) out r
     (blocks_end cipher_of inverse_of s c i (Ecb seal padded) nonce text (take (front (Ecb seal padded) text) (raw c i (Ecb seal padded) nonce text)) (raw c i (Ecb seal padded) nonce) seal padded
-        (record { going = h.going; is_made = λ t. raw_through c i (Ecb seal padded) nonce t refl }) h.few h.waits h.lazy size)
+    (record { going = h.going; is_made = λ t. raw_through c i (Ecb seal padded) nonce t refl }) h.few h.waits h.lazy size)
     (completes (λ sealing. h.waits (ap (λ t. padded && not t) sealing ∙ never_back padded)))
 
 pub finishes_cbc : {C : Type 0} (cipher_of inverse_of : C → List ℕ → List ℕ) (s : Blocks C) (c i : List ℕ → List ℕ) (nonce text : List ℕ) (seal padded : Bool) (r : Result ℕ ModeFault) (out : List ℕ) →
@@ -167,7 +167,7 @@ unfolding whole
 finishes_cbc cipher_of inverse_of s c i nonce text seal padded r out h completes size =
     finishes_from (whole_blocks seal padded (raw c i (Cbc seal padded) nonce) text) (last cipher_of inverse_of s seal padded) (take (front (Cbc seal padded) text) (raw c i (Cbc seal padded) nonce text)) out r
     (blocks_end cipher_of inverse_of s c i (Cbc seal padded) nonce text (take (front (Cbc seal padded) text) (raw c i (Cbc seal padded) nonce text)) (raw c i (Cbc seal padded) nonce) seal padded
-        (record { going = h.going; is_made = λ t. raw_through c i (Cbc seal padded) nonce t refl }) h.few h.waits h.lazy size)
+    (record { going = h.going; is_made = λ t. raw_through c i (Cbc seal padded) nonce t refl }) h.few h.waits h.lazy size)
     (completes (λ sealing. h.waits (ap (λ t. padded && not t) sealing ∙ never_back padded)))
 
 -- in CTR all is out

@@ -232,7 +232,7 @@ holds_at_front cipher_of inverse_of s c i plan nonce text given g waits few lazy
       going = subst P (sym there.1) g;
       within = there.0 ∙ ap length (sym there.1);
       few = few;
-            waits = waits;
+      waits = waits;
       lazy = lazy;
     }
 

@@ -31,21 +31,21 @@ too_large n text large =
 unpad_by-append : (n : ℕ) (xs block : List ℕ) → length block ≡ 16 → unpad_by n (xs ++ block) ≡ option_map (λ t. xs ++ t) (unpad_by n block)
 unpad_by-append n xs block whole =
     elim (cases_lt 16 n) [
-        inl large ↦
-            ap (λ t. cond t (Some (take (length (xs ++ block) - n) (xs ++ block))) None) (too_large n (xs ++ block) large)
-            ∙ ap (λ t. option_map (λ u. xs ++ u) (cond t (Some (take (length block - n) block)) None)) (sym (too_large n block large))
-        | inr small ↦
-            let e : length (xs ++ block) - n ≡ length xs + (length block - n) = omega (arith, length-append xs block) in
-            let within : n ≤ length block = omega arith in
-            let far : n ≤ length (xs ++ block) = omega (arith, length-append xs block) in
-            let test : is_padding n (xs ++ block) ≡ is_padding n block =
-                ap (λ t. (nat_le 1 n && nat_le n 16 && t) && list_all (λ byte. byte == n) (drop (length (xs ++ block) - n) (xs ++ block))) (le-leb n (length (xs ++ block)) far ∙ sym (le-leb n (length block) within))
-                ∙ ap (λ k. (nat_le 1 n && nat_le n 16 && nat_le n (length block)) && list_all (λ byte. byte == n) (drop k (xs ++ block))) e
-                ∙ ap (λ t. (nat_le 1 n && nat_le n 16 && nat_le n (length block)) && list_all (λ byte. byte == n) t) (drop-append-add xs block (length block - n)) in
-            ap (λ t. cond t (Some (take (length (xs ++ block) - n) (xs ++ block))) None) test
-            ∙ ap (λ k. cond (is_padding n block) (Some (take k (xs ++ block))) None) e
-            ∙ ap (λ t. cond (is_padding n block) (Some t) None) (take-append-add xs block (length block - n))
-            ∙ chosen (is_padding n block) xs (take (length block - n) block)
+      | inl large ↦
+          ap (λ t. cond t (Some (take (length (xs ++ block) - n) (xs ++ block))) None) (too_large n (xs ++ block) large)
+          ∙ ap (λ t. option_map (λ u. xs ++ u) (cond t (Some (take (length block - n) block)) None)) (sym (too_large n block large))
+      | inr small ↦
+          let e : length (xs ++ block) - n ≡ length xs + (length block - n) = omega (arith, length-append xs block) in
+          let within : n ≤ length block = omega arith in
+          let far : n ≤ length (xs ++ block) = omega (arith, length-append xs block) in
+          let test : is_padding n (xs ++ block) ≡ is_padding n block =
+          ap (λ t. (nat_le 1 n && nat_le n 16 && t) && list_all (λ byte. byte == n) (drop (length (xs ++ block) - n) (xs ++ block))) (le-leb n (length (xs ++ block)) far ∙ sym (le-leb n (length block) within))
+          ∙ ap (λ k. (nat_le 1 n && nat_le n 16 && nat_le n (length block)) && list_all (λ byte. byte == n) (drop k (xs ++ block))) e
+          ∙ ap (λ t. (nat_le 1 n && nat_le n 16 && nat_le n (length block)) && list_all (λ byte. byte == n) t) (drop-append-add xs block (length block - n)) in
+          ap (λ t. cond t (Some (take (length (xs ++ block) - n) (xs ++ block))) None) test
+          ∙ ap (λ k. cond (is_padding n block) (Some (take k (xs ++ block))) None) e
+          ∙ ap (λ t. cond (is_padding n block) (Some t) None) (take-append-add xs block (length block - n))
+          ∙ chosen (is_padding n block) xs (take (length block - n) block)
     ]
 
 pub unpad-append : (xs block : List ℕ) → length block ≡ 16 → unpad (xs ++ block) ≡ option_map (λ t. xs ++ t) (unpad block)

@@ -9,6 +9,8 @@ mod fault;
 mod held;
 mod padding;
 mod step;
+#[cfg(test)]
+mod tests;
 
 pub use engine::Blocks;
 pub use fault::ModeFault;
