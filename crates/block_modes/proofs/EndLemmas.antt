@@ -1,8 +1,8 @@
 -- The end of a text.
-use Rattle.std.proofs.Common.{◌≡◌, ℕ, ◌+◌, ◌-◌, ◌*◌, ◌/◌, ◌%◌, ◌<◌, ◌≤◌, ◌==◌, nat_le, Bool, true, false, cond, not, ◌&&◌, ◌⊎◌, inl, inr, List, [], ◌∷◌, ◌++◌, length, take, drop, Option, Some, None, Result, Ok, Err, MatchResult, refl, sym, ◌∙◌, ap, subst, arith, append-nil}
+use Rattle.std.proofs.Common.{◌≡◌, ℕ, ◌+◌, ◌*◌, ◌%◌, ◌<◌, ◌≤◌, ◌==◌, nat_le, Bool, true, false, cond, not, ◌&&◌, inl, inr, List, [], ◌++◌, length, take, Option, Some, None, Result, Ok, Err, MatchResult, refl, sym, ◌∙◌, ap, arith, append-nil}
 use Rattle.std.specs.List.{concat}
 use Rattle.std.specs.Option.{ok_or, option_map}
-use Rattle.std.proofs.lemmas.Bool.{cases_lt, cases_eq, eq-eqb, ne_eqb, lt-leb, le-leb, and_left, and_right, cond-true, cond-false, false≢true}
+use Rattle.std.proofs.lemmas.Bool.{cases_eq, eq-eqb, ne_eqb, lt-leb, le-leb, and_left, and_right, false≢true}
 use Rattle.tags.specs.declared.plan.Plan.{Plan}
 use Rattle.tags.specs.declared.plan.Plan.TheVariants.{Ecb, Cbc, Ctr, Gcm, HmacSign, HmacVerify}
 use Rattle.block_modes.specs.declared.engine.Blocks.{Blocks}
@@ -10,9 +10,9 @@ use Rattle.block_modes.specs.declared.fault.ModeFault.{ModeFault}
 use Rattle.block_modes.specs.declared.fault.ModeFault.TheVariants.{Length, Padding}
 use Rattle.block_modes.specs.Texts.{blocks_of}
 use Rattle.block_modes.specs.Padding.{pad, unpad}
-use Rattle.block_modes.specs.Output.{is_served, raw, front, is_whole, completed, whole_blocks, whole}
-use Rattle.block_modes.specs.Steps.{step_out, through, chain_after, holds_back}
-use Rattle.block_modes.specs.Holds.{Going, shown, Holds, out_of, Finishes, last}
+use Rattle.block_modes.specs.Output.{raw, front, whole_blocks, whole}
+use Rattle.block_modes.specs.Steps.{step_out, through, chain_after}
+use Rattle.block_modes.specs.Holds.{Going, Holds, out_of, Finishes, last}
 use Rattle.block_modes.proofs.PieceLemmas.{length-text, blocks_short, blocks_full}
 use Rattle.block_modes.proofs.StepLemmas.{through-snoc, raw_through}
 use Rattle.block_modes.proofs.GoingLemmas.{out_is, counter_same}

@@ -1,5 +1,5 @@
 -- What the engine holds, after each thing that it does.
-use Rattle.std.proofs.Common.{◌≡◌, ℕ, zero, suc, ◌+◌, ◌-◌, ◌*◌, ◌/◌, ◌%◌, ◌<◌, ◌≤◌, ◌==◌, Bool, true, false, cond, not, ◌&&◌, ◌⊎◌, inl, inr, List, [], ◌∷◌, ◌++◌, length, take, drop, refl, sym, ◌∙◌, ap, subst, arith, append_assoc, append-nil, length-append, length-drop}
+use Rattle.std.proofs.Common.{◌≡◌, ℕ, ◌+◌, ◌-◌, ◌*◌, ◌/◌, ◌%◌, ◌<◌, ◌≤◌, ◌==◌, Bool, true, false, not, ◌&&◌, inl, inr, List, [], ◌∷◌, ◌++◌, length, take, drop, refl, sym, ◌∙◌, ap, subst, arith, append_assoc, append-nil, length-append, length-drop}
 use Rattle.std.specs.List.{concat}
 use Rattle.std.proofs.lemmas.List.{take_at, take_all, take-append-drop, take-append-le, nil_from_length}
 use Rattle.std.proofs.lemmas.List.Folds.{concat-append}
@@ -12,8 +12,8 @@ use Rattle.block_modes.specs.Output.{is_served, raw, blocks_out, front}
 use Rattle.block_modes.specs.Steps.{step_out, step_chain, through, chain_after, is_counter, holds_back}
 use Rattle.block_modes.specs.Holds.{Going, IsLazy, shown, Holds, out_of, after_block}
 use Rattle.block_modes.proofs.XorLemmas.{take-xor_bytes}
-use Rattle.block_modes.proofs.PieceLemmas.{AreBlocks-snoc, length-concat, length-text, blocks_short, blocks_full, pieces_none, pieces_some}
-use Rattle.block_modes.proofs.StepLemmas.{through-snoc, chain_after-snoc, parts, raw_through}
+use Rattle.block_modes.proofs.PieceLemmas.{AreBlocks-snoc, length-text, blocks_short, blocks_full, pieces_none, pieces_some}
+use Rattle.block_modes.proofs.StepLemmas.{through-snoc, chain_after-snoc, raw_through}
 
 -- the part of a block that is out, and the rest of what comes out for it
 seam_counter : (skip : ℕ) (held key : List ℕ) → xor_bytes (take skip held) key ++ drop skip (xor_bytes held key) ≡ xor_bytes held key

@@ -1,13 +1,12 @@
 -- The loop of an update: how much of the input is taken, and what was given.
-use Rattle.std.proofs.Common.{◌≡◌, ℕ, ◌+◌, ◌-◌, ◌*◌, ◌<◌, ◌≤◌, Bool, true, false, List, [], ◌∷◌, ◌++◌, length, take, drop, refl, sym, ◌∙◌, ap, subst, arith, append_assoc, append-nil, length-append, length-drop}
+use Rattle.std.proofs.Common.{◌≡◌, ℕ, ◌+◌, ◌-◌, ◌<◌, ◌≤◌, List, [], ◌++◌, length, take, drop, sym, ◌∙◌, ap, subst, arith, append_assoc, append-nil, length-drop}
 use Rattle.std.proofs.lemmas.List.{take_all}
 use Rattle.std.proofs.Math.Seq.{take-add}
 use Rattle.tags.specs.declared.plan.Plan.{Plan}
 use Rattle.block_modes.specs.declared.engine.Blocks.{Blocks}
 use Rattle.block_modes.specs.Output.{raw, front}
-use Rattle.block_modes.specs.Holds.{Going, IsLazy, Settled, shown, Holds, Gives}
+use Rattle.block_modes.specs.Holds.{Going, IsLazy, Settled, shown, Holds}
 use Rattle.block_modes.proofs.GoingLemmas.{going_fill}
-use Rattle.block_modes.proofs.SettleLemmas.{gives_from}
 
 -- the text with what is taken of the input while this much of it is left
 abbrev pub so_far : List ℕ → List ℕ → List ℕ → List ℕ

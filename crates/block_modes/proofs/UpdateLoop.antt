@@ -1,5 +1,5 @@
 -- What the loop of an update keeps.
-use Rattle.std.proofs.Common.{◌≡◌, ℕ, ◌+◌, ◌-◌, ◌<◌, ◌≤◌, List, ◌++◌, length, take, drop, min, refl, sym, ◌∙◌, ap, arith, length-append, length-take, length-drop, drop-drop}
+use Rattle.std.proofs.Common.{◌≡◌, ℕ, ◌+◌, ◌-◌, ◌<◌, ◌≤◌, List, ◌++◌, length, take, drop, min, refl, ◌∙◌, ap, arith, length-append, length-take, length-drop, drop-drop}
 use Rattle.tags.specs.declared.plan.Plan.{Plan}
 use Rattle.block_modes.specs.declared.engine.Blocks.{Blocks}
 use Rattle.block_modes.specs.Holds.{Going, shown}

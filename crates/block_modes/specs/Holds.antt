@@ -8,7 +8,7 @@ use Rattle.block_modes.specs.declared.fault.ModeFault.{ModeFault}
 use Rattle.block_modes.specs.declared.fault.ModeFault.TheVariants.{Length, Padding}
 use Rattle.block_modes.specs.Padding.{pad, unpad}
 use Rattle.block_modes.specs.Texts.{AreBlocks, xor_bytes}
-use Rattle.block_modes.specs.Output.{is_served, raw, front, whole}
+use Rattle.block_modes.specs.Output.{is_served, raw, front}
 use Rattle.block_modes.specs.Steps.{step_out, step_chain, through, chain_after, is_counter, holds_back}
 
 -- Some blocks of the text have gone through, and the rest is held; what was given is what came out for the blocks,

@@ -1,5 +1,5 @@
 -- A text in pieces of 16 bytes.
-use Rattle.std.specs.Prelude.{ℕ, ◌≡◌, zero, suc, ◌+◌, ◌*◌, ◌/◌, List, [], ◌∷◌, length, take, drop, bit_xor}
+use Rattle.std.specs.Prelude.{ℕ, ◌≡◌, zero, suc, ◌+◌, ◌/◌, List, [], ◌∷◌, length, take, drop, bit_xor}
 use Rattle.std.specs.Simd.Lanes.{zip2}
 
 -- the first n pieces of 16 bytes

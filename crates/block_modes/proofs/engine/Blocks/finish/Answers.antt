@@ -1,6 +1,6 @@
-use Rattle.std.proofs.Common.{◌≡◌, ◌++◌, List, ℕ, take, sym, ◌∙◌, subst, refl, arith}
+use Rattle.std.proofs.Common.{◌≡◌, take, sym, ◌∙◌, subst, refl, arith}
 use Rattle.tags.specs.declared.plan.Plan.{Plan}
-use Rattle.tags.specs.declared.plan.Plan.TheVariants.{Ecb, Cbc, Ctr}
+use Rattle.tags.specs.declared.plan.Plan.TheVariants.{Ecb, Cbc}
 use Rattle.block_modes.specs.Output.{raw, front, whole}
 use Rattle.block_modes.specs.Holds.{Holds, Finishes}
 use Rattle.block_modes.proofs.EndLemmas.{finishes_ecb, finishes_cbc, finishes_rest}

@@ -1,4 +1,4 @@
-use Rattle.std.proofs.Common.{◌≡◌, ◌≤◌, length, take, ◌∙◌, sym, arith}
+use Rattle.std.proofs.Common.{◌≡◌, ◌≤◌, length, take, arith}
 use Rattle.block_modes.proofs.SettleLemmas.{going_put}
 use Rattle.block_modes.proofs.engine.Blocks.make_room.Goals as goal
 

@@ -1,5 +1,4 @@
-use Rattle.std.proofs.Common.{◌≡◌, ◌≤◌, ◌-◌, ◌++◌, length, take, drop, ap, sym, ◌∙◌, arith, length-take, rules}
-use Rattle.block_modes.specs.Texts.{xor_bytes}
+use Rattle.std.proofs.Common.{◌≡◌, ◌≤◌, ◌-◌, ◌++◌, length, take, drop, ap, ◌∙◌, arith, length-take, rules}
 use Rattle.block_modes.proofs.SettleLemmas.{counter_out, shown_part, range_is}
 use Rattle.block_modes.proofs.engine.Blocks.show.Goals as goal
 

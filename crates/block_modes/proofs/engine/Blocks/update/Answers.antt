@@ -1,7 +1,6 @@
-use Rattle.std.proofs.Common.{◌≡◌, ◌+◌, ◌-◌, ◌<◌, ◌≤◌, ◌++◌, length, take, drop, ap, sym, ◌∙◌, arith, rules}
+use Rattle.std.proofs.Common.{◌≡◌, ◌-◌, ◌<◌, ◌++◌, length, take, drop, ap, sym, ◌∙◌, arith}
 use Rattle.std.proofs.lemmas.Bool.{eqb-true, eqb-false}
 use Rattle.std.proofs.lemmas.List.{take_rest}
-use Rattle.block_modes.specs.Holds.{Settled}
 use Rattle.block_modes.proofs.SettleLemmas.{drop_further, gives_from}
 use Rattle.block_modes.proofs.Taking.{taken_all}
 use Rattle.block_modes.proofs.UpdateLoop.{in_update_start, in_update_more}

@@ -1,4 +1,4 @@
-use Rattle.std.proofs.Common.{◌≡◌, ◌+◌, ◌-◌, ◌≤◌, length, drop}
+use Rattle.std.proofs.Common.{length}
 use Rattle.block_modes.proofs.UpdateLoop.{InUpdate}
 use Rattle.block_modes.proofs.engine.Blocks.update.Given as goal
 
