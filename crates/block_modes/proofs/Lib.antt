@@ -1,0 +1,9 @@
+pub mod XorLemmas
+pub mod PieceLemmas
+pub mod StepLemmas
+pub mod GoingLemmas
+pub mod SettleLemmas
+pub mod Taking
+pub mod UpdateLoop
+pub mod PadLemmas
+pub mod EndLemmas

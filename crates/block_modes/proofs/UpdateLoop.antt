@@ -1,0 +1,51 @@
+-- What the loop of an update keeps.
+use Rattle.std.proofs.Common.{◌≡◌, ℕ, ◌+◌, ◌-◌, ◌<◌, ◌≤◌, List, ◌++◌, length, take, drop, min, refl, ◌∙◌, ap, arith, length-append, length-take, length-drop, drop-drop}
+use Rattle.tags.specs.declared.plan.Plan.{Plan}
+use Rattle.block_modes.specs.declared.engine.Blocks.{Blocks}
+use Rattle.block_modes.specs.Holds.{Going, shown}
+use Rattle.block_modes.proofs.SettleLemmas.{drop_further}
+use Rattle.block_modes.proofs.Taking.{Taking, taking_start, taking_more}
+
+pub record InUpdate {C : Type 0} (cipher_of inverse_of : C → List ℕ → List ℕ) (start state : Blocks C) (input rest before out : List ℕ) (at skip : ℕ) : Type 0 where
+  pub part : skip ≤ length state.held
+  pub room : at + length state.held + length rest ≤ length input + 16
+  pub is_rest : rest ≡ drop (length input - length rest) input
+  pub few : length rest ≤ length input
+  pub kept : drop at out ≡ drop at before
+  pub taking : Taking cipher_of inverse_of start state input rest out at skip
+
+pub in_update_start : {C : Type 0} (cipher_of inverse_of : C → List ℕ → List ℕ) (s : Blocks C) (input out : List ℕ) (skip : ℕ) →
+    skip ≡ shown s.plan (length s.held) → skip ≤ length s.held → length s.held ≤ 16 → InUpdate cipher_of inverse_of s s input input out out 0 skip
+in_update_start cipher_of inverse_of s input out skip is_skip part few =
+    let none : 0 ≡ length input - length input = omega arith in
+    record {
+      part = part;
+      room = omega arith;
+      is_rest = ap (λ n. drop n input) none;
+      few = omega arith;
+      kept = refl;
+      taking = taking_start cipher_of inverse_of s input out skip is_skip;
+    }
+
+pub in_update_more : {C : Type 0} (cipher_of inverse_of : C → List ℕ → List ℕ) (start s t n : Blocks C) (input rest new before out made : List ℕ) (at end skip part taken : ℕ) →
+    InUpdate cipher_of inverse_of start s input rest before out at skip →
+    ((c i : List ℕ → List ℕ) (plan : Plan) (nonce text front : List ℕ) → Going cipher_of inverse_of s c i plan nonce text skip (front ++ take at out) →
+    Going cipher_of inverse_of t c i plan nonce text part (front ++ take end made)) →
+    part ≤ length t.held → n ≡ record t { held = t.held ++ take taken rest } → length t.held < 16 → 0 < length rest →
+    taken ≡ min (16 - length t.held) (length rest) → new ≡ drop taken rest →
+    end + length t.held ≤ at + length s.held → at ≤ end → drop end made ≡ drop end out →
+    InUpdate cipher_of inverse_of start n input new before made end part
+in_update_more cipher_of inverse_of start s t n input rest new before out made at end skip part taken old room within is_n space some is_taken is_new count later kept =
+    let held : length n.held ≡ length t.held + taken = ap (λ u. length u.held) is_n ∙ omega (arith, length-append t.held (take taken rest), length-take taken rest, is_taken) in
+    let left : length new ≡ length rest - taken = ap length is_new ∙ length-drop taken rest in
+    let fits : taken ≤ length rest = omega arith in
+    let any : 0 < length n.held = omega arith in
+    let sum : (length input - length rest) + taken ≡ length input - length new = omega (arith, old.few) in
+    record {
+      part = omega arith;
+      room = omega (arith, old.room);
+      is_rest = is_new ∙ ap (drop taken) old.is_rest ∙ drop-drop taken (length input - length rest) input ∙ ap (λ k. drop k input) sum;
+      few = omega (arith, old.few);
+      kept = kept ∙ drop_further at end out before old.kept later;
+      taking = taking_more cipher_of inverse_of start s t n input rest new out made at end skip part taken old.taking room within is_n any old.is_rest old.few is_new fits;
+    }
