@@ -1,0 +1,10 @@
+//! AES, the block cipher of FIPS 197, on one block at a time.
+//!
+//! The one contract: [`AesKey::encrypt`] is the standard's cipher of the key and the block, and
+//! [`AesKey::decrypt`] is its inverse. The definitions (`specs/`) follow the standard's sections in
+//! order; they invert in the field of 256 elements and hold no table.
+#![tactic(auto)]
+
+mod block_cipher;
+
+pub use block_cipher::BlockCipher;
