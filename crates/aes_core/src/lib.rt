@@ -5,6 +5,14 @@
 //! order; they invert in the field of 256 elements and hold no table.
 #![tactic(auto)]
 
+mod aes_key;
 mod block_cipher;
+mod boxes;
+mod rounds;
+mod schedule;
+mod state;
+#[cfg(test)]
+mod tests;
 
+pub use aes_key::AesKey;
 pub use block_cipher::BlockCipher;

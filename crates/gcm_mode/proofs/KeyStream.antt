@@ -7,7 +7,7 @@ use Rattle.std.specs.Int.{w32, from_be_bytes, to_be_bytes}
 use Rattle.std.specs.Int.RustNames.{bit_xor}
 use Rattle.gcm_mode.specs.Blocks.{first_blocks, blocks_of}
 use Rattle.gcm_mode.specs.Counter.{inc32, xor_bytes, gctr_blocks, gctr}
-use Rattle.gcm_mode.specs.Gcm.{pre_counter, raw}
+use Rattle.gcm_mode.specs.Gcm.{pre_counter, raw, seal_given}
 use Rattle.gcm_mode.specs.Parts.{counter_block, key_byte}
 
 -- a string that begins at a place, with what f gives at each byte's place added to it
@@ -134,3 +134,6 @@ gctr_one cipher icb block len = rw (len, take_all 16 block (omega arith)) (appen
 
 pub raw_none : (cipher : List ℕ → List ℕ) (nonce : List ℕ) → length nonce ≡ 12 → raw cipher nonce [] ≡ []
 raw_none cipher nonce len = raw_is cipher nonce [] len
+
+pub seal_given_is : (cipher : List ℕ → List ℕ) (nonce text : List ℕ) → length nonce ≡ 12 → seal_given cipher nonce text ≡ raw cipher nonce text
+seal_given_is cipher nonce text len = take_all (length text) (raw cipher nonce text) (omega (arith, length-raw cipher nonce text len))

@@ -1,6 +1,7 @@
 -- The key stream from one byte to the next.
 use Rattle.std.proofs.Common.{◌≡◌, ℕ, ◌+◌, ◌/◌, ◌%◌, ◌^◌, ◌<◌, List, ◌++◌, slice_index, refl, sym, ap, ◌∙◌, arith}
 use Rattle.std.specs.Int.{w32, to_be_bytes}
+use Rattle.gcm_mode.specs.Gcm.{pre_counter}
 use Rattle.gcm_mode.specs.Parts.{Streams, IsReady, counter_block, key_byte}
 use Rattle.gcm_mode.specs.declared.stream.Gctr.{Gctr}
 
@@ -49,3 +50,9 @@ stream_next cipher_of s t cipher nonce n held cipher_is nonce_is counter key use
       used = omega arith;
       key = λ within. let row : (n + 1) / 16 ≡ n / 16 = omega arith in rw row (key ∙ held.key);
     }
+
+-- the key block of the tag
+pub tag_key_is : {C : Type 0} (cipher_of : C → List ℕ → List ℕ) (s : Gctr C) (cipher : List ℕ → List ℕ) (nonce : List ℕ) (n : ℕ) (key : List ℕ)
+    → Streams cipher_of s cipher nonce n → key ≡ cipher_of s.cipher (pre_counter s.nonce) → key ≡ cipher (pre_counter nonce)
+tag_key_is cipher_of s cipher nonce n key held e =
+    e ∙ ap (λ (f : List ℕ → List ℕ). f (pre_counter s.nonce)) held.same ∙ ap (λ (l : List ℕ). cipher (pre_counter l)) held.nonce_is

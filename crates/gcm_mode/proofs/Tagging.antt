@@ -1,7 +1,7 @@
 -- What is hashed, and the tag.
-use Rattle.std.proofs.Common.{◌≡◌, ℕ, ◌+◌, ◌-◌, ◌*◌, ◌%◌, ◌^◌, ◌≤◌, Bool, true, false, List, [], ◌∷◌, ◌++◌, length, take, drop, replicate, nat_lt, if◌then◌else◌, Option, Some, None, refl, sym, ap, ◌∙◌, arith, length-append}
+use Rattle.std.proofs.Common.{◌≡◌, ℕ, ◌+◌, ◌-◌, ◌*◌, ◌%◌, ◌^◌, ◌<◌, ◌≤◌, Bool, true, false, List, [], ◌∷◌, ◌++◌, length, take, drop, replicate, nat_lt, if◌then◌else◌, Option, Some, None, refl, sym, ap, ◌∙◌, arith, length-append}
 use Rattle.std.proofs.lemmas.List.{append-nil}
-use Rattle.std.proofs.lemmas.Bool.Decides.{ltb-false}
+use Rattle.std.proofs.lemmas.Bool.Decides.{nat_tests}
 use Rattle.std.specs.Int.{w64, to_be_bytes}
 use Rattle.std.specs.Str.{bytes_eq}
 use Rattle.ghash.specs.Hash.{ghash}
@@ -12,10 +12,18 @@ use Rattle.gcm_mode.specs.Parts.{hashed}
 use Rattle.gcm_mode.proofs.Cutting.{length-padded, padded-append}
 use Rattle.gcm_mode.proofs.KeyStream.{gctr_one, take-raw}
 
+not_below : (a b : ℕ) → b ≤ a → nat_lt a b ≡ false
+not_below a b h = grind (arith, nat_tests)
+
+below : (a b : ℕ) → a < b → nat_lt a b ≡ true
+below a b h = grind (arith, nat_tests)
+
 -- what was hashed before the lengths, padded
 padded_hashed : (aad text : List ℕ) → padded (hashed aad text) ≡ padded aad ++ padded text
 padded_hashed aad [] = sym (append-nil (padded aad))
-padded_hashed aad (b ∷ bs) = padded-append (padded aad) (b ∷ bs) (length-padded aad)
+padded_hashed aad (b ∷ bs) =
+    let some : nat_lt 0 (length (b ∷ bs)) ≡ true = below 0 (length (b ∷ bs)) (omega arith) in
+    rw some (padded-append (padded aad) (b ∷ bs) (length-padded aad))
 
 -- and with the lengths behind it
 pub hash_input_is : (aad text first second : List ℕ) → first ≡ bit_length aad → second ≡ bit_length text
@@ -56,7 +64,7 @@ pub opened_is : (cipher : List ℕ → List ℕ) (nonce : List ℕ) (tag : ℕ) 
     → gcm_open cipher nonce tag aad text ≡ Some (open_given cipher nonce tag text)
 unfolding gcm_open
 opened_is cipher nonce tag aad text len fits e =
-    let whole : nat_lt (length text) tag ≡ false = ltb-false (length text) tag fits in
+    let whole : nat_lt (length text) tag ≡ false = not_below (length text) tag fits in
     rw (whole, e) (ap (λ (l : List ℕ). Some l) (sym (take-raw cipher nonce text (open_front tag text) len (omega arith))))
 
 pub refused_is : (cipher : List ℕ → List ℕ) (nonce : List ℕ) (tag : ℕ) (aad text : List ℕ) → tag ≤ length text
@@ -64,5 +72,5 @@ pub refused_is : (cipher : List ℕ → List ℕ) (nonce : List ℕ) (tag : ℕ)
     → gcm_open cipher nonce tag aad text ≡ None
 unfolding gcm_open
 refused_is cipher nonce tag aad text fits e =
-    let whole : nat_lt (length text) tag ≡ false = ltb-false (length text) tag fits in
+    let whole : nat_lt (length text) tag ≡ false = not_below (length text) tag fits in
     rw (whole, e) refl

@@ -1,0 +1,6 @@
+mod Vectors
+mod TableLemmas
+mod MixLemmas
+mod ScheduleLemmas
+mod RoundLemmas
+mod KeyLemmas

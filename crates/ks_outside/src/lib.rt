@@ -1,0 +1,25 @@
+//! What lies outside of the key service, as traits that a caller hands in: where script bytes come from, where reply
+//! bytes go, the disk and the entropy. Beside them the forms in memory for tests, the adapters over standard input
+//! and output, and a cursor over bytes for the codecs.
+//!
+//! The one contract: the content (bytes left, bytes written), where an object tells it, moves exactly as a call
+//! answers and stays where it fails; and a call fails only where the object's count of faults rose in that call.
+#![tactic(auto)]
+
+mod adapters;
+mod calls;
+mod cursor;
+mod faults;
+mod sink;
+mod source;
+mod store;
+#[cfg(test)]
+mod tests;
+
+pub use adapters::{ReaderSource, WriterSink};
+pub use calls::FailingCalls;
+pub use cursor::Cursor;
+pub use faults::{Failed, FaultCount};
+pub use sink::{MemorySink, Sink};
+pub use source::{MemorySource, Source, SteadySource};
+pub use store::{Disk, EmptyDisk, EmptyEntropy, Entropy};

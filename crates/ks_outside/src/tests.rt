@@ -1,0 +1,112 @@
+use crate::{
+    Cursor, Disk, EmptyDisk, EmptyEntropy, Entropy, Failed, MemorySink, MemorySource, ReaderSource,
+    Sink, Source, SteadySource, WriterSink,
+};
+use std::io;
+use std::io::{Error, ErrorKind, Read, Write};
+use std::test::Fail;
+
+/// A reader and writer that fails at each call, or takes nothing.
+#[derive(Drop)]
+struct Broken {
+    fails: bool,
+}
+
+impl Read for Broken {
+    fn read(&mut self, _buf: &mut [u8]) -> io::Result<usize> {
+        Err(Error::from(ErrorKind::Other))
+    }
+}
+
+impl Write for Broken {
+    fn write(&mut self, _buf: &[u8]) -> io::Result<usize> {
+        if self.fails {
+            Err(Error::from(ErrorKind::Other))
+        } else {
+            Ok(0)
+        }
+    }
+
+    fn flush(&mut self) -> io::Result<()> {
+        Ok(())
+    }
+}
+
+#[test]
+fn sources_in_memory(rt: HostRuntime) {
+    let mut out = [9; 3];
+    let mut steady = SteadySource::new(b"abcde");
+    assert_eq!(rt; steady.read(&mut out), Ok(3));
+    assert_eq!(rt; out.as_slice(), b"abc".as_slice());
+    assert_eq!(rt; steady.read(&mut out), Ok(2));
+    assert_eq!(rt; out.as_slice(), b"dec".as_slice());
+    assert_eq!(rt; steady.read(&mut out), Ok(0));
+    assert_eq!(rt; steady.left().len(), 0);
+
+    let mut failing = MemorySource::new(b"abcde", &[1, 3]);
+    assert_eq!(rt; failing.read(&mut out), Err(Failed));
+    assert_eq!(rt; out.as_slice(), b"dec".as_slice());
+    assert_eq!(rt; failing.read(&mut out), Ok(3));
+    assert_eq!(rt; failing.read(&mut out), Err(Failed));
+    assert_eq!(rt; failing.left(), b"de".as_slice());
+    assert_eq!(rt; failing.faults(), 2);
+}
+
+#[test]
+fn a_sink_in_memory(rt: HostRuntime) -> Result<(), Fail> {
+    let mut sink = MemorySink::with_room(rt.alloc(), 5, 2, &[2])?;
+    assert_eq!(rt; sink.write(b"abc"), Ok(3));
+    assert_eq!(rt; sink.write(b"xy"), Err(Failed));
+    assert_eq!(rt; sink.write(b""), Ok(0));
+    assert_eq!(rt; sink.write(b"de"), Ok(2));
+    assert_eq!(rt; sink.written(), b"abcde".as_slice());
+    assert_eq!(rt; sink.pieces(), [3, 0, 2].as_slice());
+    assert_eq!(rt; sink.faults(), 1);
+    Ok(())
+}
+
+#[test]
+fn adapters_over_standard_input_and_output(rt: HostRuntime) {
+    let mut input = ReaderSource::new(rt.stdin());
+    assert_eq!(rt; input.read(&mut []), Ok(0));
+    assert_eq!(rt; input.faults(), 0);
+    let mut output = WriterSink::new(rt.stdout());
+    assert_eq!(rt; output.write(b""), Ok(0));
+    assert_eq!(rt; output.faults(), 0);
+
+    let mut out = [0; 4];
+    let mut text = ReaderSource::new(b"abcde".as_slice());
+    assert_eq!(rt; text.read(&mut out), Ok(4));
+    assert_eq!(rt; out.as_slice(), b"abcd".as_slice());
+    assert_eq!(rt; text.read(&mut out), Ok(1));
+    assert_eq!(rt; text.read(&mut out), Ok(0));
+    let mut broken = ReaderSource::new(Broken { fails: true });
+    assert_eq!(rt; broken.read(&mut out), Err(Failed));
+    assert_eq!(rt; broken.faults(), 1);
+    let mut failing = WriterSink::new(Broken { fails: true });
+    assert_eq!(rt; failing.write(b"a"), Err(Failed));
+    let mut full = WriterSink::new(Broken { fails: false });
+    assert_eq!(rt; full.write(b"a"), Err(Failed));
+    assert_eq!(rt; full.write(b""), Ok(0));
+    assert_eq!(rt; (failing.faults(), full.faults()), (1, 1));
+    assert_eq!(rt; (EmptyDisk.faults(), EmptyEntropy.faults()), (0, 0));
+}
+
+#[test]
+fn a_cursor_over_bytes(rt: HostRuntime) {
+    let bytes = [
+        7, 1, 2, 0, 0, 1, 0, 0x80, 0, 0, 0, 0, 0, 0, 1, b'a', b'b', b'c',
+    ];
+    let mut cursor = Cursor::new(&bytes);
+    assert_eq!(rt; cursor.u8(), Some(7));
+    assert_eq!(rt; cursor.u16(), Some(0x102));
+    assert_eq!(rt; cursor.u32(), Some(0x100));
+    assert_eq!(rt; cursor.u64(), Some(0x8000_0000_0000_0001));
+    assert_eq!(rt; cursor.take(4), None);
+    assert_eq!(rt; cursor.u32(), None);
+    assert_eq!(rt; (cursor.offset(), cursor.is_at_end()), (15, false));
+    assert_eq!(rt; cursor.take(3), Some(b"abc".as_slice()));
+    assert_eq!(rt; (cursor.offset(), cursor.is_at_end()), (18, true));
+    assert_eq!(rt; cursor.left().len(), 0);
+    assert_eq!(rt; cursor.u8(), None);
+}

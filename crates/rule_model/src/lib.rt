@@ -1,0 +1,15 @@
+//! What a reader must believe: the events of the service, their answers, and the rules that say which answer it is.
+//!
+//! Its contract is the definitions of `specs/`, which every promise above speaks of. They know lists of past
+//! entries and whole byte strings; the engine's tables, slots and journals are not named here.
+#![tactic(auto)]
+
+mod entry;
+mod event;
+mod forms;
+mod reply;
+
+pub use entry::{Entry, KeyRecord, Stepped};
+pub use event::{Act, Event, Line, Reading};
+pub use forms::mac_bytes;
+pub use reply::{Broken, Entries, Fields, NO_FIELDS, Reply};

@@ -1,0 +1,4 @@
+pub mod Tag
+pub mod Code
+pub mod Rule
+pub mod Policy
