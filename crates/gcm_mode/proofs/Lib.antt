@@ -6,3 +6,4 @@ pub mod Plain
 pub mod Streaming
 pub mod Tagging
 pub mod Opening
+pub mod Standing

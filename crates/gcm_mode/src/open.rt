@@ -1,7 +1,7 @@
 // Authenticated decryption (SP 800-38D section 7.2), in any pieces.
 
-ghost use Rattle.std.specs.Prelude.{◌≡◌, ℕ, ◌≤◌, ◌++◌, [], List, drop, length, take};
-ghost use Rattle.gcm_mode.specs.Gcm.{gcm_open, open_given};
+ghost use Rattle.std.specs.Prelude.{◌≡◌, ℕ, ◌≤◌, ◌++◌, [], List, drop, length, slice_range, take};
+ghost use Rattle.gcm_mode.specs.Gcm.{gcm_open, open_front, open_given, raw};
 ghost use Rattle.gcm_mode.specs.Holds.{HasTag, IsOpened, Opens, OpensNoText};
 
 use crate::authenticator::Authenticator;
@@ -57,6 +57,9 @@ impl<C: BlockCipher + Drop> GcmOpen<C> {
         ensures given { (cipher : List ℕ → List ℕ) (nonce : List ℕ) (tag : ℕ) (aad text : List ℕ)
             → Opens C.cipher self.old cipher nonce tag aad text
             → open_given cipher nonce tag text ++ take result out.new ≡ open_given cipher nonce tag (text ++ input.now) }
+        ensures piece { (cipher : List ℕ → List ℕ) (nonce : List ℕ) (tag : ℕ) (aad text : List ℕ)
+            → Opens C.cipher self.old cipher nonce tag aad text
+            → take result out.new ≡ slice_range (raw cipher nonce (text ++ input.now)) (open_front tag text) (open_front tag (text ++ input.now)) }
         ensures opens { (cipher : List ℕ → List ℕ) (nonce : List ℕ) (tag : ℕ) (aad text : List ℕ)
             → Opens C.cipher self.old cipher nonce tag aad text → Opens C.cipher self.new cipher nonce tag aad (text ++ input.now) }
     {

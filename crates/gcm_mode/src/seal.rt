@@ -1,8 +1,8 @@
 // Authenticated encryption (SP 800-38D section 7.1), in any pieces.
 
-ghost use Rattle.std.specs.Prelude.{◌≡◌, ℕ, ◌≤◌, ◌++◌, [], List, drop, length, take};
-ghost use Rattle.gcm_mode.specs.Gcm.{gcm_seal, seal_given};
-ghost use Rattle.gcm_mode.specs.Holds.{Seals, SealsNoText};
+ghost use Rattle.std.specs.Prelude.{◌≡◌, ℕ, ◌≤◌, ◌++◌, [], List, drop, length, slice_range, take};
+ghost use Rattle.gcm_mode.specs.Gcm.{gcm_seal, raw, seal_front, seal_given};
+ghost use Rattle.gcm_mode.specs.Holds.{Seals, SealsNoText, tag_size};
 
 use crate::authenticator::Authenticator;
 use crate::bytes::xor_blocks;
@@ -51,6 +51,9 @@ impl<C: BlockCipher + Drop> GcmSeal<C> {
         ensures given { (cipher : List ℕ → List ℕ) (nonce : List ℕ) (tag : ℕ) (aad text : List ℕ)
             → Seals C.cipher self.old cipher nonce tag aad text
             → seal_given cipher nonce text ++ take result out.new ≡ seal_given cipher nonce (text ++ input.now) }
+        ensures piece { (cipher : List ℕ → List ℕ) (nonce : List ℕ) (tag : ℕ) (aad text : List ℕ)
+            → Seals C.cipher self.old cipher nonce tag aad text
+            → take result out.new ≡ slice_range (raw cipher nonce (text ++ input.now)) (seal_front text) (seal_front (text ++ input.now)) }
         ensures seals { (cipher : List ℕ → List ℕ) (nonce : List ℕ) (tag : ℕ) (aad text : List ℕ)
             → Seals C.cipher self.old cipher nonce tag aad text → Seals C.cipher self.new cipher nonce tag aad (text ++ input.now) }
     {
@@ -63,8 +66,8 @@ impl<C: BlockCipher + Drop> GcmSeal<C> {
 
     /// Ends the sealing: puts the tag at the front of `out`, and tells its size.
     pub fn finish(self, out: &mut [u8]) -> usize
-        requires { self.tag ≤ length out.old }
-        ensures count { result ≡ self.tag }
+        requires { tag_size self ≤ length out.old }
+        ensures count { result ≡ tag_size self }
         ensures rest { drop result out.new ≡ drop result out.old }
         ensures sealed { (cipher : List ℕ → List ℕ) (nonce : List ℕ) (tag : ℕ) (aad text : List ℕ)
             → Seals C.cipher self cipher nonce tag aad text
