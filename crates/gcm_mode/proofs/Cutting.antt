@@ -1,6 +1,6 @@
 -- How the blocks of a string follow it as it grows.
 use Rattle.std.proofs.Common.{◌≡◌, ℕ, zero, suc, ◌+◌, ◌-◌, ◌*◌, ◌/◌, ◌%◌, ◌≤◌, List, [], ◌∷◌, ◌++◌, length, take, drop, replicate, refl, sym, ap, ◌∙◌, arith, add-one, length-append, length-drop}
-use Rattle.std.proofs.lemmas.List.{take-append-le, drop-append-le, drop-drop, append-nil, append_assoc, length-replicate}
+use Rattle.std.proofs.lemmas.List.{take-append-le, drop-append-le, drop-drop, append_assoc, length-replicate}
 use Rattle.gcm_mode.specs.Blocks.{first_blocks, blocks_of, padded}
 
 -- the blocks that are counted do not change with what comes behind them
@@ -19,7 +19,7 @@ first_blocks_more (suc n) xs =
     let next : first_blocks (n + 1) (drop 16 xs) ≡ first_blocks n (drop 16 xs) ++ take 16 (drop (n * 16) (drop 16 xs)) ∷ [] = first_blocks_more n (drop 16 xs) in
     let moved : drop (n * 16) (drop 16 xs) ≡ drop (suc n * 16) xs = drop-drop (n * 16) 16 xs ∙ ap (λ (k : ℕ). drop k xs) (omega arith) in
     let rest : first_blocks (suc n) (drop 16 xs) ≡ first_blocks n (drop 16 xs) ++ take 16 (drop (suc n * 16) xs) ∷ [] =
-        sym (ap (λ (m : ℕ). first_blocks m (drop 16 xs)) (add-one n)) ∙ next ∙ ap (λ (l : List ℕ). first_blocks n (drop 16 xs) ++ take 16 l ∷ []) moved in
+    sym (ap (λ (m : ℕ). first_blocks m (drop 16 xs)) (add-one n)) ∙ next ∙ ap (λ (l : List ℕ). first_blocks n (drop 16 xs) ++ take 16 l ∷ []) moved in
     ap (λ (m : ℕ). first_blocks m xs) (add-one (suc n)) ∙ ap (λ (l : List (List ℕ)). take 16 xs ∷ l) rest
 
 pub first_blocks_none : (xs : List ℕ) → first_blocks 0 xs ≡ []

@@ -1,5 +1,5 @@
 -- How the hash and the bytes that wait follow a string as it grows.
-use Rattle.std.proofs.Common.{◌≡◌, ℕ, ◌+◌, ◌-◌, ◌*◌, ◌/◌, ◌%◌, ◌<◌, ◌≤◌, List, [], ◌∷◌, ◌++◌, length, take, drop, set, refl, sym, ap, ◌∙◌, arith, length-append}
+use Rattle.std.proofs.Common.{◌≡◌, ℕ, ◌+◌, ◌*◌, ◌/◌, ◌%◌, ◌<◌, ◌≤◌, List, [], ◌∷◌, ◌++◌, length, take, drop, set, refl, sym, ◌∙◌, arith}
 use Rattle.std.proofs.lemmas.List.{drop-append-le, take_more_set, take_all, drop_all, length-set, length_push}
 use Rattle.ghash.specs.Hash.{Holds}
 use Rattle.gcm_mode.specs.Blocks.{first_blocks}
@@ -37,12 +37,12 @@ feeds_full s n h bytes full b at held len is long full_is absorbed filled =
     let left : length (bytes ++ b ∷ []) % 16 ≡ 0 = omega arith in
     let waits : take at s.block ≡ drop (q * 16) bytes = rw at_is held.rest in
     let tail : drop (q * 16) (bytes ++ b ∷ []) ≡ take (at + 1) (set s.block at b) =
-        drop-append-le (q * 16) bytes (b ∷ []) (omega arith) ∙ rw (take_more_set s.block at b (omega arith), waits) refl in
+    drop-append-le (q * 16) bytes (b ∷ []) (omega arith) ∙ rw (take_more_set s.block at b (omega arith), waits) refl in
     let size : length (set s.block at b) ≡ 16 = length-set s.block at b ∙ len in
     let whole : take 16 (drop (q * 16) (bytes ++ b ∷ [])) ≡ full =
-        rw (tail, take_all (at + 1) (set s.block at b) (omega arith), take_all 16 (set s.block at b) (omega arith)) (sym full_is) in
+    rw (tail, take_all (at + 1) (set s.block at b) (omega arith), take_all 16 (set s.block at b) (omega arith)) (sym full_is) in
     let blocks : first_blocks (q + 1) (bytes ++ b ∷ []) ≡ first_blocks q bytes ++ full ∷ [] =
-        rw (first_blocks_more q (bytes ++ b ∷ []), whole, first_blocks-append q bytes (b ∷ []) (omega arith)) refl in
+    rw (first_blocks_more q (bytes ++ b ∷ []), whole, first_blocks-append q bytes (b ∷ []) (omega arith)) refl in
     record {
       hash = rw (next, blocks) (absorbed (first_blocks q bytes) held.hash);
       filled = omega arith;

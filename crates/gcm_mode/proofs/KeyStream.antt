@@ -1,11 +1,11 @@
 -- The counter mode byte by byte.
-use Rattle.std.proofs.Common.{◌≡◌, ℕ, zero, suc, ◌+◌, ◌-◌, ◌*◌, ◌/◌, ◌%◌, ◌^◌, ◌<◌, ◌≤◌, List, [], ◌∷◌, ◌++◌, length, take, drop, get_or, set, slice_index, refl, sym, ap, ◌∙◌, arith, add-one, add-zero, length-append, length-drop, length-take, inl, inr}
+use Rattle.std.proofs.Common.{◌≡◌, ℕ, zero, suc, ◌+◌, ◌*◌, ◌/◌, ◌%◌, ◌^◌, ◌<◌, ◌≤◌, List, [], ◌∷◌, ◌++◌, length, take, drop, get_or, set, slice_index, refl, sym, ap, ◌∙◌, arith, add-zero, length-drop, length-take, inl, inr}
 use Rattle.std.proofs.lemmas.List.{take-append-drop, take_at, drop_at, drop-drop, drop_all, get_or-drop, nil_from_length, length-take-le, take_all, append-nil}
 use Rattle.std.proofs.lemmas.Bool.{cases_lt}
 use Rattle.std.proofs.lemmas.Nat.{from_be_bytes-to_be_bytes_4}
 use Rattle.std.specs.Int.{w32, from_be_bytes, to_be_bytes}
 use Rattle.std.specs.Int.RustNames.{bit_xor}
-use Rattle.gcm_mode.specs.Blocks.{first_blocks, blocks_of}
+use Rattle.gcm_mode.specs.Blocks.{first_blocks}
 use Rattle.gcm_mode.specs.Counter.{inc32, xor_bytes, gctr_blocks, gctr}
 use Rattle.gcm_mode.specs.Gcm.{pre_counter, raw, seal_given}
 use Rattle.gcm_mode.specs.Parts.{counter_block, key_byte}
@@ -70,7 +70,7 @@ block_is cipher nonce k j (b ∷ bs) fits =
     let rest : drop 1 (drop j key) ≡ drop (j + 1) key = drop-drop 1 j key in
     let place : 16 * k + (j + 1) ≡ 16 * k + j + 1 = omega arith in
     let more : xor_bytes bs (drop 1 (drop j key)) ≡ xor_by (key_byte cipher nonce) (16 * k + j + 1) bs =
-        rw (rest, ← place) (block_is cipher nonce k (j + 1) bs (omega arith)) in
+    rw (rest, ← place) (block_is cipher nonce k (j + 1) bs (omega arith)) in
     rw (byte, more) refl
 
 -- where the next block begins: nothing comes behind a block that is not whole
@@ -90,13 +90,13 @@ blocks_are cipher nonce (suc n) k xs len fits =
     let f : ℕ → ℕ = key_byte cipher nonce in
     let short : length (take 16 xs) ≤ 16 = omega (arith, length-take 16 xs) in
     let front : xor_bytes (take 16 xs) (cipher (counter_block nonce (2 + k))) ≡ xor_by f (16 * k) (take 16 xs) =
-        block_is cipher nonce k 0 (take 16 xs) (omega arith) ∙ ap (λ (m : ℕ). xor_by f m (take 16 xs)) (add-zero (16 * k)) in
+    block_is cipher nonce k 0 (take 16 xs) (omega arith) ∙ ap (λ (m : ℕ). xor_by f m (take 16 xs)) (add-zero (16 * k)) in
     let number : 2 + k + 1 ≡ 2 + (k + 1) = omega arith in
     let next : inc32 (counter_block nonce (2 + k)) ≡ counter_block nonce (2 + (k + 1)) = inc32_next nonce (2 + k) len ∙ ap (λ (m : ℕ). counter_block nonce m) number in
     let rest : gctr_blocks cipher (inc32 (counter_block nonce (2 + k))) (first_blocks n (drop 16 xs)) ≡ xor_by f (16 * (k + 1)) (drop 16 xs) =
-        rw next (blocks_are cipher nonce n (k + 1) (drop 16 xs) len (omega (arith, length-drop 16 xs))) in
+    rw next (blocks_are cipher nonce n (k + 1) (drop 16 xs) len (omega (arith, length-drop 16 xs))) in
     let whole : xor_by f (16 * k) xs ≡ xor_by f (16 * k) (take 16 xs) ++ xor_by f (16 * k + length (take 16 xs)) (drop 16 xs) =
-        ap (λ (l : List ℕ). xor_by f (16 * k) l) (sym (take-append-drop 16 xs)) ∙ xor_by-append f (16 * k) (take 16 xs) (drop 16 xs) in
+    ap (λ (l : List ℕ). xor_by f (16 * k) l) (sym (take-append-drop 16 xs)) ∙ xor_by-append f (16 * k) (take 16 xs) (drop 16 xs) in
     let tail : xor_by f (16 * (k + 1)) (drop 16 xs) ≡ xor_by f (16 * k + length (take 16 xs)) (drop 16 xs) = tail_is f k xs in
     rw (front, rest, tail) (sym whole)
 
@@ -116,14 +116,14 @@ pub raw-append : (cipher : List ℕ → List ℕ) (nonce text more : List ℕ) �
 raw-append cipher nonce text more len =
     let place : 0 + length text ≡ length text = omega arith in
     rw (raw_is cipher nonce (text ++ more) len, raw_is cipher nonce text len)
-        (xor_by-append (key_byte cipher nonce) 0 text more ∙ ap (λ (m : ℕ). xor_by (key_byte cipher nonce) 0 text ++ xor_by (key_byte cipher nonce) m more) place)
+    (xor_by-append (key_byte cipher nonce) 0 text more ∙ ap (λ (m : ℕ). xor_by (key_byte cipher nonce) 0 text ++ xor_by (key_byte cipher nonce) m more) place)
 
 -- the front of what the mode makes of a text is what it makes of the front
 pub take-raw : (cipher : List ℕ → List ℕ) (nonce text : List ℕ) (n : ℕ) → length nonce ≡ 12 → n ≤ length text
     → take n (raw cipher nonce text) ≡ raw cipher nonce (take n text)
 take-raw cipher nonce text n len fits =
     let whole : raw cipher nonce text ≡ raw cipher nonce (take n text) ++ xor_by (key_byte cipher nonce) (length (take n text)) (drop n text) =
-        ap (λ (l : List ℕ). raw cipher nonce l) (sym (take-append-drop n text)) ∙ raw-append cipher nonce (take n text) (drop n text) len in
+    ap (λ (l : List ℕ). raw cipher nonce l) (sym (take-append-drop n text)) ∙ raw-append cipher nonce (take n text) (drop n text) len in
     let size : length (raw cipher nonce (take n text)) ≡ n = length-raw cipher nonce (take n text) len ∙ length-take-le n text fits in
     rw whole (take_at (raw cipher nonce (take n text)) (xor_by (key_byte cipher nonce) (length (take n text)) (drop n text)) n size)
 

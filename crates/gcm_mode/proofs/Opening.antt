@@ -1,6 +1,6 @@
 -- What an opening holds back as its text grows.
-use Rattle.std.proofs.Common.{◌≡◌, ℕ, ◌+◌, ◌-◌, ◌<◌, ◌≤◌, min, List, [], ◌++◌, length, take, drop, refl, sym, ap, ◌∙◌, arith, length-append, length-drop, length-take, inl, inr}
-use Rattle.std.proofs.lemmas.List.{append-nil, append_assoc, take_at, drop_at, take-append-drop, length-take-le, take_rest, take-take, drop-take, drop_all}
+use Rattle.std.proofs.Common.{◌≡◌, ℕ, ◌+◌, ◌-◌, ◌<◌, ◌≤◌, min, List, ◌++◌, length, take, drop, refl, sym, ap, ◌∙◌, arith, length-append, length-drop, inl, inr}
+use Rattle.std.proofs.lemmas.List.{append-nil, append_assoc, take_at, drop_at, take-append-drop, length-take-le, take_rest, take-take, drop-take}
 use Rattle.std.proofs.lemmas.Bool.{cases_lt}
 use Rattle.gcm_mode.specs.Gcm.{open_front}
 
@@ -16,10 +16,10 @@ passes tag text input given kept joined size =
     let f : ℕ = open_front tag text in
     let g : ℕ = open_front tag (text ++ input) in
     let whole : text ++ input ≡ take f text ++ given ++ kept =
-        ap (λ (l : List ℕ). l ++ input) (sym (take-append-drop f text)) ∙ append_assoc (take f text) (drop f text) input
-        ∙ ap (λ (l : List ℕ). take f text ++ l) (sym joined) ∙ sym (append_assoc (take f text) given kept) in
+    ap (λ (l : List ℕ). l ++ input) (sym (take-append-drop f text)) ∙ append_assoc (take f text) (drop f text) input
+    ∙ ap (λ (l : List ℕ). take f text ++ l) (sym joined) ∙ sym (append_assoc (take f text) given kept) in
     let lengths : length given + length kept ≡ length (drop f text) + length input =
-        sym (length-append given kept) ∙ ap length joined ∙ length-append (drop f text) input in
+    sym (length-append given kept) ∙ ap length joined ∙ length-append (drop f text) input in
     let held : length (drop f text) ≡ length text - f = length-drop f text in
     let all : length (text ++ input) ≡ length text + length input = length-append text input in
     let before_len : length (take f text) ≡ f = length-take-le f text (omega arith) in
@@ -56,17 +56,17 @@ passed held input out rest one two len given from_held from_input fits enough so
     let lt : length (take (length input - from_input) (drop from_input input)) ≡ length input - from_input = ap length tail ∙ length-drop from_input input in
     let first : take given out ≡ a ++ b = rw out_is (take_at (a ++ b) one given (length-append a b ∙ omega arith)) in
     let second : take (len - from_held + (length input - from_input)) rest ≡ m ++ drop from_input input =
-        rw rest_is (take_at (m ++ take (length input - from_input) (drop from_input input)) two (len - from_held + (length input - from_input))
-            (length-append m (take (length input - from_input) (drop from_input input)) ∙ omega arith)) ∙ ap (λ (l : List ℕ). m ++ l) tail in
+    rw rest_is (take_at (m ++ take (length input - from_input) (drop from_input input)) two (len - from_held + (length input - from_input))
+    (length-append m (take (length input - from_input) (drop from_input input)) ∙ omega arith)) ∙ ap (λ (l : List ℕ). m ++ l) tail in
     let front : a ++ m ≡ take len held = front_is held len from_held some in
     elim (cases_lt from_held len) [
       | inl below ↦ (
-        let none : from_input ≡ 0 = order below in
-        rw (first, second, none, append-nil a, ← append_assoc, front) refl
-      )
+          let none : from_input ≡ 0 = order below in
+          rw (first, second, none, append-nil a, ← append_assoc, front) refl
+          )
       | inr full ↦ (
-        let same : from_held ≡ len = omega arith in
-        let nothing : len - from_held ≡ 0 = omega arith in
-        rw (first, second, nothing, same, append_assoc, take-append-drop from_input input) refl
-      )
+          let same : from_held ≡ len = omega arith in
+          let nothing : len - from_held ≡ 0 = omega arith in
+          rw (first, second, nothing, same, append_assoc, take-append-drop from_input input) refl
+          )
     ]

@@ -1,6 +1,6 @@
 -- Plain bytes: comparing, and writing one string behind another.
-use Rattle.std.proofs.Common.{◌≡◌, ℕ, zero, suc, ◌+◌, ◌-◌, ◌<◌, ◌≤◌, min, Bool, true, false, ◌&&◌, eqb, List, [], ◌∷◌, ◌++◌, length, take, drop, get_or, refl, sym, ap, ◌∙◌, arith, add-one, length-append, length-drop, length-take}
-use Rattle.std.proofs.lemmas.List.{take_at, drop_at, append-nil, append_assoc, take-append-drop}
+use Rattle.std.proofs.Common.{◌≡◌, ℕ, zero, suc, ◌+◌, ◌<◌, Bool, true, false, ◌&&◌, eqb, List, [], ◌∷◌, ◌++◌, length, take, get_or, refl, ap, ◌∙◌, arith}
+use Rattle.std.proofs.lemmas.List.{take_at, drop_at, append-nil}
 use Rattle.std.specs.Str.{bytes_eq}
 use borrow.Rule.Slice.PartMut.{put_mid}
 
@@ -21,7 +21,7 @@ bytes_eq_more (x ∷ xs) (y ∷ ys) zero h k = and_true (eqb x y)
 bytes_eq_more (x ∷ xs) (y ∷ ys) (suc i) h k =
     let longer : suc i + 1 ≡ suc (i + 1) = omega arith in
     let more : bytes_eq (take (i + 1) xs) (take (i + 1) ys) ≡ (bytes_eq (take i xs) (take i ys) && eqb (get_or xs i 0) (get_or ys i 0)) =
-        bytes_eq_more xs ys i (omega arith) (omega arith) in
+    bytes_eq_more xs ys i (omega arith) (omega arith) in
     rw longer (ap (λ (b : Bool). eqb x y && b) more ∙ and_assoc (eqb x y) (bytes_eq (take i xs) (take i ys)) (eqb (get_or xs i 0) (get_or ys i 0)))
 
 -- a nonce and a number written behind it into a block of zeros

@@ -1,5 +1,5 @@
 -- The key stream from one byte to the next.
-use Rattle.std.proofs.Common.{◌≡◌, ℕ, ◌+◌, ◌/◌, ◌%◌, ◌^◌, ◌<◌, List, ◌++◌, slice_index, refl, sym, ap, ◌∙◌, arith}
+use Rattle.std.proofs.Common.{◌≡◌, ℕ, ◌+◌, ◌/◌, ◌%◌, ◌^◌, List, ◌++◌, slice_index, refl, ap, ◌∙◌, arith}
 use Rattle.std.specs.Int.{w32, to_be_bytes}
 use Rattle.gcm_mode.specs.Gcm.{pre_counter}
 use Rattle.gcm_mode.specs.Parts.{Streams, IsReady, counter_block, key_byte}
@@ -16,7 +16,7 @@ ready_next cipher_of s t cipher nonce n held due cipher_is nonce_is counter used
     let number : 2 + (n + 15) / 16 ≡ 2 + n / 16 = omega arith in
     let now : s.counter ≡ (2 + n / 16) % 2 ^ 32 = omega arith in
     let block : s.nonce ++ to_be_bytes w32 s.counter ≡ counter_block nonce (2 + n / 16) =
-        ap (λ (l : List ℕ). l ++ to_be_bytes w32 s.counter) held.nonce_is ∙ ap (λ (m : ℕ). nonce ++ to_be_bytes w32 m) now in
+    ap (λ (l : List ℕ). l ++ to_be_bytes w32 s.counter) held.nonce_is ∙ ap (λ (m : ℕ). nonce ++ to_be_bytes w32 m) now in
     record {
       same = rw cipher_is held.same;
       nonce_is = nonce_is ∙ held.nonce_is;

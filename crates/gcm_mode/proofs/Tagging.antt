@@ -1,13 +1,12 @@
 -- What is hashed, and the tag.
-use Rattle.std.proofs.Common.{◌≡◌, ℕ, ◌+◌, ◌-◌, ◌*◌, ◌%◌, ◌^◌, ◌<◌, ◌≤◌, Bool, true, false, List, [], ◌∷◌, ◌++◌, length, take, drop, replicate, nat_lt, if◌then◌else◌, Option, Some, None, refl, sym, ap, ◌∙◌, arith, length-append}
+use Rattle.std.proofs.Common.{◌≡◌, ℕ, ◌*◌, ◌%◌, ◌^◌, ◌<◌, ◌≤◌, true, false, List, [], ◌∷◌, ◌++◌, length, take, drop, nat_lt, Some, None, refl, sym, ap, ◌∙◌, arith, length-append}
 use Rattle.std.proofs.lemmas.List.{append-nil}
 use Rattle.std.proofs.lemmas.Bool.Decides.{nat_tests}
-use Rattle.std.specs.Int.{w64, to_be_bytes}
 use Rattle.std.specs.Str.{bytes_eq}
 use Rattle.ghash.specs.Hash.{ghash}
 use Rattle.gcm_mode.specs.Blocks.{blocks_of, padded}
 use Rattle.gcm_mode.specs.Counter.{gctr, xor_bytes}
-use Rattle.gcm_mode.specs.Gcm.{hash_subkey, hash_input, bit_length, pre_counter, raw, tag_of, gcm_seal, gcm_open, open_front, open_given, seal_given}
+use Rattle.gcm_mode.specs.Gcm.{hash_subkey, hash_input, bit_length, pre_counter, raw, tag_of, gcm_seal, gcm_open, open_front, open_given}
 use Rattle.gcm_mode.specs.Parts.{hashed}
 use Rattle.gcm_mode.proofs.Cutting.{length-padded, padded-append}
 use Rattle.gcm_mode.proofs.KeyStream.{gctr_one, take-raw}
@@ -50,7 +49,7 @@ pub tag_is : (cipher : List ℕ → List ℕ) (nonce : List ℕ) (tag : ℕ) (aa
 unfolding tag_of
 tag_is cipher nonce tag aad ciphertext hash key whole hash_is len key_is whole_is =
     ap (λ (l : List ℕ). take tag l) (whole_is ∙ ap (λ (k : List ℕ). xor_bytes hash k) key_is ∙ sym (gctr_one cipher (pre_counter nonce) hash len)
-        ∙ ap (λ (s : List ℕ). gctr cipher (pre_counter nonce) s) hash_is)
+    ∙ ap (λ (s : List ℕ). gctr cipher (pre_counter nonce) s) hash_is)
 
 -- the ciphertext and the tag behind it
 pub sealed_is : (cipher : List ℕ → List ℕ) (nonce : List ℕ) (tag : ℕ) (aad text given out : List ℕ) → given ≡ raw cipher nonce text

@@ -32,6 +32,7 @@ impl Authenticator {
 
     /// Takes the next bytes of the additional data.
     pub(crate) fn aad(&mut self, input: &[u8])
+        ensures has_text { self.new.has_text ≡ self.old.has_text }
         ensures hash { (h aad : List ℕ) → Authenticates self.old h aad [] → Authenticates self.new h (aad ++ input.now) [] }
     {
         self.feed.take(input);

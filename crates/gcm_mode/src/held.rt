@@ -62,7 +62,11 @@ impl Held {
         let from_input = given - from_held;
         put_joined(out, &self.bytes[..from_held], &input[..from_input]);
         let mut bytes = [0; 16];
-        put_joined(&mut bytes, &self.bytes[from_held..self.len], &input[from_input..]);
+        put_joined(
+            &mut bytes,
+            &self.bytes[from_held..self.len],
+            &input[from_input..],
+        );
         self.len = self.len - from_held + (input.len() - from_input);
         self.bytes = bytes;
         given

@@ -14,6 +14,8 @@ mod seal;
 mod stream;
 mod tag_size;
 #[cfg(test)]
+mod test_cases;
+#[cfg(test)]
 mod tests;
 
 pub use open::{GcmOpen, TagWrong};

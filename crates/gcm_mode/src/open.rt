@@ -42,7 +42,8 @@ impl<C: BlockCipher + Drop> GcmOpen<C> {
     /// Takes the next bytes of the additional data, before any byte of text.
     pub fn aad(&mut self, input: &[u8])
         requires { OpensNoText self.old }
-        ensures { (cipher : List ℕ → List ℕ) (nonce : List ℕ) (tag : ℕ) (aad : List ℕ)
+        ensures no_text { OpensNoText self.new }
+        ensures opens { (cipher : List ℕ → List ℕ) (nonce : List ℕ) (tag : ℕ) (aad : List ℕ)
             → Opens C.cipher self.old cipher nonce tag aad [] → Opens C.cipher self.new cipher nonce tag (aad ++ input.now) [] }
     {
         self.hash.aad(input);

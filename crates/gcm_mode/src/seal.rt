@@ -37,7 +37,8 @@ impl<C: BlockCipher + Drop> GcmSeal<C> {
     /// Takes the next bytes of the additional data, before any byte of text.
     pub fn aad(&mut self, input: &[u8])
         requires { SealsNoText self.old }
-        ensures { (cipher : List ℕ → List ℕ) (nonce : List ℕ) (tag : ℕ) (aad : List ℕ)
+        ensures no_text { SealsNoText self.new }
+        ensures seals { (cipher : List ℕ → List ℕ) (nonce : List ℕ) (tag : ℕ) (aad : List ℕ)
             → Seals C.cipher self.old cipher nonce tag aad [] → Seals C.cipher self.new cipher nonce tag (aad ++ input.now) [] }
     {
         self.hash.aad(input);

@@ -1,5 +1,5 @@
 -- One more byte was added, and all were.
-use Rattle.std.proofs.Common.{◌≡◌, ℕ, ◌+◌, ◌++◌, get_or, zero-add, sym, ◌∙◌, arith, rules}
+use Rattle.std.proofs.Common.{ℕ, get_or, zero-add, sym, ◌∙◌, rules}
 use Rattle.std.proofs.lemmas.List.{take_all, drop_all, append-nil}
 use Rattle.gcm_mode.proofs.KeyStream.{xor_by, xor_by_more, xor_bytes_is}
 use Rattle.gcm_mode.proofs.bytes.xor_blocks.Goals as goal
@@ -14,4 +14,4 @@ pub returns : goal.returns
 returns c =
     let f : ℕ → ℕ = λ i. get_or c.args.key.now i 0 in
     c.bytes.invariant ∙ rw (take_all c.bytes.i c.args.block (search rules), drop_all c.bytes.i c.args.block (search rules)) (append-nil (xor_by f 0 c.args.block))
-        ∙ sym (xor_bytes_is c.args.block c.args.key.now)
+    ∙ sym (xor_bytes_is c.args.block c.args.key.now)

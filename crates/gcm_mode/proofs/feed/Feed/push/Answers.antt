@@ -1,5 +1,5 @@
 -- The byte goes to the bytes that wait, or makes a block whole.
-use Rattle.std.proofs.Common.{refl, arith, rules}
+use Rattle.std.proofs.Common.{refl, rules}
 use Rattle.gcm_mode.proofs.Feeding.{feeds_short, feeds_full}
 use Rattle.gcm_mode.proofs.feed.Feed.push.Goals as goal
 

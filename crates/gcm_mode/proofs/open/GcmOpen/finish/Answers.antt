@@ -2,8 +2,6 @@
 use Rattle.std.proofs.Common.{◌≡◌, ℕ, ◌-◌, ◌≤◌, List, length, take, drop, refl, sym, ap, ◌∙◌, arith, rules, length-drop}
 use Rattle.std.specs.Str.{bytes_eq}
 use Rattle.gcm_mode.specs.Gcm.{hash_subkey, tag_of, open_front}
-use Rattle.gcm_mode.specs.Holds.{Opens, HasTag}
-use Rattle.gcm_mode.specs.declared.open.GcmOpen.{GcmOpen}
 use Rattle.gcm_mode.proofs.Streaming.{tag_key_is}
 use Rattle.gcm_mode.proofs.Tagging.{tag_is, opened_is, refused_is}
 use Rattle.gcm_mode.proofs.open.GcmOpen.finish.Goals as goal
@@ -27,7 +25,7 @@ returns-then-same_bytes-clause-opened g c = λ cipher nonce tag aad text held.
     let hash = c.value.ensures (hash_subkey cipher) aad ciphertext held.hash in
     let key = tag_key_is g.C.BlockCipher.cipher c.args.self.stream cipher nonce (open_front tag text) c.tag_key.result held.stream c.tag_key.ensures in
     let sent : take tag c.xor_blocks-whole.result ≡ tag_of cipher nonce tag aad ciphertext =
-        tag_is cipher nonce tag aad ciphertext c.value.result c.tag_key.result c.xor_blocks-whole.result hash (search rules) key c.xor_blocks-whole.ensures in
+    tag_is cipher nonce tag aad ciphertext c.value.result c.tag_key.result c.xor_blocks-whole.result hash (search rules) key c.xor_blocks-whole.ensures in
     let test = test_is tag c.args.self.held.most c.xor_blocks-whole.result c.args.self.held.bytes c.bytes-held.result.now text _ sent c.requires held.tag_is c.bytes-held.ensures.value held.held in
     let fits = taken tag c.args.self.held.most c.args.self.held.bytes text c.requires held.tag_is held.held in
     (refl, opened_is cipher nonce tag aad text held.stream.nonce_len fits (sym test ∙ sym c.same_bytes.ensures ∙ c.if-same_bytes.true))
@@ -38,7 +36,7 @@ returns-clause-opened g c = λ cipher nonce tag aad text held.
     let hash = c.value.ensures (hash_subkey cipher) aad ciphertext held.hash in
     let key = tag_key_is g.C.BlockCipher.cipher c.args.self.stream cipher nonce (open_front tag text) c.tag_key.result held.stream c.tag_key.ensures in
     let sent : take tag c.xor_blocks-whole.result ≡ tag_of cipher nonce tag aad ciphertext =
-        tag_is cipher nonce tag aad ciphertext c.value.result c.tag_key.result c.xor_blocks-whole.result hash (search rules) key c.xor_blocks-whole.ensures in
+    tag_is cipher nonce tag aad ciphertext c.value.result c.tag_key.result c.xor_blocks-whole.result hash (search rules) key c.xor_blocks-whole.ensures in
     let test = test_is tag c.args.self.held.most c.xor_blocks-whole.result c.args.self.held.bytes c.bytes-held.result.now text _ sent c.requires held.tag_is c.bytes-held.ensures.value held.held in
     let fits = taken tag c.args.self.held.most c.args.self.held.bytes text c.requires held.tag_is held.held in
     refused_is cipher nonce tag aad text fits (sym test ∙ sym c.same_bytes.ensures ∙ c.if-same_bytes.false)

@@ -1,7 +1,7 @@
 -- One more byte was changed, and all were.
-use Rattle.std.proofs.Common.{◌≡◌, ℕ, ◌+◌, List, ◌++◌, length, ap, ◌∙◌, arith, add_assoc, refl}
+use Rattle.std.proofs.Common.{◌≡◌, ℕ, ◌+◌, length, ◌∙◌, arith, add_assoc, refl}
 use Rattle.std.proofs.lemmas.List.{take_all, drop_all, append-nil}
-use Rattle.gcm_mode.specs.Parts.{Streams, key_byte}
+use Rattle.gcm_mode.specs.Parts.{key_byte}
 use Rattle.gcm_mode.proofs.KeyStream.{xor_by, xor_by_more, raw-append}
 use Rattle.gcm_mode.proofs.stream.Gctr.apply.Goals as goal
 
@@ -21,7 +21,7 @@ returns-clause-raw g c = λ cipher nonce text held.
     let f : ℕ → ℕ = key_byte cipher nonce in
     let so_far = c.bytes.invariant.bytes cipher nonce (length text) held in
     let all : c.bytes.bytes ≡ xor_by f (length text) c.args.bytes.now =
-        so_far ∙ rw (take_all c.bytes.i c.args.bytes.now (omega arith), drop_all c.bytes.i c.args.bytes.now (omega arith)) (append-nil (xor_by f (length text) c.args.bytes.now)) in
+    so_far ∙ rw (take_all c.bytes.i c.args.bytes.now (omega arith), drop_all c.bytes.i c.args.bytes.now (omega arith)) (append-nil (xor_by f (length text) c.args.bytes.now)) in
     rw (raw-append cipher nonce text c.args.bytes.now held.nonce_len, all) refl
 
 pub returns-clause-stream : goal.returns-clause-stream

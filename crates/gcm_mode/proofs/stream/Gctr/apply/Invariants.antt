@@ -7,7 +7,7 @@ use Rattle.gcm_mode.proofs.stream.Gctr.apply.Given as goal
 abbrev pub invariant-bytes : goal.invariant-bytes
 invariant-bytes g l = record {
   stream : (cipher : List ℕ → List ℕ) (nonce : List ℕ) (n : ℕ) → Streams g.C.BlockCipher.cipher l.fn.self cipher nonce n
-    → Streams g.C.BlockCipher.cipher l.self cipher nonce (n + l.i);
+      → Streams g.C.BlockCipher.cipher l.self cipher nonce (n + l.i);
   bytes : (cipher : List ℕ → List ℕ) (nonce : List ℕ) (n : ℕ) → Streams g.C.BlockCipher.cipher l.fn.self cipher nonce n
-    → l.bytes ≡ xor_by (key_byte cipher nonce) n (take l.i l.fn.bytes) ++ drop l.i l.fn.bytes;
+      → l.bytes ≡ xor_by (key_byte cipher nonce) n (take l.i l.fn.bytes) ++ drop l.i l.fn.bytes;
 }
