@@ -5,8 +5,10 @@
 #![tactic(auto)]
 
 mod field;
+mod laws;
 mod state;
 #[cfg(test)]
 mod tests;
 
+pub use laws::field_laws;
 pub use state::Ghash;
