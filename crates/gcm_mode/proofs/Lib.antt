@@ -1,0 +1,9 @@
+-- Lemmas of the crate.
+pub mod Cutting
+pub mod Feeding
+pub mod KeyStream
+pub mod Plain
+pub mod Streaming
+pub mod Tagging
+pub mod Opening
+pub mod Standing

@@ -1,0 +1,22 @@
+//! GCM over any block cipher of 16-byte blocks, with nonces of 12 bytes and tags of 12 to 16 (SP 800-38D).
+//!
+//! The one contract: for every cutting of additional data and text into pieces, what a [`GcmSeal`] gave with its tag
+//! behind it is `gcm_seal` of the joined pieces, and a [`GcmOpen`] gave the text of `gcm_open`, or `TagWrong` where
+//! there is none. An opening never gives bytes that may be the tag. No memory is taken.
+#![tactic(auto)]
+
+mod authenticator;
+mod bytes;
+mod feed;
+mod held;
+mod open;
+mod seal;
+mod stream;
+mod tag_size;
+#[cfg(test)]
+mod test_cases;
+#[cfg(test)]
+mod tests;
+
+pub use open::{GcmOpen, TagWrong};
+pub use seal::GcmSeal;

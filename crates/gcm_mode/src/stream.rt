@@ -1,0 +1,98 @@
+// GCTR (SP 800-38D section 6.5), a text in any pieces.
+
+ghost use Rattle.std.specs.Prelude.{◌≡◌, ℕ, ◌+◌, ◌<◌, ◌++◌, List, length};
+ghost use Rattle.std.specs.Int.{w32, to_be_bytes};
+ghost use Rattle.gcm_mode.specs.Gcm.{hash_subkey, pre_counter, raw};
+ghost use Rattle.gcm_mode.specs.Parts.{IsReady, Streams, key_byte};
+
+use aes_core::BlockCipher;
+
+/// The key stream of a text under a nonce, and how far it was used.
+#[derive(Drop)]
+pub(crate) struct Gctr<C> {
+    cipher: C,
+    nonce: [u8; 12],
+    // the number in the next counter block
+    counter: u32,
+    key_block: [u8; 16],
+    // how many bytes of the key block were used, 0 where the next is due
+    used: usize,
+}
+
+fn counter_block(nonce: &[u8; 12], counter: u32) -> [u8; 16]
+    ensures { result ≡ nonce.now ++ to_be_bytes w32 counter }
+{
+    let mut block = [0; 16];
+    block[..12].copy_from_slice(nonce);
+    block[12..].copy_from_slice(&counter.to_be_bytes());
+    block
+}
+
+impl<C: BlockCipher> Gctr<C> {
+    /// The stream of an empty text.
+    pub(crate) fn new(cipher: C, nonce: [u8; 12]) -> Gctr<C>
+        ensures { Streams C.cipher result (C.cipher cipher) nonce 0 }
+    {
+        Gctr {
+            cipher,
+            nonce,
+            counter: 2,
+            key_block: [0; 16],
+            used: 0,
+        }
+    }
+
+    /// The subkey of the hash: the cipher of the zero block.
+    pub(crate) fn hash_subkey(&self) -> [u8; 16]
+        ensures { result ≡ hash_subkey (C.cipher self.now.cipher) }
+    {
+        self.cipher.encrypt([0; 16])
+    }
+
+    /// The cipher of the block before the text's first counter block, under which the tag is sent.
+    pub(crate) fn tag_key(&self) -> [u8; 16]
+        ensures { result ≡ C.cipher self.now.cipher (pre_counter self.now.nonce) }
+    {
+        self.cipher.encrypt(counter_block(&self.nonce, 1))
+    }
+
+    // Makes the next block of the key stream where it is due.
+    fn make_ready(&mut self)
+        ensures { (cipher : List ℕ → List ℕ) (nonce : List ℕ) (n : ℕ)
+            → Streams C.cipher self.old cipher nonce n → IsReady C.cipher self.new cipher nonce n }
+    {
+        if self.used == 0 {
+            let block = counter_block(&self.nonce, self.counter);
+            self.key_block = self.cipher.encrypt(block);
+            self.counter = self.counter.wrapping_add(1);
+        }
+    }
+
+    // The next byte of the key stream.
+    fn next_byte(&mut self) -> u8
+        ensures byte { (cipher : List ℕ → List ℕ) (nonce : List ℕ) (n : ℕ)
+            → Streams C.cipher self.old cipher nonce n → result ≡ key_byte cipher nonce n }
+        ensures stream { (cipher : List ℕ → List ℕ) (nonce : List ℕ) (n : ℕ)
+            → Streams C.cipher self.old cipher nonce n → Streams C.cipher self.new cipher nonce (n + 1) }
+    {
+        self.make_ready();
+        let at = self.used % 16;
+        let byte = self.key_block[at];
+        self.used = (at + 1) % 16;
+        byte
+    }
+
+    /// Goes on with the next bytes of the text, in place.
+    pub(crate) fn apply(&mut self, bytes: &mut [u8])
+        ensures raw { (cipher : List ℕ → List ℕ) (nonce text : List ℕ)
+            → Streams C.cipher self.old cipher nonce (length text)
+            → raw cipher nonce text ++ bytes.new ≡ raw cipher nonce (text ++ bytes.old) }
+        ensures stream { (cipher : List ℕ → List ℕ) (nonce : List ℕ) (n : ℕ)
+            → Streams C.cipher self.old cipher nonce n → Streams C.cipher self.new cipher nonce (n + length bytes.old) }
+    {
+        'bytes: for i in 0..bytes.len() {
+            let key = self.next_byte();
+            bytes[i] ^= key;
+        }
+    }
+}
