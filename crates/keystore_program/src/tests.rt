@@ -119,7 +119,7 @@ fn scripts_give_their_texts(rt: HostRuntime) -> Result<(), Fail> {
 /// A connect that is filled with spaces to so many bytes, without its LF.
 fn padded(alloc: Global, length: usize) -> Result<String, Fail> {
     let mut line = String::from_str(alloc, CONNECT.trim_end())?;
-    while line.len() < length {
+    for _ in line.len()..length {
         line.push(' ')?;
     }
     Ok(line)
@@ -165,7 +165,9 @@ fn each_status_comes_where_it_should(rt: HostRuntime) -> Result<(), Fail> {
     )?;
     let limit = padded(alloc, 262_144)?;
     run_case(&rt, alloc, limit.as_bytes(), none, Status::Ok, CONNECTED)?;
-    let long = [CONNECT, padded(alloc, 262_145)?.as_str(), "\n"].concat(alloc)?;
+    let mut long = String::from_str(alloc, CONNECT)?;
+    let line = padded(alloc, 262_145)?;
+    long.push_str(line.as_str())?;
     run_case(
         &rt,
         alloc,
@@ -174,24 +176,33 @@ fn each_status_comes_where_it_should(rt: HostRuntime) -> Result<(), Fail> {
         Status::LineTooLong { line: 2 },
         CONNECTED,
     )?;
-    let mut sink = MemorySink::with_room(alloc, 1, 1, &[])?;
     for text in ["", "run", "run --slots", "--fresh run", "run --fresh x"] {
-        let words: Vec<String> = text
-            .split_whitespace()
-            .map(|word| String::from_str(alloc, word))
-            .try_collect(alloc)?;
-        let ended = run_words(
-            alloc,
-            words.as_slice(),
-            &DeviceSecrets::demo(),
-            &Policy::demo(alloc)?,
-            &mut MemorySource::new(CONNECT.as_bytes(), &[]),
-            &mut sink,
-            &mut EmptyDisk,
-            &mut EmptyEntropy,
-        );
-        assert_eq!(rt; ended, Status::Usage, "{text}");
+        run_no_form(&rt, alloc, text)?;
     }
+    Ok(())
+}
+
+/// Words that are no form: nothing is read, and nothing is written.
+fn run_no_form(rt: &impl Abort, alloc: Global, text: &str) -> Result<(), Fail> {
+    let mut words = Vec::new(alloc);
+    for word in text.split_whitespace() {
+        words.push(String::from_str(alloc, word)?)?;
+    }
+    let mut source = MemorySource::new(CONNECT.as_bytes(), &[]);
+    let mut sink = MemorySink::with_room(alloc, 64, 1, &[])?;
+    let policy = Policy::demo(alloc)?;
+    let ended = run_words(
+        alloc,
+        words.as_slice(),
+        &DeviceSecrets::demo(),
+        &policy,
+        &mut source,
+        &mut sink,
+        &mut EmptyDisk,
+        &mut EmptyEntropy,
+    );
+    assert_eq!(rt; ended, Status::Usage, "{text}");
+    assert_eq!(rt; source.left(), CONNECT.as_bytes());
     assert_eq!(rt; sink.written().len(), 0);
     Ok(())
 }
