@@ -30,7 +30,7 @@ length_cond : (b : Bool) (x : Param) (ys : List Param) (n : ℕ) → length ys �
 length_cond true x ys n h = omega (arith, h)
 length_cond false x ys n h = omega (arith, h)
 
-length_filter : (t : Param → Bool) (xs : List Param) → length (filter t xs) ≤ length xs
+pub length_filter : (t : Param → Bool) (xs : List Param) → length (filter t xs) ≤ length xs
 length_filter t [] = omega arith
 length_filter t (x ∷ xs) = omega (arith, length_cond (t x) x (filter t xs) (length xs) (length_filter t xs))
 
@@ -72,6 +72,7 @@ insert_at p (q ∷ qs) (suc i) le below above =
 pub record IsInserted (p : Param) (list new : List Param) : Type 0 where
   pub is : new ≡ with_param p (without p.tag list)
   pub canonical : IsCanonical new
+  pub len : length new ≤ length list + 1
 
 pub inserted : (p : Param) (list ps new : List Param) (i : ℕ) → Fits p → length list < 65535 → ps ≡ without p.tag list → IsCanonical ps → i ≤ length ps → IsEnd (λ q. ltb (rank q) (rank p)) ps i → new ≡ take i ps ++ p ∷ drop i ps → IsInserted p list new
 inserted p list ps new i fits room rest c le end made =
@@ -93,4 +94,5 @@ inserted p list ps new i fits room rest c le end made =
     record {
       is = made ∙ placed ∙ ap (with_param p) rest;
       canonical = subst IsCanonical (sym (made ∙ placed)) whole;
+      len = let same : length new ≡ length (with_param p ps) = ap (λ l. length l) (made ∙ placed) in omega (arith, same, few, length-with_param p ps);
     }

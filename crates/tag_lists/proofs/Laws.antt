@@ -1,17 +1,22 @@
 -- The two laws: what is read is spelled so, and what is spelled so is read.
-use Rattle.std.proofs.Common.{◌≡◌, ℕ, zero, suc, ◌-◌, ◌^◌, ◌%◌, ◌≤◌, Bool, true, false, not, ◌&&◌, cond, ltb, eqb, List, [], ◌∷◌, ◌++◌, length, drop, Option, Some, None, Result, Ok, Err, refl, sym, ap, subst, ◌∙◌, append_assoc, arith}
+use Rattle.std.proofs.Common.{◌≡◌, ℕ, zero, suc, ◌-◌, ◌+◌, ◌*◌, ◌^◌, ◌%◌, ◌≤◌, Bool, true, false, not, ◌&&◌, cond, ltb, eqb, List, [], ◌∷◌, ◌++◌, length, length-append, drop, Option, Some, None, Result, Ok, Err, refl, sym, ap, subst, ◌∙◌, append_assoc, arith}
 use Rattle.std.specs.Prelude.{is_some, IfOk, ◌↔◌}
 use Rattle.std.specs.List.{flat_map, AllByRecursion, Contains}
 use Rattle.std.proofs.lemmas.Bool.{eqb-true, ltb-false}
 use Rattle.std.proofs.lemmas.List.{append-nil, nil_from_length}
 use Rattle.std.proofs.lemmas.List.Concat.{flat_map-cons}
 use Rattle.byteorder.specs.Endian.{big_number, big_bytes}
+use Rattle.byteorder.specs.Numbers.{length-bytes_high_first}
 use Rattle.tags.specs.declared.tag.Tag.{Tag}
 use Rattle.tags.specs.declared.param.Param.{Param}
+use Rattle.tags.specs.declared.param.ParamValue.{ParamValue}
+use Rattle.tags.specs.declared.param.ParamValue.TheVariants.{Number, Flag, Raw}
 use Rattle.tags.specs.Tag.{type_of, number_of, repeats}
 use Rattle.tag_lists.specs.declared.fault.ListFault.{ListFault}
 use Rattle.tag_lists.specs.declared.fault.ListFault.TheVariants.{UnknownTag, WrongKind, Repeated, Truncated, Trailing}
-use Rattle.tag_lists.specs.Order.{shape_of, Fits, MayStandBeside, MayBeListed, IsCanonical, with_param, with_params, canonical}
+use Rattle.tag_lists.specs.declared.shape.Shape.{Shape}
+use Rattle.tag_lists.specs.declared.shape.Shape.TheVariants as shapes
+use Rattle.tag_lists.specs.Order.{FitsShape, shape_of, Fits, MayStandBeside, MayBeListed, IsCanonical, with_param, with_params, canonical}
 use Rattle.tag_lists.specs.Spelling.{spelled_value, spelled, spelling, IsListOf}
 use Rattle.tag_lists.specs.Reading.{◌>>=◌, Gives, tag_numbered, tag_with_low, stands, is_wrong_flag, value_at, known_at, tagged_at, param_at, params_at, whole, listed}
 use Rattle.tag_lists.proofs.Tags.{numbered_is, number_from_tag, number_fits}
@@ -179,3 +184,42 @@ is_found bytes (Err e) fits given = tt
 pub is_canonical : (bytes : List ℕ) (r : Result (List Param) ListFault) → IsBytes bytes → Gives (λ list. list) r (listed bytes) → IfOk r (λ list. IsCanonical list)
 is_canonical bytes (Ok list) fits given = canonical_listed bytes list fits given
 is_canonical bytes (Err e) fits given = tt
+
+-- ---- each parameter takes five bytes at least
+
+value_long : (s : Shape) (v : ParamValue) → FitsShape s v → 1 ≤ length (spelled_value s v)
+value_long shapes.Short (Number n) h = omega arith
+value_long shapes.Short Flag h = absurd h
+value_long shapes.Short (Raw bytes) h = absurd h
+value_long shapes.Long (Number n) h = omega arith
+value_long shapes.Long Flag h = absurd h
+value_long shapes.Long (Raw bytes) h = absurd h
+value_long shapes.Truth (Number n) h = absurd h
+value_long shapes.Truth Flag h = omega arith
+value_long shapes.Truth (Raw bytes) h = absurd h
+value_long shapes.Sized (Number n) h = absurd h
+value_long shapes.Sized Flag h = absurd h
+value_long shapes.Sized (Raw bytes) h = omega (arith, length-append (big_bytes 2 (length bytes)) bytes)
+
+param_long : (p : Param) → Fits p → 5 ≤ length (spelled p)
+param_long p fits =
+    let value : List ℕ = spelled_value (shape_of (type_of p.tag)) p.value in
+    omega (arith, value_long (shape_of (type_of p.tag)) p.value fits, length-append (big_bytes 4 (number_of p.tag)) value, length-bytes_high_first 4 (number_of p.tag))
+
+params_long : (ps : List Param) → MayBeListed ps → 5 * length ps ≤ length (flat_map spelled ps)
+params_long [] may = omega arith
+params_long (p ∷ ps) may =
+    let joined : length (flat_map spelled (p ∷ ps)) ≡ length (spelled p ++ flat_map spelled ps) = ap (λ (t : List ℕ). length t) (flat_map-cons spelled p ps) in
+    omega (arith, joined, length-append (spelled p) (flat_map spelled ps), param_long p may.0, params_long ps may.2)
+
+few_listed : (bytes : List ℕ) (list : List Param) → IsBytes bytes → listed bytes ≡ Ok list → 2 + 5 * length list ≤ length bytes
+few_listed bytes list fits e =
+    let t = listed_takes bytes list fits e in
+    let s = stays-with_params t.order [] 0 t.may (apart_none t.order) (record { few = omega arith; fit = tt; ordered = tt }) in
+    let len : length list ≡ length (canonical t.order) = ap (λ (l : List Param). length l) t.is in
+    let whole : length bytes ≡ length (spelling t.order) = ap (λ (b : List ℕ). length b) t.spells in
+    omega (arith, s.few, len, whole, length-append (big_bytes 2 (length t.order)) (flat_map spelled t.order), length-bytes_high_first 2 (length t.order), params_long t.order t.may)
+
+pub is_few : (bytes : List ℕ) (r : Result (List Param) ListFault) → IsBytes bytes → Gives (λ list. list) r (listed bytes) → IfOk r (λ list. 2 + 5 * length list ≤ length bytes)
+is_few bytes (Ok list) fits given = few_listed bytes list fits given
+is_few bytes (Err e) fits given = tt

@@ -1,4 +1,4 @@
-ghost use Rattle.std.specs.Prelude.{◌≡◌, ℕ, ◌<◌, ◌≤◌, List, [], length, drop, IfOk, Ok};
+ghost use Rattle.std.specs.Prelude.{◌≡◌, ℕ, ◌+◌, ◌*◌, ◌<◌, ◌≤◌, List, [], length, drop, IfOk, Ok};
 ghost use Rattle.std.specs.Option.{option_copied};
 ghost use Rattle.std.specs.List.{list_any};
 ghost use Rattle.tags.specs.declared.param.Param.{Param};
@@ -101,6 +101,9 @@ impl AuthList {
         ensures found { IfOk result (λ list. IsListOf bytes.now list) }
         ensures canonical { IfOk result (λ list. IsCanonical list) }
 
+        // Each parameter takes five bytes at least.
+        ensures few { IfOk result (λ list. 2 + 5 * length list ≤ length bytes.now) }
+
         // What is spelled so is read.
         ensures only { (order : List Param) → length order ≤ 65535 → MayBeListed order → bytes.now ≡ spelling order → Gives (λ list. list) result (Ok (canonical order)) }
 
@@ -149,7 +152,8 @@ impl AuthList {
 
     /// The list without the parameters of the tag. It takes no memory.
     pub fn without(self, tag: Tag) -> AuthList
-        ensures { result ≡ spec.without tag self }
+        ensures list { result ≡ spec.without tag self }
+        ensures len { length result ≤ length self }
     {
         let AuthList { mut params } = self;
         params.retain(|param| !is_tag(param.tag, tag));
@@ -160,7 +164,8 @@ impl AuthList {
     pub fn with(self, param: Param) -> Result<AuthList, NoMemory>
         requires fits { Fits param }
         requires room { length self < 65535 }
-        ensures { IfOk result (λ list. list ≡ with_param param (spec.without param.tag self)) }
+        ensures list { IfOk result (λ list. list ≡ with_param param (spec.without param.tag self)) }
+        ensures len { IfOk result (λ list. length list ≤ length self + 1) }
     {
         let AuthList { mut params } = self.without(param.tag);
         let own = rank(&param);
