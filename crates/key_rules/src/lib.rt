@@ -11,6 +11,8 @@ mod fault;
 mod kept;
 mod plan;
 mod rules;
+#[cfg(test)]
+mod tests;
 mod values;
 
 pub use creation::{check_new, usable};
