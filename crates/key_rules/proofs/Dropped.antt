@@ -1,5 +1,5 @@
 -- Leaving out one tag after the other leaves what has none of them.
-use Rattle.std.proofs.Common.{◌≡◌, Bool, true, false, not, ◌&&◌, cond, List, [], ◌∷◌, refl, sym, ap, ◌∙◌}
+use Rattle.std.proofs.Common.{◌≡◌, Bool, true, false, not, ◌&&◌, cond, List, [], ◌∷◌, refl, ap, ◌∙◌}
 use Rattle.std.specs.List.{filter, list_all}
 use Rattle.tags.specs.declared.tag.Tag.{Tag}
 use Rattle.tags.specs.declared.param.Param.{Param}

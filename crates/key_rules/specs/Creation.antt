@@ -1,6 +1,5 @@
 -- What becomes of a call that makes a key.
-use Rattle.std.specs.Prelude.{List, Result, Ok, Err}
-use Rattle.tags.specs.declared.param.Param.{Param}
+use Rattle.std.specs.Prelude.{Result, Ok, Err}
 use Rattle.key_rules.specs.declared.fault.NewFault.{NewFault}
 use Rattle.key_rules.specs.declared.plan.KeyPlan.{KeyPlan}
 use Rattle.key_rules.specs.Facts.{Facts}

@@ -1,5 +1,5 @@
 -- Table K, a new key: the rules in their order, and of each rule the parts in theirs.
-use Rattle.std.specs.Prelude.{ℕ, ◌*◌, Bool, true, false, ◌&&◌, ◌||◌, not, ◌==◌, nat_le, List, [], ◌∷◌, length, Option, Some, None, Result, Ok, Err, is_none, if◌then◌else◌}
+use Rattle.std.specs.Prelude.{ℕ, ◌*◌, Bool, false, ◌&&◌, ◌||◌, not, ◌==◌, nat_le, List, [], ◌∷◌, length, Option, Some, None, Result, Ok, Err, is_none, if◌then◌else◌}
 use Rattle.std.specs.List.{list_all, list_any}
 use Rattle.std.specs.Str.{is_utf8}
 use Rattle.tags.specs.declared.code.Code.TheVariants.{UnsupportedPurpose, UnsupportedAlgorithm, UnsupportedKeySize, UnsupportedBlockMode, UnsupportedPaddingMode, UnsupportedDigest, UnsupportedKeyFormat, InvalidInputLength, InvalidKeyArgument, UnsupportedTag, InvalidTag, ImportParameterMismatch, MissingMinMacLength, UnsupportedMinMacLength, InvalidArgument}

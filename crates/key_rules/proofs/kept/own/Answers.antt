@@ -1,7 +1,7 @@
-use Rattle.std.proofs.Common.{◌≡◌, ◌≤◌, ◌∙◌, ap, length, arith, subst, sym}
-use Rattle.tags.specs.declared.tag.Tag.TheVariants.{ApplicationId, ApplicationData, Nonce, MacLength, Origin, OsVersion, OsPatchlevel}
+use Rattle.std.proofs.Common.{◌≤◌, ◌∙◌, ap, length, subst, sym}
+use Rattle.tags.specs.declared.tag.Tag.TheVariants.{ApplicationData, Nonce, MacLength, Origin, OsVersion, OsPatchlevel}
 use Rattle.tag_lists.specs.Lookups.{without}
-use Rattle.key_rules.specs.Kept.{dropped, is_kept, own}
+use Rattle.key_rules.specs.Kept.{dropped, is_kept}
 use Rattle.key_rules.proofs.Dropped.{without_all_is}
 use Rattle.key_rules.proofs.Lengths.{length-filter_le}
 use Rattle.key_rules.proofs.kept.own.Goals as goal
