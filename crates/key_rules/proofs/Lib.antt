@@ -1,0 +1,4 @@
+pub mod Texts
+pub mod Lengths
+pub mod Dropped
+pub mod Limits

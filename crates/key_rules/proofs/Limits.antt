@@ -1,0 +1,61 @@
+-- The use limit has 32 bits.
+use Rattle.std.proofs.Common.{◌≡◌, ℕ, ◌^◌, ◌<◌, Bool, true, false, cond, List, [], ◌∷◌, Option, Some, refl, sym, subst, arith}
+use Rattle.std.specs.Prelude.{find, IfSome}
+use Rattle.std.specs.List.{AllByRecursion}
+use Rattle.std.proofs.lemmas.Bool.{eqb-true}
+use Rattle.tags.specs.declared.tag.Tag.{Tag}
+use Rattle.tags.specs.declared.tag.Tag.TheVariants.{Purpose, Algorithm, KeySize, BlockMode, Digest, Padding, CallerNonce, MinMacLength, EarlyBootOnly, ActiveDatetime, OriginationExpireDatetime, UsageExpireDatetime, MaxUsesPerBoot, UsageCountLimit, UserId, UserSecureId, NoAuthRequired, UserAuthType, AuthTimeout, UnlockedDeviceRequired, ApplicationId, ApplicationData, CreationDatetime, Origin, OsVersion, OsPatchlevel, Nonce, MacLength}
+use Rattle.tags.specs.declared.param.Param.{Param}
+use Rattle.tags.specs.declared.param.ParamValue.TheVariants.{Number}
+use Rattle.tags.specs.Tag.{type_of, low_of}
+use Rattle.tag_lists.specs.declared.shape.Shape.TheVariants.{Short}
+use Rattle.tag_lists.specs.Lookups.{is_of, one_of}
+use Rattle.tag_lists.specs.Order.{shape_of, FitsShape, Fits, IsCanonical}
+
+is_short : (t : Tag) → low_of t ≡ 405 → shape_of (type_of t) ≡ Short
+is_short Purpose e = absurd (omega (arith, e))
+is_short Algorithm e = absurd (omega (arith, e))
+is_short KeySize e = absurd (omega (arith, e))
+is_short BlockMode e = absurd (omega (arith, e))
+is_short Digest e = absurd (omega (arith, e))
+is_short Padding e = absurd (omega (arith, e))
+is_short CallerNonce e = absurd (omega (arith, e))
+is_short MinMacLength e = absurd (omega (arith, e))
+is_short EarlyBootOnly e = absurd (omega (arith, e))
+is_short ActiveDatetime e = absurd (omega (arith, e))
+is_short OriginationExpireDatetime e = absurd (omega (arith, e))
+is_short UsageExpireDatetime e = absurd (omega (arith, e))
+is_short MaxUsesPerBoot e = absurd (omega (arith, e))
+is_short UsageCountLimit e = refl
+is_short UserId e = absurd (omega (arith, e))
+is_short UserSecureId e = absurd (omega (arith, e))
+is_short NoAuthRequired e = absurd (omega (arith, e))
+is_short UserAuthType e = absurd (omega (arith, e))
+is_short AuthTimeout e = absurd (omega (arith, e))
+is_short UnlockedDeviceRequired e = absurd (omega (arith, e))
+is_short ApplicationId e = absurd (omega (arith, e))
+is_short ApplicationData e = absurd (omega (arith, e))
+is_short CreationDatetime e = absurd (omega (arith, e))
+is_short Origin e = absurd (omega (arith, e))
+is_short OsVersion e = absurd (omega (arith, e))
+is_short OsPatchlevel e = absurd (omega (arith, e))
+is_short Nonce e = absurd (omega (arith, e))
+is_short MacLength e = absurd (omega (arith, e))
+
+-- what is found passes, and is as all are
+abbrev Found : (Param → Type 0) → (Param → Bool) → Option Param → Type 0
+Found P t found = IfSome found (λ p. P p × (t p ≡ true))
+
+found_here : (P : Param → Type 0) (t : Param → Bool) (b : Bool) (x : Param) (rest : Option Param) → t x ≡ b → P x → Found P t rest → Found P t (cond b (Some x) rest)
+found_here P t true x rest e h behind = (h, e)
+found_here P t false x rest e h behind = behind
+
+found : (P : Param → Type 0) (t : Param → Bool) (xs : List Param) → AllByRecursion P xs → Found P t (find t xs)
+found P t [] h = tt
+found P t (x ∷ xs) h = found_here P t (t x) x (find t xs) refl h.0 (found P t xs h.1)
+
+pub limit_small : (list : List Param) (p : Param) (n : ℕ) → IsCanonical list → Some p ≡ one_of UsageCountLimit list → p.value ≡ Number n → n < 2 ^ 32
+limit_small list p n is e value =
+    let own : Found Fits (is_of UsageCountLimit) (Some p) = subst (Found Fits (is_of UsageCountLimit)) (sym e) (found Fits (is_of UsageCountLimit) list is.fit) in
+    let short : FitsShape Short p.value = subst (λ s. FitsShape s p.value) (is_short p.tag (eqb-true _ _ own.1)) own.0 in
+    subst (FitsShape Short) value short

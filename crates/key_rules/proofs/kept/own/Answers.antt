@@ -1,0 +1,15 @@
+use Rattle.std.proofs.Common.{◌≤◌, ◌∙◌, ap, length, subst, sym}
+use Rattle.tags.specs.declared.tag.Tag.TheVariants.{ApplicationData, Nonce, MacLength, Origin, OsVersion, OsPatchlevel}
+use Rattle.tag_lists.specs.Lookups.{without}
+use Rattle.key_rules.specs.Kept.{dropped, is_kept}
+use Rattle.key_rules.proofs.Dropped.{without_all_is}
+use Rattle.key_rules.proofs.Lengths.{length-filter_le}
+use Rattle.key_rules.proofs.kept.own.Goals as goal
+
+pub returns-clause-own : goal.returns-clause-own
+returns-clause-own c =
+    c.without-7.ensures ∙ ap (without OsPatchlevel) (c.without-6.ensures ∙ ap (without OsVersion) (c.without-5.ensures ∙ ap (without Origin) (c.without-4.ensures ∙ ap (without MacLength) (c.without-3.ensures ∙ ap (without Nonce) (c.without-2.ensures ∙ ap (without ApplicationData) (c.without.ensures))))))
+    ∙ without_all_is dropped c.args.list
+
+pub returns-clause-room : goal.returns-clause-room
+returns-clause-room c = subst (λ new. length new ≤ length c.args.list) (sym (returns-clause-own c)) (length-filter_le is_kept c.args.list)

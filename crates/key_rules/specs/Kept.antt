@@ -1,0 +1,50 @@
+-- The list that is kept with a new key.
+use Rattle.std.specs.Prelude.{ℕ, ◌*◌, Bool, not, List, [], ◌∷◌, Option, Some, None, if◌then◌else◌}
+use Rattle.std.specs.List.{filter, list_all}
+use Rattle.std.specs.Option.{option_map_or}
+use Rattle.tags.specs.declared.param.Param.{Param}
+use Rattle.tags.specs.declared.param.ParamValue.TheVariants.{Number}
+use Rattle.tags.specs.declared.tag.Tag.{Tag}
+use Rattle.tags.specs.declared.tag.Tag.TheVariants as tags
+use Rattle.tag_lists.specs.Lookups.{is_of, one_of, without}
+use Rattle.tag_lists.specs.Order.{number_in, with_param}
+use Rattle.key_rules.specs.declared.facts.ImportFacts.{ImportFacts}
+use Rattle.key_rules.specs.Values.{stands}
+
+-- the tags whose parameters are not the caller's to keep
+abbrev pub dropped : List Tag
+dropped = tags.ApplicationId ∷ tags.ApplicationData ∷ tags.Nonce ∷ tags.MacLength ∷ tags.Origin ∷ tags.OsVersion ∷ tags.OsPatchlevel ∷ []
+
+abbrev pub is_kept : Param → Bool
+is_kept p = list_all (λ tag. not (is_of tag p)) dropped
+
+-- the caller's parameters that are kept
+abbrev pub own : List Param → List Param
+own list = filter is_kept list
+
+-- the list with this number as the tag's one parameter
+abbrev pub set : Tag → ℕ → List Param → List Param
+set tag number list = with_param (record { tag = tag; value = Number number }) (without tag list)
+
+-- the list with this number where the tag is not there
+abbrev pub set_missing : Tag → ℕ → List Param → List Param
+set_missing tag number list = if stands tag list then list else set tag number list
+
+-- an import's size in bits, where KEY_SIZE is not there
+abbrev pub with_size : Option ImportFacts → List Param → List Param
+with_size None list = list
+with_size (Some import) list = set_missing tags.KeySize (8 * import.length) list
+
+-- GENERATED or IMPORTED
+abbrev pub origin : Option ImportFacts → ℕ
+origin None = 0
+origin (Some import) = 2
+
+-- The kept list: the caller's without the tags that are dropped, with CREATION_DATETIME and an import's KEY_SIZE where
+-- the caller gave none, and with ORIGIN.
+unfoldable pub kept : Option ImportFacts → ℕ → List Param → List Param
+kept import wall list = set tags.Origin (origin import) (with_size import (set_missing tags.CreationDatetime wall (own list)))
+
+-- the use limit, or 0
+unfoldable pub limit : List Param → ℕ
+limit list = option_map_or (λ p. number_in p.value) (one_of tags.UsageCountLimit list) 0

@@ -1,0 +1,21 @@
+ghost use Rattle.std.specs.Prelude.{◌≡◌};
+ghost use Rattle.key_rules.specs.declared.fault.NewFault.TheVariants.{Memory};
+
+use tags::{Code, NoMemory, Rule};
+
+/// Why no key is made.
+#[derive(Clone, Copy, Debug, PartialEq, Eq)]
+pub enum NewFault {
+    /// The first rule of table K that is broken, and the code of its first part that is.
+    Broken(Rule, Code),
+    /// Want of memory.
+    Memory,
+}
+
+impl From<NoMemory> for NewFault {
+    ghost from_gives = { λ _ e. e ≡ Memory };
+
+    fn from(_fault: NoMemory) -> NewFault {
+        NewFault::Memory
+    }
+}

@@ -1,0 +1,110 @@
+ghost use Rattle.std.specs.Prelude.{◌≡◌, ◌≤◌, ◌<◌, ◌+◌, length, IfOk, IfSome};
+ghost use Rattle.tags.specs.declared.param.ParamValue.TheVariants.{Number};
+ghost use Rattle.tag_lists.specs.Order.{Fits};
+ghost use Rattle.key_rules.specs.Kept as spec;
+
+use crate::ImportFacts;
+use crate::values::stands;
+use tag_lists::AuthList;
+use tags::{NoMemory, Param, ParamValue, Tag};
+
+/// The origin GENERATED.
+const GENERATED: u64 = 0;
+/// The origin IMPORTED.
+const IMPORTED: u64 = 2;
+
+// The list with this number as the tag's one parameter.
+fn set(list: AuthList, tag: Tag, number: u64) -> Result<AuthList, NoMemory>
+    requires fits { Fits (record { tag = tag; value = Number number }) }
+    requires room { length list < 65535 }
+    ensures set { IfOk result (λ new. new ≡ spec.set tag number list) }
+    ensures room { IfOk result (λ new. length new ≤ length list + 1) }
+{
+    list.with(Param {
+        tag,
+        value: ParamValue::Number(number),
+    })
+}
+
+// The list with this number where the tag is not there.
+fn set_missing(list: AuthList, tag: Tag, number: u64) -> Result<AuthList, NoMemory>
+    requires fits { Fits (record { tag = tag; value = Number number }) }
+    requires room { length list < 65535 }
+    ensures set { IfOk result (λ new. new ≡ spec.set_missing tag number list) }
+    ensures room { IfOk result (λ new. length new ≤ length list + 1) }
+{
+    if stands(&list, tag) {
+        Ok(list)
+    } else {
+        set(list, tag, number)
+    }
+}
+
+// An import's size in bits, where the caller gave none.
+fn with_size(list: AuthList, import: Option<ImportFacts>) -> Result<AuthList, NoMemory>
+    requires short { IfSome import (λ facts. facts.length ≤ 64) }
+    requires room { length list < 65535 }
+    ensures set { IfOk result (λ new. new ≡ spec.with_size import list) }
+    ensures room { IfOk result (λ new. length new ≤ length list + 1) }
+{
+    match import {
+        None => Ok(list),
+        Some(import) => set_missing(list, Tag::KeySize, 8 * import.length),
+    }
+}
+
+// The caller's parameters that are kept.
+fn own(list: AuthList) -> AuthList
+    ensures own { result ≡ spec.own list }
+    ensures room { length result ≤ length list }
+{
+    list.without(Tag::ApplicationId)
+        .without(Tag::ApplicationData)
+        .without(Tag::Nonce)
+        .without(Tag::MacLength)
+        .without(Tag::Origin)
+        .without(Tag::OsVersion)
+        .without(Tag::OsPatchlevel)
+}
+
+fn origin(import: Option<ImportFacts>) -> u64
+    ensures origin { result ≡ spec.origin import }
+    ensures small { result ≤ 2 }
+{
+    match import {
+        None => GENERATED,
+        Some(_) => IMPORTED,
+    }
+}
+
+/// The list that is kept with a new key.
+#[tactic(auto, unfolding(crate::specs::Kept::kept))]
+pub(crate) fn kept(
+    list: AuthList,
+    import: Option<ImportFacts>,
+    wall: u64,
+) -> Result<AuthList, NoMemory>
+    requires short { IfSome import (λ facts. facts.length ≤ 64) }
+    requires few { length list ≤ 4096 }
+    ensures { IfOk result (λ new. new ≡ spec.kept import wall list) }
+{
+    let dated = set_missing(own(list), Tag::CreationDatetime, wall)?;
+    let sized = with_size(dated, import)?;
+    set(sized, Tag::Origin, origin(import))
+}
+
+/// The use limit, or 0.
+#[tactic(auto, unfolding(crate::specs::Kept::limit))]
+pub(crate) fn limit(list: &AuthList) -> u32
+    ensures { result ≡ spec.limit list.now }
+{
+    let _params = list.params();
+    match list.one(Tag::UsageCountLimit) {
+        None => 0,
+        Some(param) => match &param.value {
+            ParamValue::Number(number) => *number as u32,
+            ParamValue::Flag => 0,
+            ParamValue::Raw(_) => 0,
+        },
+    }
+}

@@ -1,0 +1,702 @@
+use crate::{ImportFacts, KeyPlan, NewFacts, NewFault, check_new, usable};
+use std::alloc::{AllocError, Global};
+use std::test::Fail;
+use tag_lists::AuthList;
+use tags::{Bytes, Descriptor, RuleTable, Tag, TagType};
+
+// The parameters of a key: of a BYTES tag the number of zero bytes.
+type Pairs = &'static [(Tag, u64)];
+
+// An HMAC key, an AES key of all modes, and an AES key that is generated.
+const M: Pairs = &[
+    (Tag::Purpose, 2),
+    (Tag::Purpose, 3),
+    (Tag::Algorithm, 128),
+    (Tag::Digest, 4),
+    (Tag::MinMacLength, 64),
+    (Tag::NoAuthRequired, 1),
+];
+
+const E: Pairs = &[
+    (Tag::Purpose, 0),
+    (Tag::Purpose, 1),
+    (Tag::Algorithm, 32),
+    (Tag::BlockMode, 1),
+    (Tag::BlockMode, 2),
+    (Tag::BlockMode, 3),
+    (Tag::BlockMode, 32),
+    (Tag::Padding, 1),
+    (Tag::Padding, 64),
+    (Tag::MinMacLength, 96),
+    (Tag::CallerNonce, 1),
+    (Tag::NoAuthRequired, 1),
+];
+
+const G: Pairs = &[
+    (Tag::Purpose, 0),
+    (Tag::Purpose, 1),
+    (Tag::Algorithm, 32),
+    (Tag::KeySize, 256),
+    (Tag::BlockMode, 32),
+    (Tag::Padding, 1),
+    (Tag::MinMacLength, 128),
+    (Tag::NoAuthRequired, 1),
+];
+
+// The format and the length of an imported material; none for a generated key.
+type Material = Option<(u32, u64)>;
+
+fn import_of(material: Material) -> Option<ImportFacts> {
+    match material {
+        None => None,
+        Some((format, length)) => Some(ImportFacts { format, length }),
+    }
+}
+
+// A list, the import, the tags that are taken out of it, what is added, and the broken rule with its code, or zeros.
+type Row = (Pairs, Material, &'static [Tag], Pairs, (u8, i32));
+
+// Adds a parameter.
+fn put(bytes: &mut Vec<u8>, tag: Tag, number: u64) -> Result<(), AllocError> {
+    bytes.extend_from_slice(&tag.number().to_be_bytes())?;
+    match tag.kind() {
+        TagType::Ulong | TagType::UlongRep | TagType::Date => {
+            bytes.extend_from_slice(&number.to_be_bytes())
+        }
+        TagType::Bool => bytes.extend_from_slice(&[1]),
+        TagType::Bytes | TagType::Bignum => {
+            let length = (number % 65536) as u16;
+            bytes.extend_from_slice(&length.to_be_bytes())?;
+            for _ in 0..length {
+                bytes.push(0)?;
+            }
+            Ok(())
+        }
+        TagType::Enum | TagType::EnumRep | TagType::Uint | TagType::UintRep => {
+            bytes.extend_from_slice(&((number % (1 << 32)) as u32).to_be_bytes())
+        }
+    }
+}
+
+// The encoded list of some parameters and others, without those of some tags.
+fn encoded(
+    alloc: Global,
+    list: &[(Tag, u64)],
+    dropped: &[Tag],
+    added: &[(Tag, u64)],
+) -> Result<Vec<u8>, AllocError> {
+    let mut count = 0u16;
+    let mut body = Vec::new(alloc);
+    for (tag, number) in list {
+        if !dropped.contains(tag) {
+            put(&mut body, *tag, *number)?;
+            count = count.wrapping_add(1);
+        }
+    }
+    for (tag, number) in added {
+        put(&mut body, *tag, *number)?;
+        count = count.wrapping_add(1);
+    }
+    let mut bytes = Vec::new(alloc);
+    bytes.extend_from_slice(&count.to_be_bytes())?;
+    bytes.extend_from_slice(&body)?;
+    Ok(bytes)
+}
+
+fn descriptor(domain: u32, alias: Option<Bytes>, blob: Option<Bytes>) -> Descriptor {
+    Descriptor {
+        domain,
+        nspace: 0,
+        alias,
+        blob,
+    }
+}
+
+// The broken rule and its code, or zeros.
+fn broken(answer: &Result<KeyPlan, NewFault>) -> (u8, i32) {
+    match answer {
+        Ok(_) => (0, 0),
+        Err(NewFault::Broken(rule, code)) => {
+            if rule.table == RuleTable::K {
+                (rule.number, code.number())
+            } else {
+                (255, 0)
+            }
+        }
+        Err(NewFault::Memory) => (0, -41),
+    }
+}
+
+// The rules that read the list, each part alone where it can be, and with a later one.
+
+// Lists that break no rule.
+const HELD: [Row; 11] = [
+    (M, Some((3, 20)), &[], &[], (0, 0)),
+    (M, Some((3, 8)), &[], &[], (0, 0)),
+    (M, Some((3, 64)), &[], &[], (0, 0)),
+    (M, Some((3, 20)), &[], &[(Tag::KeySize, 160)], (0, 0)),
+    (E, Some((3, 16)), &[], &[], (0, 0)),
+    (E, Some((3, 24)), &[], &[], (0, 0)),
+    (E, Some((3, 32)), &[], &[(Tag::KeySize, 256)], (0, 0)),
+    (G, None, &[], &[], (0, 0)),
+    (G, None, &[Tag::KeySize], &[(Tag::KeySize, 192)], (0, 0)),
+    (M, None, &[], &[(Tag::KeySize, 64)], (0, 0)),
+    (M, None, &[], &[(Tag::KeySize, 512)], (0, 0)),
+];
+
+// K4 to K6: the two ids, the algorithm and the format.
+const FIRST: [Row; 8] = [
+    (
+        M,
+        Some((3, 20)),
+        &[],
+        &[(Tag::ApplicationId, 1025)],
+        (4, -21),
+    ),
+    (
+        M,
+        Some((3, 20)),
+        &[Tag::Algorithm],
+        &[(Tag::ApplicationData, 1025)],
+        (4, -21),
+    ),
+    (
+        M,
+        Some((3, 20)),
+        &[],
+        &[(Tag::ApplicationId, 1024), (Tag::ApplicationData, 1024)],
+        (16, -39),
+    ),
+    (M, Some((3, 20)), &[Tag::Algorithm], &[], (5, -4)),
+    (
+        M,
+        Some((3, 20)),
+        &[Tag::Algorithm],
+        &[(Tag::Algorithm, 1)],
+        (5, -4),
+    ),
+    (M, Some((1, 20)), &[Tag::Algorithm], &[], (5, -4)),
+    (M, Some((1, 20)), &[], &[], (6, -17)),
+    (M, Some((1, 7)), &[], &[], (6, -17)),
+];
+
+// K7: the size.
+const SIZES: [Row; 18] = [
+    (G, None, &[Tag::KeySize], &[], (7, -6)),
+    (G, None, &[Tag::KeySize], &[(Tag::KeySize, 129)], (7, -6)),
+    (G, None, &[Tag::KeySize], &[(Tag::KeySize, 512)], (7, -6)),
+    (G, None, &[Tag::KeySize], &[(Tag::Purpose, 2)], (7, -6)),
+    (M, None, &[], &[(Tag::KeySize, 56)], (7, -6)),
+    (M, None, &[], &[(Tag::KeySize, 520)], (7, -6)),
+    (M, None, &[], &[(Tag::KeySize, 65)], (7, -6)),
+    (M, Some((3, 7)), &[], &[], (7, -6)),
+    (M, Some((3, 65)), &[], &[], (7, -6)),
+    (M, Some((3, 0)), &[], &[], (7, -6)),
+    (E, Some((3, 17)), &[], &[], (7, -6)),
+    (E, Some((3, 64)), &[], &[], (7, -6)),
+    (E, Some((3, 2305843009213693968)), &[], &[], (7, -6)),
+    (E, Some((3, 18446744073709551615)), &[], &[], (7, -6)),
+    (E, Some((3, 17)), &[], &[(Tag::KeySize, 256)], (7, -6)),
+    (E, Some((3, 16)), &[], &[(Tag::KeySize, 256)], (7, -44)),
+    (
+        E,
+        Some((3, 16)),
+        &[],
+        &[(Tag::KeySize, 256), (Tag::Purpose, 2)],
+        (7, -44),
+    ),
+    (M, Some((3, 20)), &[], &[(Tag::KeySize, 128)], (7, -44)),
+];
+
+// K8 to K11: purposes, block modes, paddings and the digest.
+const USES: [Row; 17] = [
+    (E, Some((3, 16)), &[], &[(Tag::Purpose, 2)], (8, -2)),
+    (E, Some((3, 16)), &[], &[(Tag::Purpose, 5)], (8, -2)),
+    (M, Some((3, 20)), &[], &[(Tag::Purpose, 0)], (8, -2)),
+    (M, Some((3, 20)), &[], &[(Tag::Purpose, 4)], (8, -2)),
+    (
+        E,
+        Some((3, 16)),
+        &[],
+        &[(Tag::Purpose, 3), (Tag::BlockMode, 4)],
+        (8, -2),
+    ),
+    (E, Some((3, 16)), &[], &[(Tag::BlockMode, 4)], (9, -7)),
+    (
+        E,
+        Some((3, 16)),
+        &[],
+        &[(Tag::BlockMode, 0), (Tag::Padding, 2)],
+        (9, -7),
+    ),
+    (M, Some((3, 20)), &[], &[(Tag::BlockMode, 4)], (0, 0)),
+    (E, Some((3, 16)), &[], &[(Tag::Padding, 2)], (10, -10)),
+    (
+        E,
+        Some((3, 16)),
+        &[Tag::MinMacLength],
+        &[(Tag::Padding, 65)],
+        (10, -10),
+    ),
+    (M, Some((3, 20)), &[], &[(Tag::Padding, 2)], (0, 0)),
+    (M, Some((3, 20)), &[Tag::Digest], &[], (11, -12)),
+    (M, Some((3, 20)), &[], &[(Tag::Digest, 5)], (11, -12)),
+    (
+        M,
+        Some((3, 20)),
+        &[Tag::Digest],
+        &[(Tag::Digest, 2)],
+        (11, -12),
+    ),
+    (
+        M,
+        Some((3, 20)),
+        &[Tag::Digest],
+        &[(Tag::Digest, 7)],
+        (11, -12),
+    ),
+    (
+        M,
+        Some((3, 20)),
+        &[Tag::Digest, Tag::MinMacLength],
+        &[],
+        (11, -12),
+    ),
+    (E, Some((3, 16)), &[], &[(Tag::Digest, 1)], (0, 0)),
+];
+
+// K12: the least mac length.
+const MACS: [Row; 19] = [
+    (M, Some((3, 20)), &[Tag::MinMacLength], &[], (12, -58)),
+    (
+        M,
+        Some((3, 20)),
+        &[Tag::MinMacLength],
+        &[(Tag::UserSecureId, 7)],
+        (12, -58),
+    ),
+    (E, Some((3, 16)), &[Tag::MinMacLength], &[], (12, -58)),
+    (
+        E,
+        Some((3, 16)),
+        &[Tag::MinMacLength, Tag::BlockMode],
+        &[(Tag::BlockMode, 1), (Tag::BlockMode, 3)],
+        (0, 0),
+    ),
+    (
+        E,
+        Some((3, 16)),
+        &[Tag::MinMacLength, Tag::BlockMode],
+        &[(Tag::BlockMode, 1), (Tag::MinMacLength, 7)],
+        (0, 0),
+    ),
+    (
+        M,
+        Some((3, 20)),
+        &[Tag::MinMacLength],
+        &[(Tag::MinMacLength, 56)],
+        (12, -59),
+    ),
+    (
+        M,
+        Some((3, 20)),
+        &[Tag::MinMacLength],
+        &[(Tag::MinMacLength, 68)],
+        (12, -59),
+    ),
+    (
+        M,
+        Some((3, 20)),
+        &[Tag::MinMacLength],
+        &[(Tag::MinMacLength, 264)],
+        (12, -59),
+    ),
+    (
+        M,
+        Some((3, 20)),
+        &[Tag::MinMacLength],
+        &[(Tag::MinMacLength, 256)],
+        (0, 0),
+    ),
+    (
+        M,
+        Some((3, 20)),
+        &[Tag::Digest, Tag::MinMacLength],
+        &[(Tag::Digest, 3), (Tag::MinMacLength, 224)],
+        (0, 0),
+    ),
+    (
+        M,
+        Some((3, 20)),
+        &[Tag::Digest, Tag::MinMacLength],
+        &[(Tag::Digest, 3), (Tag::MinMacLength, 232)],
+        (12, -59),
+    ),
+    (
+        M,
+        Some((3, 20)),
+        &[Tag::Digest, Tag::MinMacLength],
+        &[(Tag::Digest, 5), (Tag::MinMacLength, 384)],
+        (0, 0),
+    ),
+    (
+        M,
+        Some((3, 20)),
+        &[Tag::Digest, Tag::MinMacLength],
+        &[(Tag::Digest, 5), (Tag::MinMacLength, 392)],
+        (12, -59),
+    ),
+    (
+        M,
+        Some((3, 20)),
+        &[Tag::Digest, Tag::MinMacLength],
+        &[(Tag::Digest, 6), (Tag::MinMacLength, 512)],
+        (0, 0),
+    ),
+    (
+        M,
+        Some((3, 20)),
+        &[Tag::Digest, Tag::MinMacLength],
+        &[(Tag::Digest, 6), (Tag::MinMacLength, 520)],
+        (12, -59),
+    ),
+    (
+        E,
+        Some((3, 16)),
+        &[Tag::MinMacLength],
+        &[(Tag::MinMacLength, 88)],
+        (12, -59),
+    ),
+    (
+        E,
+        Some((3, 16)),
+        &[Tag::MinMacLength],
+        &[(Tag::MinMacLength, 136)],
+        (12, -59),
+    ),
+    (
+        E,
+        Some((3, 16)),
+        &[Tag::MinMacLength],
+        &[(Tag::MinMacLength, 128)],
+        (0, 0),
+    ),
+    (
+        E,
+        Some((3, 16)),
+        &[Tag::MinMacLength],
+        &[(Tag::MinMacLength, 100), (Tag::UserSecureId, 7)],
+        (12, -59),
+    ),
+];
+
+// K13, K14, K16: what is not both there, not 0, or not there.
+const LAST: [Row; 17] = [
+    (M, Some((3, 20)), &[], &[(Tag::UserSecureId, 7)], (13, -38)),
+    (
+        M,
+        Some((3, 20)),
+        &[],
+        &[(Tag::UserSecureId, 7), (Tag::UsageCountLimit, 0)],
+        (13, -38),
+    ),
+    (
+        M,
+        Some((3, 20)),
+        &[],
+        &[(Tag::UsageCountLimit, 0)],
+        (14, -38),
+    ),
+    (
+        M,
+        Some((3, 20)),
+        &[],
+        &[(Tag::UsageCountLimit, 0), (Tag::UserId, 1)],
+        (14, -38),
+    ),
+    (M, Some((3, 20)), &[], &[(Tag::EarlyBootOnly, 1)], (16, -39)),
+    (
+        M,
+        Some((3, 20)),
+        &[],
+        &[(Tag::ActiveDatetime, 1)],
+        (16, -39),
+    ),
+    (
+        M,
+        Some((3, 20)),
+        &[],
+        &[(Tag::OriginationExpireDatetime, 1)],
+        (16, -39),
+    ),
+    (
+        M,
+        Some((3, 20)),
+        &[],
+        &[(Tag::UsageExpireDatetime, 1)],
+        (16, -39),
+    ),
+    (
+        M,
+        Some((3, 20)),
+        &[],
+        &[(Tag::MaxUsesPerBoot, 1)],
+        (16, -39),
+    ),
+    (M, Some((3, 20)), &[], &[(Tag::UserId, 1)], (16, -39)),
+    (
+        M,
+        Some((3, 20)),
+        &[Tag::NoAuthRequired],
+        &[(Tag::UserSecureId, 7)],
+        (16, -39),
+    ),
+    (M, Some((3, 20)), &[], &[(Tag::UserAuthType, 1)], (16, -39)),
+    (M, Some((3, 20)), &[], &[(Tag::AuthTimeout, 1)], (16, -39)),
+    (
+        M,
+        Some((3, 20)),
+        &[],
+        &[(Tag::UnlockedDeviceRequired, 1)],
+        (16, -39),
+    ),
+    (M, Some((3, 20)), &[], &[(Tag::ApplicationId, 0)], (16, -39)),
+    (
+        M,
+        Some((3, 20)),
+        &[],
+        &[(Tag::ApplicationData, 0)],
+        (16, -39),
+    ),
+    (
+        M,
+        Some((3, 20)),
+        &[],
+        &[(Tag::UsageCountLimit, 1)],
+        (16, -39),
+    ),
+];
+
+// The first row whose answer is another.
+fn wrong_row(alloc: Global, rows: &[Row]) -> Result<Option<usize>, AllocError> {
+    let name = descriptor(0, Some(Bytes::of(Vec::from_elem(alloc, 107u8, 1)?)), None);
+    for (row, (list, import, dropped, added, expected)) in rows.iter().enumerate() {
+        let params = encoded(alloc, list, dropped, added)?;
+        let facts = NewFacts {
+            connected: true,
+            descriptor: &name,
+            params: &params,
+            import: import_of(*import),
+            wall: 1000,
+        };
+        if broken(&check_new(alloc, &facts)) != *expected {
+            return Ok(Some(row));
+        }
+    }
+    Ok(None)
+}
+
+fn wrong_in_held(alloc: Global) -> Result<Option<usize>, AllocError> {
+    wrong_row(alloc, &HELD)
+}
+
+fn wrong_in_first(alloc: Global) -> Result<Option<usize>, AllocError> {
+    wrong_row(alloc, &FIRST)
+}
+
+fn wrong_in_sizes(alloc: Global) -> Result<Option<usize>, AllocError> {
+    wrong_row(alloc, &SIZES)
+}
+
+fn wrong_in_uses(alloc: Global) -> Result<Option<usize>, AllocError> {
+    wrong_row(alloc, &USES)
+}
+
+fn wrong_in_macs(alloc: Global) -> Result<Option<usize>, AllocError> {
+    wrong_row(alloc, &MACS)
+}
+
+fn wrong_in_last(alloc: Global) -> Result<Option<usize>, AllocError> {
+    wrong_row(alloc, &LAST)
+}
+
+#[test]
+fn the_first_broken_rule_of_the_list_is_answered(rt: HostRuntime) -> Result<(), Fail> {
+    let alloc = rt.alloc();
+    assert_eq!(rt; wrong_in_held(alloc)?, None);
+    assert_eq!(rt; wrong_in_first(alloc)?, None);
+    assert_eq!(rt; wrong_in_sizes(alloc)?, None);
+    assert_eq!(rt; wrong_in_uses(alloc)?, None);
+    assert_eq!(rt; wrong_in_macs(alloc)?, None);
+    assert_eq!(rt; wrong_in_last(alloc)?, None);
+    Ok(())
+}
+
+// The rules before the list: whether the client is connected, the domain, the alias, whether a blob is given, and the
+// encoded list.
+#[test]
+fn the_first_broken_rule_before_the_list_is_answered(rt: HostRuntime) -> Result<(), Fail> {
+    let alloc = rt.alloc();
+    let long = "k".repeat(alloc, 257)?;
+    let most = "k".repeat(alloc, 256)?;
+    let good = encoded(alloc, M, &[], &[])?;
+    let vast = Vec::from_elem(alloc, 0u8, 4097)?;
+    let full = encoded(alloc, M, &[], &[(Tag::Nonce, 4043)])?;
+    let over = encoded(alloc, M, &[], &[(Tag::Nonce, 4044)])?;
+    let unknown = b"\x00\x01\x70\x00\x09\x99\x01".as_slice();
+    let repeated = b"\x00\x02\x70\x00\x01\xf7\x01\x70\x00\x01\xf7\x01".as_slice();
+    let wrong = b"\x00\x01\x70\x00\x01\xf7\x00".as_slice();
+    let cut = b"\x00\x01\x70\x00\x01".as_slice();
+    let trailing = b"\x00\x01\x70\x00\x01\xf7\x01\x00".as_slice();
+    let name = Some(b"k".as_slice());
+    let cases: [(bool, u32, Option<&[u8]>, bool, &[u8], (u8, i32)); 22] = [
+        (true, 0, name, false, &good, (0, 0)),
+        (true, 0, Some(most.as_bytes()), false, &good, (0, 0)),
+        (true, 0, Some(b"\xc3\xa9"), false, &good, (0, 0)),
+        (false, 0, name, false, &good, (1, 20)),
+        (false, 4, None, true, unknown, (1, 20)),
+        (true, 1, name, false, &good, (2, 20)),
+        (true, 2, name, false, &good, (2, 20)),
+        (true, 3, name, false, &good, (2, 20)),
+        (true, 0, None, false, &good, (2, 20)),
+        (true, 0, Some(b""), false, &good, (2, 20)),
+        (true, 0, Some(long.as_bytes()), false, &good, (2, 20)),
+        (true, 0, Some(b"\xc3"), false, &good, (2, 20)),
+        (true, 0, name, true, &good, (2, 20)),
+        (true, 0, None, false, unknown, (2, 20)),
+        (true, 0, name, false, &vast, (4, -21)),
+        (true, 0, name, false, &over, (4, -21)),
+        (true, 0, name, false, &full, (0, 0)),
+        (true, 0, name, false, unknown, (4, -40)),
+        (true, 0, name, false, repeated, (4, -38)),
+        (true, 0, name, false, wrong, (4, -40)),
+        (true, 0, name, false, cut, (4, -40)),
+        (true, 0, name, false, trailing, (4, -40)),
+    ];
+    for (row, (connected, domain, alias, has_blob, params, expected)) in cases
+        .into_iter()
+        .enumerate()
+    {
+        let alias = match alias {
+            None => None,
+            Some(text) => Some(Bytes::of(Vec::from_slice(alloc, text)?)),
+        };
+        let blob = if has_blob {
+            Some(Bytes::empty(alloc))
+        } else {
+            None
+        };
+        let key = descriptor(domain, alias, blob);
+        let facts = NewFacts {
+            connected,
+            descriptor: &key,
+            params,
+            import: import_of(Some((3, 20))),
+            wall: 1000,
+        };
+        assert_eq!(rt; broken(&check_new(alloc, &facts)), expected, "in row {row}");
+    }
+    Ok(())
+}
+
+// A list, the import, what is added, the wall reading, and the kept list's bytes.
+type Kept = (Pairs, Material, Pairs, u64, &'static [u8]);
+
+const KEPT: [Kept; 4] = [
+    (
+        G,
+        None,
+        &[],
+        1000,
+        b"\x00\x0a\x20\x00\x00\x01\x00\x00\x00\x00\x20\x00\x00\x01\x00\x00\x00\x01\x10\x00\x00\x02\x00\x00\x00\x20\x30\x00\x00\x03\x00\x00\x01\x00\x20\x00\x00\x04\x00\x00\x00\x20\x20\x00\x00\x06\x00\x00\x00\x01\x30\x00\x00\x08\x00\x00\x00\x80\x70\x00\x01\xf7\x01\x60\x00\x02\xbd\x00\x00\x00\x00\x00\x00\x03\xe8\x10\x00\x02\xbe\x00\x00\x00\x00",
+    ),
+    (
+        M,
+        Some((3, 20)),
+        &[(Tag::OsVersion, 1), (Tag::OsPatchlevel, 2)],
+        1000,
+        b"\x00\x09\x20\x00\x00\x01\x00\x00\x00\x02\x20\x00\x00\x01\x00\x00\x00\x03\x10\x00\x00\x02\x00\x00\x00\x80\x30\x00\x00\x03\x00\x00\x00\xa0\x20\x00\x00\x05\x00\x00\x00\x04\x30\x00\x00\x08\x00\x00\x00\x40\x70\x00\x01\xf7\x01\x60\x00\x02\xbd\x00\x00\x00\x00\x00\x00\x03\xe8\x10\x00\x02\xbe\x00\x00\x00\x02",
+    ),
+    (
+        M,
+        Some((3, 20)),
+        &[
+            (Tag::KeySize, 160),
+            (Tag::Origin, 4),
+            (Tag::Nonce, 3),
+            (Tag::MacLength, 64),
+            (Tag::CreationDatetime, 5),
+        ],
+        1000,
+        b"\x00\x09\x20\x00\x00\x01\x00\x00\x00\x02\x20\x00\x00\x01\x00\x00\x00\x03\x10\x00\x00\x02\x00\x00\x00\x80\x30\x00\x00\x03\x00\x00\x00\xa0\x20\x00\x00\x05\x00\x00\x00\x04\x30\x00\x00\x08\x00\x00\x00\x40\x70\x00\x01\xf7\x01\x60\x00\x02\xbd\x00\x00\x00\x00\x00\x00\x00\x05\x10\x00\x02\xbe\x00\x00\x00\x02",
+    ),
+    (
+        G,
+        None,
+        &[(Tag::Origin, 2)],
+        18446744073709551615,
+        b"\x00\x0a\x20\x00\x00\x01\x00\x00\x00\x00\x20\x00\x00\x01\x00\x00\x00\x01\x10\x00\x00\x02\x00\x00\x00\x20\x30\x00\x00\x03\x00\x00\x01\x00\x20\x00\x00\x04\x00\x00\x00\x20\x20\x00\x00\x06\x00\x00\x00\x01\x30\x00\x00\x08\x00\x00\x00\x80\x70\x00\x01\xf7\x01\x60\x00\x02\xbd\xff\xff\xff\xff\xff\xff\xff\xff\x10\x00\x02\xbe\x00\x00\x00\x00",
+    ),
+];
+
+#[test]
+fn the_kept_list_has_what_is_set_and_not_what_is_dropped(rt: HostRuntime) -> Result<(), Fail> {
+    let alloc = rt.alloc();
+    let name = descriptor(0, Some(Bytes::of(vec![in alloc; 107u8]?)), None);
+    for (row, (list, import, added, wall, expected)) in KEPT.into_iter().enumerate() {
+        let params = encoded(alloc, list, &[], added)?;
+        let facts = NewFacts {
+            connected: true,
+            descriptor: &name,
+            params: &params,
+            import: import_of(import),
+            wall,
+        };
+        let Ok(plan) = check_new(alloc, &facts) else {
+            assert!(rt; false, "no key in row {row}");
+            continue;
+        };
+        assert_eq!(rt; plan.limit, 0);
+        let Ok(written) = plan.list.write(alloc) else {
+            assert!(rt; false, "no memory in row {row}");
+            continue;
+        };
+        assert_eq!(rt; written.as_slice(), expected, "in row {row}");
+    }
+    Ok(())
+}
+
+// A list, what is taken out, what is added, the material's length, and whether that is a key's.
+type Use = (Pairs, &'static [Tag], Pairs, usize, bool);
+
+const USED: [Use; 9] = [
+    (M, &[], &[], 20, true),
+    (M, &[], &[], 7, false),
+    (M, &[], &[(Tag::KeySize, 160)], 20, true),
+    (M, &[], &[(Tag::KeySize, 168)], 20, false),
+    (M, &[Tag::Digest], &[], 20, false),
+    (
+        M,
+        &[],
+        &[(Tag::UserSecureId, 7), (Tag::UsageCountLimit, 0)],
+        20,
+        true,
+    ),
+    (E, &[], &[], 32, true),
+    (E, &[Tag::MinMacLength], &[], 32, false),
+    (E, &[], &[], 64, false),
+];
+
+#[test]
+fn a_list_and_a_length_are_a_keys_or_not(rt: HostRuntime) -> Result<(), Fail> {
+    let alloc = rt.alloc();
+    for (row, (list, dropped, added, length, expected)) in USED.into_iter().enumerate() {
+        let params = encoded(alloc, list, dropped, added)?;
+        let Ok(list) = AuthList::read(alloc, &params) else {
+            assert!(rt; false, "no list in row {row}");
+            continue;
+        };
+        assert_eq!(rt; usable(&list, length), expected, "in row {row}");
+    }
+    Ok(())
+}
