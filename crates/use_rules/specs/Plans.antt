@@ -1,0 +1,42 @@
+-- What the work of an operation is, by the operation's list and the key's.
+use Rattle.std.specs.Prelude.{ℕ, ◌/◌, Bool, true, false, ◌&&◌, not, nat_le, List, Option, Some, None, if◌then◌else◌, unwrap_or}
+use Rattle.tags.specs.declared.param.Param.{Param}
+use Rattle.tags.specs.declared.plan.Plan.{Plan}
+use Rattle.tags.specs.declared.plan.Plan.TheVariants.{Ecb, Cbc, Ctr, Gcm, HmacSign, HmacVerify}
+use Rattle.tags.specs.declared.tag.Tag.TheVariants.{Purpose, BlockMode, Padding, Nonce, MacLength}
+use Rattle.use_rules.specs.Lists.{number_of, bytes_of, is_only}
+use Rattle.use_rules.specs.Rules.{is_aes, is_sign, digest_of, least_bits, takes_nonce, gives_nonce, nonce_size}
+
+-- A number of a plan has one byte; a list that the rules let through has no greater one.
+abbrev pub byte : ℕ → ℕ
+byte n = if nat_le n 255 then n else 255
+
+-- the bytes of the mac or tag that is asked for
+abbrev pub length_bytes : List Param → ℕ
+length_bytes asked = byte (unwrap_or (number_of MacLength asked) 0 / 8)
+
+-- AES by its mode: ECB, CBC, CTR or GCM
+abbrev pub cipher_plan : List Param → Plan
+cipher_plan asked =
+    if is_only BlockMode 1 asked then Ecb (is_only Purpose 0 asked) (is_only Padding 64 asked) else
+    if is_only BlockMode 2 asked then Cbc (is_only Purpose 0 asked) (is_only Padding 64 asked) else
+    if is_only BlockMode 3 asked then Ctr else
+    Gcm (is_only Purpose 0 asked) (length_bytes asked)
+
+-- HMAC by its purpose: SIGN, or VERIFY of a signature of at least the key's MIN_MAC_LENGTH
+abbrev pub mac_plan : List Param → List Param → Plan
+mac_plan asked key =
+    if is_sign asked then HmacSign (byte (digest_of asked key)) (length_bytes asked)
+    else HmacVerify (byte (digest_of asked key)) (byte (least_bits key / 8))
+
+-- the plan of an operation that begins
+abbrev pub plan_of : List Param → List Param → Plan
+plan_of asked key = if is_aes key then cipher_plan asked else mac_plan asked key
+
+-- the nonce that the caller gives: CBC, CTR and GCM alone look at it
+abbrev pub nonce_given : List Param → List Param → Option (List ℕ)
+nonce_given asked key = if takes_nonce asked key then bytes_of Nonce asked else None
+
+-- how many bytes of nonce are drawn: an encryption without a given one draws it whole
+abbrev pub nonce_wanted : List Param → List Param → ℕ
+nonce_wanted asked key = if takes_nonce asked key && (is_only Purpose 0 asked && not (gives_nonce asked)) then nonce_size asked key else 0

@@ -1,0 +1,74 @@
+ghost use Rattle.std.specs.Prelude.{◌≡◌, ◌∷◌, []};
+ghost use Rattle.use_rules.specs.Table as spec;
+
+use crate::BeginFacts;
+use crate::plans::plan_of;
+use crate::rules::{
+    fits_nonce, gives_length, has_nonce, key_has_digest, key_has_mode, key_has_purpose,
+    may_give_nonce, names_digest, names_key, names_mode, names_padding, names_purpose,
+    reaches_least, takes_length, takes_padding,
+};
+use tag_lists::AuthList;
+use tags::{Code, Plan, Rule, RuleTable};
+
+// A rule of the table by its number.
+fn rule(number: u8) -> Rule
+    ensures { result ≡ spec.rule number }
+{
+    Rule {
+        table: RuleTable::B,
+        number,
+    }
+}
+
+// A part of a rule: `Err` where it does not hold.
+fn check(number: u8, code: Code, holds: bool) -> Result<(), (Rule, Code)>
+    ensures { result ≡ spec.first_broken (spec.check number code holds ∷ []) }
+{
+    if holds {
+        Ok(())
+    } else {
+        Err((rule(number), code))
+    }
+}
+
+// The rules of the operation's list and the key's.
+#[tactic(auto, unfolding(crate::specs::Table::list_rules))]
+fn check_lists(asked: &AuthList, key: &AuthList) -> Result<(), (Rule, Code)>
+    ensures { result ≡ spec.first_broken (spec.list_rules asked.now key.now) }
+{
+    check(9, Code::UnsupportedPurpose, names_purpose(asked, key))?;
+    check(9, Code::IncompatiblePurpose, key_has_purpose(asked, key))?;
+    check(17, Code::UnsupportedBlockMode, names_mode(asked, key))?;
+    check(17, Code::IncompatibleBlockMode, key_has_mode(asked, key))?;
+    check(18, Code::UnsupportedPaddingMode, names_padding(asked, key))?;
+    check(18, Code::IncompatiblePaddingMode, takes_padding(asked, key))?;
+    check(19, Code::UnsupportedDigest, names_digest(asked, key))?;
+    check(19, Code::IncompatibleDigest, key_has_digest(asked, key))?;
+    check(20, Code::MissingMacLength, gives_length(asked, key))?;
+    check(20, Code::UnsupportedMacLength, takes_length(asked, key))?;
+    check(20, Code::InvalidMacLength, reaches_least(asked, key))?;
+    check(21, Code::CallerNonceProhibited, may_give_nonce(asked, key))?;
+    check(21, Code::MissingNonce, has_nonce(asked, key))?;
+    check(21, Code::InvalidNonce, fits_nonce(asked, key))?;
+    Ok(())
+}
+
+#[tactic(auto, unfolding(crate::specs::Table::answer))]
+/// The first rule of the table that the begin breaks, with its code, or else the operation's plan. It takes no memory.
+pub fn check_begin(facts: &BeginFacts) -> Result<Plan, (Rule, Code)>
+    ensures first { result ≡ spec.answer facts.now }
+{
+    check(1, Code::InvalidArgument, facts.connected)?;
+    check(2, Code::InvalidArgument, names_key(&facts.descriptor))?;
+    check(4, Code::KeyNotFound, facts.found)?;
+    let asked = match &facts.asked {
+        Ok(list) => list,
+        Err(code) => return Err((rule(6), *code)),
+    };
+    let Some(key) = &facts.opened else {
+        return Err((rule(7), Code::InvalidKeyBlob));
+    };
+    check_lists(asked, key)?;
+    Ok(plan_of(asked, key))
+}
