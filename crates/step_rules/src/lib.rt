@@ -8,6 +8,8 @@
 mod facts;
 mod rules;
 mod table;
+#[cfg(test)]
+mod tests;
 
 pub use facts::{StepFacts, StepKind};
 pub use rules::{OPERATION_BYTES, PIECE_BYTES};

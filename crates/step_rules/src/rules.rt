@@ -72,7 +72,9 @@ fn fits_plan(plan: Plan, length: u128) -> bool
     ensures { result ≡ spec.fits_plan plan length }
 {
     match plan {
-        Plan::Ecb { seal, padded } | Plan::Cbc { seal, padded } => fits_blocks(seal, padded, length),
+        Plan::Ecb { seal, padded } | Plan::Cbc { seal, padded } => fits_blocks(
+            seal, padded, length,
+        ),
         Plan::Gcm { seal, tag } => seal || tag as u128 <= length,
         Plan::Ctr | Plan::HmacSign { .. } | Plan::HmacVerify { .. } => true,
     }

@@ -1,8 +1,8 @@
 ghost use Rattle.std.specs.Prelude.{◌≡◌, ◌∷◌, []};
 ghost use Rattle.step_rules.specs.Table as spec;
 
-use crate::rules::{are_pieces_short, is_enter, is_total_within, may_end, may_take_aad};
 use crate::StepFacts;
+use crate::rules::{are_pieces_short, is_enter, is_total_within, may_end, may_take_aad};
 use tags::{Code, Rule, RuleTable};
 
 // A rule of the table: `Err` where it does not hold.

@@ -11,6 +11,8 @@ mod lists;
 mod plans;
 mod rules;
 mod table;
+#[cfg(test)]
+mod tests;
 
 pub use facts::BeginFacts;
 pub use plans::{nonce_given, nonce_wanted};
