@@ -4,7 +4,7 @@ use Rattle.tags.specs.declared.plan.Plan.{Plan}
 use Rattle.tags.specs.declared.plan.Plan.TheVariants.{Ecb, Cbc, Ctr, Gcm, HmacSign, HmacVerify}
 use Rattle.step_rules.specs.declared.facts.StepFacts.{StepFacts}
 use Rattle.step_rules.specs.declared.facts.StepKind.{StepKind}
-use Rattle.step_rules.specs.declared.facts.StepKind.TheVariants.{Aad, Text, Last, Abort}
+use Rattle.step_rules.specs.declared.facts.StepKind.TheVariants.{Aad, Last, Abort}
 
 -- updateAad, update and finish enter an operation
 abbrev pub is_enter : StepKind → Bool

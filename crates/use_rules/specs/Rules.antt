@@ -31,7 +31,7 @@ is_hmac key = has_number Algorithm 128 key
 
 -- ENCRYPT or DECRYPT for AES, SIGN or VERIFY for HMAC
 abbrev pub serves : List Param → ℕ → Bool
-serves key purpose = (is_aes key && ((purpose == 0) || (purpose == 1))) || (is_hmac key && ((purpose == 2) || (purpose == 3)))
+serves key purpose = if is_aes key then (purpose == 0) || (purpose == 1) else is_hmac key && ((purpose == 2) || (purpose == 3))
 
 -- the operation's one value of the tag is the key's too
 abbrev pub key_has : Tag → List Param → List Param → Bool
@@ -83,7 +83,7 @@ takes_padding asked key = not (is_aes key) || (key_has Padding asked key && (not
 
 -- SHA-224, SHA-256, SHA-384 or SHA-512
 abbrev pub is_digest : ℕ → Bool
-is_digest digest = nat_le 3 digest && nat_le digest 6
+is_digest digest = (digest == 3) || ((digest == 4) || ((digest == 5) || (digest == 6)))
 
 -- there is exactly one DIGEST, of these
 abbrev pub names_known_digest : List Param → Bool

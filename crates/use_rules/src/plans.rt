@@ -61,6 +61,7 @@ fn mac_plan(asked: &AuthList, key: &AuthList) -> Plan
     }
 }
 
+#[tactic(auto, unfolding(crate::specs::Plans::plan_of))]
 /// The plan of an operation on the key.
 pub fn plan_of(asked: &AuthList, key: &AuthList) -> Plan
     ensures { result ≡ spec.plan_of asked.now key.now }
@@ -72,6 +73,7 @@ pub fn plan_of(asked: &AuthList, key: &AuthList) -> Plan
     }
 }
 
+#[tactic(auto, unfolding(crate::specs::Plans::nonce_given))]
 fn given<'a>(asked: &'a AuthList, key: &AuthList) -> Option<&'a [u8]>
     ensures { option_copied result ≡ spec.nonce_given asked.now key.now }
 {
@@ -82,6 +84,7 @@ fn given<'a>(asked: &'a AuthList, key: &AuthList) -> Option<&'a [u8]>
     }
 }
 
+#[tactic(auto, unfolding(crate::specs::Plans::nonce_wanted))]
 fn wanted(asked: &AuthList, key: &AuthList) -> usize
     ensures { result ≡ spec.nonce_wanted asked.now key.now }
 {

@@ -88,8 +88,11 @@ pub fn is_hmac(key: &AuthList) -> bool
 fn serves(key: &AuthList, purpose: u64) -> bool
     ensures { result ≡ spec.serves key.now purpose }
 {
-    is_aes(key) && (purpose == ENCRYPT || purpose == DECRYPT)
-        || is_hmac(key) && (purpose == SIGN || purpose == VERIFY)
+    if is_aes(key) {
+        purpose == ENCRYPT || purpose == DECRYPT
+    } else {
+        is_hmac(key) && (purpose == SIGN || purpose == VERIFY)
+    }
 }
 
 fn key_has(tag: Tag, asked: &AuthList, key: &AuthList) -> bool
@@ -178,11 +181,17 @@ pub fn takes_padding(asked: &AuthList, key: &AuthList) -> bool
             && (!is_stream(asked) || is_only(Tag::Padding, UNPADDED, asked))
 }
 
+fn is_digest(digest: u64) -> bool
+    ensures { result ≡ spec.is_digest digest }
+{
+    digest == SHA_224 || digest == SHA_256 || digest == SHA_384 || digest == SHA_512
+}
+
 fn names_known_digest(asked: &AuthList) -> bool
     ensures { result ≡ spec.names_known_digest asked.now }
 {
     match only_number(Tag::Digest, asked) {
-        Some(digest) => SHA_224 <= digest && digest <= SHA_512,
+        Some(digest) => is_digest(digest),
         None => false,
     }
 }

@@ -1,4 +1,5 @@
-ghost use Rattle.std.specs.Prelude.{◌≡◌, ◌∷◌, []};
+ghost use Rattle.std.specs.Prelude.{◌≡◌, ◌∷◌, [], IfOk, OnOk, Ok};
+ghost use Rattle.use_rules.specs.Plans.{HasDigest, IsWorkable, NonceFits, plan_of as plan_by};
 ghost use Rattle.use_rules.specs.Table as spec;
 
 use crate::BeginFacts;
@@ -35,7 +36,8 @@ fn check(number: u8, code: Code, holds: bool) -> Result<(), (Rule, Code)>
 // The rules of the operation's list and the key's.
 #[tactic(auto, unfolding(crate::specs::Table::list_rules))]
 fn check_lists(asked: &AuthList, key: &AuthList) -> Result<(), (Rule, Code)>
-    ensures { result ≡ spec.first_broken (spec.list_rules asked.now key.now) }
+    ensures first { result ≡ spec.first_broken (spec.list_rules asked.now key.now) }
+    ensures hold { OnOk result (spec.first_broken (spec.list_rules asked.now key.now) ≡ Ok tt) }
 {
     check(9, Code::UnsupportedPurpose, names_purpose(asked, key))?;
     check(9, Code::IncompatiblePurpose, key_has_purpose(asked, key))?;
@@ -54,10 +56,22 @@ fn check_lists(asked: &AuthList, key: &AuthList) -> Result<(), (Rule, Code)>
     Ok(())
 }
 
+// The plan, where no rule of the lists is broken.
+fn begun(asked: &AuthList, key: &AuthList) -> Result<Plan, (Rule, Code)>
+    ensures first { result ≡ spec.or_plan (spec.first_broken (spec.list_rules asked.now key.now)) (plan_by asked.now key.now) }
+    ensures workable { IfOk result (λ plan. HasDigest key.now → IsWorkable plan) }
+    ensures nonce { IfOk result (λ plan. NonceFits asked.now key.now plan) }
+{
+    check_lists(asked, key)?;
+    Ok(plan_of(asked, key))
+}
+
 #[tactic(auto, unfolding(crate::specs::Table::answer))]
 /// The first rule of the table that the begin breaks, with its code, or else the operation's plan. It takes no memory.
 pub fn check_begin(facts: &BeginFacts) -> Result<Plan, (Rule, Code)>
     ensures first { result ≡ spec.answer facts.now }
+    ensures workable { IfOk result (λ plan. HasDigest (spec.key_of facts.now) → IsWorkable plan) }
+    ensures nonce { IfOk result (λ plan. NonceFits (spec.asked_of facts.now) (spec.key_of facts.now) plan) }
 {
     check(1, Code::InvalidArgument, facts.connected)?;
     check(2, Code::InvalidArgument, names_key(&facts.descriptor))?;
@@ -69,6 +83,5 @@ pub fn check_begin(facts: &BeginFacts) -> Result<Plan, (Rule, Code)>
     let Some(key) = &facts.opened else {
         return Err((rule(7), Code::InvalidKeyBlob));
     };
-    check_lists(asked, key)?;
-    Ok(plan_of(asked, key))
+    begun(asked, key)
 }
