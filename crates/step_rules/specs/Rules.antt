@@ -1,5 +1,5 @@
 -- The rules of a step of an operation: each says whether it holds over the facts.
-use Rattle.std.specs.Prelude.{ℕ, ◌+◌, ◌%◌, Bool, true, false, ◌&&◌, ◌||◌, not, ◌==◌, nat_le}
+use Rattle.std.specs.Prelude.{◌≡◌, ◌≤◌, ℕ, ◌+◌, ◌%◌, Bool, true, false, ◌&&◌, ◌||◌, not, ◌==◌, nat_le}
 use Rattle.tags.specs.declared.plan.Plan.{Plan}
 use Rattle.tags.specs.declared.plan.Plan.TheVariants.{Ecb, Cbc, Ctr, Gcm, HmacSign, HmacVerify}
 use Rattle.step_rules.specs.declared.facts.StepFacts.{StepFacts}
@@ -54,3 +54,12 @@ fits_plan (HmacVerify digest least) length = true
 -- finish: the joined text, this input with it, has a length that the plan takes
 abbrev pub may_end : StepFacts → Bool
 may_end facts = not (is_last facts.kind) || fits_plan facts.plan (facts.text + facts.input)
+
+-- what a step that enters an operation keeps to
+pub record Enters (facts : StepFacts) : Type 0 where
+  pub input : facts.input ≤ 32768
+  pub signature : facts.signature ≤ 32768
+  pub live : facts.ended ≡ false
+  pub total : facts.aad + facts.text + facts.input ≤ 1048576
+  pub aad : is_aad facts.kind ≡ true → (is_gcm facts.plan ≡ true) × (facts.text ≡ 0)
+  pub whole : is_last facts.kind ≡ true → fits_plan facts.plan (facts.text + facts.input) ≡ true

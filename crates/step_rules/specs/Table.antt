@@ -42,6 +42,10 @@ enter_rules facts =
 abbrev pub rules_of : StepFacts → List Check
 rules_of facts = call_rules facts ++ (if is_enter facts.kind then enter_rules facts else [])
 
+-- the first rule of the table that does not hold
+unfoldable pub answer : StepFacts → Result (Unit {0}) (Rule × Code)
+answer facts = first_broken (rules_of facts)
+
 -- the rules whose denial ends the operation
 abbrev pub ends_operation : Rule → Bool
 ends_operation rule = is_step_table rule.table && ((rule.number == 4) || ((rule.number == 6) || ((rule.number == 7) || (rule.number == 8)))) where

@@ -1,4 +1,5 @@
-ghost use Rattle.std.specs.Prelude.{◌≡◌, ◌∷◌, []};
+ghost use Rattle.std.specs.Prelude.{◌≡◌, ◌∷◌, [], true, OnOk};
+ghost use Rattle.step_rules.specs.Rules.{is_enter as is_enter_kind, Enters};
 ghost use Rattle.step_rules.specs.Table as spec;
 
 use crate::StepFacts;
@@ -31,8 +32,10 @@ fn check_call(facts: &StepFacts) -> Result<(), (Rule, Code)>
 }
 
 // The rules of a step that enters the operation.
+#[tactic(auto, using(crate::proofs::Entering::enters))]
 fn check_enter(facts: &StepFacts) -> Result<(), (Rule, Code)>
-    ensures { result ≡ spec.first_broken (spec.enter_rules facts.now) }
+    ensures first { result ≡ spec.first_broken (spec.enter_rules facts.now) }
+    ensures enters { OnOk result (Enters facts.now) }
 {
     rule(3, Code::TooMuchData, are_pieces_short(facts))?;
     rule(4, Code::InvalidKeyBlob, !facts.ended)?;
@@ -42,10 +45,13 @@ fn check_enter(facts: &StepFacts) -> Result<(), (Rule, Code)>
     Ok(())
 }
 
+#[tactic(auto, unfolding(crate::specs::Table::answer))]
 /// The first rule of the table that the step breaks, with its code: updateAad, update and finish walk all rules, and
 /// abort the first one alone. It takes no memory.
 pub fn check_step(facts: &StepFacts) -> Result<(), (Rule, Code)>
-    ensures first { result ≡ spec.first_broken (spec.rules_of facts.now) }
+    ensures first { result ≡ spec.answer facts.now }
+    ensures own { OnOk result (facts.now.own ≡ true) }
+    ensures enters { OnOk result (is_enter_kind facts.now.kind ≡ true → Enters facts.now) }
 {
     check_call(facts)?;
     if is_enter(facts.kind) {
