@@ -45,9 +45,10 @@ fn check_enter(facts: &StepFacts) -> Result<(), (Rule, Code)>
     Ok(())
 }
 
-#[tactic(auto, unfolding(crate::specs::Table::answer))]
 /// The first rule of the table that the step breaks, with its code: updateAad, update and finish walk all rules, and
-/// abort the first one alone. It takes no memory.
+/// abort the first one alone. A step that breaks none is the client's own, and keeps to the lengths, the key and the plan.
+/// It takes no memory.
+#[tactic(auto, unfolding(crate::specs::Table::answer))]
 pub fn check_step(facts: &StepFacts) -> Result<(), (Rule, Code)>
     ensures first { result ≡ spec.answer facts.now }
     ensures own { OnOk result (facts.now.own ≡ true) }
