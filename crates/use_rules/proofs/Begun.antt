@@ -14,7 +14,7 @@ use Rattle.tags.specs.declared.tag.Tag.TheVariants.{Purpose, BlockMode, Digest, 
 use Rattle.tag_lists.specs.Lookups.{is_of, all_of}
 use Rattle.use_rules.specs.Lists.{number_in, number_alone, number_of, bytes_of, only_number, is_only, passes, stands, value_of}
 use Rattle.use_rules.specs.Rules.{is_aes, is_hmac, is_sign, is_digest, is_mode, names_known_digest, digest_of, digest_bits, least_bits, has_size}
-use Rattle.use_rules.specs.Plans.{byte, plan_of, mac_plan, length_bytes, HasDigest, IsWorkable, NonceFits, nonce_bytes, nonce_given, nonce_wanted}
+use Rattle.use_rules.specs.Plans.{byte, plan_of, length_bytes, HasDigest, IsWorkable, NonceFits, nonce_bytes, nonce_given, nonce_wanted}
 use Rattle.use_rules.specs.Table.{Check, first_broken, list_rules, rule}
 
 row_holds : (b : Bool) (rest : Result (Unit {0}) (Rule × Code)) (broken : Rule × Code) → (if b then rest else Err broken) ≡ Ok tt → (b ≡ true) × (rest ≡ Ok tt)

@@ -1,5 +1,5 @@
 -- Whether bytes are UTF-8, by what their reading as text gives.
-use Rattle.std.proofs.Common.{◌≡◌, ℕ, List, Bool, true, false, sym}
+use Rattle.std.proofs.Common.{◌≡◌, ℕ, List, true, false, sym}
 use Rattle.std.specs.Str.{IsUtf8, is_utf8}
 use Rattle.std.proofs.lemmas.Str.{IsUtf8-from_is_utf8, is_utf8-from_IsUtf8}
 use Rattle.std.proofs.lemmas.Bool.{false_from_ne_true}

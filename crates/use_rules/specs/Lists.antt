@@ -1,10 +1,10 @@
 -- What the rules read of a list of parameters.
-use Rattle.std.specs.Prelude.{ℕ, Bool, true, false, ◌==◌, List, [], ◌∷◌, Option, Some, None, is_some}
+use Rattle.std.specs.Prelude.{ℕ, Bool, false, ◌==◌, List, [], ◌∷◌, Option, Some, None, is_some}
 use Rattle.tags.specs.declared.tag.Tag.{Tag}
 use Rattle.tags.specs.declared.param.Param.{Param}
 use Rattle.tags.specs.declared.param.ParamValue.{ParamValue}
 use Rattle.tags.specs.declared.param.ParamValue.TheVariants.{Number, Flag, Raw}
-use Rattle.tag_lists.specs.Lookups.{one_of, all_of, has_number}
+use Rattle.tag_lists.specs.Lookups.{one_of, all_of}
 
 -- the number of a value
 abbrev pub number_in : ParamValue → Option ℕ

@@ -1,5 +1,5 @@
 -- What the work of an operation is, by the operation's list and the key's.
-use Rattle.std.specs.Prelude.{ℕ, ◌≡◌, ◌*◌, ◌/◌, ◌≤◌, Bool, true, false, ◌&&◌, not, nat_le, List, Option, Some, None, if◌then◌else◌, unwrap_or, length, MatchOption, ⊤}
+use Rattle.std.specs.Prelude.{ℕ, ◌≡◌, ◌*◌, ◌/◌, ◌≤◌, true, ◌&&◌, not, nat_le, List, Option, None, if◌then◌else◌, unwrap_or, length, MatchOption, ⊤}
 use Rattle.tags.specs.declared.param.Param.{Param}
 use Rattle.tags.specs.declared.plan.Plan.{Plan}
 use Rattle.tags.specs.declared.plan.Plan.TheVariants.{Ecb, Cbc, Ctr, Gcm, HmacSign, HmacVerify}

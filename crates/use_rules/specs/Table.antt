@@ -1,5 +1,5 @@
 -- Table B, the beginning of an operation: a list of rules in its order, and the answer is the first that does not hold.
-use Rattle.std.specs.Prelude.{ℕ, Bool, true, false, List, [], ◌∷◌, ◌++◌, Option, Some, None, Result, Ok, Err, if◌then◌else◌, is_some, is_ok, unwrap_or}
+use Rattle.std.specs.Prelude.{ℕ, Bool, List, [], ◌∷◌, ◌++◌, Result, Ok, Err, if◌then◌else◌, is_some, is_ok, unwrap_or}
 use Rattle.tags.specs.declared.code.Code.{Code}
 use Rattle.tags.specs.declared.code.Code.TheVariants.{InvalidArgument, KeyNotFound, InvalidTag, InvalidKeyBlob, UnsupportedPurpose, IncompatiblePurpose, UnsupportedBlockMode, IncompatibleBlockMode, UnsupportedPaddingMode, IncompatiblePaddingMode, UnsupportedDigest, IncompatibleDigest, MissingMacLength, UnsupportedMacLength, InvalidMacLength, CallerNonceProhibited, MissingNonce, InvalidNonce}
 use Rattle.tags.specs.declared.param.Param.{Param}

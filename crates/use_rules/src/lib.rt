@@ -7,6 +7,8 @@
 #![tactic(auto)]
 
 mod facts;
+#[cfg(test)]
+mod fixtures;
 mod lists;
 mod plans;
 mod rules;

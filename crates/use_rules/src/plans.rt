@@ -61,8 +61,8 @@ fn mac_plan(asked: &AuthList, key: &AuthList) -> Plan
     }
 }
 
-#[tactic(auto, unfolding(crate::specs::Plans::plan_of))]
 /// The plan of an operation on the key.
+#[tactic(auto, unfolding(crate::specs::Plans::plan_of))]
 pub fn plan_of(asked: &AuthList, key: &AuthList) -> Plan
     ensures { result ≡ spec.plan_of asked.now key.now }
 {
@@ -97,6 +97,7 @@ fn wanted(asked: &AuthList, key: &AuthList) -> usize
 
 /// The nonce that the caller gives: 16 bytes for CBC and CTR and 12 for GCM, where the rules let the begin through. Other
 /// plans look at none. It takes no memory.
+#[tactic(auto, unfolding(crate::specs::Plans::nonce_given))]
 pub fn nonce_given(facts: &BeginFacts) -> Option<&[u8]>
     ensures { option_copied result ≡ spec.nonce_given (asked_of facts.now) (key_of facts.now) }
 {
@@ -108,6 +109,7 @@ pub fn nonce_given(facts: &BeginFacts) -> Option<&[u8]>
 
 /// How many bytes of nonce are drawn: 16 for CBC and CTR and 12 for GCM in an encryption without a given nonce, and else
 /// none. It takes no memory.
+#[tactic(auto, unfolding(crate::specs::Plans::nonce_wanted))]
 pub fn nonce_wanted(facts: &BeginFacts) -> usize
     ensures { result ≡ spec.nonce_wanted (asked_of facts.now) (key_of facts.now) }
 {

@@ -66,8 +66,10 @@ fn begun(asked: &AuthList, key: &AuthList) -> Result<Plan, (Rule, Code)>
     Ok(plan_of(asked, key))
 }
 
+/// The first rule of the table that the begin breaks, with its code, or else the operation's plan. Then the nonce that is
+/// given or drawn has the plan's bytes, and the plan's numbers are those of the standards, where an HMAC key has a digest
+/// of SHA-2. It takes no memory.
 #[tactic(auto, unfolding(crate::specs::Table::answer))]
-/// The first rule of the table that the begin breaks, with its code, or else the operation's plan. It takes no memory.
 pub fn check_begin(facts: &BeginFacts) -> Result<Plan, (Rule, Code)>
     ensures first { result ≡ spec.answer facts.now }
     ensures workable { IfOk result (λ plan. HasDigest (spec.key_of facts.now) → IsWorkable plan) }

@@ -1,107 +1,7 @@
-use crate::{BeginFacts, check_begin, nonce_given, nonce_wanted};
-use std::alloc::Global;
+use crate::fixtures::{AES_KEY, GCM_KEY, MAC_KEY, Params, answers, app_key, begin};
+use crate::{nonce_given, nonce_wanted};
 use std::test::Fail;
-use tag_lists::AuthList;
-use tags::{Bytes, Code, Descriptor, Plan, Rule, RuleTable, Tag, TagType};
-
-type Params = &'static [(Tag, u32)];
-
-// An HMAC-SHA256 key, and an AES key of every mode.
-const MAC_KEY: Params = &[
-    (Tag::Purpose, 2),
-    (Tag::Purpose, 3),
-    (Tag::Algorithm, 128),
-    (Tag::Digest, 4),
-    (Tag::MinMacLength, 64),
-];
-
-const AES_KEY: Params = &[
-    (Tag::Purpose, 0),
-    (Tag::Purpose, 1),
-    (Tag::Algorithm, 32),
-    (Tag::BlockMode, 1),
-    (Tag::BlockMode, 2),
-    (Tag::BlockMode, 3),
-    (Tag::BlockMode, 32),
-    (Tag::Padding, 1),
-    (Tag::Padding, 64),
-    (Tag::MinMacLength, 96),
-    (Tag::CallerNonce, 1),
-];
-// An AES key for encryption in GCM alone, with tags of 120 bits and drawn nonces.
-const GCM_KEY: Params = &[
-    (Tag::Purpose, 0),
-    (Tag::Algorithm, 32),
-    (Tag::BlockMode, 32),
-    (Tag::Padding, 1),
-    (Tag::MinMacLength, 120),
-];
-
-// A list of these parameters, and of a nonce of so many bytes.
-fn list(alloc: Global, params: Params, nonce: Option<usize>) -> Result<Option<AuthList>, Fail> {
-    let mut bytes = Vec::new(alloc);
-    let mut count = params.len() as u16;
-    if nonce.is_some() {
-        count = count.wrapping_add(1);
-    }
-    bytes.extend_from_slice(&count.to_be_bytes())?;
-    for (tag, value) in params {
-        bytes.extend_from_slice(&tag.number().to_be_bytes())?;
-        if tag.kind() == TagType::Bool {
-            bytes.push(1)?;
-        } else {
-            bytes.extend_from_slice(&value.to_be_bytes())?;
-        }
-    }
-    if let Some(length) = nonce {
-        bytes.extend_from_slice(&Tag::Nonce.number().to_be_bytes())?;
-        bytes.extend_from_slice(&(length as u16).to_be_bytes())?;
-        for _ in 0..length {
-            bytes.push(7)?;
-        }
-    }
-    Ok(AuthList::read(alloc, &bytes).ok())
-}
-
-// The key of an app under an alias.
-fn app_key(alloc: Global, alias: &[u8]) -> Result<Descriptor, Fail> {
-    Ok(Descriptor {
-        domain: 0,
-        nspace: 0,
-        alias: Some(Bytes::of(Vec::from_slice(alloc, alias)?)),
-        blob: None,
-    })
-}
-
-// Facts whose lists are these.
-fn begin(
-    alloc: Global,
-    asked: Params,
-    nonce: Option<usize>,
-    key: Params,
-) -> Result<BeginFacts, Fail> {
-    Ok(BeginFacts {
-        connected: true,
-        descriptor: app_key(alloc, b"a")?,
-        found: true,
-        asked: list(alloc, asked, nonce)?.ok_or(Code::InvalidTag),
-        opened: list(alloc, key, None)?,
-    })
-}
-
-// The begin has this plan, or breaks this rule first.
-fn answers(facts: &BeginFacts, want: Result<Plan, (u8, Code)>) -> bool {
-    match (check_begin(facts), want) {
-        (Ok(plan), Ok(expected)) => plan == expected,
-        (Err((rule, code)), Err((number, expected))) => {
-            rule == Rule {
-                table: RuleTable::B,
-                number,
-            } && code == expected
-        }
-        _ => false,
-    }
-}
+use tags::{Code, Plan, Tag};
 
 #[test]
 fn a_call_breaks_the_rules_before_its_lists(rt: HostRuntime) -> Result<(), Fail> {
@@ -165,7 +65,7 @@ fn a_call_breaks_the_rules_before_its_lists(rt: HostRuntime) -> Result<(), Fail>
 }
 
 // A row: the operation's list, the length of its nonce, the key's list, and the answer.
-type Row = (Params, Option<usize>, Params, Result<Plan, (u8, Code)>);
+type Row = (Params, Option<u16>, Params, Result<Plan, (u8, Code)>);
 
 #[test]
 fn each_rule_of_the_lists_breaks_alone_and_before_a_later_one(rt: HostRuntime) -> Result<(), Fail> {
@@ -538,7 +438,7 @@ fn plans_have_their_nonces(rt: HostRuntime) -> Result<(), Fail> {
         size: 16,
     };
     // the plan, the length of the nonce that is given, and how many bytes are drawn
-    let rows: [(Params, Option<usize>, Params, Plan, Option<usize>, usize); 9] = [
+    let rows: [(Params, Option<u16>, Params, Plan, Option<usize>, usize); 9] = [
         (
             &[
                 (Purpose, 0),
