@@ -1,0 +1,4 @@
+pub mod Lists
+pub mod Rules
+pub mod Plans
+pub mod Table

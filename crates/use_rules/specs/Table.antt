@@ -1,0 +1,86 @@
+-- Table B, the beginning of an operation: a list of rules in its order, and the answer is the first that does not hold.
+use Rattle.std.specs.Prelude.{ℕ, Bool, List, [], ◌∷◌, ◌++◌, Result, Ok, Err, if◌then◌else◌, is_some, is_ok, unwrap_or}
+use Rattle.tags.specs.declared.code.Code.{Code}
+use Rattle.tags.specs.declared.code.Code.TheVariants.{InvalidArgument, KeyNotFound, InvalidTag, InvalidKeyBlob, UnsupportedPurpose, IncompatiblePurpose, UnsupportedBlockMode, IncompatibleBlockMode, UnsupportedPaddingMode, IncompatiblePaddingMode, UnsupportedDigest, IncompatibleDigest, MissingMacLength, UnsupportedMacLength, InvalidMacLength, CallerNonceProhibited, MissingNonce, InvalidNonce}
+use Rattle.tags.specs.declared.param.Param.{Param}
+use Rattle.tags.specs.declared.plan.Plan.{Plan}
+use Rattle.tags.specs.declared.rule.Rule.{Rule}
+use Rattle.tags.specs.declared.rule.RuleTable.TheVariants.{B}
+use Rattle.use_rules.specs.declared.facts.BeginFacts.{BeginFacts}
+use Rattle.use_rules.specs.Rules.{names_key, names_purpose, key_has_purpose, names_mode, key_has_mode, names_padding, takes_padding, names_digest, key_has_digest, gives_length, takes_length, reaches_least, may_give_nonce, has_nonce, fits_nonce}
+use Rattle.use_rules.specs.Plans.{plan_of}
+
+-- a row of the table: the rule's number, the code of this part of it, and whether the part holds
+pub record Check : Type 0 where
+  pub number : ℕ
+  pub code : Code
+  pub holds : Bool
+
+abbrev pub check : ℕ → Code → Bool → Check
+check number code holds = record { number = number; code = code; holds = holds }
+
+abbrev pub rule : ℕ → Rule
+rule number = record { table = B; number = number }
+
+-- the first rule that does not hold, with its code
+abbrev pub first_broken : List Check → Result (Unit {0}) (Rule × Code)
+first_broken [] = Ok tt
+first_broken (row ∷ rows) = if row.holds then first_broken rows else Err (rule row.number, row.code)
+
+-- the operation's list, where it was read
+abbrev pub list_or_none : Result (List Param) Code → List Param
+list_or_none (Ok list) = list
+list_or_none (Err code) = []
+
+-- why it was not read
+abbrev pub fault_of : Result (List Param) Code → Code
+fault_of (Ok list) = InvalidTag
+fault_of (Err code) = code
+
+abbrev pub asked_of : BeginFacts → List Param
+asked_of facts = list_or_none facts.asked
+
+-- the key's list
+abbrev pub key_of : BeginFacts → List Param
+key_of facts = unwrap_or facts.opened []
+
+-- the rules up to the two lists
+abbrev pub call_rules : BeginFacts → List Check
+call_rules facts =
+    check 1 InvalidArgument facts.connected ∷  -- the client is connected
+    check 2 InvalidArgument (names_key facts.descriptor) ∷  -- the descriptor has the form of its domain
+    check 4 KeyNotFound facts.found ∷  -- the key is found
+    check 6 (fault_of facts.asked) (is_ok facts.asked) ∷  -- the operation's list reads
+    check 7 InvalidKeyBlob (is_some facts.opened) ∷  -- the blob opens
+    []
+
+-- the rules of the operation's list and the key's
+unfoldable pub list_rules : List Param → List Param → List Check
+list_rules asked key =
+    check 9 UnsupportedPurpose (names_purpose asked key) ∷  -- one purpose, of the key's algorithm
+    check 9 IncompatiblePurpose (key_has_purpose asked key) ∷  -- which the key has
+    check 17 UnsupportedBlockMode (names_mode asked key) ∷  -- AES: one mode
+    check 17 IncompatibleBlockMode (key_has_mode asked key) ∷  -- which the key has
+    check 18 UnsupportedPaddingMode (names_padding asked key) ∷  -- AES: one padding
+    check 18 IncompatiblePaddingMode (takes_padding asked key) ∷  -- which the key and the mode have
+    check 19 UnsupportedDigest (names_digest asked key) ∷  -- HMAC: at most one digest
+    check 19 IncompatibleDigest (key_has_digest asked key) ∷  -- which is the key's
+    check 20 MissingMacLength (gives_length asked key) ∷  -- SIGN and GCM: a length of the mac or tag
+    check 20 UnsupportedMacLength (takes_length asked key) ∷  -- of whole bytes, that the digest or GCM has
+    check 20 InvalidMacLength (reaches_least asked key) ∷  -- and no shorter than the key allows
+    check 21 CallerNonceProhibited (may_give_nonce asked key) ∷  -- ENCRYPT: a nonce is given where the key allows it
+    check 21 MissingNonce (has_nonce asked key) ∷  -- DECRYPT: a nonce is given
+    check 21 InvalidNonce (fits_nonce asked key) ∷  -- and has the mode's length
+    []
+
+-- table B
+abbrev pub rules_of : BeginFacts → List Check
+rules_of facts = call_rules facts ++ list_rules (asked_of facts) (key_of facts)
+
+abbrev pub or_plan : Result (Unit {0}) (Rule × Code) → Plan → Result Plan (Rule × Code)
+or_plan (Ok none) plan = Ok plan
+or_plan (Err broken) plan = Err broken
+
+-- the first rule that does not hold, with its code, or else the plan
+unfoldable pub answer : BeginFacts → Result Plan (Rule × Code)
+answer facts = or_plan (first_broken (rules_of facts)) (plan_of (asked_of facts) (key_of facts))

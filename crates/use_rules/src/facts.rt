@@ -1,0 +1,16 @@
+use tag_lists::AuthList;
+use tags::{Code, Descriptor};
+
+/// What the rules of a begin read. A field that only rules after a broken one read may hold any value.
+#[derive(Debug, Drop)]
+pub struct BeginFacts {
+    /// the client is connected
+    pub connected: bool,
+    pub descriptor: Descriptor,
+    /// the descriptor finds a key
+    pub found: bool,
+    /// the operation's list as it was read, or the code for one that does not read or is too long
+    pub asked: Result<AuthList, Code>,
+    /// the key's list, and nothing where its blob does not open
+    pub opened: Option<AuthList>,
+}
