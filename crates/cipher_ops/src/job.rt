@@ -40,7 +40,7 @@ impl Job {
     /// A job on a state and with a room for the state's plan, flag and text length. Additional data comes only for GCM and
     /// before any byte of text, and the last only where the whole text has a length that its plan allows.
     pub fn new(state: CipherState, ticket: u64, room: JobRoom) -> Job
-        requires { CanRun state room }
+        requires { ∥ CanRun state room ∥₁ }
         ensures job { (plan : Plan) (limited : Bool) (key nonce aad text : List ℕ) (work : Work) → StandsFor state plan limited key nonce aad text →
             IsRoom room plan limited (length text) work → MayCome plan text work → JobFor result plan limited key nonce aad text work }
         ensures ticket { ticket_of result ≡ ticket }

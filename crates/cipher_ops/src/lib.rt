@@ -11,6 +11,8 @@ mod job;
 mod mac;
 mod room;
 mod state;
+#[cfg(test)]
+mod tests;
 
 pub use job::{Done, Job};
 pub use room::{JobRoom, Work};
