@@ -2,7 +2,7 @@
 use Rattle.std.proofs.Common.{◌≡◌, ℕ, ◌≤◌, true, false, List, [], ◌++◌, length, sym, ap, ◌∙◌}
 use Rattle.tags.specs.declared.plan.Plan.{Plan}
 use Rattle.tags.specs.declared.plan.Plan.TheVariants.{Gcm, HmacSign, HmacVerify}
-use Rattle.aes_core.specs.Cipher.{cipher, inverse_cipher}
+use Rattle.aes_core.specs.Cipher.{cipher}
 use Rattle.aes_core.specs.KeyOf.{key_of}
 use Rattle.aes_core.specs.declared.aes_key.AesKey.{AesKey}
 use Rattle.block_modes.specs.Holds as blocks

@@ -1,8 +1,7 @@
 -- An engine that takes more text.
-use Rattle.std.proofs.Common.{◌≡◌, ℕ, ◌+◌, ◌≤◌, List, [], ◌++◌, length, take, refl, sym, ap, ◌∙◌, arith, length-append}
-use Rattle.std.proofs.lemmas.List.{append-nil, length-take-le}
+use Rattle.std.proofs.Common.{◌≡◌, ℕ, ◌+◌, List, [], ◌++◌, length, sym, ap, ◌∙◌, arith, length-append}
+use Rattle.std.proofs.lemmas.List.{append-nil}
 use Rattle.tags.specs.declared.plan.Plan.{Plan}
-use Rattle.tags.specs.declared.plan.Plan.TheVariants.{Gcm, HmacSign, HmacVerify}
 use Rattle.aes_core.specs.Cipher.{cipher, inverse_cipher}
 use Rattle.aes_core.specs.declared.aes_key.AesKey.{AesKey}
 use Rattle.block_modes.specs.Output as modes
@@ -16,9 +15,9 @@ use Rattle.hmac_core.specs.declared.mac.Hmac.{Hmac}
 use Rattle.hmac_core.specs.State as macs
 use Rattle.cipher_ops.specs.declared.engine.Engine.{Engine}
 use Rattle.cipher_ops.specs.declared.engine.Engine.TheVariants.{Modes, Seal, Open, Sign, Verify}
-use Rattle.cipher_ops.specs.Output.{first_block, raw, full_front}
-use Rattle.cipher_ops.specs.Standing.{aes, aes_inverse, IsSeal, IsOpen, IsSign, IsVerify, EngineIs, given, Holds}
-use Rattle.cipher_ops.proofs.GivenLemmas.{served_raw, served_front, served_given, seal_given_is, seal_front_is, open_given_is, open_front_is, sign_given_is, sign_front_is, verify_given_is, verify_front_is, within_more}
+use Rattle.cipher_ops.specs.Output.{first_block, full_front}
+use Rattle.cipher_ops.specs.Standing.{aes, aes_inverse, given, Holds}
+use Rattle.cipher_ops.proofs.GivenLemmas.{served_front, served_given, seal_given_is, seal_front_is, open_given_is, open_front_is, sign_given_is, sign_front_is, verify_given_is, verify_front_is, within_more}
 
 -- the engine has taken some text more, and given a piece for it
 pub record GoesOn (engine : Engine) (plan : Plan) (key nonce aad text input piece : List ℕ) : Type 0 where

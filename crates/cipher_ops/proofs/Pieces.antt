@@ -5,7 +5,7 @@ use Rattle.std.proofs.lemmas.List.{append-nil, append_assoc, take_at, drop_at}
 use Rattle.std.specs.Prelude.{Option, Result, Ok, Err}
 use Rattle.tags.specs.declared.plan.Plan.{Plan}
 use Rattle.tags.specs.declared.code.Code.{Code}
-use Rattle.cipher_ops.specs.Output.{raw, front, full_front, whole, update_output, behind, finish_output}
+use Rattle.cipher_ops.specs.Output.{front, full_front, whole, update_output, behind, finish_output}
 use Rattle.cipher_ops.specs.Standing.{given, kept}
 use Rattle.cipher_ops.proofs.GivenLemmas.{piece_is, given_none}
 

@@ -1,5 +1,5 @@
 -- The room that was taken is enough, and the engine may end where the text has a length that its plan allows.
-use Rattle.std.proofs.Common.{◌≡◌, ℕ, ◌+◌, ◌-◌, ◌≤◌, Bool, true, false, if◌then◌else◌, ◌==◌, List, [], ◌++◌, length, take, refl, sym, ap, ◌∙◌, arith, nat_le}
+use Rattle.std.proofs.Common.{◌≡◌, ℕ, ◌+◌, ◌-◌, ◌≤◌, Bool, true, false, if◌then◌else◌, ◌==◌, List, [], ◌++◌, length, refl, ap, ◌∙◌, arith, nat_le}
 use Rattle.std.proofs.lemmas.Bool.{leb-true}
 use Rattle.std.proofs.Math.Bridge.{le_prop}
 use Rattle.std.proofs.Props.{props}
@@ -8,14 +8,14 @@ use denote.Struct.Props.{≡_prop}
 use Rattle.tags.specs.declared.plan.Plan.{Plan}
 use Rattle.tags.specs.declared.plan.Plan.TheVariants.{Ecb, Cbc, Ctr, Gcm, HmacSign, HmacVerify}
 use Rattle.block_modes.specs.Output.{is_served}
-use Rattle.gcm_mode.specs.Holds.{HasTag, tag_size}
+use Rattle.gcm_mode.specs.Holds.{tag_size}
 use Rattle.hmac_core.specs.Hmac.{digest_size}
 use Rattle.cipher_ops.specs.declared.engine.Engine.{Engine}
 use Rattle.cipher_ops.specs.declared.engine.Engine.TheVariants.{Modes, Seal, Open, Sign, Verify}
 use Rattle.cipher_ops.specs.declared.state.CipherState.{CipherState}
 use Rattle.cipher_ops.specs.Output.{full_front, may_end}
 use Rattle.cipher_ops.specs.Sizes.{piece_room, end_room, taken}
-use Rattle.cipher_ops.specs.Standing.{EngineIs, given, kept, Holds, StandsFor, TakesAad, HasRoom, CanTake, MayEnd, CanComplete}
+use Rattle.cipher_ops.specs.Standing.{EngineIs, given, kept, StandsFor, TakesAad, HasRoom, CanTake, MayEnd, CanComplete}
 use Rattle.cipher_ops.proofs.GivenLemmas.{front_within}
 
 served_piece : (plan : Plan) (size : ℕ) → is_served plan ≡ true → piece_room plan size ≡ size + 16
@@ -97,7 +97,11 @@ pub can_complete : (state : CipherState) (plan : Plan) (limited : Bool) (key non
 can_complete state plan limited key nonce aad text input room stands may enough =
     let left = held_left limited plan key nonce text state.held (length input) stands.held_is stands.engine.within in
     record {
-      plan = plan; key = key; nonce = nonce; aad = aad; text = text;
+      plan = plan;
+      key = key;
+      nonce = nonce;
+      aad = aad;
+      text = text;
       holds = stands.engine;
       may = may;
       enough = omega arith;

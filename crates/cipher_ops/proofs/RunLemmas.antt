@@ -1,5 +1,5 @@
 -- What a job that can run has for its work.
-use Rattle.std.proofs.Common.{◌≡◌, ℕ, ◌+◌, ◌≤◌, true, List, [], ◌++◌, length, sym, ap, ◌∙◌, subst, arith}
+use Rattle.std.proofs.Common.{◌≡◌, ℕ, ◌+◌, ◌≤◌, true, List, [], length, sym, ◌∙◌, subst, arith}
 use Rattle.std.specs.Prelude.{Option}
 use Rattle.tags.specs.declared.plan.Plan.{Plan}
 use Rattle.tags.specs.declared.plan.Plan.TheVariants.{Ecb, Cbc, Ctr, Gcm, HmacSign, HmacVerify}
@@ -11,7 +11,7 @@ use Rattle.cipher_ops.specs.declared.room.Work.TheVariants.{Aad, Text, Last}
 use Rattle.cipher_ops.specs.declared.room.JobRoom.{JobRoom}
 use Rattle.cipher_ops.specs.declared.state.CipherState.{CipherState}
 use Rattle.cipher_ops.specs.Sizes.{job_room, piece_room, end_room, taken}
-use Rattle.cipher_ops.specs.Standing.{EngineIs, StandsFor, TakesAad, CanTake, CanComplete}
+use Rattle.cipher_ops.specs.Standing.{EngineIs, TakesAad, CanTake, CanComplete}
 use Rattle.cipher_ops.specs.Running.{CanRun, MayCome, is_gcm}
 use Rattle.cipher_ops.proofs.Rooms.{can_take, can_complete}
 

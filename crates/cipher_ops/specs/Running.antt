@@ -1,12 +1,12 @@
 -- What a job stands for, and what it comes back with.
-use Rattle.std.specs.Prelude.{◌≡◌, ℕ, ◌≤◌, Bool, true, false, List, [], ◌++◌, length, Option, Some, None, Ok, ⊤}
+use Rattle.std.specs.Prelude.{◌≡◌, ℕ, ◌≤◌, Bool, true, false, List, [], ◌++◌, length, Option, Some, None, ⊤}
 use Rattle.tags.specs.declared.plan.Plan.{Plan}
 use Rattle.tags.specs.declared.plan.Plan.TheVariants.{Gcm}
 use Rattle.cipher_ops.specs.declared.room.Work.{Work}
 use Rattle.cipher_ops.specs.declared.room.Work.TheVariants.{Aad, Text, Last}
 use Rattle.cipher_ops.specs.declared.room.JobRoom.{JobRoom}
 use Rattle.cipher_ops.specs.declared.state.CipherState.{CipherState}
-use Rattle.cipher_ops.specs.Output.{may_end, update_output, finish_output}
+use Rattle.cipher_ops.specs.Output.{may_end}
 use Rattle.cipher_ops.specs.Sizes.{job_room}
 use Rattle.cipher_ops.specs.Standing.{StandsFor}
 

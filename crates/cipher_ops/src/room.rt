@@ -9,9 +9,13 @@ use tags::{Bytes, NoMemory, Plan};
 #[derive(Drop)]
 pub enum Work {
     /// The next bytes of the additional data of GCM
-    Aad { input: Bytes },
+    Aad {
+        input: Bytes,
+    },
     /// The next bytes of the text
-    Text { input: Bytes },
+    Text {
+        input: Bytes,
+    },
     /// The last bytes of the text; and where a mac is verified, its signature
     Last {
         input: Bytes,
@@ -53,13 +57,7 @@ fn end_room(plan: Plan) -> usize
         Plan::Ecb { .. } => 16,
         Plan::Cbc { .. } => 16,
         Plan::Ctr => 16,
-        Plan::Gcm { seal, tag } => {
-            if seal {
-                tag as usize
-            } else {
-                0
-            }
-        }
+        Plan::Gcm { seal, tag } => { if seal { tag as usize } else { 0 } }
         Plan::HmacSign { size, .. } => size as usize,
         Plan::HmacVerify { .. } => 0,
     }

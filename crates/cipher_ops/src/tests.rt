@@ -21,8 +21,6 @@ fn is_gcm(plan: Plan) -> bool
     matches!(plan, Plan::Gcm { .. })
 }
 
-
-
 // One work on an operation that has taken two pieces of text.
 fn step(
     alloc: Global,
@@ -63,7 +61,18 @@ fn begun(
         return Ok(state);
     }
     let input = Bytes::copy_of(alloc, aad).map_err(|_| "memory")?;
-    let done = step(alloc, state, plan, limited, key, nonce, &[], (&[], &[]), Work::Aad { input }).map_err(|_| "memory")?;
+    let done = step(
+        alloc,
+        state,
+        plan,
+        limited,
+        key,
+        nonce,
+        &[],
+        (&[], &[]),
+        Work::Aad { input },
+    )
+    .map_err(|_| "memory")?;
     let Done { state, .. } = done;
     match state {
         Some(state) => Ok(state),
@@ -167,9 +176,18 @@ fn cut_in_three(
 }
 
 #[test]
-fn seals_a_text(rt: HostRuntime) -> Result<(), Fail> {
+fn a_text_in_three_pieces_under_ctr(rt: HostRuntime) -> Result<(), Fail> {
     let key = [0; 16];
-    let (before, end) = cut_in_three(rt.alloc(), Plan::Ctr, false, &key, &key, &[], (&key, &key, &key), None)?;
+    let (before, end) = cut_in_three(
+        rt.alloc(),
+        Plan::Ctr,
+        false,
+        &key,
+        &key,
+        &[],
+        (&key, &key, &key),
+        None,
+    )?;
     assert_eq!(rt; before.len(), 32);
     assert!(rt; end.is_ok());
     Ok(())

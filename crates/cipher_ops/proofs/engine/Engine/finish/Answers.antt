@@ -1,5 +1,5 @@
 -- Each engine ends as its mode does.
-use Rattle.std.proofs.Common.{◌≡◌, ℕ, List, [], take, ap, ◌∙◌}
+use Rattle.std.proofs.Common.{take, ◌∙◌}
 use Rattle.aes_core.specs.Cipher.{cipher, inverse_cipher}
 use Rattle.cipher_ops.specs.Output.{first_block, mode_code}
 use Rattle.cipher_ops.proofs.Ending.{modes_end, modes_fault, seal_end, open_end, open_fault, sign_end, verify_end, verify_fault, err_is}

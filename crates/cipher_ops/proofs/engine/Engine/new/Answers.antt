@@ -1,7 +1,5 @@
-use Rattle.std.proofs.Common.{◌≡◌, ℕ, ◌≤◌, Bool, true, false, refl, ap, ◌∙◌}
+use Rattle.std.proofs.Common.{Bool, refl, ap, ◌∙◌}
 use Rattle.tags.specs.declared.plan.Plan.TheVariants.{Gcm}
-use Rattle.hmac_core.specs.Hmac.{digest_size}
-use Rattle.cipher_ops.specs.Sizes.{Fits}
 use Rattle.cipher_ops.proofs.Beginning.{modes_begin, seal_begin, open_begin, sign_begin, verify_begin}
 use Rattle.cipher_ops.proofs.engine.Engine.new.Goals as goal
 

@@ -1,5 +1,5 @@
 -- Each engine goes on, and gives what its mode gives.
-use Rattle.std.proofs.Common.{◌≡◌, ℕ, ◌≤◌, List, [], ◌++◌, length, take, refl, ◌∙◌, arith}
+use Rattle.std.proofs.Common.{◌≡◌, ◌≤◌, length, take, ◌∙◌, arith}
 use Rattle.std.proofs.lemmas.List.{length-take-le}
 use Rattle.aes_core.specs.Cipher.{cipher, inverse_cipher}
 use Rattle.cipher_ops.specs.Output.{first_block}

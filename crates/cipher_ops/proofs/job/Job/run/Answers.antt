@@ -1,6 +1,5 @@
-use Rattle.std.proofs.Common.{◌≡◌, ℕ, List, [], ◌++◌, length, sym, ap, ◌∙◌}
+use Rattle.std.proofs.Common.{length, sym, ap, ◌∙◌}
 use mathlib.Core.Logic.{∥∥₁_elim, ∥∥₁_map}
-use Rattle.cipher_ops.specs.declared.room.Work.TheVariants.{Aad}
 use Rattle.cipher_ops.proofs.Pieces.{done}
 use Rattle.cipher_ops.proofs.Rooms.{TakesAad-prop, CanTake-prop, nothing-prop}
 use Rattle.cipher_ops.proofs.RunLemmas.{run_aad, run_text, run_last, run_end}
