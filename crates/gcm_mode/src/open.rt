@@ -1,6 +1,6 @@
 // Authenticated decryption (SP 800-38D section 7.2), in any pieces.
 
-ghost use Rattle.std.specs.Prelude.{◌≡◌, ℕ, ◌≤◌, ◌++◌, [], List, drop, length, slice_range, take};
+ghost use Rattle.std.specs.Prelude.{◌≡◌, ℕ, ◌+◌, ◌≤◌, ◌++◌, [], List, drop, length, slice_range, take};
 ghost use Rattle.gcm_mode.specs.Gcm.{gcm_open, open_front, open_given, raw};
 ghost use Rattle.gcm_mode.specs.Holds.{HasTag, IsOpened, Opens, OpensNoText};
 
@@ -55,6 +55,8 @@ impl<C: BlockCipher + Drop> GcmOpen<C> {
         requires { length input.now ≤ length out.old }
         ensures within { result ≤ length input.now }
         ensures rest { drop result out.new ≡ drop result out.old }
+        ensures count { (cipher : List ℕ → List ℕ) (nonce : List ℕ) (tag : ℕ) (aad text : List ℕ)
+            → Opens C.cipher self.old cipher nonce tag aad text → open_front tag text + result ≡ open_front tag (text ++ input.now) }
         ensures given { (cipher : List ℕ → List ℕ) (nonce : List ℕ) (tag : ℕ) (aad text : List ℕ)
             → Opens C.cipher self.old cipher nonce tag aad text
             → open_given cipher nonce tag text ++ take result out.new ≡ open_given cipher nonce tag (text ++ input.now) }

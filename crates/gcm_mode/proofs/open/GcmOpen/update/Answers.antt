@@ -1,10 +1,19 @@
 -- The text goes on, and its last bytes are held back.
-use Rattle.std.proofs.Common.{◌≡◌, ◌++◌, length, take, drop, sym, ◌∙◌, arith, rules}
+use Rattle.std.proofs.Common.{◌≡◌, ◌+◌, ◌++◌, length, take, drop, sym, ◌∙◌, arith, rules}
 use Rattle.std.proofs.lemmas.List.{take_at, length-take-le}
 use Rattle.gcm_mode.specs.Gcm.{hash_subkey, open_front}
 use Rattle.gcm_mode.proofs.Opening.{passes}
 use Rattle.gcm_mode.proofs.Standing.{opens, opened_more, open_piece}
 use Rattle.gcm_mode.proofs.open.GcmOpen.update.Goals as goal
+
+pub returns-clause-count : goal.returns-clause-count
+returns-clause-count g c = λ cipher nonce tag aad text held.
+    let step =
+    passes tag text c.args.input.now (take c.pass-given.result c.pass-given.new.out) c.pass-given.new.self.bytes (rw held.held at c.pass-given.ensures.joined)
+    (rw (held.tag_is, held.held) at c.pass-given.ensures.kept) in
+    let size : length (take c.pass-given.result c.pass-given.new.out) ≡ c.pass-given.result = length-take-le c.pass-given.result c.pass-given.new.out (omega arith) in
+    let front : open_front tag (text ++ c.args.input.now) ≡ open_front tag text + length (take c.pass-given.result c.pass-given.new.out) = step.front in
+    sym (rw size at front)
 
 pub returns-clause-given : goal.returns-clause-given
 returns-clause-given g c = λ cipher nonce tag aad text held.

@@ -1,0 +1,26 @@
+use Rattle.std.proofs.Common.{◌≡◌, ℕ, List, [], ◌++◌, length, take, arith, sym, ap, ◌∙◌}
+use Rattle.std.proofs.lemmas.List.{take_at}
+use Rattle.cipher_ops.specs.Standing.{given}
+use Rattle.cipher_ops.proofs.Pieces.{kept_all, piece_out}
+use Rattle.cipher_ops.proofs.state.CipherState.text.Goals as goal
+
+pub returns-then-self-clause-stands : goal.returns-then-self-clause-stands
+returns-then-self-clause-stands c = λ plan limited key nonce aad text stands.
+    let whole : length c.advance-end.new.out ≡ c.args.out.len = omega arith in
+    let bytes : c.of-bytes.result ≡ take c.advance-end.result c.advance-end.new.out = c.of-bytes.ensures ∙ c.truncate.ensures.items ∙ ap (λ (l : List ℕ). take c.advance-end.result l) (take_at c.advance-end.new.out _ c.args.out.len whole) in
+    record {
+      engine = c.advance-end.ensures.holds plan key nonce aad text stands.engine;
+      limited_is = stands.limited_is;
+      held_is = bytes ∙ kept_all limited c.args.self.now.held (take c.advance-end.result c.advance-end.new.out) (given plan key nonce text) (given plan key nonce (text ++ c.args.input.now))
+          (sym stands.limited_is ∙ c.if-self.true) stands.held_is
+          (λ joined. c.advance-end.ensures.joined plan key nonce aad text [] stands.engine (c.as_slice.ensures ∙ joined));
+    }
+
+pub returns-else-self-clause-output : goal.returns-else-self-clause-output
+returns-else-self-clause-output c = λ plan limited key nonce aad text stands.
+    let whole : length c.advance-end.new.out ≡ c.args.out.len = omega arith in
+    let bytes : c.of-bytes.result ≡ take c.advance-end.result c.advance-end.new.out = c.of-bytes.ensures ∙ c.truncate.ensures.items ∙ ap (λ (l : List ℕ). take c.advance-end.result l) (take_at c.advance-end.new.out _ c.args.out.len whole) in
+    let now : List ℕ = given plan key nonce text in
+    bytes ∙ piece_out plan limited key nonce text (text ++ c.args.input.now) c.args.self.now.held (take c.advance-end.result c.advance-end.new.out)
+    (sym stands.limited_is ∙ c.if-self.false) stands.engine.within stands.held_is
+    (λ joined. c.advance-end.ensures.joined plan key nonce aad text now stands.engine (ap (λ (l : List ℕ). now ++ l) c.as_slice.ensures ∙ joined))
