@@ -1,6 +1,7 @@
 use crate::fixtures::{AES_KEY, GCM_KEY, MAC_KEY, Params, answers, app_key, begin};
 use crate::{nonce_given, nonce_wanted};
 use std::test::Fail;
+use tags::Tag::{BlockMode, Digest, MacLength, Padding, Purpose};
 use tags::{Code, Plan, Tag};
 
 #[test]
@@ -67,351 +68,365 @@ fn a_call_breaks_the_rules_before_its_lists(rt: HostRuntime) -> Result<(), Fail>
 // A row: the operation's list, the length of its nonce, the key's list, and the answer.
 type Row = (Params, Option<u16>, Params, Result<Plan, (u8, Code)>);
 
+const PURPOSE: Result<Plan, (u8, Code)> = Err((9, Code::UnsupportedPurpose));
+
+const NO_PURPOSE: Result<Plan, (u8, Code)> = Err((9, Code::IncompatiblePurpose));
+
+const MODE: Result<Plan, (u8, Code)> = Err((17, Code::UnsupportedBlockMode));
+
+const NO_MODE: Result<Plan, (u8, Code)> = Err((17, Code::IncompatibleBlockMode));
+
+const PADDING: Result<Plan, (u8, Code)> = Err((18, Code::UnsupportedPaddingMode));
+
+const NO_PADDING: Result<Plan, (u8, Code)> = Err((18, Code::IncompatiblePaddingMode));
+
+const DIGEST: Result<Plan, (u8, Code)> = Err((19, Code::UnsupportedDigest));
+
+const NO_DIGEST: Result<Plan, (u8, Code)> = Err((19, Code::IncompatibleDigest));
+
+const NO_LENGTH: Result<Plan, (u8, Code)> = Err((20, Code::MissingMacLength));
+
+const LENGTH: Result<Plan, (u8, Code)> = Err((20, Code::UnsupportedMacLength));
+
+const SHORT: Result<Plan, (u8, Code)> = Err((20, Code::InvalidMacLength));
+
+const CALLER: Result<Plan, (u8, Code)> = Err((21, Code::CallerNonceProhibited));
+
+const NO_NONCE: Result<Plan, (u8, Code)> = Err((21, Code::MissingNonce));
+
+const NONCE: Result<Plan, (u8, Code)> = Err((21, Code::InvalidNonce));
+
+const ROWS: [Row; 54] = [
+    // the purpose
+    (&[(MacLength, 256)], None, MAC_KEY, PURPOSE),
+    (&[], None, &[(Tag::Algorithm, 128)], PURPOSE),
+    (
+        &[(Purpose, 2), (Purpose, 3), (MacLength, 256)],
+        None,
+        MAC_KEY,
+        PURPOSE,
+    ),
+    (&[(Purpose, 0), (MacLength, 256)], None, MAC_KEY, PURPOSE),
+    (
+        &[(Purpose, 5), (BlockMode, 1), (Padding, 1)],
+        None,
+        AES_KEY,
+        PURPOSE,
+    ),
+    (&[(Purpose, 2), (Digest, 9)], None, AES_KEY, PURPOSE),
+    (
+        &[(Purpose, 2), (MacLength, 256)],
+        None,
+        &[
+            (Purpose, 3),
+            (Tag::Algorithm, 128),
+            (Digest, 4),
+            (Tag::MinMacLength, 64),
+        ],
+        NO_PURPOSE,
+    ),
+    (&[(Purpose, 1), (BlockMode, 9)], None, GCM_KEY, NO_PURPOSE),
+    (
+        &[(Purpose, 2), (MacLength, 256)],
+        None,
+        &[(Tag::Algorithm, 128), (Digest, 4), (Tag::MinMacLength, 64)],
+        NO_PURPOSE,
+    ),
+    // the mode
+    (&[(Purpose, 0), (Padding, 1)], None, AES_KEY, MODE),
+    (
+        &[(Purpose, 0), (BlockMode, 1), (BlockMode, 2), (Padding, 1)],
+        None,
+        AES_KEY,
+        MODE,
+    ),
+    (
+        &[(Purpose, 0), (BlockMode, 4), (Padding, 1)],
+        None,
+        AES_KEY,
+        MODE,
+    ),
+    (&[(Purpose, 0), (BlockMode, 4)], None, GCM_KEY, MODE),
+    (
+        &[(Purpose, 0), (BlockMode, 1), (Padding, 1)],
+        None,
+        GCM_KEY,
+        NO_MODE,
+    ),
+    (
+        &[(Purpose, 0), (BlockMode, 1), (Padding, 7)],
+        None,
+        GCM_KEY,
+        NO_MODE,
+    ),
+    // the padding
+    (&[(Purpose, 0), (BlockMode, 1)], None, AES_KEY, PADDING),
+    (
+        &[(Purpose, 0), (BlockMode, 1), (Padding, 1), (Padding, 64)],
+        None,
+        AES_KEY,
+        PADDING,
+    ),
+    (
+        &[(Purpose, 0), (BlockMode, 2), (Padding, 2)],
+        Some(3),
+        AES_KEY,
+        PADDING,
+    ),
+    (
+        &[
+            (Purpose, 0),
+            (BlockMode, 32),
+            (Padding, 64),
+            (MacLength, 128),
+        ],
+        None,
+        GCM_KEY,
+        NO_PADDING,
+    ),
+    (
+        &[(Purpose, 0), (BlockMode, 3), (Padding, 64)],
+        None,
+        AES_KEY,
+        NO_PADDING,
+    ),
+    (
+        &[(Purpose, 0), (BlockMode, 32), (Padding, 64)],
+        None,
+        AES_KEY,
+        NO_PADDING,
+    ),
+    // the digest
+    (
+        &[(Purpose, 2), (Digest, 2), (MacLength, 64)],
+        None,
+        MAC_KEY,
+        DIGEST,
+    ),
+    (&[(Purpose, 3), (Digest, 7)], None, MAC_KEY, DIGEST),
+    (
+        &[(Purpose, 2), (Digest, 4), (Digest, 5)],
+        None,
+        MAC_KEY,
+        DIGEST,
+    ),
+    (
+        &[(Purpose, 2), (Digest, 5), (MacLength, 256)],
+        None,
+        MAC_KEY,
+        NO_DIGEST,
+    ),
+    (&[(Purpose, 2), (Digest, 6)], None, MAC_KEY, NO_DIGEST),
+    (
+        &[(Purpose, 0), (BlockMode, 1), (Padding, 1), (Digest, 9)],
+        None,
+        AES_KEY,
+        Ok(Plan::Ecb {
+            seal: true,
+            padded: false,
+        }),
+    ),
+    // the length
+    (&[(Purpose, 2)], None, MAC_KEY, NO_LENGTH),
+    (
+        &[(Purpose, 0), (BlockMode, 32), (Padding, 1)],
+        Some(3),
+        AES_KEY,
+        NO_LENGTH,
+    ),
+    (&[(Purpose, 2), (MacLength, 264)], None, MAC_KEY, LENGTH),
+    (&[(Purpose, 2), (MacLength, 4)], None, MAC_KEY, LENGTH),
+    (&[(Purpose, 2), (MacLength, 65)], None, MAC_KEY, LENGTH),
+    (
+        &[
+            (Purpose, 0),
+            (BlockMode, 32),
+            (Padding, 1),
+            (MacLength, 136),
+        ],
+        None,
+        AES_KEY,
+        LENGTH,
+    ),
+    (
+        &[(Purpose, 0), (BlockMode, 32), (Padding, 1), (MacLength, 88)],
+        None,
+        GCM_KEY,
+        LENGTH,
+    ),
+    (
+        &[
+            (Purpose, 1),
+            (BlockMode, 32),
+            (Padding, 1),
+            (MacLength, 100),
+        ],
+        None,
+        AES_KEY,
+        LENGTH,
+    ),
+    (&[(Purpose, 2), (MacLength, 56)], None, MAC_KEY, SHORT),
+    (&[(Purpose, 2), (MacLength, 0)], None, MAC_KEY, SHORT),
+    (
+        &[
+            (Purpose, 0),
+            (BlockMode, 32),
+            (Padding, 1),
+            (MacLength, 112),
+        ],
+        Some(3),
+        GCM_KEY,
+        SHORT,
+    ),
+    // the nonce
+    (
+        &[
+            (Purpose, 0),
+            (BlockMode, 32),
+            (Padding, 1),
+            (MacLength, 120),
+        ],
+        Some(12),
+        GCM_KEY,
+        CALLER,
+    ),
+    (
+        &[
+            (Purpose, 0),
+            (BlockMode, 32),
+            (Padding, 1),
+            (MacLength, 120),
+        ],
+        Some(3),
+        GCM_KEY,
+        CALLER,
+    ),
+    (
+        &[
+            (Purpose, 1),
+            (BlockMode, 32),
+            (Padding, 1),
+            (MacLength, 128),
+        ],
+        None,
+        AES_KEY,
+        NO_NONCE,
+    ),
+    (
+        &[(Purpose, 1), (BlockMode, 2), (Padding, 1)],
+        None,
+        AES_KEY,
+        NO_NONCE,
+    ),
+    (
+        &[(Purpose, 1), (BlockMode, 3), (Padding, 1)],
+        None,
+        AES_KEY,
+        NO_NONCE,
+    ),
+    (
+        &[
+            (Purpose, 0),
+            (BlockMode, 32),
+            (Padding, 1),
+            (MacLength, 128),
+        ],
+        Some(16),
+        AES_KEY,
+        NONCE,
+    ),
+    (
+        &[(Purpose, 0), (BlockMode, 2), (Padding, 64)],
+        Some(12),
+        AES_KEY,
+        NONCE,
+    ),
+    (
+        &[(Purpose, 1), (BlockMode, 3), (Padding, 1)],
+        Some(0),
+        AES_KEY,
+        NONCE,
+    ),
+    // what no rule looks at
+    (
+        &[(Purpose, 0), (BlockMode, 1), (Padding, 64)],
+        Some(3),
+        AES_KEY,
+        Ok(Plan::Ecb {
+            seal: true,
+            padded: true,
+        }),
+    ),
+    (
+        &[(Purpose, 2), (BlockMode, 32), (MacLength, 256)],
+        Some(3),
+        MAC_KEY,
+        Ok(Plan::HmacSign {
+            digest: 4,
+            size: 32,
+        }),
+    ),
+    (
+        &[(Purpose, 3), (MacLength, 3), (Padding, 9)],
+        None,
+        MAC_KEY,
+        Ok(Plan::HmacVerify {
+            digest: 4,
+            least: 8,
+        }),
+    ),
+    // repeated parameters are one
+    (
+        &[(Purpose, 2), (Purpose, 2), (MacLength, 64)],
+        None,
+        MAC_KEY,
+        Ok(Plan::HmacSign { digest: 4, size: 8 }),
+    ),
+    (
+        &[(Purpose, 2), (Digest, 4), (MacLength, 256)],
+        None,
+        MAC_KEY,
+        Ok(Plan::HmacSign {
+            digest: 4,
+            size: 32,
+        }),
+    ),
+    (
+        &[(Purpose, 1), (BlockMode, 1), (Padding, 1)],
+        None,
+        AES_KEY,
+        Ok(Plan::Ecb {
+            seal: false,
+            padded: false,
+        }),
+    ),
+    // keys without an algorithm, which are not made
+    (
+        &[(Purpose, 0), (BlockMode, 1), (Padding, 1)],
+        None,
+        &[(Purpose, 0)],
+        PURPOSE,
+    ),
+    (
+        &[(Purpose, 3)],
+        None,
+        &[
+            (Purpose, 3),
+            (Tag::Algorithm, 128),
+            (Digest, 6),
+            (Tag::MinMacLength, 512),
+        ],
+        Ok(Plan::HmacVerify {
+            digest: 6,
+            least: 64,
+        }),
+    ),
+];
+
 #[test]
 fn each_rule_of_the_lists_breaks_alone_and_before_a_later_one(rt: HostRuntime) -> Result<(), Fail> {
-    use Tag::{BlockMode, Digest, MacLength, Padding, Purpose};
-    let purpose = Err((9, Code::UnsupportedPurpose));
-    let no_purpose = Err((9, Code::IncompatiblePurpose));
-    let mode = Err((17, Code::UnsupportedBlockMode));
-    let no_mode = Err((17, Code::IncompatibleBlockMode));
-    let padding = Err((18, Code::UnsupportedPaddingMode));
-    let no_padding = Err((18, Code::IncompatiblePaddingMode));
-    let digest = Err((19, Code::UnsupportedDigest));
-    let no_digest = Err((19, Code::IncompatibleDigest));
-    let no_length = Err((20, Code::MissingMacLength));
-    let length = Err((20, Code::UnsupportedMacLength));
-    let short = Err((20, Code::InvalidMacLength));
-    let caller = Err((21, Code::CallerNonceProhibited));
-    let no_nonce = Err((21, Code::MissingNonce));
-    let nonce = Err((21, Code::InvalidNonce));
-    let rows: [Row; 54] = [
-        // the purpose
-        (&[(MacLength, 256)], None, MAC_KEY, purpose),
-        (&[], None, &[(Tag::Algorithm, 128)], purpose),
-        (
-            &[(Purpose, 2), (Purpose, 3), (MacLength, 256)],
-            None,
-            MAC_KEY,
-            purpose,
-        ),
-        (&[(Purpose, 0), (MacLength, 256)], None, MAC_KEY, purpose),
-        (
-            &[(Purpose, 5), (BlockMode, 1), (Padding, 1)],
-            None,
-            AES_KEY,
-            purpose,
-        ),
-        (&[(Purpose, 2), (Digest, 9)], None, AES_KEY, purpose),
-        (
-            &[(Purpose, 2), (MacLength, 256)],
-            None,
-            &[
-                (Purpose, 3),
-                (Tag::Algorithm, 128),
-                (Digest, 4),
-                (Tag::MinMacLength, 64),
-            ],
-            no_purpose,
-        ),
-        (&[(Purpose, 1), (BlockMode, 9)], None, GCM_KEY, no_purpose),
-        (
-            &[(Purpose, 2), (MacLength, 256)],
-            None,
-            &[(Tag::Algorithm, 128), (Digest, 4), (Tag::MinMacLength, 64)],
-            no_purpose,
-        ),
-        // the mode
-        (&[(Purpose, 0), (Padding, 1)], None, AES_KEY, mode),
-        (
-            &[(Purpose, 0), (BlockMode, 1), (BlockMode, 2), (Padding, 1)],
-            None,
-            AES_KEY,
-            mode,
-        ),
-        (
-            &[(Purpose, 0), (BlockMode, 4), (Padding, 1)],
-            None,
-            AES_KEY,
-            mode,
-        ),
-        (&[(Purpose, 0), (BlockMode, 4)], None, GCM_KEY, mode),
-        (
-            &[(Purpose, 0), (BlockMode, 1), (Padding, 1)],
-            None,
-            GCM_KEY,
-            no_mode,
-        ),
-        (
-            &[(Purpose, 0), (BlockMode, 1), (Padding, 7)],
-            None,
-            GCM_KEY,
-            no_mode,
-        ),
-        // the padding
-        (&[(Purpose, 0), (BlockMode, 1)], None, AES_KEY, padding),
-        (
-            &[(Purpose, 0), (BlockMode, 1), (Padding, 1), (Padding, 64)],
-            None,
-            AES_KEY,
-            padding,
-        ),
-        (
-            &[(Purpose, 0), (BlockMode, 2), (Padding, 2)],
-            Some(3),
-            AES_KEY,
-            padding,
-        ),
-        (
-            &[
-                (Purpose, 0),
-                (BlockMode, 32),
-                (Padding, 64),
-                (MacLength, 128),
-            ],
-            None,
-            GCM_KEY,
-            no_padding,
-        ),
-        (
-            &[(Purpose, 0), (BlockMode, 3), (Padding, 64)],
-            None,
-            AES_KEY,
-            no_padding,
-        ),
-        (
-            &[(Purpose, 0), (BlockMode, 32), (Padding, 64)],
-            None,
-            AES_KEY,
-            no_padding,
-        ),
-        // the digest
-        (
-            &[(Purpose, 2), (Digest, 2), (MacLength, 64)],
-            None,
-            MAC_KEY,
-            digest,
-        ),
-        (&[(Purpose, 3), (Digest, 7)], None, MAC_KEY, digest),
-        (
-            &[(Purpose, 2), (Digest, 4), (Digest, 5)],
-            None,
-            MAC_KEY,
-            digest,
-        ),
-        (
-            &[(Purpose, 2), (Digest, 5), (MacLength, 256)],
-            None,
-            MAC_KEY,
-            no_digest,
-        ),
-        (&[(Purpose, 2), (Digest, 6)], None, MAC_KEY, no_digest),
-        (
-            &[(Purpose, 0), (BlockMode, 1), (Padding, 1), (Digest, 9)],
-            None,
-            AES_KEY,
-            Ok(Plan::Ecb {
-                seal: true,
-                padded: false,
-            }),
-        ),
-        // the length
-        (&[(Purpose, 2)], None, MAC_KEY, no_length),
-        (
-            &[(Purpose, 0), (BlockMode, 32), (Padding, 1)],
-            Some(3),
-            AES_KEY,
-            no_length,
-        ),
-        (&[(Purpose, 2), (MacLength, 264)], None, MAC_KEY, length),
-        (&[(Purpose, 2), (MacLength, 4)], None, MAC_KEY, length),
-        (&[(Purpose, 2), (MacLength, 65)], None, MAC_KEY, length),
-        (
-            &[
-                (Purpose, 0),
-                (BlockMode, 32),
-                (Padding, 1),
-                (MacLength, 136),
-            ],
-            None,
-            AES_KEY,
-            length,
-        ),
-        (
-            &[(Purpose, 0), (BlockMode, 32), (Padding, 1), (MacLength, 88)],
-            None,
-            GCM_KEY,
-            length,
-        ),
-        (
-            &[
-                (Purpose, 1),
-                (BlockMode, 32),
-                (Padding, 1),
-                (MacLength, 100),
-            ],
-            None,
-            AES_KEY,
-            length,
-        ),
-        (&[(Purpose, 2), (MacLength, 56)], None, MAC_KEY, short),
-        (&[(Purpose, 2), (MacLength, 0)], None, MAC_KEY, short),
-        (
-            &[
-                (Purpose, 0),
-                (BlockMode, 32),
-                (Padding, 1),
-                (MacLength, 112),
-            ],
-            Some(3),
-            GCM_KEY,
-            short,
-        ),
-        // the nonce
-        (
-            &[
-                (Purpose, 0),
-                (BlockMode, 32),
-                (Padding, 1),
-                (MacLength, 120),
-            ],
-            Some(12),
-            GCM_KEY,
-            caller,
-        ),
-        (
-            &[
-                (Purpose, 0),
-                (BlockMode, 32),
-                (Padding, 1),
-                (MacLength, 120),
-            ],
-            Some(3),
-            GCM_KEY,
-            caller,
-        ),
-        (
-            &[
-                (Purpose, 1),
-                (BlockMode, 32),
-                (Padding, 1),
-                (MacLength, 128),
-            ],
-            None,
-            AES_KEY,
-            no_nonce,
-        ),
-        (
-            &[(Purpose, 1), (BlockMode, 2), (Padding, 1)],
-            None,
-            AES_KEY,
-            no_nonce,
-        ),
-        (
-            &[(Purpose, 1), (BlockMode, 3), (Padding, 1)],
-            None,
-            AES_KEY,
-            no_nonce,
-        ),
-        (
-            &[
-                (Purpose, 0),
-                (BlockMode, 32),
-                (Padding, 1),
-                (MacLength, 128),
-            ],
-            Some(16),
-            AES_KEY,
-            nonce,
-        ),
-        (
-            &[(Purpose, 0), (BlockMode, 2), (Padding, 64)],
-            Some(12),
-            AES_KEY,
-            nonce,
-        ),
-        (
-            &[(Purpose, 1), (BlockMode, 3), (Padding, 1)],
-            Some(0),
-            AES_KEY,
-            nonce,
-        ),
-        // what no rule looks at
-        (
-            &[(Purpose, 0), (BlockMode, 1), (Padding, 64)],
-            Some(3),
-            AES_KEY,
-            Ok(Plan::Ecb {
-                seal: true,
-                padded: true,
-            }),
-        ),
-        (
-            &[(Purpose, 2), (BlockMode, 32), (MacLength, 256)],
-            Some(3),
-            MAC_KEY,
-            Ok(Plan::HmacSign {
-                digest: 4,
-                size: 32,
-            }),
-        ),
-        (
-            &[(Purpose, 3), (MacLength, 3), (Padding, 9)],
-            None,
-            MAC_KEY,
-            Ok(Plan::HmacVerify {
-                digest: 4,
-                least: 8,
-            }),
-        ),
-        // repeated parameters are one
-        (
-            &[(Purpose, 2), (Purpose, 2), (MacLength, 64)],
-            None,
-            MAC_KEY,
-            Ok(Plan::HmacSign { digest: 4, size: 8 }),
-        ),
-        (
-            &[(Purpose, 2), (Digest, 4), (MacLength, 256)],
-            None,
-            MAC_KEY,
-            Ok(Plan::HmacSign {
-                digest: 4,
-                size: 32,
-            }),
-        ),
-        (
-            &[(Purpose, 1), (BlockMode, 1), (Padding, 1)],
-            None,
-            AES_KEY,
-            Ok(Plan::Ecb {
-                seal: false,
-                padded: false,
-            }),
-        ),
-        // keys without an algorithm, which are not made
-        (
-            &[(Purpose, 0), (BlockMode, 1), (Padding, 1)],
-            None,
-            &[(Purpose, 0)],
-            purpose,
-        ),
-        (
-            &[(Purpose, 3)],
-            None,
-            &[
-                (Purpose, 3),
-                (Tag::Algorithm, 128),
-                (Digest, 6),
-                (Tag::MinMacLength, 512),
-            ],
-            Ok(Plan::HmacVerify {
-                digest: 6,
-                least: 64,
-            }),
-        ),
-    ];
     let mut row = 0u32;
-    for (asked, nonce, key, want) in rows {
+    for (asked, nonce, key, want) in ROWS {
         let facts = begin(rt.alloc(), asked, nonce, key)?;
         assert!(rt;
             facts.asked.is_ok() && facts.opened.is_some(),
@@ -425,7 +440,6 @@ fn each_rule_of_the_lists_breaks_alone_and_before_a_later_one(rt: HostRuntime) -
 
 #[test]
 fn plans_have_their_nonces(rt: HostRuntime) -> Result<(), Fail> {
-    use Tag::{BlockMode, MacLength, Padding, Purpose};
     let seal = true;
     let gcm = Plan::Gcm { seal, tag: 15 };
     let opening = Plan::Gcm {
