@@ -175,20 +175,286 @@ fn cut_in_three(
     Ok((before, result))
 }
 
-#[test]
-fn a_text_in_three_pieces_under_ctr(rt: HostRuntime) -> Result<(), Fail> {
-    let key = [0; 16];
-    let (before, end) = cut_in_three(
-        rt.alloc(),
-        Plan::Ctr,
-        false,
-        &key,
-        &key,
-        &[],
-        (&key, &key, &key),
-        None,
+fn copied(alloc: Global, signature: Option<&[u8]>) -> Result<Option<Bytes>, Fail> {
+    match signature {
+        Some(bytes) => Ok(Some(Bytes::copy_of(alloc, bytes).map_err(|_| "memory")?)),
+        None => Ok(None),
+    }
+}
+
+// A text in three pieces.
+fn pieces(text: &[u8], one: usize, two: usize) -> (&[u8], &[u8], &[u8])
+    requires order { one ≤ two }
+    requires within { two ≤ length text.now }
+    ensures joined { (result.0.now ++ result.1.now) ++ result.2.now ≡ text.now }
+    ensures sum { length result.0.now + length result.1.now + length result.2.now ≡ length text.now }
+{
+    let (front, last) = text.split_at(two);
+    let (first, second) = front.split_at(one);
+    (first, second, last)
+}
+
+// What came before the finish and at the finish is the whole.
+fn is_whole_output(before: &[u8], end: &Result<Bytes, Code>, whole: &Result<Bytes, Code>) -> bool {
+    match (end, whole) {
+        (Ok(end), Ok(whole)) => {
+            let whole = whole.as_slice();
+            before.len() <= whole.len()
+                && {
+                    let (front, back) = whole.split_at(before.len());
+                    front == before && back == end.as_slice()
+                }
+        }
+        (Err(code), Err(wanted)) => code == wanted,
+        _ => false,
+    }
+}
+
+// All output of a text in one piece, which is compared with the output at every pair of cuts, limited and not.
+fn at_every_cut(
+    rt: &impl Abort,
+    alloc: Global,
+    plan: Plan,
+    key: &[u8],
+    nonce: &[u8],
+    aad: &[u8],
+    text: &[u8],
+    signature: Option<&[u8]>,
+) -> Result<Result<Bytes, Code>, Fail>
+    requires fits { Fits plan key.now nonce.now }
+    requires gcm { running.is_gcm plan ≡ false → aad.now ≡ [] }
+    requires room { length text.now ≤ 1048576 }
+    requires may { output.may_end plan (length text.now) ≡ true }
+{
+    let given = copied(alloc, signature)?;
+    let (_, whole) = cut_in_three(alloc, plan, true, key, nonce, aad, (&[], &[], text), given)?;
+    for one in 0..text.len() + 1 {
+        for two in one..text.len() + 1 {
+            let cut = pieces(text, one, two);
+            let given = copied(alloc, signature)?;
+            let (before, end) = cut_in_three(alloc, plan, false, key, nonce, aad, cut, given)?;
+            assert!(rt;
+                is_whole_output(before.as_slice(), &end, &whole),
+                "at {one} and {two}"
+            );
+            let given = copied(alloc, signature)?;
+            let (before, end) = cut_in_three(alloc, plan, true, key, nonce, aad, cut, given)?;
+            assert!(rt; before.is_empty(), "limited, at {one} and {two}");
+            assert!(rt;
+                is_whole_output(&[], &end, &whole),
+                "limited, at {one} and {two}"
+            );
+        }
+    }
+    Ok(whole)
+}
+
+// Bytes 3, 10, 17, ..
+fn text_of(size: usize) -> [u8; 80] {
+    let mut text = [0; 80];
+    let mut value = 3u8;
+    for i in 0..size.min(80) {
+        text[i] = value;
+        value = value.wrapping_add(7);
+    }
+    text
+}
+
+const KEY: [u8; 16] = [0, 1, 2, 3, 4, 5, 6, 7, 8, 9, 10, 11, 12, 13, 14, 15];
+
+const NONCE: [u8; 16] = [
+    16, 17, 18, 19, 20, 21, 22, 23, 24, 25, 26, 27, 28, 29, 30, 31,
+];
+
+// A text is sealed, and what was sealed is opened, each at every cut.
+fn seals_and_opens(
+    rt: &impl Abort,
+    alloc: Global,
+    plans: (Plan, Plan),
+    nonce: &[u8],
+    aad: &[u8],
+    text: &[u8],
+) -> Result<(), Fail>
+    requires seals { Fits plans.0 KEY nonce.now }
+    requires opens { Fits plans.1 KEY nonce.now }
+    requires gcm { running.is_gcm plans.0 ≡ false → aad.now ≡ [] }
+    requires gcm_too { running.is_gcm plans.1 ≡ false → aad.now ≡ [] }
+    requires room { length text.now ≤ 80 }
+{
+    if !may_end(plans.0, text.len()) {
+        return Ok(());
+    }
+    let sealed = at_every_cut(rt, alloc, plans.0, &KEY, nonce, aad, text, None)?.map_err(
+        |_| "a sealed text",
     )?;
-    assert_eq!(rt; before.len(), 32);
-    assert!(rt; end.is_ok());
+    let bytes = sealed.as_slice();
+    assert!(rt; bytes.len() <= 1048576 && may_end(plans.1, bytes.len()));
+    let opened = at_every_cut(rt, alloc, plans.1, &KEY, nonce, aad, bytes, None)?.map_err(
+        |_| "an opened text",
+    )?;
+    assert_eq!(rt; opened.as_slice(), text);
+    Ok(())
+}
+
+// A mac is given, and verified whole and on its leftmost 16 bytes; a shorter one, a changed one and none are refused.
+fn signs_and_verifies(
+    rt: &impl Abort,
+    alloc: Global,
+    digest: u8,
+    size: u8,
+    text: &[u8],
+) -> Result<Vec<u8>, Fail>
+    requires known { 3 ≤ digest }
+    requires within { digest ≤ 6 }
+    requires size { size ≤ 28 }
+    requires room { length text.now ≤ 80 }
+{
+    let sign = Plan::HmacSign { digest, size };
+    let verify = Plan::HmacVerify { digest, least: 16 };
+    let mac = at_every_cut(rt, alloc, sign, &KEY, &[], &[], text, None)?.map_err(|_| "a mac")?;
+    let mac = mac.into_vec();
+    let mut signature = [0; 28];
+    assert!(rt; mac.len() == 28);
+    signature.copy_from_slice(mac.as_slice());
+    for end in 0..29usize {
+        let answer = at_every_cut(
+            rt,
+            alloc,
+            verify,
+            &KEY,
+            &[],
+            &[],
+            text,
+            Some(&signature[..end]),
+        )?;
+        assert!(rt; answer.is_ok() == (end >= 16), "{end} bytes");
+    }
+    signature[27] ^= 1;
+    let changed = at_every_cut(rt, alloc, verify, &KEY, &[], &[], text, Some(&signature))?;
+    assert!(rt; matches!(changed, Err(Code::VerificationFailed)));
+    let none = at_every_cut(rt, alloc, verify, &KEY, &[], &[], text, None)?;
+    assert!(rt; matches!(none, Err(Code::VerificationFailed)));
+    Ok(mac)
+}
+
+#[test]
+fn every_cut_of_a_text_gives_the_whole(rt: HostRuntime) -> Result<(), Fail> {
+    let alloc = rt.alloc();
+    let text = text_of(80);
+    for size in 0..81usize {
+        let text = &text[..size];
+        seals_and_opens(&rt, alloc, (Plan::Ctr, Plan::Ctr), &NONCE, &[], text)?;
+        for padded in [false, true] {
+            let (seal, open) = (
+                Plan::Ecb { seal: true, padded },
+                Plan::Ecb {
+                    seal: false,
+                    padded,
+                },
+            );
+            seals_and_opens(&rt, alloc, (seal, open), &[], &[], text)?;
+            let (seal, open) = (
+                Plan::Cbc { seal: true, padded },
+                Plan::Cbc {
+                    seal: false,
+                    padded,
+                },
+            );
+            seals_and_opens(&rt, alloc, (seal, open), &NONCE, &[], text)?;
+        }
+    }
+    Ok(())
+}
+
+#[test]
+fn every_cut_of_a_text_under_a_tag_gives_the_whole(rt: HostRuntime) -> Result<(), Fail> {
+    let alloc = rt.alloc();
+    let text = text_of(80);
+    for size in 0..81usize {
+        let text = &text[..size];
+        let (seal, open) = (
+            Plan::Gcm {
+                seal: true,
+                tag: 16,
+            },
+            Plan::Gcm {
+                seal: false,
+                tag: 16,
+            },
+        );
+        seals_and_opens(&rt, alloc, (seal, open), &NONCE[..12], b"additional", text)?;
+    }
+    for size in [0, 1, 15, 16, 17, 33] {
+        for digest in 3..7u8 {
+            signs_and_verifies(&rt, alloc, digest, 28, &text[..size])?;
+        }
+    }
+    Ok(())
+}
+
+const CBC: [u8; 48] = [
+    0xad, 0xd2, 0xed, 0x9d, 0xcb, 0x6c, 0x77, 0x26, 0x1f, 0xef, 0x6d, 0x65, 0x5c, 0x17, 0x46, 0x31,
+    0xcf, 0x6e, 0xbf, 0x51, 0xf5, 0xbd, 0x35, 0xd4, 0x5f, 0x16, 0x2d, 0x2a, 0xea, 0x13, 0x30, 0x64,
+    0x47, 0x7c, 0x91, 0x6c, 0x26, 0xa4, 0x42, 0x1f, 0x19, 0x0e, 0x8f, 0x0c, 0xe5, 0x9f, 0xe4, 0x0f,
+];
+
+const GCM: [u8; 53] = [
+    0xc7, 0x24, 0x12, 0xb7, 0x10, 0x69, 0x9b, 0xdb, 0x2c, 0x9f, 0x14, 0xa5, 0x90, 0x79, 0x8e, 0x52,
+    0x49, 0xc6, 0xf5, 0x0f, 0xb9, 0x62, 0xf6, 0x1b, 0x2e, 0x79, 0x90, 0xd1, 0xa0, 0xcb, 0xc4, 0x71,
+    0x31, 0x33, 0xd0, 0xc7, 0x7e, 0x60, 0xdd, 0x89, 0xef, 0x4f, 0x58, 0x16, 0xb6, 0xef, 0x2c, 0x38,
+    0x9f, 0x25, 0x68, 0x1e, 0x1a,
+];
+
+const CTR: [u8; 37] = [
+    0x04, 0xf4, 0xfe, 0x6c, 0xfe, 0xf3, 0x2e, 0x5a, 0xab, 0x4c, 0xa7, 0x41, 0xd9, 0xca, 0xf7, 0xff,
+    0xe1, 0xb8, 0x44, 0x8c, 0x57, 0x9a, 0x1f, 0xa6, 0xed, 0xcb, 0xc4, 0xa2, 0x4c, 0x37, 0x0b, 0xd4,
+    0x29, 0xcb, 0xc9, 0x9f, 0xca,
+];
+
+const HMAC_SHA256: [u8; 32] = [
+    0x59, 0x45, 0x6a, 0x6c, 0x67, 0x36, 0x99, 0xe7, 0x7e, 0xe2, 0x6f, 0x45, 0x15, 0x32, 0x70, 0xd7,
+    0x70, 0x71, 0x6d, 0x71, 0x9e, 0xed, 0xc7, 0xf0, 0x84, 0xf4, 0x72, 0x4e, 0x86, 0xbf, 0x1e, 0xad,
+];
+
+// The expected bytes were computed by the library `cryptography` of Python.
+#[test]
+fn the_whole_is_what_another_program_gives(rt: HostRuntime) -> Result<(), Fail> {
+    let alloc = rt.alloc();
+    let text = text_of(37);
+    let (text, _) = text.split_at(37);
+    let padded = Plan::Cbc {
+        seal: true,
+        padded: true,
+    };
+    let sealed = at_every_cut(&rt, alloc, padded, &KEY, &NONCE, &[], text, None)?.map_err(
+        |_| "a sealed text",
+    )?;
+    assert_eq!(rt; sealed.as_slice(), CBC.as_slice());
+    let gcm = Plan::Gcm {
+        seal: true,
+        tag: 16,
+    };
+    let sealed = at_every_cut(
+        &rt,
+        alloc,
+        gcm,
+        &KEY,
+        &NONCE[..12],
+        b"additional",
+        text,
+        None,
+    )?
+    .map_err(|_| "a sealed text")?;
+    assert_eq!(rt; sealed.as_slice(), GCM.as_slice());
+    let sealed = at_every_cut(&rt, alloc, Plan::Ctr, &KEY, &NONCE, &[], text, None)?.map_err(
+        |_| "a sealed text",
+    )?;
+    assert_eq!(rt; sealed.as_slice(), CTR.as_slice());
+    let mac = Plan::HmacSign {
+        digest: 4,
+        size: 32,
+    };
+    let mac = at_every_cut(&rt, alloc, mac, &KEY, &[], &[], text, None)?.map_err(|_| "a mac")?;
+    assert_eq!(rt; mac.as_slice(), HMAC_SHA256.as_slice());
     Ok(())
 }
