@@ -1,10 +1,10 @@
 -- The bytes of a generator are those of its next word, and then those of the generator after it.
-use Rattle.std.proofs.Common.{◌≡◌, ℕ, zero, suc, ◌/◌, ◌%◌, List, [], refl, sym, ap, ◌∙◌, arith, drop}
+use Rattle.std.proofs.Common.{◌≡◌, ℕ, zero, suc, ◌/◌, ◌%◌, List, [], refl, sym, ap, arith}
 use Rattle.std.proofs.Math.Path.{fun_ext}
 use Rattle.std.specs.Int.{w32, to_le_bytes}
 use Rattle.rand_chacha.specs.ChaCha.{ChaCha, next_word}
 use Rattle.ks_outside.specs.Draws.{followed}
-use Rattle.ks_outside.specs.Seeded.{word_bytes, after_words, bytes_from}
+use Rattle.ks_outside.specs.Seeded.{word_bytes, bytes_from}
 
 next_at : (generator : ChaCha) (place : ℕ) → bytes_from generator place ≡ followed (word_bytes generator) (bytes_from (next_word 10 generator).1) place
 unfolding bytes_from

@@ -1,7 +1,7 @@
 //! Entropy in memory that counts: 00, 01 and so on to ff, and then 00 again.
 
-ghost use Rattle.std.specs.Prelude.{◌≡◌, ◌↔◌, ℕ, Option, Some, IsOk, IsErr, OnErr, Contains, []};
-ghost use Rattle.ks_outside.specs.Draws.{DrawGives, counting_from, led_by};
+ghost use Rattle.std.specs.Prelude.{◌≡◌, ◌↔◌, Some, IsOk, IsErr, OnErr, Contains, []};
+ghost use Rattle.ks_outside.specs.Draws.{DrawGives, counting_from};
 ghost use Rattle.ks_outside.specs.Faults.{HasCause, one_more};
 
 use crate::calls::FailingCalls;

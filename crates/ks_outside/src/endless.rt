@@ -4,7 +4,7 @@ ghost use Rattle.std.specs.Prelude.{◌≡◌, ℕ};
 ghost use Rattle.ks_outside.specs.Draws.{led_by, followed};
 
 /// Bytes without an end.
-pub trait Endless {
+pub(crate) trait Endless {
     ghost coming: { Self → ℕ → ℕ };
 
     /// The next byte.
@@ -13,7 +13,7 @@ pub trait Endless {
 }
 
 /// Fills `out` with the next bytes.
-pub fn fill<B: Endless>(bytes: &mut B, out: &mut [u8])
+pub(crate) fn fill<B: Endless>(bytes: &mut B, out: &mut [u8])
     ensures { B.coming bytes.old ≡ followed out.new (B.coming bytes.new) }
 {
     'bytes: for i in 0..out.len() {

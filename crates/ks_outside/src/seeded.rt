@@ -1,6 +1,6 @@
 //! Entropy in memory that a seed fixes.
 
-ghost use Rattle.std.specs.Prelude.{◌≡◌, ◌<◌, ℕ, Option, Some, IsOk, drop};
+ghost use Rattle.std.specs.Prelude.{◌≡◌, ◌<◌, Some, IsOk, drop};
 ghost use Rattle.rand_chacha.specs.ChaCha.{of_seed};
 ghost use Rattle.ks_outside.specs.Draws.{DrawGives, followed};
 ghost use Rattle.ks_outside.specs.Faults.{HasCause};

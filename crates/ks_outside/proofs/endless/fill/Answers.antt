@@ -1,5 +1,5 @@
 -- One more byte was drawn, and all were.
-use Rattle.std.proofs.Common.{length, arith}
+use Rattle.std.proofs.Common.{arith}
 use Rattle.std.proofs.lemmas.List.{take_all}
 use Rattle.ks_outside.proofs.DrawLaws.{draw_more}
 use Rattle.ks_outside.proofs.endless.fill.Goals as goal

@@ -1,5 +1,5 @@
 -- What is left of a word that was used up is nothing, and the next word follows.
-use Rattle.std.proofs.Common.{rules, arith}
+use Rattle.std.proofs.Common.{rules}
 use Rattle.std.proofs.lemmas.List.{drop_all}
 use Rattle.ks_outside.proofs.WordLemmas.{refilled}
 use Rattle.ks_outside.proofs.seeded.SeededEntropy.refill.Goals as goal
