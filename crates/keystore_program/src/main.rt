@@ -16,7 +16,7 @@ mod writer;
 
 use crate::run::run_words;
 use crate::status::Status;
-use ks_outside::{EmptyDisk, EmptyEntropy, ReaderSource, WriterSink};
+use ks_outside::{EmptyDisk, ReaderSource, WriterSink, open_device};
 use std::process::ExitCode;
 use std::{env, io};
 use tags::{DeviceSecrets, Policy};
@@ -40,7 +40,8 @@ fn run_process(rt: &HostRuntime) -> io::Result<Status> {
     let device = DeviceSecrets::demo();
     let mut source = ReaderSource::new(rt.reader());
     let mut sink = WriterSink::new(io::writer(rt));
-    let (mut disk, mut entropy) = (EmptyDisk, EmptyEntropy);
+    let mut disk = EmptyDisk;
+    let mut entropy = open_device(rt);
     Ok(run_words(
         alloc,
         words.as_slice(),

@@ -2,7 +2,7 @@
 
 use crate::run::run_words;
 use crate::status::Status;
-use ks_outside::{EmptyDisk, EmptyEntropy, MemorySink, MemorySource};
+use ks_outside::{EmptyDisk, MemoryEntropy, MemorySink, MemorySource};
 use std::alloc::Global;
 use std::process::Abort;
 use std::test::Fail;
@@ -57,7 +57,7 @@ fn run_case(
         &mut source,
         &mut sink,
         &mut EmptyDisk,
-        &mut EmptyEntropy,
+        &mut MemoryEntropy::counting(),
     );
     assert_eq!(rt; ended, status, "{text}");
     assert_eq!(rt; sink.written(), text.as_bytes());
@@ -199,7 +199,7 @@ fn run_no_form(rt: &impl Abort, alloc: Global, text: &str) -> Result<(), Fail> {
         &mut source,
         &mut sink,
         &mut EmptyDisk,
-        &mut EmptyEntropy,
+        &mut MemoryEntropy::counting(),
     );
     assert_eq!(rt; ended, Status::Usage, "{text}");
     assert_eq!(rt; source.left(), CONNECT.as_bytes());

@@ -1,2 +1,4 @@
+pub mod Draws
 pub mod Faults
 pub mod Places
+pub mod Seeded

@@ -1,25 +1,34 @@
 //! What lies outside of the key service, as traits that a caller hands in: where script bytes come from, where reply
 //! bytes go, the disk and the entropy. Beside them the forms in memory for tests, the adapters over standard input
-//! and output, and a cursor over bytes for the codecs.
+//! and output and the system's random device, and a cursor over bytes for the codecs.
 //!
-//! The one contract: the content (bytes left, bytes written), where an object tells it, moves exactly as a call
+//! The one contract: the content (bytes left, bytes written, bytes to come), where an object tells it, moves exactly as a call
 //! answers and stays where it fails; and a call fails only where the object's count of faults rose in that call.
 #![tactic(auto)]
 
 mod adapters;
 mod calls;
+mod counting;
 mod cursor;
+mod device;
+mod disk;
+mod endless;
+mod entropy;
 mod faults;
+mod seeded;
 mod sink;
 mod source;
-mod store;
 #[cfg(test)]
 mod tests;
 
 pub use adapters::{ReaderSource, WriterSink};
 pub use calls::FailingCalls;
+pub use counting::{MemoryEntropy, SteadyEntropy};
 pub use cursor::Cursor;
+pub use device::{DeviceEntropy, open_device};
+pub use disk::{Disk, EmptyDisk};
+pub use entropy::Entropy;
 pub use faults::{Failed, FaultCount};
+pub use seeded::SeededEntropy;
 pub use sink::{MemorySink, Sink};
 pub use source::{MemorySource, Source, SteadySource};
-pub use store::{Disk, EmptyDisk, EmptyEntropy, Entropy};

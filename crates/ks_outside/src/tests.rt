@@ -1,6 +1,8 @@
+use crate::device::open_file;
 use crate::{
-    Cursor, Disk, EmptyDisk, EmptyEntropy, Entropy, Failed, MemorySink, MemorySource, ReaderSource,
-    Sink, Source, SteadySource, WriterSink,
+    Cursor, DeviceEntropy, Disk, EmptyDisk, Entropy, Failed, MemoryEntropy, MemorySink,
+    MemorySource, ReaderSource, SeededEntropy, Sink, Source, SteadyEntropy, SteadySource,
+    WriterSink, open_device,
 };
 use std::io;
 use std::io::{Error, ErrorKind, Read, Write};
@@ -89,7 +91,67 @@ fn adapters_over_standard_input_and_output(rt: HostRuntime) {
     assert_eq!(rt; full.write(b"a"), Err(Failed));
     assert_eq!(rt; full.write(b""), Ok(0));
     assert_eq!(rt; (failing.faults(), full.faults()), (1, 1));
-    assert_eq!(rt; (EmptyDisk.faults(), EmptyEntropy.faults()), (0, 0));
+    assert_eq!(rt; EmptyDisk.faults(), 0);
+}
+
+#[test]
+fn entropy_that_counts(rt: HostRuntime) {
+    let mut all = [0; 255];
+    let mut out = [9; 3];
+    let mut steady = SteadyEntropy::counting();
+    assert_eq!(rt; steady.draw(&mut []), Ok(()));
+    assert_eq!(rt; steady.draw(&mut all), Ok(()));
+    assert_eq!(rt; (all[0], all[1], all[254]), (0, 1, 254));
+    assert_eq!(rt; steady.draw(&mut out), Ok(()));
+    assert_eq!(rt; (out, steady.faults()), ([255, 0, 1], 0));
+
+    let mut failing = MemoryEntropy::failing(&[1, 3]);
+    assert_eq!(rt; failing.draw(&mut out), Err(Failed));
+    assert_eq!(rt; (out, failing.faults()), ([255, 0, 1], 1));
+    assert_eq!(rt; failing.draw(&mut out), Ok(()));
+    assert_eq!(rt; (out, failing.faults()), ([0, 1, 2], 1));
+    assert_eq!(rt; failing.draw(&mut out), Err(Failed));
+    assert_eq!(rt; failing.draw(&mut out), Ok(()));
+    assert_eq!(rt; (out, failing.faults()), ([3, 4, 5], 2));
+    let mut counting = MemoryEntropy::counting();
+    assert_eq!(rt; counting.draw(&mut out), Ok(()));
+    assert_eq!(rt; (out, counting.faults()), ([0, 1, 2], 0));
+}
+
+// The key stream of the zero key and nonce (RFC 8439, appendix A.1, the first vector), drawn with cuts inside words.
+#[test]
+fn entropy_of_a_seed(rt: HostRuntime) {
+    let mut entropy = SeededEntropy::new([0; 32]);
+    let (mut first, mut second, mut third) = ([0; 3], [0; 6], [0; 3]);
+    assert_eq!(rt; entropy.draw(&mut first), Ok(()));
+    assert_eq!(rt; entropy.draw(&mut second), Ok(()));
+    assert_eq!(rt; entropy.draw(&mut third), Ok(()));
+    assert_eq!(rt; first, [0x76, 0xb8, 0xe0]);
+    assert_eq!(rt; second, [0xad, 0xa0, 0xf1, 0x3d, 0x90, 0x40]);
+    assert_eq!(rt; third, [0x5d, 0x6a, 0xe5]);
+    assert_eq!(rt; entropy.faults(), 0);
+}
+
+#[test]
+fn entropy_of_the_random_device(rt: HostRuntime) {
+    let (mut first, mut second) = ([0; 32], [0; 32]);
+    let mut device = open_device(&rt);
+    assert_eq!(rt; device.draw(&mut first), Ok(()));
+    assert_eq!(rt; device.draw(&mut second), Ok(()));
+    assert!(rt; first != second);
+    assert_eq!(rt; device.faults(), 0);
+
+    let mut missing = open_file(&rt, "no_such_device");
+    assert_eq!(rt; missing.draw(&mut first), Err(Failed));
+    assert_eq!(rt; missing.faults(), 1);
+    let mut short = DeviceEntropy::new(b"abcde".as_slice());
+    let mut out = [0; 3];
+    assert_eq!(rt; short.draw(&mut out), Ok(()));
+    assert_eq!(rt; out, [b'a', b'b', b'c']);
+    assert_eq!(rt; short.draw(&mut out), Err(Failed));
+    let mut broken = DeviceEntropy::new(Broken { fails: true });
+    assert_eq!(rt; broken.draw(&mut out), Err(Failed));
+    assert_eq!(rt; (short.faults(), broken.faults()), (1, 1));
 }
 
 #[test]

@@ -1,0 +1,78 @@
+//! Entropy from the system's random device. It tells nothing of content.
+
+ghost use Rattle.std.specs.Prelude.{◌≡◌, None, Some, IsOk, IsSome, OnOk, option_and_then};
+ghost use Rattle.std.specs.Io.KnownBytes.{Consumes};
+ghost use Rattle.ks_outside.specs.Faults.{HasCause};
+
+use crate::entropy::Entropy;
+use crate::faults::{Failed, FaultCount};
+use std::fs;
+use std::io::Read;
+use std::rt::Files;
+
+/// The system's random device.
+const DEVICE: &str = "/dev/urandom";
+
+/// Entropy over a reader, as the system's random device. Each error of the reader is one fault, and so is a read that
+/// leaves a part of `out`, and a draw where the device could not be opened.
+#[derive(Drop)]
+pub struct DeviceEntropy<R> {
+    reader: Option<R>,
+    faults: FaultCount,
+}
+
+impl<R> DeviceEntropy<R> {
+    /// Takes the reader; no fault so far.
+    pub fn new(reader: R) -> DeviceEntropy<R>
+        ensures reader { result.reader ≡ Some reader }
+        ensures faults { result.faults.count ≡ 0 }
+    {
+        DeviceEntropy {
+            reader: Some(reader),
+            faults: FaultCount::new(),
+        }
+    }
+}
+
+/// Opens the system's random device. Where it cannot be opened, each draw fails; no draw has failed so far.
+pub fn open_device<R: Files>(rt: &R) -> DeviceEntropy<R::File>
+    ensures faults { result.faults.count ≡ 0 }
+{
+    open_file(rt, DEVICE)
+}
+
+pub(crate) fn open_file<R: Files>(rt: &R, path: &str) -> DeviceEntropy<R::File>
+    ensures faults { result.faults.count ≡ 0 }
+{
+    DeviceEntropy {
+        reader: fs::open(rt, path).ok(),
+        faults: FaultCount::new(),
+    }
+}
+
+impl<R: Read> Entropy for DeviceEntropy<R> {
+    ghost content = { λ _. None };
+
+    ghost fault_count = { λ s. s.faults.count };
+
+    fn draw(&mut self, out: &mut [u8]) -> Result<(), Failed>
+        ensures cause { HasCause self.old.faults.count self.new.faults.count result }
+        ensures open { IsOk result → IsSome self.old.reader }
+        ensures reader { OnOk result (Consumes (option_and_then R.remaining self.old.reader) (option_and_then R.remaining self.new.reader) out.new) }
+        ensures steady { IsOk result → self.new.faults.count ≡ self.old.faults.count }
+    {
+        if let Some(reader) = &mut self.reader {
+            if let Ok(count) = reader.read(out) {
+                if count == out.len() {
+                    return Ok(());
+                }
+            }
+        }
+        self.faults.rise();
+        Err(Failed)
+    }
+
+    fn faults(&self) -> u64 {
+        self.faults.count()
+    }
+}
