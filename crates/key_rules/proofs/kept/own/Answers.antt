@@ -8,7 +8,7 @@ use Rattle.key_rules.proofs.kept.own.Goals as goal
 
 pub returns-clause-own : goal.returns-clause-own
 returns-clause-own c =
-    c.without-7.ensures ∙ ap (without OsPatchlevel) (c.without-6.ensures ∙ ap (without OsVersion) (c.without-5.ensures ∙ ap (without Origin) (c.without-4.ensures ∙ ap (without MacLength) (c.without-3.ensures ∙ ap (without Nonce) (c.without-2.ensures ∙ ap (without ApplicationData) (c.without.ensures))))))
+    c.without-7.ensures.list ∙ ap (without OsPatchlevel) (c.without-6.ensures.list ∙ ap (without OsVersion) (c.without-5.ensures.list ∙ ap (without Origin) (c.without-4.ensures.list ∙ ap (without MacLength) (c.without-3.ensures.list ∙ ap (without Nonce) (c.without-2.ensures.list ∙ ap (without ApplicationData) (c.without.ensures.list))))))
     ∙ without_all_is dropped c.args.list
 
 pub returns-clause-room : goal.returns-clause-room

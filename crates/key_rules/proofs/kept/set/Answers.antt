@@ -3,4 +3,4 @@ use Rattle.key_rules.proofs.Lengths.{adds_one}
 use Rattle.key_rules.proofs.kept.set.Goals as goal
 
 pub returns-clause-room : goal.returns-clause-room
-returns-clause-room c = adds_one c.with.result (record { tag = c.args.tag; value = Number c.args.number }) c.args.list c.with.ensures
+returns-clause-room c = adds_one c.with.result (record { tag = c.args.tag; value = Number c.args.number }) c.args.list c.with.ensures.list
