@@ -1,5 +1,5 @@
 -- The answer of an act that is built.
-use Rattle.std.proofs.Common.{◌≡◌, ℕ, Bool, true, false, ◌&&◌, List, [], ◌∷◌, Option, Some, None, IsTrue, IsSome, is_some, refl, arith, rules}
+use Rattle.std.proofs.Common.{◌≡◌, ℕ, Bool, true, false, ◌&&◌, [], ◌∷◌, Option, Some, None, IsTrue, IsSome, is_some, refl, rules}
 use Rattle.tags.specs.declared.code.Code.TheVariants.{MemoryAllocationFailed}
 use Rattle.rule_model.specs.declared.entry.Entry.TheVariants.{Acted}
 use Rattle.rule_model.specs.declared.event.Event.{Event}

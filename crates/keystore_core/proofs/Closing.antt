@@ -1,5 +1,5 @@
 -- What a finish leaves: its denial, and its output.
-use Rattle.std.proofs.Common.{◌≡◌, ℕ, ◌+◌, Bool, true, false, ◌==◌, if◌then◌else◌, not, List, [], ◌∷◌, ◌++◌, length, take, Option, Some, None, Result, Ok, Err, IfSome, find, refl, sym, ap, ◌∙◌, subst, arith, cond}
+use Rattle.std.proofs.Common.{◌≡◌, ℕ, Bool, true, false, ◌==◌, if◌then◌else◌, List, [], ◌∷◌, ◌++◌, take, Option, Some, None, Ok, Err, IfSome, find, refl, sym, ap, ◌∙◌, subst, arith}
 use Rattle.std.specs.Ordering.{nat_cmp}
 use Rattle.std.specs.BTreeMap.{get}
 use Rattle.std.proofs.lemmas.Bool.Decides.{nat_tests}
@@ -14,11 +14,11 @@ use Rattle.rule_model.specs.declared.reply.Reply.TheVariants.{Done, Broken}
 use Rattle.rule_model.specs.Answer.{broken_or, is_own, output_of, no_fields}
 use Rattle.rule_model.specs.Entries.{History}
 use Rattle.rule_model.specs.Operations as model
-use Rattle.rule_model.specs.Rules.{Check, first_broken, step_rules}
+use Rattle.rule_model.specs.Rules.{first_broken, step_rules}
 use Rattle.rule_model.specs.Setup.{Setup}
 use Rattle.keystore_core.specs.declared.operations.Operation.{Operation}
 use Rattle.keystore_core.specs.declared.tables.Tables.{Tables}
-use Rattle.keystore_core.specs.Stands.{IsOperation, SameOperation, TablesStand, event_of}
+use Rattle.keystore_core.specs.Stands.{SameOperation, TablesStand, event_of}
 use Rattle.keystore_core.specs.Walk.{walked}
 
 -- what is found behind a closing

@@ -1,9 +1,8 @@
 -- When an engine stands for a history.
-use Rattle.std.specs.Prelude.{◌≡◌, ℕ, List, [], ◌∷◌, ◌++◌, length, Option, Some, None, Result, Ok, Err}
+use Rattle.std.specs.Prelude.{◌≡◌, ℕ, List, [], ◌∷◌, Option, Some, None, Result, Ok, Err}
 use Rattle.std.specs.Ordering.{nat_cmp}
 use Rattle.std.specs.BTreeMap.{get}
 use Rattle.tags.specs.declared.bytes.NoMemory.{NoMemory}
-use Rattle.tags.specs.declared.plan.Plan.{Plan}
 use Rattle.tags.specs.declared.plan.Plan.TheVariants.{HmacSign}
 use Rattle.hmac_core.specs.State.{Holds}
 use Rattle.rule_model.specs.declared.entry.Entry.TheVariants.{Acted}

@@ -4,11 +4,10 @@ use Rattle.std.proofs.lemmas.List.{length-take-le}
 use Rattle.std.proofs.KnownBytes.{Appends-nil, Appends-trans, Consumes-nil, Consumes-trans}
 use Rattle.std.proofs.lemmas.Bool.Decides.{nat_tests}
 use Rattle.std.specs.Io.KnownBytes.{Appends, Consumes, IsAtEnd}
-use Rattle.rule_model.specs.Answer.{Legal}
 use Rattle.rule_model.specs.Entries.{History}
 use Rattle.rule_model.specs.Setup.{Setup}
 use Rattle.keystore_program.specs.declared.session.Session.{Session}
-use Rattle.keystore_program.specs.Ends.{AreTaken, EndsAmid, Ends, EndsCut, EndsOk, Served}
+use Rattle.keystore_program.specs.Ends.{AreTaken, EndsAmid, Ends, EndsCut, EndsOk}
 use Rattle.keystore_program.specs.declared.serve.Halt.{Halt}
 use Rattle.keystore_program.specs.declared.serve.Halt.TheVariants as halts
 use Rattle.keystore_program.specs.declared.status.Status.{Status}
@@ -17,7 +16,7 @@ use Rattle.keystore_program.specs.Halts.{status_of}
 use Rattle.keystore_program.specs.Follows.{Follows}
 use Rattle.keystore_program.specs.Lines.{AreLines, IsFree, ended, lines_of}
 use Rattle.keystore_program.specs.Serving.{IsServed, IsServedInPart, IsUnserved}
-use Rattle.keystore_program.specs.Session.{StandsFor, GoesOn}
+use Rattle.keystore_program.specs.Session.{StandsFor}
 use Rattle.keystore_program.specs.Window.{HasNoFeedBelow, IsFirstFeed}
 use Rattle.keystore_program.proofs.LineLemmas.{are_more, ended-more, follows_more, free_take, free_whole, lines_of-ended, lines_of-last, split_feed}
 

@@ -1,5 +1,5 @@
 -- What the reader of a script holds.
-use Rattle.std.specs.Prelude.{◌≡◌, ◌≢◌, ℕ, ◌+◌, ◌-◌, ◌^◌, ◌<◌, ◌≤◌, List, length, take, drop, slice_index}
+use Rattle.std.specs.Prelude.{◌≡◌, ◌-◌, ◌^◌, ◌≤◌, length, take, drop}
 use Rattle.keystore_program.specs.declared.reader.LineReader.TheInside.{Inside}
 use Rattle.keystore_program.specs.Window.{Held, HasNoFeedBelow}
 

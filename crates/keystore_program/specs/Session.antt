@@ -1,5 +1,5 @@
 -- What a line of a script leaves in a session.
-use Rattle.std.specs.Prelude.{ℕ, ◌+◌, ◌≤◌, ◌⊎◌, List, Result, Ok, Err}
+use Rattle.std.specs.Prelude.{ℕ, ◌⊎◌, List, Result, Ok, Err}
 use Rattle.tags.specs.declared.bytes.NoMemory.{NoMemory}
 use Rattle.rule_model.specs.Answer.{Legal}
 use Rattle.rule_model.specs.Entries.{History}

@@ -1,4 +1,4 @@
-use Rattle.std.proofs.Common.{ℕ, List, ◌≤◌, ◌+◌, ◌-◌, sym, ap, ◌∙◌, arith, length, take, drop}
+use Rattle.std.proofs.Common.{ℕ, List, ◌≤◌, ◌+◌, sym, ap, ◌∙◌, arith, length, take, drop}
 use Rattle.keystore_program.proofs.Windows.{filled}
 use Rattle.keystore_program.proofs.reader.refill.Goals as goal
 

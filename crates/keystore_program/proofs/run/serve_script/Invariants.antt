@@ -1,4 +1,4 @@
-use Rattle.std.proofs.Common.{◌≡◌, ℕ, ◌+◌, ◌-◌, ◌^◌, ◌≤◌, [], length}
+use Rattle.std.proofs.Common.{◌≡◌, ◌+◌, ◌-◌, ◌^◌, ◌≤◌, [], length}
 use Rattle.rule_model.specs.Setup.{Setup}
 use Rattle.keystore_program.specs.Session.{StandsFor, entries_in}
 use Rattle.keystore_program.proofs.Going.{Going}

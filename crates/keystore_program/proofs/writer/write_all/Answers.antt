@@ -1,4 +1,4 @@
-use Rattle.std.proofs.Common.{arith, length, ◌<◌}
+use Rattle.std.proofs.Common.{arith}
 use Rattle.keystore_program.proofs.Writing.{more_written}
 use Rattle.keystore_program.proofs.writer.write_all.Goals as goal
 

@@ -1,4 +1,4 @@
-use Rattle.std.proofs.Common.{◌∙◌, ap, arith, length, take, drop, ◌+◌, ◌-◌, ◌≤◌}
+use Rattle.std.proofs.Common.{◌∙◌, ap, arith, length, drop, ◌+◌, ◌-◌, ◌≤◌}
 use Rattle.std.proofs.lemmas.List.{length-take}
 use Rattle.keystore_program.proofs.Windows.{passed}
 use Rattle.keystore_program.proofs.reader.LineReader.pass.Goals as goal
