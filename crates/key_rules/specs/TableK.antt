@@ -91,7 +91,7 @@ k6 (Some import) = part 6 UnsupportedKeyFormat (import.format == 3)
 
 -- the sizes that are allowed: AES 128, 192, 256; HMAC 64 to 512 in steps of 8
 abbrev pub is_allowed_size : List Param → ℕ → Bool
-is_allowed_size list bits = (is_aes list && one_in (128 ∷ 192 ∷ 256 ∷ []) bits) || (is_hmac list && whole_bytes 64 512 bits)
+is_allowed_size list bits = if is_aes list then one_in (128 ∷ 192 ∷ 256 ∷ []) bits else (is_hmac list && whole_bytes 64 512 bits)
 
 -- K7: generate: KEY_SIZE is there and allowed (-6); import: eight times the material's length is allowed (-6) and
 -- equals KEY_SIZE where that is there (-44)

@@ -1,7 +1,7 @@
-ghost use Rattle.std.specs.Prelude.{◌≡◌, ◌≤◌, is_ok, IfOk, IfSome, length};
+ghost use Rattle.std.specs.Prelude.{◌≡◌, ◌≤◌, ◌<◌, ◌^◌, is_ok, IfOk, IfSome, length};
 ghost use Rattle.key_rules.specs.Facts.{lent};
 ghost use Rattle.key_rules.specs.TableK as spec;
-ghost use Rattle.key_rules.specs.Creation.{new_key};
+ghost use Rattle.key_rules.specs.Creation.{new_key, material_size as size_of};
 ghost use Rattle.key_rules.specs.Kept as model;
 ghost use Rattle.key_rules.specs.Verdicts.{first_broken, Says};
 
@@ -13,6 +13,7 @@ use crate::rules::{
 use crate::{ImportFacts, KeyPlan, NewFacts, NewFault};
 use std::alloc::Global;
 use tag_lists::AuthList;
+use tags::{ParamValue, Tag};
 
 // The rules that read the list, in the table's order.
 fn walk_list(import: Option<ImportFacts>, list: &AuthList) -> Result<(), NewFault>
@@ -65,6 +66,23 @@ pub fn check_new(alloc: Global, facts: &NewFacts) -> Result<KeyPlan, NewFault>
 {
     let list = walk(alloc, facts)?;
     plan(list, facts.import, facts.wall)
+}
+
+/// The bytes of a generated key's material, by its kept list: KEY_SIZE / 8, and none where no size is there. It takes no
+/// memory.
+#[tactic(auto, unfolding(crate::specs::Creation::material_size))]
+pub fn material_size(list: &AuthList) -> usize
+    ensures size { result ≡ size_of list.now }
+    ensures most { result < 2 ^ 61 }
+{
+    match list.one(Tag::KeySize) {
+        None => 0,
+        Some(param) => match &param.value {
+            ParamValue::Number(bits) => (*bits / 8) as usize,
+            ParamValue::Flag => 0,
+            ParamValue::Raw(_) => 0,
+        },
+    }
 }
 
 // The rules of a key that was made, in the table's order.

@@ -5,6 +5,7 @@
 //! AIDL documents `Tag` and `ErrorCode`; the rules follow KeyMint's `IKeyMintDevice`, for AES and HMAC.
 #![tactic(auto)]
 
+mod asked;
 mod creation;
 mod facts;
 mod fault;
@@ -15,7 +16,8 @@ mod rules;
 mod tests;
 mod values;
 
-pub use creation::{check_new, usable};
+pub use asked::read_asked;
+pub use creation::{check_new, material_size, usable};
 pub use facts::{ImportFacts, NewFacts};
 pub use fault::NewFault;
 pub use plan::KeyPlan;

@@ -182,8 +182,11 @@ pub(crate) fn rule_k6(import: Option<ImportFacts>) -> Result<(), NewFault>
 fn is_allowed_size(list: &AuthList, bits: u64) -> bool
     ensures { result ≡ spec.is_allowed_size list.now bits }
 {
-    (is_aes(list) && one_in(&[128, 192, 256], bits))
-        || (is_hmac(list) && whole_bytes(64, 512, bits))
+    if is_aes(list) {
+        one_in(&[128, 192, 256], bits)
+    } else {
+        is_hmac(list) && whole_bytes(64, 512, bits)
+    }
 }
 
 fn is_allowed_value(list: &AuthList, value: &ParamValue) -> bool

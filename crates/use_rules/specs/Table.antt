@@ -44,7 +44,7 @@ asked_of facts = list_or_none facts.asked
 abbrev pub key_of : BeginFacts → List Param
 key_of facts = unwrap_or facts.opened []
 
--- the rules up to the two lists
+-- the rules before those of the two lists
 abbrev pub call_rules : BeginFacts → List Check
 call_rules facts =
     check 1 InvalidArgument facts.connected ∷  -- the client is connected
@@ -52,6 +52,7 @@ call_rules facts =
     check 4 KeyNotFound facts.found ∷  -- the key is found
     check 6 (fault_of facts.asked) (is_ok facts.asked) ∷  -- the operation's list reads
     check 7 InvalidKeyBlob (is_some facts.opened) ∷  -- the blob opens
+    check 8 InvalidKeyBlob facts.fits ∷  -- to a list and a material that are usable
     []
 
 -- the rules of the operation's list and the key's

@@ -13,4 +13,6 @@ pub struct BeginFacts {
     pub asked: Result<AuthList, Code>,
     /// the key's list, and nothing where its blob does not open
     pub opened: Option<AuthList>,
+    /// the key's list and its material are usable
+    pub fits: bool,
 }

@@ -89,6 +89,7 @@ pub fn begin(
         found: true,
         asked: list(alloc, asked, nonce)?.ok_or(Code::InvalidTag),
         opened: list(alloc, key, None)?,
+        fits: true,
     })
 }
 

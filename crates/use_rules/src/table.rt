@@ -1,4 +1,4 @@
-ghost use Rattle.std.specs.Prelude.{◌≡◌, ◌∷◌, [], IfOk, OnOk, Ok};
+ghost use Rattle.std.specs.Prelude.{◌≡◌, ◌∷◌, [], IfOk, OnOk, Ok, is_ok, is_some, true};
 ghost use Rattle.use_rules.specs.Plans.{HasDigest, IsWorkable, NonceFits, plan_of as plan_by};
 ghost use Rattle.use_rules.specs.Table as spec;
 
@@ -66,12 +66,15 @@ fn begun(asked: &AuthList, key: &AuthList) -> Result<Plan, (Rule, Code)>
     Ok(plan_of(asked, key))
 }
 
-/// The first rule of the table that the begin breaks, with its code, or else the operation's plan. Then the nonce that is
-/// given or drawn has the plan's bytes, and the plan's numbers are those of the standards, where an HMAC key has a digest
-/// of SHA-2. It takes no memory.
+/// The first rule of the table that the begin breaks, with its code, or else the operation's plan. Then both lists are
+/// there and the key is usable, the nonce that is given or drawn has the plan's bytes, and the plan's numbers are those of
+/// the standards, where an HMAC key has a digest of SHA-2. It takes no memory.
 #[tactic(auto, unfolding(crate::specs::Table::answer))]
 pub fn check_begin(facts: &BeginFacts) -> Result<Plan, (Rule, Code)>
     ensures first { result ≡ spec.answer facts.now }
+    ensures asked { OnOk result (is_ok facts.now.asked ≡ true) }
+    ensures opened { OnOk result (is_some facts.now.opened ≡ true) }
+    ensures fits { OnOk result (facts.now.fits ≡ true) }
     ensures workable { IfOk result (λ plan. HasDigest (spec.key_of facts.now) → IsWorkable plan) }
     ensures nonce { IfOk result (λ plan. NonceFits (spec.asked_of facts.now) (spec.key_of facts.now) plan) }
 {
@@ -85,5 +88,6 @@ pub fn check_begin(facts: &BeginFacts) -> Result<Plan, (Rule, Code)>
     let Some(key) = &facts.opened else {
         return Err((rule(7), Code::InvalidKeyBlob));
     };
+    check(8, Code::InvalidKeyBlob, facts.fits)?;
     begun(asked, key)
 }

@@ -18,6 +18,8 @@ fn a_call_breaks_the_rules_before_its_lists(rt: HostRuntime) -> Result<(), Fail>
         size: 32,
     };
     assert!(rt; answers(&facts, Ok(sign)));
+    facts.fits = false;
+    assert!(rt; answers(&facts, Err((8, Code::InvalidKeyBlob))));
     facts.opened = None;
     assert!(rt; answers(&facts, Err((7, Code::InvalidKeyBlob))));
     assert!(rt; nonce_given(&facts).is_none() && nonce_wanted(&facts) == 0);

@@ -1,9 +1,19 @@
-//! The rules that stand before the list is read.
+//! The rules that stand before the list is read, and the list of an operation.
 
-use super::{M, broken, descriptor, encoded, import_of};
-use crate::{NewFacts, check_new};
+use super::{M, Pairs, broken, descriptor, encoded, import_of};
+use crate::{NewFacts, check_new, read_asked};
 use std::test::Fail;
-use tags::{Bytes, Tag};
+use tag_lists::AuthList;
+use tags::{Bytes, Code, NoMemory, Tag};
+
+// The code of a list that does not read, or 0.
+fn code_of(asked: &Result<Result<AuthList, Code>, NoMemory>) -> i32 {
+    match asked {
+        Ok(Ok(_)) => 0,
+        Ok(Err(code)) => code.number(),
+        Err(NoMemory) => -41,
+    }
+}
 
 #[test]
 fn the_first_broken_rule_before_the_list_is_answered(rt: HostRuntime) -> Result<(), Fail> {
@@ -66,6 +76,43 @@ fn the_first_broken_rule_before_the_list_is_answered(rt: HostRuntime) -> Result<
             wall: 1000,
         };
         assert_eq!(rt; broken(&check_new(alloc, &facts)), expected, "in row {row}");
+        if expected.0 == 0 || expected.0 == 4 {
+            assert_eq!(rt;
+                code_of(&read_asked(alloc, params)),
+                expected.1,
+                "asked in row {row}"
+            );
+        }
+    }
+    Ok(())
+}
+
+// What is added to a list, and the code.
+const ASKED: [(Pairs, i32); 6] = [
+    (&[], 0),
+    (
+        &[(Tag::ApplicationId, 1024), (Tag::ApplicationData, 1024)],
+        0,
+    ),
+    (&[(Tag::ApplicationId, 1025)], -21),
+    (&[(Tag::ApplicationData, 1025)], -21),
+    (&[(Tag::ApplicationId, 1025), (Tag::Algorithm, 32)], -38),
+    (&[(Tag::UnlockedDeviceRequired, 1)], 0),
+];
+
+#[test]
+fn the_list_of_an_operation_reads_as_a_keys(rt: HostRuntime) -> Result<(), Fail> {
+    let alloc = rt.alloc();
+    for (row, (added, expected)) in ASKED.into_iter().enumerate() {
+        let params = encoded(alloc, M, &[], added)?;
+        let asked = read_asked(alloc, &params);
+        assert_eq!(rt; code_of(&asked), expected, "in row {row}");
+        if let Ok(Ok(list)) = asked {
+            assert!(rt;
+                list.has(Tag::Algorithm, 128) && list.has(Tag::Purpose, 3),
+                "in row {row}"
+            );
+        }
     }
     Ok(())
 }

@@ -1,13 +1,13 @@
 //! What is kept with a key, and whether a list and a length are those of a key.
 
 use super::{E, G, M, Material, Pairs, descriptor, encoded, import_of};
-use crate::{NewFacts, check_new, usable};
+use crate::{NewFacts, check_new, material_size, usable};
 use std::test::Fail;
 use tag_lists::AuthList;
 use tags::{Bytes, Tag};
 
-// A list, the import, what is added, the wall reading, and the kept list's bytes.
-type Kept = (Pairs, Material, Pairs, u64, &'static [u8]);
+// A list, the import, what is added, the wall reading, the kept list's bytes, and those of the material.
+type Kept = (Pairs, Material, Pairs, u64, &'static [u8], usize);
 
 const KEPT: [Kept; 4] = [
     (
@@ -16,6 +16,7 @@ const KEPT: [Kept; 4] = [
         &[],
         1000,
         b"\x00\x0a\x20\x00\x00\x01\x00\x00\x00\x00\x20\x00\x00\x01\x00\x00\x00\x01\x10\x00\x00\x02\x00\x00\x00\x20\x30\x00\x00\x03\x00\x00\x01\x00\x20\x00\x00\x04\x00\x00\x00\x20\x20\x00\x00\x06\x00\x00\x00\x01\x30\x00\x00\x08\x00\x00\x00\x80\x70\x00\x01\xf7\x01\x60\x00\x02\xbd\x00\x00\x00\x00\x00\x00\x03\xe8\x10\x00\x02\xbe\x00\x00\x00\x00",
+        32,
     ),
     (
         M,
@@ -23,6 +24,7 @@ const KEPT: [Kept; 4] = [
         &[(Tag::OsVersion, 1), (Tag::OsPatchlevel, 2)],
         1000,
         b"\x00\x09\x20\x00\x00\x01\x00\x00\x00\x02\x20\x00\x00\x01\x00\x00\x00\x03\x10\x00\x00\x02\x00\x00\x00\x80\x30\x00\x00\x03\x00\x00\x00\xa0\x20\x00\x00\x05\x00\x00\x00\x04\x30\x00\x00\x08\x00\x00\x00\x40\x70\x00\x01\xf7\x01\x60\x00\x02\xbd\x00\x00\x00\x00\x00\x00\x03\xe8\x10\x00\x02\xbe\x00\x00\x00\x02",
+        20,
     ),
     (
         M,
@@ -36,6 +38,7 @@ const KEPT: [Kept; 4] = [
         ],
         1000,
         b"\x00\x09\x20\x00\x00\x01\x00\x00\x00\x02\x20\x00\x00\x01\x00\x00\x00\x03\x10\x00\x00\x02\x00\x00\x00\x80\x30\x00\x00\x03\x00\x00\x00\xa0\x20\x00\x00\x05\x00\x00\x00\x04\x30\x00\x00\x08\x00\x00\x00\x40\x70\x00\x01\xf7\x01\x60\x00\x02\xbd\x00\x00\x00\x00\x00\x00\x00\x05\x10\x00\x02\xbe\x00\x00\x00\x02",
+        20,
     ),
     (
         G,
@@ -43,6 +46,7 @@ const KEPT: [Kept; 4] = [
         &[(Tag::Origin, 2)],
         18446744073709551615,
         b"\x00\x0a\x20\x00\x00\x01\x00\x00\x00\x00\x20\x00\x00\x01\x00\x00\x00\x01\x10\x00\x00\x02\x00\x00\x00\x20\x30\x00\x00\x03\x00\x00\x01\x00\x20\x00\x00\x04\x00\x00\x00\x20\x20\x00\x00\x06\x00\x00\x00\x01\x30\x00\x00\x08\x00\x00\x00\x80\x70\x00\x01\xf7\x01\x60\x00\x02\xbd\xff\xff\xff\xff\xff\xff\xff\xff\x10\x00\x02\xbe\x00\x00\x00\x00",
+        32,
     ),
 ];
 
@@ -50,7 +54,7 @@ const KEPT: [Kept; 4] = [
 fn the_kept_list_has_what_is_set_and_not_what_is_dropped(rt: HostRuntime) -> Result<(), Fail> {
     let alloc = rt.alloc();
     let name = descriptor(0, Some(Bytes::of(vec![in alloc; 107u8]?)), None);
-    for (row, (list, import, added, wall, expected)) in KEPT.into_iter().enumerate() {
+    for (row, (list, import, added, wall, expected, size)) in KEPT.into_iter().enumerate() {
         let params = encoded(alloc, list, &[], added)?;
         let facts = NewFacts {
             connected: true,
@@ -64,12 +68,14 @@ fn the_kept_list_has_what_is_set_and_not_what_is_dropped(rt: HostRuntime) -> Res
             continue;
         };
         assert_eq!(rt; plan.limit, 0);
+        assert_eq!(rt; material_size(&plan.list), size, "in row {row}");
         let Ok(written) = plan.list.write(alloc) else {
             assert!(rt; false, "no memory in row {row}");
             continue;
         };
         assert_eq!(rt; written.as_slice(), expected, "in row {row}");
     }
+    assert_eq!(rt; material_size(&AuthList::empty(alloc)), 0);
     Ok(())
 }
 
