@@ -1,0 +1,2 @@
+mod Usable
+mod Fitting

@@ -1,0 +1,271 @@
+//! What begins: the plan, its nonce, and its start.
+
+ghost use Rattle.std.specs.Prelude.{◌≡◌, length, IfOk, is_ok, true};
+ghost use Rattle.key_rules.specs.TableK.{key_rules};
+ghost use Rattle.key_rules.specs.Verdicts.{first_broken};
+ghost use Rattle.use_rules.specs.Table.{key_of};
+
+use super::{AES_KEY, GCM_KEY, MAC_KEY, Pairs, app_key, encoded};
+use crate::{Begin, BeginFault, plan_begin};
+use key_rules::{read_asked, usable};
+use std::alloc::Global;
+use std::test::Fail;
+use tag_lists::AuthList;
+use tags::Tag::{BlockMode, MacLength, Padding, Purpose};
+use tags::{Code, Plan, RuleTable};
+use use_rules::BeginFacts;
+
+// The facts of a begin with this list on a key whose material has so many bytes.
+fn facts_of(
+    alloc: Global,
+    asked: Pairs,
+    nonce: Option<&[u8]>,
+    key: Pairs,
+    size: usize,
+) -> Result<BeginFacts, Fail>
+    ensures { IfOk result (λ facts. facts.fits ≡ true → is_ok (first_broken (key_rules size (key_of facts))) ≡ true) }
+{
+    let params = encoded(alloc, asked, nonce)?;
+    let asked = read_asked(alloc, &params).map_err(|_| "memory")?;
+    let key = AuthList::read(alloc, &encoded(alloc, key, None)?).map_err(|_| "a list")?;
+    let fits = usable(&key, size);
+    Ok(BeginFacts {
+        connected: true,
+        descriptor: app_key(alloc)?,
+        found: true,
+        asked,
+        opened: Some(key),
+        fits,
+    })
+}
+
+// The plan of a begin, which starts with a nonce of sevens where one is drawn.
+fn started(
+    alloc: Global,
+    facts: &BeginFacts,
+    material: &[u8],
+) -> Result<Result<Begin, BeginFault>, Fail>
+    requires { facts.now.fits ≡ true → is_ok (first_broken (key_rules (length material.now) (key_of facts.now))) ≡ true }
+{
+    match plan_begin(alloc, facts, material) {
+        Err(fault) => Ok(Err(fault)),
+        Ok(begin) => {
+            let drawn = vec![in alloc; 7u8; begin.wanted]?;
+            let _state = begin
+                .start(alloc, false, material, &drawn)
+                .map_err(|_| "memory")?;
+            Ok(Ok(begin))
+        }
+    }
+}
+
+// The operation's list, the nonce in it, the key's list and its bytes; and the plan with the bytes that are drawn, or the
+// rule and its code.
+type Row = (
+    Pairs,
+    Option<&'static [u8]>,
+    Pairs,
+    usize,
+    Result<(Plan, usize), (u8, Code)>,
+);
+
+const BLOCK: Option<&[u8]> = Some(
+    b"\x00\x01\x02\x03\x04\x05\x06\x07\x08\x09\x0a\x0b\x0c\x0d\x0e\x0f",
+);
+
+const TWELVE: Option<&[u8]> = Some(b"\x00\x01\x02\x03\x04\x05\x06\x07\x08\x09\x0a\x0b");
+
+const ROWS: [Row; 14] = [
+    (
+        &[(Purpose, 0), (BlockMode, 1), (Padding, 64)],
+        BLOCK,
+        AES_KEY,
+        16,
+        Ok((
+            Plan::Ecb {
+                seal: true,
+                padded: true,
+            },
+            0,
+        )),
+    ),
+    (
+        &[(Purpose, 0), (BlockMode, 2), (Padding, 1)],
+        None,
+        AES_KEY,
+        24,
+        Ok((
+            Plan::Cbc {
+                seal: true,
+                padded: false,
+            },
+            16,
+        )),
+    ),
+    (
+        &[(Purpose, 1), (BlockMode, 2), (Padding, 64)],
+        BLOCK,
+        AES_KEY,
+        32,
+        Ok((
+            Plan::Cbc {
+                seal: false,
+                padded: true,
+            },
+            0,
+        )),
+    ),
+    (
+        &[(Purpose, 0), (BlockMode, 3), (Padding, 1)],
+        None,
+        AES_KEY,
+        16,
+        Ok((Plan::Ctr, 16)),
+    ),
+    (
+        &[(Purpose, 1), (BlockMode, 3), (Padding, 1)],
+        BLOCK,
+        AES_KEY,
+        16,
+        Ok((Plan::Ctr, 0)),
+    ),
+    (
+        &[
+            (Purpose, 0),
+            (BlockMode, 32),
+            (Padding, 1),
+            (MacLength, 128),
+        ],
+        None,
+        GCM_KEY,
+        32,
+        Ok((
+            Plan::Gcm {
+                seal: true,
+                tag: 16,
+            },
+            12,
+        )),
+    ),
+    (
+        &[(Purpose, 0), (BlockMode, 32), (Padding, 1), (MacLength, 96)],
+        TWELVE,
+        AES_KEY,
+        16,
+        Ok((
+            Plan::Gcm {
+                seal: true,
+                tag: 12,
+            },
+            0,
+        )),
+    ),
+    (
+        &[
+            (Purpose, 1),
+            (BlockMode, 32),
+            (Padding, 1),
+            (MacLength, 128),
+        ],
+        TWELVE,
+        GCM_KEY,
+        32,
+        Ok((
+            Plan::Gcm {
+                seal: false,
+                tag: 16,
+            },
+            0,
+        )),
+    ),
+    (
+        &[(Purpose, 2), (MacLength, 128)],
+        None,
+        MAC_KEY,
+        20,
+        Ok((
+            Plan::HmacSign {
+                digest: 4,
+                size: 16,
+            },
+            0,
+        )),
+    ),
+    (
+        &[(Purpose, 3)],
+        None,
+        MAC_KEY,
+        8,
+        Ok((
+            Plan::HmacVerify {
+                digest: 4,
+                least: 8,
+            },
+            0,
+        )),
+    ),
+    // a material of another length than the key's, and of none
+    (
+        &[
+            (Purpose, 0),
+            (BlockMode, 32),
+            (Padding, 1),
+            (MacLength, 128),
+        ],
+        None,
+        GCM_KEY,
+        16,
+        Err((8, Code::InvalidKeyBlob)),
+    ),
+    (
+        &[(Purpose, 3)],
+        None,
+        MAC_KEY,
+        7,
+        Err((8, Code::InvalidKeyBlob)),
+    ),
+    // a list that does not read, and a nonce of the other mode's length
+    (
+        &[(Purpose, 2), (MacLength, 128), (MacLength, 64)],
+        None,
+        MAC_KEY,
+        20,
+        Err((6, Code::InvalidKeyArgument)),
+    ),
+    (
+        &[(Purpose, 0), (BlockMode, 2), (Padding, 1)],
+        TWELVE,
+        AES_KEY,
+        16,
+        Err((21, Code::InvalidNonce)),
+    ),
+];
+
+// Whether the plan is this one, with the nonce that the list has where its mode takes one.
+fn is_begun(begin: &Begin, plan: Plan, wanted: usize, nonce: Option<&[u8]>) -> bool {
+    let takes = matches!(plan, Plan::Cbc { .. } | Plan::Ctr | Plan::Gcm { .. });
+    let same = match (&begin.nonce, nonce) {
+        (Some(own), Some(given)) => takes && own.as_slice() == given,
+        (Some(_), None) => false,
+        (None, given) => !takes || given.is_none(),
+    };
+    same && begin.plan == plan && begin.wanted == wanted
+}
+
+#[test]
+fn an_operation_begins_with_the_nonce_of_its_mode(rt: HostRuntime) -> Result<(), Fail> {
+    let alloc = rt.alloc();
+    for (row, (asked, nonce, key, size, expected)) in ROWS.into_iter().enumerate() {
+        let facts = facts_of(alloc, asked, nonce, key, size)?;
+        let material = vec![in alloc; 1u8; size]?;
+        let right = match (started(alloc, &facts, &material)?, expected) {
+            (Ok(begin), Ok((plan, wanted))) => is_begun(&begin, plan, wanted, nonce),
+            (Err(BeginFault::Broken(rule, own)), Err((number, code))) => {
+                rule.table == RuleTable::B && rule.number == number && own == code
+            }
+            _ => false,
+        };
+        assert!(rt; right, "in row {row}");
+    }
+    Ok(())
+}
