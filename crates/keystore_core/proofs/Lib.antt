@@ -1,2 +1,5 @@
-pub mod Answering
-pub mod Closing
+pub mod Drawing
+pub mod Entering
+pub mod After
+pub mod Making
+pub mod Begun

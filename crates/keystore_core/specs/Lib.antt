@@ -1,4 +1,9 @@
 pub mod Counts
-pub mod Engine
+pub mod Records
+pub mod Drawing
+pub mod Running
+pub mod Creating
+pub mod Beginning
+pub mod Stepping
 pub mod Stands
-pub mod Walk
+pub mod Engine

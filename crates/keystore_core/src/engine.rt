@@ -1,15 +1,19 @@
-ghost use Rattle.std.specs.Prelude.{◌≡◌, ℕ, ◌+◌, ◌^◌, ◌<◌, ◌∷◌, [], None, IfOk};
+ghost use Rattle.std.specs.Prelude.{◌≡◌, ℕ, ◌+◌, ◌^◌, ◌<◌, ◌≤◌, ◌∷◌, [], true, None, IfOk};
+ghost use Rattle.ks_outside.specs.Draws.{Draws};
+ghost use Rattle.ks_outside.specs.Faults.{Rises};
 ghost use Rattle.rule_model.specs.declared.entry.Entry.TheVariants.{Acted};
 ghost use Rattle.rule_model.specs.Answer.{MayFollow};
+ghost use Rattle.rule_model.specs.Drawing.{is_entropy_fault};
 ghost use Rattle.rule_model.specs.Entries.{History};
 ghost use Rattle.rule_model.specs.Setup.{Setup, empty_lasting};
 ghost use Rattle.keystore_core.specs.Counts.{HasGiven};
+ghost use Rattle.keystore_core.specs.Stands.{IsTables};
 
 use crate::tables::Tables;
 use ks_outside::{Disk, Entropy};
 use rule_model::{Event, Stepped};
 use std::alloc::Global;
-use tags::{Bytes, DeviceSecrets, NoMemory, Policy};
+use tags::{DeviceSecrets, NoMemory, Policy};
 
 /// The engine of the service.
 #[derive(Drop)]
@@ -19,6 +23,7 @@ pub struct Engine {
     entries: u64,
     tables: Tables,
     ghost given: { HasGiven tables entries },
+    ghost stands: { ∥ IsTables tables ∥₁ },
 }
 
 impl Engine {
@@ -41,11 +46,12 @@ impl Engine {
         })
     }
 
-    /// Takes one event. What the engine stood for goes on by one entry: the event, nothing drawn, and the reply.
+    /// Takes one event. What the engine stood for goes on by one entry: the event, the bytes that were drawn for it, and
+    /// the reply. The bytes are those that the entropy gave, and a draw failed only where its count rose.
     pub fn step<D: Disk, N: Entropy>(
         &mut self,
         _disk: &mut D,
-        _entropy: &mut N,
+        entropy: &mut N,
         event: Event,
     ) -> Stepped
         requires { entries_of self.old < 2 ^ 62 }
@@ -56,14 +62,16 @@ impl Engine {
         ensures settled { result.settled ≡ None }
         ensures entries { entries_of self.new ≡ entries_of self.old + 1 }
         ensures disk { _disk.new ≡ _disk.old }
-        ensures entropy { _entropy.new ≡ _entropy.old }
+        ensures draws { Draws (N.content entropy.old) (N.content entropy.new) result.drawn }
+        ensures later { N.fault_count entropy.old ≤ N.fault_count entropy.new }
+        ensures cause { is_entropy_fault result.reply ≡ true → Rises (N.fault_count entropy.old) (N.fault_count entropy.new) }
     {
-        let reply = self.tables.answer(self.alloc, event.client, event.act);
+        let served = self.tables.answer(self.alloc, entropy, event);
         self.entries += 1;
         Stepped {
             settled: None,
-            reply,
-            drawn: Bytes::empty(self.alloc),
+            reply: served.reply,
+            drawn: served.drawn,
         }
     }
 }

@@ -15,6 +15,48 @@ pub struct Keys {
     next: u64,
 }
 
+/// What is kept of a new key of an app.
+#[derive(Drop)]
+pub struct NewRecord {
+    pub uid: u32,
+    pub alias: Bytes,
+    pub material: Bytes,
+    pub nonce: Bytes,
+    /// the kept list, encoded
+    pub list: Bytes,
+    /// how many uses the key has in its life, or 0 for no limit
+    pub limit: u32,
+}
+
+impl NewRecord {
+    ghost use Rattle.keystore_core.specs.Records.{record_of};
+
+    /// The key's record under its number.
+    fn into_record(self, id: u64) -> KeyRecord
+        ensures { result ≡ record_of id self }
+    {
+        let NewRecord {
+            uid,
+            alias,
+            material,
+            nonce,
+            list,
+            limit,
+        } = self;
+        KeyRecord {
+            id,
+            domain: 0,
+            nspace: u64::from(uid),
+            alias,
+            blob: material,
+            nonce,
+            list,
+            limit,
+            left: limit,
+        }
+    }
+}
+
 fn is_named(key: &KeyRecord, domain: u32, nspace: u64, alias: &[u8]) -> bool
     ensures { result ≡ has_name domain nspace alias.now key.now }
 {
@@ -31,6 +73,8 @@ fn end_named(keys: &mut Vec<KeyRecord>, domain: u32, nspace: u64, alias: &[u8])
 }
 
 impl Keys {
+    ghost use Rattle.keystore_core.specs.Records.{record_of};
+
     pub fn new(alloc: Global) -> Keys
         ensures keys { result.keys.items ≡ [] }
         ensures next { result.next ≡ 1 }
@@ -58,34 +102,17 @@ impl Keys {
     }
 
     /// Keeps a new key of an app and answers its number; one under the same alias ends.
-    pub fn import(
-        &mut self,
-        uid: u32,
-        alias: Bytes,
-        list: Bytes,
-        material: Bytes,
-    ) -> Result<u64, NoMemory>
+    pub fn put(&mut self, new: NewRecord) -> Result<u64, NoMemory>
         requires { self.old.next < 2 ^ 63 }
         ensures number { IfOk result (λ number. (number ≡ self.old.next) × (self.new.next ≡ number + 1)) }
-        ensures keys { IfOk result (λ number. self.new.keys.items ≡
-            with_key (record { id = number; domain = 0; nspace = uid; alias = alias; blob = material; list = list; limit = 0; left = 0 }) self.old.keys.items) }
+        ensures keys { IfOk result (λ number. self.new.keys.items ≡ with_key (record_of number new) self.old.keys.items) }
         ensures next { OnErr result (self.new.next ≡ self.old.next) }
         ensures err { OnErr result (self.new.keys.items ≡ self.old.keys.items) }
     {
         self.keys.reserve(1)?;
-        let nspace = u64::from(uid);
-        end_named(&mut self.keys, 0, nspace, alias.as_slice());
         let id = self.next;
-        let key = KeyRecord {
-            id,
-            domain: 0,
-            nspace,
-            alias,
-            blob: material,
-            list,
-            limit: 0,
-            left: 0,
-        };
+        let key = new.into_record(id);
+        end_named(&mut self.keys, key.domain, key.nspace, key.alias.as_slice());
         let Ok(()) = self.keys.push(key) else {
             unreachable!()
         };

@@ -4,11 +4,15 @@
 //! history with the step's entry, and that entry may follow the history by the definitions of `rule_model`.
 #![tactic(auto)]
 
+mod beginning;
 mod clients;
+mod creating;
+mod draws;
 mod engine;
 mod keys;
 mod operations;
-mod rules;
+mod served;
+mod stepping;
 mod tables;
 
 pub use engine::Engine;

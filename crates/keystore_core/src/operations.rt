@@ -1,73 +1,54 @@
-ghost use Rattle.std.specs.Prelude.{◌≡◌, ℕ, ◌+◌, ◌^◌, ◌<◌, ◌≤◌, ◌==◌, List, [], ◌∷◌, ◌++◌, Some, None, take, vec_capacity, IfOk, IfSome, OnOk, OnErr, if◌then◌else◌};
+ghost use Rattle.std.specs.Prelude.{◌≡◌, ℕ, ◌+◌, ◌^◌, ◌<◌, ◌≤◌, ◌==◌, false, Option, Some, None, IfOk, IfSome, OnErr, if◌then◌else◌};
 ghost use Rattle.std.specs.Option.{option_copied};
 ghost use Rattle.std.specs.Ordering.{nat_cmp};
 ghost use Rattle.std.specs.BTreeMap.{get};
-ghost use Rattle.hmac_core.specs.Hmac.{hmac};
-ghost use Rattle.hmac_core.specs.State.{Holds};
 
-use hmac_core::Hmac;
+use cipher_ops::{CipherState, Job, JobRoom};
 use std::alloc::Global;
 use std::collections::BTreeMap;
-use tags::{Bytes, NoMemory};
+use tags::{Bytes, Code, NoMemory, Plan};
 
-/// The digest number of SHA-256.
-const SHA_256: u8 = 4;
-
-/// An open operation: a signature by HMAC-SHA256, cut to `size` bytes.
+/// An open operation, with what the rules read of it. Lengths are in bytes.
 #[derive(Drop)]
 pub struct Operation {
-    client: u64,
+    pub client: u64,
     /// the key's number
-    key: u64,
-    size: u8,
-    mac: Hmac,
+    pub key: u64,
+    pub plan: Plan,
+    /// whether all output comes at the finish
+    pub limited: bool,
+    /// how long the additional data is so far
+    pub aad: u64,
+    /// how long the text is so far
+    pub text: u64,
+    /// the cipher's state, which its last work uses up
+    pub state: Option<CipherState>,
+}
+
+/// How many bytes a work adds to an operation.
+#[derive(Clone, Copy, Debug, PartialEq, Eq)]
+pub struct Added {
+    pub aad: u64,
+    pub text: u64,
 }
 
 impl Operation {
-    /// A signature under `material`, with no text so far.
-    pub fn signing(client: u64, key: u64, material: &[u8], size: u8) -> Operation
-        ensures client { result.client ≡ client }
-        ensures key { result.key ≡ key }
-        ensures size { result.size ≡ size }
-        ensures mac { Holds result.mac 4 material.now [] }
-    {
-        Operation {
-            client,
-            key,
-            size,
-            mac: Hmac::new(SHA_256, material),
-        }
-    }
+    ghost use Rattle.keystore_core.specs.Running.{CanWork, Worked};
 
-    pub fn client(&self) -> u64
-        ensures { result ≡ self.now.client }
+    /// Does a work, and goes on by it.
+    fn work(&mut self, number: u64, room: JobRoom, added: Added) -> Result<Bytes, Code>
+        requires ready { CanWork self.old.state room }
+        requires few { self.old.aad + added.aad + (self.old.text + added.text) ≤ 1048576 }
+        ensures { Worked self.old self.new room added result }
     {
-        self.client
-    }
-
-    pub fn key(&self) -> u64
-        ensures { result ≡ self.now.key }
-    {
-        self.key
-    }
-
-    /// Ends the text with `input`, and gives the leftmost bytes of the mac in `room`, which is empty and has room for
-    /// 64 bytes.
-    pub fn sign(self, input: &[u8], room: Vec<u8>) -> Bytes
-        requires empty { room.items ≡ [] }
-        requires room { 64 ≤ vec_capacity room }
-        ensures { (key text : List ℕ) → Holds self.mac 4 key text → result ≡ take self.size (hmac 4 key (text ++ input.now)) }
-    {
-        let mut mac = self.mac;
-        mac.update(input);
-        let mut whole = [0; 64];
-        let length = mac.finish(&mut whole);
-        let mut out = room;
-        let Ok(()) = out.extend_from_slice(&whole[..length]) else {
+        let Some(state) = self.state.take() else {
             unreachable!()
         };
-        out.truncate(usize::from(self.size));
-        Bytes::of(out)
+        let done = Job::new(state, number, room).run();
+        self.state = done.state;
+        self.aad += added.aad;
+        self.text += added.text;
+        done.result
     }
 }
 
@@ -79,6 +60,9 @@ pub struct Operations {
 }
 
 impl Operations {
+    ghost use Rattle.keystore_core.specs.declared.operations.Operation.{Operation};
+    ghost use Rattle.keystore_core.specs.Running.{CanWorkAt, WorkedAt};
+
     pub fn new(alloc: Global) -> Operations
         ensures rows { (number : ℕ) → get nat_cmp result.rows number ≡ None }
         ensures made { result.made ≡ 0 }
@@ -109,6 +93,19 @@ impl Operations {
         self.rows.insert(number, operation)?;
         self.made = number;
         Ok(number)
+    }
+
+    /// Does a work on an open operation.
+    pub fn work(&mut self, number: u64, room: JobRoom, added: Added) -> Result<Bytes, Code>
+        requires { CanWorkAt (get nat_cmp self.old.rows number) room added }
+        ensures here { WorkedAt (get nat_cmp self.old.rows number) (get nat_cmp self.new.rows number) room added result }
+        ensures there { (other : ℕ) → (other == number) ≡ false → get nat_cmp self.new.rows other ≡ get nat_cmp self.old.rows other }
+        ensures made { self.new.made ≡ self.old.made }
+    {
+        match self.rows.get_mut(&number) {
+            Some(operation) => operation.work(number, room, added),
+            None => unreachable!(),
+        }
     }
 
     /// Closes an operation, where it is open.

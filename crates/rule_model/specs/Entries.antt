@@ -4,7 +4,7 @@ use Rattle.rule_model.specs.declared.entry.Entry.{Entry}
 use Rattle.rule_model.specs.declared.entry.Entry.TheVariants.{Acted, Settling}
 use Rattle.rule_model.specs.declared.event.Event.{Event}
 use Rattle.rule_model.specs.declared.event.Act.{Act}
-use Rattle.rule_model.specs.declared.event.Act.TheVariants.{Connect, Disconnect, ImportKey, CreateOperation, Restart}
+use Rattle.rule_model.specs.declared.event.Act.TheVariants.{Connect, Disconnect, CreateOperation, Restart}
 use Rattle.rule_model.specs.declared.reply.Fields.{Fields}
 use Rattle.rule_model.specs.declared.reply.Reply.{Reply}
 use Rattle.rule_model.specs.declared.reply.Reply.TheVariants.{Done, Broken, Stopped}
@@ -40,11 +40,6 @@ is_begin _ = false
 abbrev pub is_restart : Act → Bool
 is_restart (Restart root) = true
 is_restart _ = false
-
--- the entries since the last admitted restart
-abbrev pub boot : History → History
-boot [] = []
-boot (entry ∷ past) = if admits is_restart entry then [] else entry ∷ boot past
 
 -- whether a field of a reply gives this number
 abbrev pub gives : Option ℕ → ℕ → Bool

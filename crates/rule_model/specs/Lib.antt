@@ -1,7 +1,7 @@
 pub mod Entries
+pub mod Drawing
 pub mod Setup
 pub mod Keys
-pub mod Operations
 pub mod Forms
-pub mod Rules
+pub mod Operations
 pub mod Answer

@@ -38,6 +38,8 @@ pub struct KeyRecord {
     pub alias: Bytes,
     /// the key's material, as the service keeps it
     pub blob: Bytes,
+    /// the 12 bytes that were drawn to seal it with
+    pub nonce: Bytes,
     /// the authorization list, encoded
     pub list: Bytes,
     /// how many uses the key has in its life, or 0 for no limit

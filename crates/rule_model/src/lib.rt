@@ -11,5 +11,4 @@ mod reply;
 
 pub use entry::{Entry, KeyRecord, Stepped};
 pub use event::{Act, Event, Line, Reading};
-pub use forms::mac_bytes;
-pub use reply::{Broken, Entries, Fields, NO_FIELDS, Reply};
+pub use reply::{Entries, Fields, NO_FIELDS, Reply};

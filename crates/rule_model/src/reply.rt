@@ -92,13 +92,6 @@ pub const NO_FIELDS: Fields = Fields {
     entries: None,
 };
 
-/// A rule that does not hold, with its code.
-#[derive(Clone, Copy, Debug, PartialEq, Eq)]
-pub struct Broken {
-    pub rule: Rule,
-    pub code: Code,
-}
-
 /// The answer to an event.
 #[derive(Debug, Drop)]
 pub enum Reply {

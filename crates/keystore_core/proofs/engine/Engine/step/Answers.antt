@@ -1,14 +1,18 @@
 use Rattle.std.proofs.Common.{arith}
+use mathlib.Core.Logic.{∥∥₁_map}
 use Rattle.keystore_core.proofs.engine.Engine.step.Goals as goal
 
 pub invariant_of-self : goal.invariant_of-self
-invariant_of-self g c = record { given = c.answer-reply.ensures.given _ c.args.self.now.given }
+invariant_of-self g c = record {
+  given = c.answer-served.ensures.given _ c.args.self.now.given;
+  stands = ∥∥₁_map c.args.self.now.stands (λ t. record { setup = t.setup; past = _; stands = (c.answer-served.ensures.answers t.setup t.past t.stands).1 });
+}
 
 pub returns-clause-stands : goal.returns-clause-stands
-returns-clause-stands g c = λ setup past stands. rw c.empty.ensures (record {
+returns-clause-stands g c = λ setup past stands. record {
   entries = omega (arith, stands.entries);
-  tables = (c.answer-reply.ensures.answers setup past c.args.event.reading stands.tables).1;
-})
+  tables = (c.answer-served.ensures.answers setup past stands.tables).1;
+}
 
 pub returns-clause-follows : goal.returns-clause-follows
-returns-clause-follows g c = λ setup past stands. rw c.empty.ensures (c.answer-reply.ensures.answers setup past c.args.event.reading stands.tables).0
+returns-clause-follows g c = λ setup past stands. (c.answer-served.ensures.answers setup past stands.tables).0

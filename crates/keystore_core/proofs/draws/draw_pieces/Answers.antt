@@ -1,0 +1,5 @@
+use Rattle.keystore_core.proofs.Drawing.{both_drawn}
+use Rattle.keystore_core.proofs.draws.draw_pieces.Goals as goal
+
+pub returns-clause-draws : goal.returns-clause-draws
+returns-clause-draws g c = both_drawn _ _ _ c.draw_piece.new.piece c.draw_piece-2.new.piece c.in-Ok.ensures.ok c.in-Ok-draw_piece.ensures.ok
