@@ -1,3 +1,4 @@
+pub mod DrawLemmas
 pub mod Going
 pub mod LineLemmas
 pub mod Sessions

@@ -1,7 +1,8 @@
 //! `keystore2`: the key service of an Android device for symmetric keys, over a script of calls.
 //!
-//! The one contract is that of `run_words`, in the module `run`: a legal history follows the lines of the input, and its
-//! text is what was written. This file hands the process's words, input and output to it.
+//! The one contract is that of `run_words`, in the module `run`: a legal history follows the lines of the input, its
+//! text is what was written, and what was drawn for it is what the entropy gave. This file hands the process's words,
+//! input and output and the system's random device to it.
 #![tactic(auto)]
 
 mod reader;

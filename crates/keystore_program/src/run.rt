@@ -3,6 +3,7 @@
 ghost use Rattle.std.specs.Prelude.{◌≡◌, ◌↔◌, ℕ, ◌+◌, ◌-◌, ◌^◌, ◌<◌, ◌≤◌, [], true, false};
 ghost use Rattle.ks_outside.specs.Faults.{Rises};
 ghost use Rattle.rule_model.specs.Setup.{Setup};
+ghost use Rattle.keystore_program.specs.Drawing.{supply_of};
 ghost use Rattle.keystore_program.specs.Ends.{Ends, fresh_setup};
 ghost use Rattle.keystore_program.specs.Session.{StandsFor, entries_in};
 ghost use Rattle.keystore_program.specs.Words.{is_run as is_run_form};
@@ -34,13 +35,14 @@ fn serve_script<S: Source, K: Sink, D: Disk, N: Entropy>(
     requires untaken { reader.old.taken ≡ 0 }
     requires fresh { entries_in session.old ≡ 0 }
     ensures ends { (setup : Setup) → StandsFor setup session.old [] →
-        Ends setup (S.content source.old) (S.content source.new) (K.content sink.old) (K.content sink.new) result }
+        Ends setup (S.content source.old) (S.content source.new) (K.content sink.old) (K.content sink.new)
+        (supply_of (N.content entropy.old) (N.fault_count entropy.old)) (supply_of (N.content entropy.new) (N.fault_count entropy.new)) result }
     ensures read_fault { result ≡ Status.ReadFault → Rises (S.fault_count source.old) (S.fault_count source.new) }
     ensures write_fault { result ≡ Status.WriteFault → Rises (K.fault_count sink.old) (K.fault_count sink.new) }
     ensures source_later { S.fault_count source.old ≤ S.fault_count source.new }
     ensures sink_later { K.fault_count sink.old ≤ K.fault_count sink.new }
     ensures disk { disk.new ≡ disk.old }
-    ensures entropy { entropy.new ≡ entropy.old }
+    ensures entropy_later { N.fault_count entropy.old ≤ N.fault_count entropy.new }
 {
     let mut served = 0u64;
     'lines: loop {
@@ -71,7 +73,8 @@ fn serve_script<S: Source, K: Sink, D: Disk, N: Entropy>(
 }
 
 /// Serves the words of the command line. By now they are `run --fresh`: a fresh store serves the script of `source`,
-/// and each reply line is written to `sink` before the next line is read. The disk and the entropy are not called yet.
+/// and each reply line is written to `sink` before the next line is read. What a line draws is taken from `entropy` when the
+/// line is served, and nothing else is. The disk is not called yet.
 pub fn run_words<S: Source, K: Sink, D: Disk, N: Entropy>(
     alloc: Global,
     words: &[String],
@@ -82,13 +85,14 @@ pub fn run_words<S: Source, K: Sink, D: Disk, N: Entropy>(
     disk: &mut D,
     entropy: &mut N,
 ) -> Status
-    // Status 2 exactly where the words are no form, and then nothing is read or written.
+    // Status 2 exactly where the words are no form, and then nothing is read, drawn or written.
     ensures usage { (result ≡ Status.Usage) ↔ (is_run_form words.now ≡ false) }
-    ensures untouched { result ≡ Status.Usage → (source.new ≡ source.old) × (sink.new ≡ sink.old) }
+    ensures untouched { result ≡ Status.Usage → (source.new ≡ source.old) × (sink.new ≡ sink.old) × (entropy.new ≡ entropy.old) }
 
-    // One legal history follows the lines of the source with a text, as each status says.
+    // One legal history follows the lines of the source with a text and draws what the entropy gives, as each status says.
     ensures ends { is_run_form words.now ≡ true →
-        Ends (fresh_setup device.now policy.now) (S.content source.old) (S.content source.new) (K.content sink.old) (K.content sink.new) result }
+        Ends (fresh_setup device.now policy.now) (S.content source.old) (S.content source.new) (K.content sink.old) (K.content sink.new)
+        (supply_of (N.content entropy.old) (N.fault_count entropy.old)) (supply_of (N.content entropy.new) (N.fault_count entropy.new)) result }
 
     // The causes of the other statuses.
     ensures read_fault { result ≡ Status.ReadFault → Rises (S.fault_count source.old) (S.fault_count source.new) }
@@ -96,7 +100,7 @@ pub fn run_words<S: Source, K: Sink, D: Disk, N: Entropy>(
     ensures source_later { S.fault_count source.old ≤ S.fault_count source.new }
     ensures sink_later { K.fault_count sink.old ≤ K.fault_count sink.new }
     ensures disk { disk.new ≡ disk.old }
-    ensures entropy { entropy.new ≡ entropy.old }
+    ensures entropy_later { N.fault_count entropy.old ≤ N.fault_count entropy.new }
 {
     if !is_run(words) {
         return Status::Usage;

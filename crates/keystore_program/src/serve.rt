@@ -4,6 +4,7 @@ ghost use Rattle.std.specs.Prelude.{◌≡◌, ◌+◌, ◌-◌, ◌^◌, ◌<�
 ghost use Rattle.ks_outside.specs.Faults.{Rises};
 ghost use Rattle.rule_model.specs.Entries.{History};
 ghost use Rattle.rule_model.specs.Setup.{Setup};
+ghost use Rattle.keystore_program.specs.Drawing.{supply_of};
 ghost use Rattle.keystore_program.specs.Serving.{ServesLine};
 ghost use Rattle.keystore_program.specs.Session.{StandsFor, entries_in};
 
@@ -47,12 +48,13 @@ pub fn serve_line<K: Sink, D: Disk, N: Entropy>(
 ) -> Result<(), Halt>
     requires { entries_in session.old < 2 ^ 62 - 2 }
     ensures serves { (setup : Setup) (past : History) → StandsFor setup session.old past →
-        ServesLine setup past session.new line.now (K.content sink.old) (K.content sink.new) result }
+        ServesLine setup past session.new line.now (K.content sink.old) (K.content sink.new)
+        (supply_of (N.content entropy.old) (N.fault_count entropy.old)) (supply_of (N.content entropy.new) (N.fault_count entropy.new)) result }
     ensures entries { entries_in session.new ≤ entries_in session.old + 1 }
-    ensures later { K.fault_count sink.old ≤ K.fault_count sink.new }
+    ensures sink_later { K.fault_count sink.old ≤ K.fault_count sink.new }
     ensures cause { result ≡ Err Halt.Write → Rises (K.fault_count sink.old) (K.fault_count sink.new) }
     ensures disk { disk.new ≡ disk.old }
-    ensures entropy { entropy.new ≡ entropy.old }
+    ensures entropy_later { N.fault_count entropy.old ≤ N.fault_count entropy.new }
 {
     let Ok(text) = session.line(alloc, disk, entropy, line) else {
         return Err(Halt::Memory);

@@ -1,5 +1,19 @@
 //! Scripts from their bytes to their text, and each status.
 
+mod begins;
+mod blocks;
+mod clients;
+mod draws;
+mod lengths;
+mod lines;
+mod macs;
+mod new_keys;
+mod refusals;
+mod script;
+mod sealing;
+mod steps;
+mod vectors;
+
 use crate::run::run_words;
 use crate::status::Status;
 use ks_outside::{EmptyDisk, MemoryEntropy, MemorySink, MemorySource};
