@@ -1,0 +1,44 @@
+#!/usr/bin/env python3
+"""Runs the program over each script of examples/ and compares its replies with those expected beside it.
+
+A `?` in an expected reply stands for a digit that is drawn: two runs must differ there, so that a program whose random
+bytes are none is seen. It says nothing where all is well, and ends with status 1 at the first script that is answered otherwise.
+"""
+import pathlib
+import subprocess
+import sys
+
+TOP = pathlib.Path(__file__).resolve().parent.parent
+
+
+def replies_of(script):
+    with open(script, "rb") as lines:
+        ended = subprocess.run([TOP / "keystore2", "run", "--fresh"], stdin=lines, capture_output=True, text=True, check=False)
+    return ended.stdout if ended.returncode == 0 else f"status {ended.returncode}: {ended.stderr}"
+
+
+def fits(given, wanted):
+    return len(given) == len(wanted) and all(want in (own, "?") for own, want in zip(given, wanted))
+
+
+def fault_of(script):
+    wanted = script.with_suffix(".expected").read_text(encoding="utf-8")
+    given = replies_of(script)
+    if not fits(given, wanted):
+        return f"{script.name} gave\n{given}and not\n{wanted}"
+    if "?" in wanted and given == replies_of(script):
+        return f"{script.name} drew the same bytes twice"
+    return None
+
+
+def main():
+    for script in sorted((TOP / "examples").glob("*.jsonl")):
+        fault = fault_of(script)
+        if fault:
+            print(fault, file=sys.stderr)
+            return 1
+    return 0
+
+
+if __name__ == "__main__":
+    sys.exit(main())
