@@ -13,8 +13,10 @@ const IMPORT: &str =
 const BEGIN: &str =
     r#"{"t":[0,1000],"c":1,"do":"createOperation","key":{"domain":0,"alias":"m"},"params":[["PURPOSE",2],["MAC_LENGTH",256]]}"#;
 
+const FINISH: &str = r#"{"t":[0,1000],"c":1,"do":"finish","op":1,"input":"4869205468657265"}"#;
+
 /// Each act with all its members, and the act that it spells.
-const ACTS: [(&str, &str); 27] = [
+static ACTS: [(&str, &str); 27] = [
     (r#"{"do":"connect","uid":10001}"#, "Connect { uid: 10001 }"),
     (r#"{"do":"disconnect"}"#, "Disconnect"),
     (
@@ -111,7 +113,7 @@ const ACTS: [(&str, &str); 27] = [
 ];
 
 /// Members that make a line malformed, each in the place of one of a line that is none.
-const BAD_MEMBERS: [&str; 26] = [
+static BAD_MEMBERS: [&str; 26] = [
     r#""uid":null"#,
     r#""uid":1.0"#,
     r#""uid":1e3"#,
@@ -141,7 +143,7 @@ const BAD_MEMBERS: [&str; 26] = [
 ];
 
 /// Acts that are spelled wrongly.
-const BAD_ACTS: [&str; 22] = [
+static BAD_ACTS: [&str; 22] = [
     r#"{"do":"importKey","format":1,"material":"00"}"#,
     r#"{"do":"importKey","key":[0],"format":1,"material":"00"}"#,
     r#"{"do":"importKey","key":{"domain":0},"material":"00"}"#,
@@ -213,7 +215,8 @@ fn the_lines_of_a_mac(rt: HostRuntime) -> Result<(), Fail> {
 #[test]
 fn each_act_with_its_members(rt: HostRuntime) -> Result<(), Fail> {
     let alloc = rt.alloc();
-    for (line, want) in ACTS {
+    for row in &ACTS {
+        let (line, want) = *row;
         let object = parsed(alloc, line.as_bytes())?;
         let act = act_of(alloc, name_of(&object)?, &object)?;
         let text = format!(in alloc; "{act:?}")?;
@@ -250,7 +253,7 @@ fn malformed_lines(rt: HostRuntime) -> Result<(), Fail> {
         .err(),
         Some(LineFault::Malformed)
     );
-    for members in BAD_MEMBERS {
+    for members in &BAD_MEMBERS {
         let line = format!(in alloc; "{{\"t\":[0,1000],\"do\":\"connect\",{members}}}")?;
         assert_eq!(rt;
             event_of(alloc, line.as_bytes()).err(),
@@ -258,7 +261,7 @@ fn malformed_lines(rt: HostRuntime) -> Result<(), Fail> {
             "{line}"
         );
     }
-    for line in BAD_ACTS {
+    for line in &BAD_ACTS {
         let object = parsed(alloc, line.as_bytes())?;
         let act = act_of(alloc, name_of(&object)?, &object);
         assert_eq!(rt; act.err(), Some(LineFault::Malformed), "{line}");
@@ -269,19 +272,14 @@ fn malformed_lines(rt: HostRuntime) -> Result<(), Fail> {
 #[test]
 fn forms_beside_those_that_are_built(rt: HostRuntime) -> Result<(), Fail> {
     let alloc = rt.alloc();
-    let edits = [
-        (IMPORT, "\"domain\":0", "\"domain\":2"),
-        (IMPORT, "\"alias\":\"m\"", "\"alias\":\"\""),
-        (IMPORT, "\"alias\":\"m\"", "\"alias\":\"m\",\"blob\":\"\""),
-        (IMPORT, "[\"PURPOSE\",2],", ""),
-        (IMPORT, "\"format\":3", "\"format\":2"),
-        (IMPORT, "0b0b0b0b0b0b0b0b0b0b0b0b0b", ""),
-        (BEGIN, "256", "255"),
-        (BEGIN, "256", "56"),
-        (BEGIN, "256", "264"),
+    for (line, old, new) in [
         (BEGIN, "]]", "]],\"forced\":true"),
-    ];
-    for (line, old, new) in edits {
+        (FINISH, "\"op\":1", "\"op\":1,\"hold\":true"),
+        (FINISH, "\"finish\"", "\"update\",\"hold\":true"),
+        (FINISH, "\"finish\"", "\"updateAad\",\"hold\":true"),
+        (FINISH, "\"finish\"", "\"leave\",\"ticket\":1"),
+        (FINISH, "\"finish\"", "\"disconnect\""),
+    ] {
         let line = line.replace(alloc, old, new)?;
         assert_eq!(rt;
             event_of(alloc, line.as_bytes()).err(),
@@ -290,9 +288,14 @@ fn forms_beside_those_that_are_built(rt: HostRuntime) -> Result<(), Fail> {
         );
     }
     for (line, old, new) in [
-        (BEGIN, "256", "64"),
         (BEGIN, "]]", "]],\"forced\":false"),
-        (IMPORT, "\"domain\":0", "\"domain\":0,\"nspace\":3"),
+        (BEGIN, "256", "255"),
+        (IMPORT, "\"domain\":0", "\"domain\":2"),
+        (IMPORT, "\"format\":3", "\"format\":2"),
+        (FINISH, "\"op\":1", "\"op\":1,\"hold\":false"),
+        (FINISH, "\"finish\"", "\"update\""),
+        (FINISH, "\"finish\"", "\"updateAad\""),
+        (FINISH, "\"finish\"", "\"abort\""),
     ] {
         let line = line.replace(alloc, old, new)?;
         assert!(rt; event_of(alloc, line.as_bytes()).is_ok(), "{line}");
