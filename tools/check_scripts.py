@@ -1,5 +1,5 @@
 #!/usr/bin/env python3
-"""Runs the program over each script of examples/ and compares its replies with those expected beside it.
+"""Runs the program over each script of examples/ and checks/ and compares its replies with those expected beside it.
 
 A `?` in an expected reply stands for a digit that is drawn: two runs must differ there, so that a program whose random
 bytes are none is seen. It says nothing where all is well, and ends with status 1 at the first script that is answered otherwise.
@@ -32,7 +32,7 @@ def fault_of(script):
 
 
 def main():
-    for script in sorted((TOP / "examples").glob("*.jsonl")):
+    for script in sorted([*TOP.glob("examples/*.jsonl"), *TOP.glob("checks/*.jsonl")]):
         fault = fault_of(script)
         if fault:
             print(fault, file=sys.stderr)
