@@ -1,6 +1,6 @@
 mod Vectors
 mod TableLemmas
-mod MixLemmas
+pub mod MixLemmas
 mod ScheduleLemmas
 mod RoundLemmas
 mod KeyLemmas

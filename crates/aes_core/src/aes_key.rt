@@ -1,11 +1,11 @@
 //! AES under one key.
 
-ghost use Rattle.std.specs.Prelude.{◌≡◌};
+ghost use Rattle.std.specs.Prelude.{◌≡◌, length};
 ghost use Rattle.aes_core.specs.Expansion.{key_expansion, rounds_of};
 ghost use Rattle.aes_core.specs.Cipher.{IsKey};
 ghost use Rattle.aes_core.specs.Held.{key_in};
 
-use crate::block_cipher::BlockCipher;
+use crate::block_cipher::{BlockCipher, ManyBlocks};
 use crate::rounds::{cipher_by, inverse_by};
 use crate::schedule::{Schedule, expand};
 
@@ -22,7 +22,8 @@ pub struct AesKey {
 }
 
 impl AesKey {
-    ghost use Rattle.std.specs.Prelude.{◌≡◌, length, is_some, IfSome};
+    ghost use Rattle.std.specs.Prelude.{◌≡◌, ◌≤◌, length, is_some, IfSome};
+    ghost use Rattle.aes_core.specs.Expansion.{key_expansion, round_key, rounds_of};
     ghost use Rattle.aes_core.specs.Cipher.{is_key_size};
     ghost use Rattle.aes_core.specs.KeyOf.{key_of};
 
@@ -41,6 +42,32 @@ impl AesKey {
             rounds: size / 4 + 6,
         })
     }
+
+    /// The number of rounds: 10, 12 or 14.
+    pub fn rounds(&self) -> usize
+        ensures { result ≡ rounds_of (key_of self.now) }
+    {
+        self.rounds
+    }
+
+    /// The round key of a round, of which the first, number 0, comes before the rounds.
+    pub fn round_key(&self, round: usize) -> [u8; 16]
+        requires { round ≤ rounds_of (key_of self.now) }
+        ensures { result ≡ round_key (key_expansion (key_of self.now)) round }
+    {
+        block_of(self.schedule.round_key(round))
+    }
+}
+
+/// A block of 16 bytes.
+fn block_of(bytes: &[u8]) -> [u8; 16]
+    requires { length bytes.now ≡ 16 }
+    ensures { result ≡ bytes.now }
+{
+    [
+        bytes[0], bytes[1], bytes[2], bytes[3], bytes[4], bytes[5], bytes[6], bytes[7], bytes[8],
+        bytes[9], bytes[10], bytes[11], bytes[12], bytes[13], bytes[14], bytes[15],
+    ]
 }
 
 impl BlockCipher for AesKey {
@@ -74,4 +101,26 @@ impl BlockCipher for AesKey {
     ghost undoes = { inverse_undoes_cipher };
 
     ghost redoes = { cipher_undoes_inverse };
+}
+
+impl ManyBlocks for AesKey {
+    ghost use Rattle.std.specs.Prelude.{◌≡◌, map};
+    ghost use Rattle.aes_core.specs.Cipher.{cipher, inverse_cipher};
+    ghost use Rattle.aes_core.specs.KeyOf.{key_of};
+
+    fn encrypt_all(&self, blocks: &mut [[u8; 16]])
+        ensures { blocks.new ≡ map (cipher (key_of self.now)) blocks.old }
+    {
+        'each: for i in 0..blocks.len() {
+            blocks[i] = self.encrypt(blocks[i]);
+        }
+    }
+
+    fn decrypt_all(&self, blocks: &mut [[u8; 16]])
+        ensures { blocks.new ≡ map (inverse_cipher (key_of self.now)) blocks.old }
+    {
+        'each: for i in 0..blocks.len() {
+            blocks[i] = self.decrypt(blocks[i]);
+        }
+    }
 }

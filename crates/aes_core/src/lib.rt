@@ -15,4 +15,4 @@ mod state;
 mod tests;
 
 pub use aes_key::AesKey;
-pub use block_cipher::BlockCipher;
+pub use block_cipher::{BlockCipher, ManyBlocks};

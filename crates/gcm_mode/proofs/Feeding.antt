@@ -1,11 +1,11 @@
 -- How the hash and the bytes that wait follow a string as it grows.
-use Rattle.std.proofs.Common.{◌≡◌, ℕ, ◌+◌, ◌*◌, ◌/◌, ◌%◌, ◌<◌, ◌≤◌, List, [], ◌∷◌, ◌++◌, length, take, drop, set, refl, sym, ◌∙◌, arith}
-use Rattle.std.proofs.lemmas.List.{drop-append-le, take_more_set, take_all, drop_all, length-set, length_push}
+use Rattle.std.proofs.Common.{◌≡◌, ℕ, ◌+◌, ◌*◌, ◌/◌, ◌%◌, ◌<◌, ◌≤◌, List, [], ◌∷◌, ◌++◌, length, take, drop, set, refl, sym, ap, ◌∙◌, arith, length-append}
+use Rattle.std.proofs.lemmas.List.{drop-append-le, take_more_set, take_all, drop_all, length-set, length_push, length-take-le}
 use Rattle.ghash.specs.Hash.{Holds}
 use Rattle.gcm_mode.specs.Blocks.{first_blocks}
 use Rattle.gcm_mode.specs.Parts.{Feeds}
 use Rattle.gcm_mode.specs.declared.feed.Feed.{Feed}
-use Rattle.gcm_mode.proofs.Cutting.{first_blocks-append, first_blocks_more}
+use Rattle.gcm_mode.proofs.Cutting.{first_blocks-append, first_blocks_more, first_blocks-add, first_blocks-take}
 
 -- a byte that does not fill the block
 pub feeds_short : (s n : Feed) (h bytes : List ℕ) (b at : ℕ) → Feeds s h bytes → length s.block ≡ 16 → at ≡ s.filled % 16 → at < 15
@@ -47,4 +47,27 @@ feeds_full s n h bytes full b at held len is long full_is absorbed filled =
       hash = rw (next, blocks) (absorbed (first_blocks q bytes) held.hash);
       filled = omega arith;
       rest = rw (left, next) (sym (drop_all ((q + 1) * 16) (bytes ++ b ∷ []) (omega arith)));
+    }
+
+-- whole blocks behind whole blocks
+pub feeds_blocks : (s n : Feed) (h bytes input : List ℕ) (blocks : List (List ℕ)) → Feeds s h bytes → length bytes % 16 ≡ 0 → blocks ≡ first_blocks (length input / 16) input
+    → Holds n.hash h (first_blocks (length bytes / 16) bytes ++ blocks) → n.filled ≡ s.filled → Feeds n h (bytes ++ take (length input / 16 * 16) input)
+feeds_blocks s n h bytes input blocks held whole blocks_are absorbed filled =
+    let q : ℕ = length bytes / 16 in
+    let m : ℕ = length input / 16 in
+    let front : length (take (length input / 16 * 16) input) ≡ length input / 16 * 16 = length-take-le (length input / 16 * 16) input (omega arith) in
+    let all : length (bytes ++ take (length input / 16 * 16) input) ≡ length bytes + length input / 16 * 16 =
+    length-append bytes (take (length input / 16 * 16) input) ∙ ap (λ (k : ℕ). length bytes + k) front in
+    let count : length (bytes ++ take (length input / 16 * 16) input) / 16 ≡ length bytes / 16 + length input / 16 = omega arith in
+    let none : length (bytes ++ take (length input / 16 * 16) input) % 16 ≡ 0 = omega arith in
+    let filled_is : s.filled ≡ length bytes % 16 = held.filled in
+    record {
+      hash = rw (
+        count,
+        first_blocks-add (length bytes / 16) (length input / 16) bytes (take (length input / 16 * 16) input) (omega arith),
+        first_blocks-take (length input / 16) input (omega arith),
+        ← blocks_are,
+      ) absorbed;
+      filled = omega arith;
+      rest = rw none (sym (drop_all (length (bytes ++ take (length input / 16 * 16) input) / 16 * 16) (bytes ++ take (length input / 16 * 16) input) (omega arith)));
     }

@@ -1,8 +1,8 @@
 // The hash of a string of bytes in any pieces.
 
-ghost use Rattle.std.specs.Prelude.{◌≡◌, ℕ, ◌<◌, ◌%◌, ◌++◌, ◌∷◌, [], List, length};
+ghost use Rattle.std.specs.Prelude.{◌≡◌, ℕ, ◌<◌, ◌*◌, ◌/◌, ◌%◌, ◌++◌, ◌∷◌, [], List, length, take};
 ghost use Rattle.ghash.specs.Hash.{ghash};
-ghost use Rattle.gcm_mode.specs.Blocks.{blocks_of, padded};
+ghost use Rattle.gcm_mode.specs.Blocks.{blocks_of, first_blocks, padded};
 ghost use Rattle.gcm_mode.specs.Parts.{Feeds};
 
 use ghash::Ghash;
@@ -40,13 +40,44 @@ impl Feed {
         self.hash.absorb(self.block);
     }
 
-    /// Takes the next bytes of the string.
-    pub(crate) fn take(&mut self, input: &[u8])
+    // Takes a few bytes, one by one.
+    fn take_each(&mut self, input: &[u8])
         ensures { (h bytes : List ℕ) → Feeds self.old h bytes → Feeds self.new h (bytes ++ input.now) }
     {
         'bytes: for byte in input {
             self.push(*byte);
         }
+    }
+
+    // Takes the whole blocks of an input, where no byte waits.
+    fn take_blocks(&mut self, blocks: &[[u8; 16]])
+        ensures { (h bytes input : List ℕ) → Feeds self.old h bytes → length bytes % 16 ≡ 0 → blocks.now ≡ first_blocks (length input / 16) input
+            → Feeds self.new h (bytes ++ take (length input / 16 * 16) input) }
+    {
+        self.hash.absorb_all(blocks);
+    }
+
+    // Takes bytes where none waits.
+    fn take_whole(&mut self, input: &[u8])
+        ensures { (h bytes : List ℕ) → Feeds self.old h bytes → length bytes % 16 ≡ 0 → Feeds self.new h (bytes ++ input.now) }
+    {
+        let (blocks, rest) = input.as_chunks::<16>();
+        self.take_blocks(blocks);
+        self.take_each(rest);
+    }
+
+    /// Takes the next bytes of the string.
+    pub(crate) fn take(&mut self, input: &[u8])
+        ensures { (h bytes : List ℕ) → Feeds self.old h bytes → Feeds self.new h (bytes ++ input.now) }
+    {
+        let room = (16 - self.filled % 16) % 16;
+        if input.len() < room {
+            self.take_each(input);
+            return;
+        }
+        let (first, rest) = input.split_at(room);
+        self.take_each(first);
+        self.take_whole(rest);
     }
 
     /// Takes zeros up to a whole block.

@@ -7,13 +7,13 @@ use Rattle.std.specs.Int.RustNames.{bit_xor}
 use Rattle.ghash.specs.Field.{reduction, bit_of, times_x, shifted, sum_of, product}
 
 -- two sums, term by term
-interchange : (a b c d : ℕ) → bit_xor (bit_xor a b) (bit_xor c d) ≡ bit_xor (bit_xor a c) (bit_xor b d)
+pub interchange : (a b c d : ℕ) → bit_xor (bit_xor a b) (bit_xor c d) ≡ bit_xor (bit_xor a c) (bit_xor b d)
 interchange a b c d =
     xor_assoc a b (bit_xor c d) ∙ ap (λ (t : ℕ). bit_xor a t) (sym (xor_assoc b c d) ∙ ap (λ (t : ℕ). bit_xor t d) (xor_comm b c) ∙ xor_assoc c b d)
     ∙ sym (xor_assoc a c (bit_xor b d))
 
 -- what a bit that is shifted out adds
-abbrev carry : ℕ → ℕ
+abbrev pub carry : ℕ → ℕ
 carry r = if r == 0 then 0 else reduction
 
 times_x_by : (v r : ℕ) → r < 2 → (if r == 0 then v / 2 else bit_xor (v / 2) reduction) ≡ bit_xor (v / 2) (carry r)
@@ -21,7 +21,7 @@ times_x_by v zero h = sym (xor_zero_r (v / 2))
 times_x_by v (suc zero) h = refl
 times_x_by v (suc (suc r)) h = absurd (omega arith)
 
-times_x_is : (v : ℕ) → times_x v ≡ bit_xor (v / 2) (carry (v % 2))
+pub times_x_is : (v : ℕ) → times_x v ≡ bit_xor (v / 2) (carry (v % 2))
 unfolding times_x
 times_x_is v = times_x_by v (v % 2) (omega arith)
 
@@ -34,7 +34,7 @@ carry-xor (suc (suc r)) s h k = absurd (omega arith)
 carry-xor zero (suc (suc s)) h k = absurd (omega arith)
 carry-xor (suc zero) (suc (suc s)) h k = absurd (omega arith)
 
-times_x-xor : (a b : ℕ) → times_x (bit_xor a b) ≡ bit_xor (times_x a) (times_x b)
+pub times_x-xor : (a b : ℕ) → times_x (bit_xor a b) ≡ bit_xor (times_x a) (times_x b)
 times_x-xor a b =
     let half : bit_xor a b / 2 ≡ bit_xor (a / 2) (b / 2) = xor_shr a b 1 in
     let out : carry (bit_xor a b % 2) ≡ bit_xor (carry (a % 2)) (carry (b % 2)) =

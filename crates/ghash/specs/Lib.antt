@@ -1,3 +1,6 @@
 -- The definitions of the crate.
 pub mod Field
 pub mod Hash
+pub mod Lanes
+pub mod Tables
+pub mod Chains

@@ -21,7 +21,7 @@ pub(crate) fn block_of(x: u128) -> [u8; 16]
 }
 
 #[tactic(auto, unfolding(crate::specs::Field::times_x))]
-fn times_x(v: u128) -> u128
+pub(crate) fn times_x(v: u128) -> u128
     ensures { result ≡ times_x v }
 {
     if v % 2 == 0 {

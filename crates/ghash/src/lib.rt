@@ -4,11 +4,15 @@
 //! it was made for. It takes no memory.
 #![tactic(auto)]
 
+mod chains;
 mod field;
+mod hashing;
 mod laws;
 mod state;
+mod table;
 #[cfg(test)]
 mod tests;
+mod wide;
 
 pub use laws::field_laws;
 pub use state::Ghash;

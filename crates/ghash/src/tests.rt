@@ -1,4 +1,5 @@
 use super::Ghash;
+use crate::field::{element, product};
 
 // The hash subkey, the blocks and the hash of each test case.
 struct Case {
@@ -158,4 +159,33 @@ fn hashes_the_blocks_of_the_gcm_specification(rt: HostRuntime) {
         }
         assert_eq!(rt; u128::from_be_bytes(hash.value()), case.value);
     }
+}
+
+// The hash of the blocks bit by bit.
+fn bit_by_bit(subkey: u128, blocks: &[[u8; 16]]) -> u128 {
+    let mut sum = 0;
+    for block in blocks {
+        sum = product(sum ^ element(*block), subkey);
+    }
+    sum
+}
+
+#[test]
+fn many_blocks_hash_as_bit_by_bit(rt: HostRuntime) {
+    let subkey = 0xacbef205_79b4b8eb_ce889bac_8732dad7u128;
+    let mut blocks = [[0u8; 16]; 100];
+    for (i, block) in blocks.iter_mut().enumerate() {
+        for (j, byte) in block.iter_mut().enumerate() {
+            *byte = ((i * 16 + j) * 37 % 256) as u8;
+        }
+    }
+    let mut at_once = Ghash::new(subkey.to_be_bytes());
+    at_once.absorb_all(&blocks);
+    let mut in_turn = Ghash::new(subkey.to_be_bytes());
+    for block in &blocks {
+        in_turn.absorb(*block);
+    }
+    let wanted = bit_by_bit(subkey, &blocks);
+    assert_eq!(rt; u128::from_be_bytes(at_once.value()), wanted);
+    assert_eq!(rt; u128::from_be_bytes(in_turn.value()), wanted);
 }

@@ -1,0 +1,9 @@
+pub mod Lanes
+pub mod Wires
+pub mod BoxLemmas
+pub mod StepLemmas
+pub mod SwapLemmas
+pub mod GroupLemmas
+pub mod UnboxLemmas
+pub mod UnmixLemmas
+pub mod BackLemmas

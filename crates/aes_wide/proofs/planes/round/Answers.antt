@@ -1,0 +1,5 @@
+use Rattle.std.proofs.Common.{refl}
+use Rattle.aes_wide.proofs.planes.round.Goals as goal
+
+pub returns-clause-blocks : goal.returns-clause-blocks
+returns-clause-blocks c = λ b below. rw (c.added.ensures.blocks b, c.mixed.ensures.blocks b, c.rows_shifted.ensures.blocks b, c.subbed.ensures.blocks b below) refl

@@ -1,0 +1,13 @@
+use Rattle.std.proofs.Common.{refl}
+use Rattle.aes_core.specs.State.{state_of}
+use Rattle.aes_core.specs.State.{shift_rows}
+use Rattle.aes_wide.specs.Planes.{lanes, block}
+use Rattle.aes_wide.proofs.planes.rows_shifted.Goals as goal
+
+pub returns-clause-whole : goal.returns-clause-whole
+unfolding lanes
+returns-clause-whole c = rw c.requires refl
+
+pub returns-clause-blocks : goal.returns-clause-blocks
+unfolding lanes block shift_rows state_of
+returns-clause-blocks c = λ b. rw c.requires refl

@@ -1,0 +1,9 @@
+pub mod Circuit
+pub mod Planes
+pub mod Gates
+pub mod Boxes
+pub mod Steps
+pub mod Swaps
+pub mod Held
+pub mod WideKey
+pub mod WideLaws

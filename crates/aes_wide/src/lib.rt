@@ -1,0 +1,15 @@
+//! AES on eight blocks at a time.
+//!
+//! The one contract: [`WideAes`] is the block cipher of `aes_core`, and `encrypt_all` makes of each
+//! block what the cipher of FIPS 197 makes of it. Eight blocks stand in planes: bit b of lane j of
+//! plane i is bit i of byte j of block b. No step looks up a table at a place that depends on a block.
+#![tactic(auto)]
+
+mod circuit;
+mod planes;
+#[cfg(test)]
+mod tests;
+mod transpose;
+mod wide_aes;
+
+pub use wide_aes::WideAes;

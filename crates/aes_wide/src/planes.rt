@@ -1,0 +1,239 @@
+//! The steps of a round on planes.
+
+ghost use Rattle.std.specs.Prelude.{◌≡◌, ℕ, ◌<◌, [], ◌∷◌};
+ghost use Rattle.aes_core.specs.State.{sub_bytes, shift_rows, mix_columns, add_round_key, inv_sub_bytes, inv_shift_rows, inv_mix_columns};
+ghost use Rattle.aes_wide.specs.Planes.{IsWhole, block, made};
+ghost use Rattle.aes_wide.specs.Steps.{turned, doubled, constant, double_gates, double_outs};
+
+use crate::circuit::{boxed, unboxed};
+use std::simd::prelude::*;
+
+/// The sums of the bytes of two groups of blocks.
+#[inline(always)]
+pub(crate) fn added(x: [u8x16; 8], y: [u8x16; 8]) -> [u8x16; 8]
+    requires x { IsWhole 8 x }
+    requires y { IsWhole 8 y }
+    ensures whole { IsWhole 8 result }
+    ensures blocks { (b : ℕ) → block result b ≡ add_round_key (block x b) (block y b) }
+{
+    [
+        x[0] ^ y[0],
+        x[1] ^ y[1],
+        x[2] ^ y[2],
+        x[3] ^ y[3],
+        x[4] ^ y[4],
+        x[5] ^ y[5],
+        x[6] ^ y[6],
+        x[7] ^ y[7],
+    ]
+}
+
+/// ShiftRows.
+#[inline(always)]
+fn rows_shifted(x: [u8x16; 8]) -> [u8x16; 8]
+    requires { IsWhole 8 x }
+    ensures whole { IsWhole 8 result }
+    ensures blocks { (b : ℕ) → block result b ≡ shift_rows (block x b) }
+{
+    [
+        x[0].swizzle([0, 5, 10, 15, 4, 9, 14, 3, 8, 13, 2, 7, 12, 1, 6, 11]),
+        x[1].swizzle([0, 5, 10, 15, 4, 9, 14, 3, 8, 13, 2, 7, 12, 1, 6, 11]),
+        x[2].swizzle([0, 5, 10, 15, 4, 9, 14, 3, 8, 13, 2, 7, 12, 1, 6, 11]),
+        x[3].swizzle([0, 5, 10, 15, 4, 9, 14, 3, 8, 13, 2, 7, 12, 1, 6, 11]),
+        x[4].swizzle([0, 5, 10, 15, 4, 9, 14, 3, 8, 13, 2, 7, 12, 1, 6, 11]),
+        x[5].swizzle([0, 5, 10, 15, 4, 9, 14, 3, 8, 13, 2, 7, 12, 1, 6, 11]),
+        x[6].swizzle([0, 5, 10, 15, 4, 9, 14, 3, 8, 13, 2, 7, 12, 1, 6, 11]),
+        x[7].swizzle([0, 5, 10, 15, 4, 9, 14, 3, 8, 13, 2, 7, 12, 1, 6, 11]),
+    ]
+}
+
+/// Each column turned up by a row.
+#[inline(always)]
+fn turned_once(x: [u8x16; 8]) -> [u8x16; 8]
+    requires { IsWhole 8 x }
+    ensures whole { IsWhole 8 result }
+    ensures blocks { (b : ℕ) → block result b ≡ turned 1 (block x b) }
+{
+    [
+        x[0].swizzle([1, 2, 3, 0, 5, 6, 7, 4, 9, 10, 11, 8, 13, 14, 15, 12]),
+        x[1].swizzle([1, 2, 3, 0, 5, 6, 7, 4, 9, 10, 11, 8, 13, 14, 15, 12]),
+        x[2].swizzle([1, 2, 3, 0, 5, 6, 7, 4, 9, 10, 11, 8, 13, 14, 15, 12]),
+        x[3].swizzle([1, 2, 3, 0, 5, 6, 7, 4, 9, 10, 11, 8, 13, 14, 15, 12]),
+        x[4].swizzle([1, 2, 3, 0, 5, 6, 7, 4, 9, 10, 11, 8, 13, 14, 15, 12]),
+        x[5].swizzle([1, 2, 3, 0, 5, 6, 7, 4, 9, 10, 11, 8, 13, 14, 15, 12]),
+        x[6].swizzle([1, 2, 3, 0, 5, 6, 7, 4, 9, 10, 11, 8, 13, 14, 15, 12]),
+        x[7].swizzle([1, 2, 3, 0, 5, 6, 7, 4, 9, 10, 11, 8, 13, 14, 15, 12]),
+    ]
+}
+
+/// Each column turned up by two rows.
+#[inline(always)]
+fn turned_twice(x: [u8x16; 8]) -> [u8x16; 8]
+    requires { IsWhole 8 x }
+    ensures whole { IsWhole 8 result }
+    ensures blocks { (b : ℕ) → block result b ≡ turned 2 (block x b) }
+{
+    [
+        x[0].swizzle([2, 3, 0, 1, 6, 7, 4, 5, 10, 11, 8, 9, 14, 15, 12, 13]),
+        x[1].swizzle([2, 3, 0, 1, 6, 7, 4, 5, 10, 11, 8, 9, 14, 15, 12, 13]),
+        x[2].swizzle([2, 3, 0, 1, 6, 7, 4, 5, 10, 11, 8, 9, 14, 15, 12, 13]),
+        x[3].swizzle([2, 3, 0, 1, 6, 7, 4, 5, 10, 11, 8, 9, 14, 15, 12, 13]),
+        x[4].swizzle([2, 3, 0, 1, 6, 7, 4, 5, 10, 11, 8, 9, 14, 15, 12, 13]),
+        x[5].swizzle([2, 3, 0, 1, 6, 7, 4, 5, 10, 11, 8, 9, 14, 15, 12, 13]),
+        x[6].swizzle([2, 3, 0, 1, 6, 7, 4, 5, 10, 11, 8, 9, 14, 15, 12, 13]),
+        x[7].swizzle([2, 3, 0, 1, 6, 7, 4, 5, 10, 11, 8, 9, 14, 15, 12, 13]),
+    ]
+}
+
+/// Each byte's product with x, plane by plane.
+#[inline(always)]
+fn doubled_planes(x: [u8x16; 8]) -> [u8x16; 8]
+    requires { IsWhole 8 x }
+    ensures { result ≡ made double_gates double_outs x }
+{
+    [
+        x[7],
+        x[0] ^ x[7],
+        x[1],
+        x[2] ^ x[7],
+        x[3] ^ x[7],
+        x[4],
+        x[5],
+        x[6],
+    ]
+}
+
+/// Each byte's product with x.
+#[inline(always)]
+fn doubled(x: [u8x16; 8]) -> [u8x16; 8]
+    requires { IsWhole 8 x }
+    ensures whole { IsWhole 8 result }
+    ensures blocks { (b : ℕ) → block result b ≡ doubled (block x b) }
+{
+    doubled_planes(x)
+}
+
+/// The constant of the S-box in each byte of eight blocks.
+#[inline(always)]
+fn constant() -> [u8x16; 8]
+    ensures whole { IsWhole 8 result }
+    ensures blocks { (b : ℕ) → b < 8 → block result b ≡ constant }
+{
+    let none = u8x16::splat(0);
+    let all = u8x16::splat(0xff);
+    [all, all, none, none, none, all, all, none]
+}
+
+/// SubBytes.
+#[inline(always)]
+fn subbed(x: [u8x16; 8]) -> [u8x16; 8]
+    requires { IsWhole 8 x }
+    ensures whole { IsWhole 8 result }
+    ensures blocks { (b : ℕ) → b < 8 → block result b ≡ sub_bytes (block x b) }
+{
+    added(boxed(x), constant())
+}
+
+/// MixColumns.
+#[inline(always)]
+fn mixed(x: [u8x16; 8]) -> [u8x16; 8]
+    requires { IsWhole 8 x }
+    ensures whole { IsWhole 8 result }
+    ensures blocks { (b : ℕ) → block result b ≡ mix_columns (block x b) }
+{
+    let next = turned_once(x);
+    let pair = added(x, next);
+    let far = turned_twice(pair);
+    let rest = added(next, far);
+    let double = doubled(pair);
+    added(double, rest)
+}
+
+/// A round with a round key.
+#[inline(always)]
+pub(crate) fn round(x: [u8x16; 8], key: [u8x16; 8]) -> [u8x16; 8]
+    requires x { IsWhole 8 x }
+    requires key { IsWhole 8 key }
+    ensures whole { IsWhole 8 result }
+    ensures blocks { (b : ℕ) → b < 8 → block result b ≡ add_round_key (mix_columns (shift_rows (sub_bytes (block x b)))) (block key b) }
+{
+    added(mixed(rows_shifted(subbed(x))), key)
+}
+
+/// The last round, without MixColumns.
+#[inline(always)]
+pub(crate) fn last_round(x: [u8x16; 8], key: [u8x16; 8]) -> [u8x16; 8]
+    requires x { IsWhole 8 x }
+    requires key { IsWhole 8 key }
+    ensures whole { IsWhole 8 result }
+    ensures blocks { (b : ℕ) → b < 8 → block result b ≡ add_round_key (shift_rows (sub_bytes (block x b))) (block key b) }
+{
+    added(rows_shifted(subbed(x)), key)
+}
+
+/// InvShiftRows.
+#[inline(always)]
+fn rows_unshifted(x: [u8x16; 8]) -> [u8x16; 8]
+    requires { IsWhole 8 x }
+    ensures whole { IsWhole 8 result }
+    ensures blocks { (b : ℕ) → block result b ≡ inv_shift_rows (block x b) }
+{
+    [
+        x[0].swizzle([0, 13, 10, 7, 4, 1, 14, 11, 8, 5, 2, 15, 12, 9, 6, 3]),
+        x[1].swizzle([0, 13, 10, 7, 4, 1, 14, 11, 8, 5, 2, 15, 12, 9, 6, 3]),
+        x[2].swizzle([0, 13, 10, 7, 4, 1, 14, 11, 8, 5, 2, 15, 12, 9, 6, 3]),
+        x[3].swizzle([0, 13, 10, 7, 4, 1, 14, 11, 8, 5, 2, 15, 12, 9, 6, 3]),
+        x[4].swizzle([0, 13, 10, 7, 4, 1, 14, 11, 8, 5, 2, 15, 12, 9, 6, 3]),
+        x[5].swizzle([0, 13, 10, 7, 4, 1, 14, 11, 8, 5, 2, 15, 12, 9, 6, 3]),
+        x[6].swizzle([0, 13, 10, 7, 4, 1, 14, 11, 8, 5, 2, 15, 12, 9, 6, 3]),
+        x[7].swizzle([0, 13, 10, 7, 4, 1, 14, 11, 8, 5, 2, 15, 12, 9, 6, 3]),
+    ]
+}
+
+/// InvSubBytes.
+#[inline(always)]
+fn unsubbed(x: [u8x16; 8]) -> [u8x16; 8]
+    requires { IsWhole 8 x }
+    ensures whole { IsWhole 8 result }
+    ensures blocks { (b : ℕ) → b < 8 → block result b ≡ inv_sub_bytes (block x b) }
+{
+    let plain = added(x, constant());
+    unboxed(plain)
+}
+
+/// InvMixColumns: MixColumns after four times the sum of each byte and the one two rows on is added.
+#[inline(always)]
+fn unmixed(x: [u8x16; 8]) -> [u8x16; 8]
+    requires { IsWhole 8 x }
+    ensures whole { IsWhole 8 result }
+    ensures blocks { (b : ℕ) → block result b ≡ inv_mix_columns (block x b) }
+{
+    let far = turned_twice(x);
+    let pair = added(x, far);
+    let twice = doubled(pair);
+    let four = doubled(twice);
+    let eased = added(x, four);
+    mixed(eased)
+}
+
+/// A round of the inverse cipher with a round key.
+#[inline(always)]
+pub(crate) fn unround(x: [u8x16; 8], key: [u8x16; 8]) -> [u8x16; 8]
+    requires x { IsWhole 8 x }
+    requires key { IsWhole 8 key }
+    ensures whole { IsWhole 8 result }
+    ensures blocks { (b : ℕ) → b < 8 → block result b ≡ inv_mix_columns (add_round_key (inv_sub_bytes (inv_shift_rows (block x b))) (block key b)) }
+{
+    unmixed(added(unsubbed(rows_unshifted(x)), key))
+}
+
+/// The last round of the inverse cipher, without InvMixColumns.
+#[inline(always)]
+pub(crate) fn last_unround(x: [u8x16; 8], key: [u8x16; 8]) -> [u8x16; 8]
+    requires x { IsWhole 8 x }
+    requires key { IsWhole 8 key }
+    ensures whole { IsWhole 8 result }
+    ensures blocks { (b : ℕ) → b < 8 → block result b ≡ add_round_key (inv_sub_bytes (inv_shift_rows (block x b))) (block key b) }
+{
+    added(unsubbed(rows_unshifted(x)), key)
+}

@@ -1,0 +1,313 @@
+//! AES under one key, on eight blocks at a time.
+
+ghost use Rattle.std.specs.Prelude.{◌≡◌, ℕ, ◌+◌, ◌<◌, ◌≤◌, length, map};
+ghost use Rattle.aes_core.specs.Cipher.{cipher};
+ghost use Rattle.aes_core.specs.KeyOf.{key_of};
+ghost use Rattle.aes_wide.specs.Held.{HasAllKeys};
+ghost use Rattle.aes_wide.specs.Planes.{IsWhole, block};
+
+use crate::planes::{added, last_round, last_unround, round, unround};
+use crate::transpose::transposed;
+use aes_core::{AesKey, BlockCipher, ManyBlocks};
+use std::simd::prelude::*;
+
+/// A round key in planes, as each of eight blocks.
+#[derive(Clone, Copy)]
+struct KeyPlanes {
+    p0: u8x16,
+    p1: u8x16,
+    p2: u8x16,
+    p3: u8x16,
+    p4: u8x16,
+    p5: u8x16,
+    p6: u8x16,
+    p7: u8x16,
+}
+
+impl KeyPlanes {
+    ghost use Rattle.std.specs.Prelude.{◌≡◌};
+    ghost use Rattle.aes_wide.specs.Held.{planes_in};
+
+    fn of(planes: [u8x16; 8]) -> KeyPlanes
+        requires { IsWhole 8 planes }
+        ensures { planes_in result ≡ planes }
+    {
+        let [p0, p1, p2, p3, p4, p5, p6, p7] = planes;
+        KeyPlanes {
+            p0,
+            p1,
+            p2,
+            p3,
+            p4,
+            p5,
+            p6,
+            p7,
+        }
+    }
+
+    fn planes(&self) -> [u8x16; 8]
+        ensures { result ≡ planes_in self.now }
+    {
+        [
+            self.p0, self.p1, self.p2, self.p3, self.p4, self.p5, self.p6, self.p7,
+        ]
+    }
+}
+
+/// A key of 16, 24 or 32 bytes with its round keys in planes, which are made once.
+///
+/// `wide_key_of` is the bytes of the key.
+#[derive(Drop)]
+pub struct WideAes {
+    plain: AesKey,
+    keys: [KeyPlanes; 15],
+    ghost has_keys: { HasAllKeys keys (key_of plain) },
+}
+
+/// A block, as each of eight, in planes.
+fn spread(x: u8x16) -> [u8x16; 8]
+    ensures whole { IsWhole 8 result }
+    ensures blocks { (b : ℕ) → b < 8 → block result b ≡ x }
+{
+    transposed([x, x, x, x, x, x, x, x])
+}
+
+/// The round keys of a key in planes.
+fn key_planes(plain: &AesKey) -> [KeyPlanes; 15]
+    ensures { HasAllKeys result (key_of plain.now) }
+{
+    let none = KeyPlanes::of([u8x16::splat(0); 8]);
+    let mut keys = [none; 15];
+    let count = plain.rounds() + 1;
+    'each: for r in 0..count {
+        let key = KeyPlanes::of(spread(u8x16::from_array(plain.round_key(r))));
+        keys[r] = key;
+    }
+    keys
+}
+
+impl WideAes {
+    ghost use Rattle.std.specs.Prelude.{◌≡◌, ℕ, ◌<◌, ◌≤◌, [], ◌∷◌, map, length, is_some, IfSome};
+    ghost use Rattle.aes_core.specs.Cipher.{is_key_size, cipher, inverse_cipher};
+    ghost use Rattle.aes_wide.specs.Planes.{IsWhole, block};
+    ghost use Rattle.aes_wide.specs.WideKey.{wide_key_of};
+
+    /// The key of these bytes. `None` comes exactly for a length other than 16, 24 and 32 bytes.
+    pub fn new(key: &[u8]) -> Option<WideAes>
+        ensures size { is_some result ≡ is_key_size (length key.now) }
+        ensures key { IfSome result (λ aes. wide_key_of aes ≡ key.now) }
+    {
+        let plain = AesKey::new(key)?;
+        let keys = key_planes(&plain);
+        Some(WideAes { plain, keys })
+    }
+
+    /// The cipher of eight blocks in planes.
+    fn encrypt_planes(&self, x: [u8x16; 8]) -> [u8x16; 8]
+        requires { IsWhole 8 x }
+        ensures whole { IsWhole 8 result }
+        ensures blocks { (b : ℕ) → b < 8 → block result b ≡ cipher (wide_key_of self.now) (block x b) }
+    {
+        let count = self.plain.rounds();
+        let mut state = added(x, self.keys[0].planes());
+        'rounds: for done in 0..count - 1 {
+            let next = round(state, self.keys[done + 1].planes());
+            state = next;
+        }
+        last_round(state, self.keys[count].planes())
+    }
+
+    /// The cipher of eight blocks in vectors.
+    fn encrypt_eight(
+        &self,
+        x0: u8x16,
+        x1: u8x16,
+        x2: u8x16,
+        x3: u8x16,
+        x4: u8x16,
+        x5: u8x16,
+        x6: u8x16,
+        x7: u8x16,
+    ) -> [u8x16; 8]
+        ensures { result ≡ map (cipher (wide_key_of self.now)) (x0 ∷ x1 ∷ x2 ∷ x3 ∷ x4 ∷ x5 ∷ x6 ∷ x7 ∷ []) }
+    {
+        let planes = transposed([x0, x1, x2, x3, x4, x5, x6, x7]);
+        let done = self.encrypt_planes(planes);
+        transposed(done)
+    }
+
+    /// The cipher of eight blocks.
+    fn encrypt_group(&self, group: &mut [[u8; 16]])
+        requires { length group.old ≡ 8 }
+        ensures { group.new ≡ map (cipher (wide_key_of self.now)) group.old }
+    {
+        let out = self.encrypt_eight(
+            u8x16::from_array(group[0]),
+            u8x16::from_array(group[1]),
+            u8x16::from_array(group[2]),
+            u8x16::from_array(group[3]),
+            u8x16::from_array(group[4]),
+            u8x16::from_array(group[5]),
+            u8x16::from_array(group[6]),
+            u8x16::from_array(group[7]),
+        );
+        group[0] = out[0].to_array();
+        group[1] = out[1].to_array();
+        group[2] = out[2].to_array();
+        group[3] = out[3].to_array();
+        group[4] = out[4].to_array();
+        group[5] = out[5].to_array();
+        group[6] = out[6].to_array();
+        group[7] = out[7].to_array();
+    }
+
+    /// The cipher of at most eight blocks, by that of eight.
+    fn encrypt_few(&self, few: &mut [[u8; 16]])
+        requires { length few.old ≤ 8 }
+        ensures { few.new ≡ map (cipher (wide_key_of self.now)) few.old }
+    {
+        let mut group = [[0u8; 16]; 8];
+        let count = few.len();
+        group[..count].copy_from_slice(few);
+        self.encrypt_group(&mut group);
+        few.copy_from_slice(&group[..count]);
+    }
+
+    /// The inverse cipher of eight blocks in planes.
+    fn decrypt_planes(&self, x: [u8x16; 8]) -> [u8x16; 8]
+        requires { IsWhole 8 x }
+        ensures whole { IsWhole 8 result }
+        ensures blocks { (b : ℕ) → b < 8 → block result b ≡ inverse_cipher (wide_key_of self.now) (block x b) }
+    {
+        let count = self.plain.rounds();
+        let mut state = added(x, self.keys[count].planes());
+        'rounds: for done in 0..count - 1 {
+            let next = unround(state, self.keys[count - 1 - done].planes());
+            state = next;
+        }
+        last_unround(state, self.keys[0].planes())
+    }
+
+    /// The inverse cipher of eight blocks in vectors.
+    fn decrypt_eight(
+        &self,
+        x0: u8x16,
+        x1: u8x16,
+        x2: u8x16,
+        x3: u8x16,
+        x4: u8x16,
+        x5: u8x16,
+        x6: u8x16,
+        x7: u8x16,
+    ) -> [u8x16; 8]
+        ensures { result ≡ map (inverse_cipher (wide_key_of self.now)) (x0 ∷ x1 ∷ x2 ∷ x3 ∷ x4 ∷ x5 ∷ x6 ∷ x7 ∷ []) }
+    {
+        let planes = transposed([x0, x1, x2, x3, x4, x5, x6, x7]);
+        let done = self.decrypt_planes(planes);
+        transposed(done)
+    }
+
+    /// The inverse cipher of eight blocks.
+    fn decrypt_group(&self, group: &mut [[u8; 16]])
+        requires { length group.old ≡ 8 }
+        ensures { group.new ≡ map (inverse_cipher (wide_key_of self.now)) group.old }
+    {
+        let out = self.decrypt_eight(
+            u8x16::from_array(group[0]),
+            u8x16::from_array(group[1]),
+            u8x16::from_array(group[2]),
+            u8x16::from_array(group[3]),
+            u8x16::from_array(group[4]),
+            u8x16::from_array(group[5]),
+            u8x16::from_array(group[6]),
+            u8x16::from_array(group[7]),
+        );
+        group[0] = out[0].to_array();
+        group[1] = out[1].to_array();
+        group[2] = out[2].to_array();
+        group[3] = out[3].to_array();
+        group[4] = out[4].to_array();
+        group[5] = out[5].to_array();
+        group[6] = out[6].to_array();
+        group[7] = out[7].to_array();
+    }
+
+    /// The inverse cipher of at most eight blocks, by that of eight.
+    fn decrypt_few(&self, few: &mut [[u8; 16]])
+        requires { length few.old ≤ 8 }
+        ensures { few.new ≡ map (inverse_cipher (wide_key_of self.now)) few.old }
+    {
+        let mut group = [[0u8; 16]; 8];
+        let count = few.len();
+        group[..count].copy_from_slice(few);
+        self.decrypt_group(&mut group);
+        few.copy_from_slice(&group[..count]);
+    }
+}
+
+impl BlockCipher for WideAes {
+    ghost use Rattle.std.specs.Prelude.{◌≡◌};
+    ghost use Rattle.aes_core.specs.Cipher.{cipher, inverse_cipher};
+    ghost use Rattle.aes_wide.specs.WideKey.{wide_key_of};
+    ghost use Rattle.aes_wide.specs.WideLaws.{wide_keeps, wide_inverse_keeps, wide_undoes, wide_redoes};
+
+    ghost cipher = { λ aes. cipher (wide_key_of aes) };
+
+    ghost inverse = { λ aes. inverse_cipher (wide_key_of aes) };
+
+    /// The cipher of a block, by the plain code.
+    fn encrypt(&self, block: [u8; 16]) -> [u8; 16]
+        ensures { result ≡ cipher (wide_key_of self.now) block }
+    {
+        self.plain.encrypt(block)
+    }
+
+    /// The inverse cipher of a block, by the plain code.
+    fn decrypt(&self, block: [u8; 16]) -> [u8; 16]
+        ensures { result ≡ inverse_cipher (wide_key_of self.now) block }
+    {
+        self.plain.decrypt(block)
+    }
+
+    ghost cipher_keeps = { wide_keeps };
+
+    ghost inverse_keeps = { wide_inverse_keeps };
+
+    ghost undoes = { wide_undoes };
+
+    ghost redoes = { wide_redoes };
+}
+
+impl ManyBlocks for WideAes {
+    ghost use Rattle.std.specs.Prelude.{◌≡◌, map};
+    ghost use Rattle.aes_core.specs.Cipher.{cipher, inverse_cipher};
+    ghost use Rattle.aes_wide.specs.WideKey.{wide_key_of};
+
+    /// Eight blocks at a time.
+    fn encrypt_all(&self, blocks: &mut [[u8; 16]])
+        ensures { blocks.new ≡ map (cipher (wide_key_of self.now)) blocks.old }
+    {
+        let mut done = 0;
+        'groups: while blocks.len() - done >= 8 {
+            self.encrypt_group(&mut blocks[done..done + 8]);
+            done += 8;
+        }
+        if done < blocks.len() {
+            self.encrypt_few(&mut blocks[done..]);
+        }
+    }
+
+    /// Eight blocks at a time.
+    fn decrypt_all(&self, blocks: &mut [[u8; 16]])
+        ensures { blocks.new ≡ map (inverse_cipher (wide_key_of self.now)) blocks.old }
+    {
+        let mut done = 0;
+        'groups: while blocks.len() - done >= 8 {
+            self.decrypt_group(&mut blocks[done..done + 8]);
+            done += 8;
+        }
+        if done < blocks.len() {
+            self.decrypt_few(&mut blocks[done..]);
+        }
+    }
+}

@@ -1,0 +1,6 @@
+use Rattle.std.proofs.Common.{◌/◌, ◌^◌}
+use Rattle.ghash.proofs.RowLemmas.{right_row, lane_of_splat}
+use Rattle.ghash.proofs.wide.right.Goals as goal
+
+pub returns : goal.returns
+returns c = record { row = right_row c.args.v c.args.by c.requires.row; lanes = λ l h. lane_of_splat (λ x y. x / 2 ^ y) c.args.v c.args.by l c.requires.row.count h }

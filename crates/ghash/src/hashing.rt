@@ -1,0 +1,74 @@
+// The functions of GHASH (SP 800-38D section 6.4).
+
+ghost use Rattle.std.specs.Prelude.{◌≡◌, ℕ, List, [], ◌∷◌, ◌++◌, ◌%◌, ◌≤◌, length};
+ghost use Rattle.ghash.specs.Hash.{Holds, ghash};
+
+use crate::chains::hash_of_groups;
+use crate::field::{block_of, element};
+use crate::state::Ghash;
+use crate::table::{product_by, products_with};
+
+// From how many blocks on the chains are worth their tables.
+const MANY: usize = 64;
+
+impl Ghash {
+    /// GHASH of no blocks, under the hash subkey `h`: 16 bytes, in GCM the block cipher of 16 zero bytes.
+    #[tactic(auto, unfolding(crate::specs::Hash::Holds))]
+    pub fn new(h: [u8; 16]) -> Ghash
+        ensures { Holds result h [] }
+    {
+        let subkey = element(h);
+        Ghash {
+            subkey,
+            table: products_with(subkey),
+            sum: 0,
+        }
+    }
+
+    /// Takes the next block of 16 bytes.
+    #[tactic(auto, using(crate::proofs::Steps::holds_more))]
+    pub fn absorb(&mut self, block: [u8; 16])
+        ensures { (h : List ℕ) (blocks : List (List ℕ)) → Holds self.old h blocks → Holds self.new h (blocks ++ block ∷ []) }
+    {
+        self.sum = product_by(&self.table, self.sum ^ element(block));
+    }
+
+    // Takes a few blocks, one by one.
+    fn absorb_each(&mut self, blocks: &[[u8; 16]])
+        ensures { (h : List ℕ) (before : List (List ℕ)) → Holds self.old h before → Holds self.new h (before ++ blocks.now) }
+    {
+        'each: for block in blocks {
+            self.absorb(*block);
+        }
+    }
+
+    // Takes whole groups of sixteen blocks.
+    fn absorb_groups(&mut self, groups: &[[u8; 16]])
+        requires some { 16 ≤ length groups.now }
+        requires whole { length groups.now % 16 ≡ 0 }
+        ensures { (h : List ℕ) (before : List (List ℕ)) → Holds self.old h before → Holds self.new h (before ++ groups.now) }
+    {
+        self.sum = hash_of_groups(&self.table, self.subkey, self.sum, groups);
+    }
+
+    /// Takes the next blocks, in their order.
+    pub fn absorb_all(&mut self, blocks: &[[u8; 16]])
+        ensures { (h : List ℕ) (before : List (List ℕ)) → Holds self.old h before → Holds self.new h (before ++ blocks.now) }
+    {
+        if blocks.len() < MANY {
+            self.absorb_each(blocks);
+            return;
+        }
+        let (groups, rest) = blocks.split_at(blocks.len() / 16 * 16);
+        self.absorb_groups(groups);
+        self.absorb_each(rest);
+    }
+
+    /// The hash of the blocks so far, 16 bytes.
+    #[tactic(auto, unfolding(crate::specs::Hash::Holds))]
+    pub fn value(&self) -> [u8; 16]
+        ensures { (h : List ℕ) (blocks : List (List ℕ)) → Holds self.now h blocks → result ≡ ghash h blocks }
+    {
+        block_of(self.sum)
+    }
+}
