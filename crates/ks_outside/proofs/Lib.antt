@@ -1,3 +1,4 @@
 -- Lemmas of the crate.
 pub mod DrawLaws
+pub mod Shown
 pub mod WordLemmas

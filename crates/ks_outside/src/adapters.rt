@@ -1,13 +1,16 @@
 //! The edge: bytes from a reader and to a writer of std, as standard input and output. They tell nothing of content.
+//! Each call of an adapter is one call of its object, and its count of faults is a function of the answer.
 
-ghost use Rattle.std.specs.Prelude.{◌≡◌, ◌<◌, ◌≤◌, None, length, IfOk, IsOk};
+ghost use Rattle.std.specs.Prelude.{◌≡◌, ◌<◌, ◌≤◌, ℕ, Option, None, length, IfOk};
+ghost use Rattle.std.specs.Result.{result_ok};
 ghost use Rattle.std.specs.Io.KnownBytes.{ReadConsumes, WriteAppends};
-ghost use Rattle.ks_outside.specs.Faults.{HasCause};
+ghost use Rattle.ks_outside.specs.Adapters.{taken_of};
+ghost use Rattle.ks_outside.specs.Faults.{HasCause, count_after};
 
+use crate::edge::{RealReader, RealWriter};
 use crate::faults::{Failed, FaultCount};
 use crate::sink::Sink;
 use crate::source::Source;
-use std::io::{Read, Write};
 
 /// A source over a reader, as standard input. Each error of the reader is one fault.
 #[derive(Drop)]
@@ -36,7 +39,7 @@ impl<R> ReaderSource<R> {
     }
 }
 
-impl<R: Read> Source for ReaderSource<R> {
+impl<R: RealReader> Source for ReaderSource<R> {
     ghost content = { λ _. None };
 
     ghost fault_count = { λ s. s.faults.count };
@@ -44,14 +47,13 @@ impl<R: Read> Source for ReaderSource<R> {
     fn read(&mut self, out: &mut [u8]) -> Result<usize, Failed>
         ensures within { IfOk result (λ n. n ≤ length out.new) }
         ensures cause { HasCause self.old.faults.count self.new.faults.count result }
-        ensures reader { ReadConsumes (R.remaining self.old.reader) (R.remaining self.new.reader) result out.new }
-        ensures steady { IsOk result → self.new.faults.count ≡ self.old.faults.count }
+        ensures reader { ReadConsumes (R.left self.old.reader) (R.left self.new.reader) result out.new }
+        ensures answer { R.answered self.old.reader self.new.reader out.new (result_ok result) }
+        ensures counts { self.new.faults.count ≡ count_after result self.old.faults.count }
     {
-        let Ok(count) = self.reader.read(out) else {
-            self.faults.rise();
-            return Err(Failed);
-        };
-        Ok(count)
+        let answer = self.reader.ask(out).ok_or(Failed);
+        self.faults = self.faults.after(&answer);
+        answer
     }
 }
 
@@ -83,7 +85,17 @@ impl<W> WriterSink<W> {
     }
 }
 
-impl<W: Write> Sink for WriterSink<W> {
+/// What was taken of a piece of `size` bytes.
+fn taken(answer: Option<usize>, size: usize) -> Result<usize, Failed>
+    ensures { result_ok result ≡ taken_of size answer }
+{
+    match answer {
+        Some(count) if count > 0 || size == 0 => Ok(count),
+        _ => Err(Failed),
+    }
+}
+
+impl<W: RealWriter> Sink for WriterSink<W> {
     ghost content = { λ _. None };
 
     ghost fault_count = { λ s. s.faults.count };
@@ -92,15 +104,12 @@ impl<W: Write> Sink for WriterSink<W> {
         ensures within { IfOk result (λ n. n ≤ length piece.now) }
         ensures takes { 0 < length piece.now → IfOk result (λ n. 0 < n) }
         ensures cause { HasCause self.old.faults.count self.new.faults.count result }
-        ensures writer { WriteAppends (W.contents self.old.writer) (W.contents self.new.writer) result piece.now }
-        ensures steady { IsOk result → self.new.faults.count ≡ self.old.faults.count }
+        ensures writer { WriteAppends (W.held self.old.writer) (W.held self.new.writer) result piece.now }
+        ensures answer { (answer : Option ℕ) × W.answered self.old.writer self.new.writer piece.now answer × (result_ok result ≡ taken_of (length piece.now) answer) }
+        ensures counts { self.new.faults.count ≡ count_after result self.old.faults.count }
     {
-        match self.writer.write(piece) {
-            Ok(count) if count > 0 || piece.is_empty() => Ok(count),
-            _ => {
-                self.faults.rise();
-                Err(Failed)
-            }
-        }
+        let answer = taken(self.writer.give(piece), piece.len());
+        self.faults = self.faults.after(&answer);
+        answer
     }
 }

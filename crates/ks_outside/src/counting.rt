@@ -100,7 +100,6 @@ impl Entropy for MemoryEntropy<'_> {
         ensures calls { self.new.plan.calls ≡ one_more self.old.plan.calls }
         ensures planned { IsErr result ↔ Contains self.old.plan.numbers.now self.new.plan.calls }
         ensures same { OnErr result (out.new ≡ out.old) }
-        ensures steady { IsOk result → self.new.faults.count ≡ self.old.faults.count }
     {
         if self.plan.next_fails() {
             self.faults.rise();

@@ -1,13 +1,14 @@
 //! Entropy from the system's random device. It tells nothing of content.
 
-ghost use Rattle.std.specs.Prelude.{◌≡◌, None, Some, IsOk, IsSome, OnOk, option_and_then};
+ghost use Rattle.std.specs.Prelude.{◌≡◌, None, Some, IsOk, IsSome, OnOk, is_ok, option_and_then};
 ghost use Rattle.std.specs.Io.KnownBytes.{Consumes};
-ghost use Rattle.ks_outside.specs.Faults.{HasCause};
+ghost use Rattle.ks_outside.specs.Adapters.{DrawsFrom, fills};
+ghost use Rattle.ks_outside.specs.Faults.{HasCause, count_after};
 
+use crate::edge::RealReader;
 use crate::entropy::Entropy;
 use crate::faults::{Failed, FaultCount};
 use std::fs;
-use std::io::Read;
 use std::rt::Files;
 
 /// The system's random device.
@@ -50,7 +51,33 @@ pub(crate) fn open_file<R: Files>(rt: &R, path: &str) -> DeviceEntropy<R::File>
     }
 }
 
-impl<R: Read> Entropy for DeviceEntropy<R> {
+/// Whether `size` bytes were filled.
+fn filled(answer: Option<usize>, size: usize) -> Result<(), Failed>
+    ensures { is_ok result ≡ fills size answer }
+{
+    if answer == Some(size) {
+        Ok(())
+    } else {
+        Err(Failed)
+    }
+}
+
+impl<R: RealReader> DeviceEntropy<R> {
+    /// The one call of the device, where it was opened.
+    fn ask(&mut self, out: &mut [u8]) -> Result<(), Failed>
+        ensures open { IsOk result → IsSome self.old.reader }
+        ensures reader { OnOk result (Consumes (option_and_then R.left self.old.reader) (option_and_then R.left self.new.reader) out.new) }
+        ensures answer { DrawsFrom R.answered self.old.reader self.new.reader out.new (is_ok result) }
+        ensures faults { self.new.faults ≡ self.old.faults }
+    {
+        match &mut self.reader {
+            Some(reader) => filled(reader.ask(out), out.len()),
+            None => Err(Failed),
+        }
+    }
+}
+
+impl<R: RealReader> Entropy for DeviceEntropy<R> {
     ghost content = { λ _. None };
 
     ghost fault_count = { λ s. s.faults.count };
@@ -58,18 +85,13 @@ impl<R: Read> Entropy for DeviceEntropy<R> {
     fn draw(&mut self, out: &mut [u8]) -> Result<(), Failed>
         ensures cause { HasCause self.old.faults.count self.new.faults.count result }
         ensures open { IsOk result → IsSome self.old.reader }
-        ensures reader { OnOk result (Consumes (option_and_then R.remaining self.old.reader) (option_and_then R.remaining self.new.reader) out.new) }
-        ensures steady { IsOk result → self.new.faults.count ≡ self.old.faults.count }
+        ensures reader { OnOk result (Consumes (option_and_then R.left self.old.reader) (option_and_then R.left self.new.reader) out.new) }
+        ensures answer { DrawsFrom R.answered self.old.reader self.new.reader out.new (is_ok result) }
+        ensures counts { self.new.faults.count ≡ count_after result self.old.faults.count }
     {
-        if let Some(reader) = &mut self.reader {
-            if let Ok(count) = reader.read(out) {
-                if count == out.len() {
-                    return Ok(());
-                }
-            }
-        }
-        self.faults.rise();
-        Err(Failed)
+        let answer = self.ask(out);
+        self.faults = self.faults.after(&answer);
+        answer
     }
 
     fn faults(&self) -> u64 {

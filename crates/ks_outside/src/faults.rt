@@ -1,7 +1,7 @@
 //! The answer of a call that failed, and the count that it raises.
 
 ghost use Rattle.std.specs.Prelude.{◌≡◌};
-ghost use Rattle.ks_outside.specs.Faults.{Rises, one_more};
+ghost use Rattle.ks_outside.specs.Faults.{HasCause, Rises, count_after, one_more};
 
 /// A call on the outside failed. It says nothing more: the object's count of faults rose.
 #[derive(Clone, Copy, Debug, PartialEq, Eq)]
@@ -34,5 +34,16 @@ impl FaultCount {
         ensures rises { Rises self.old.count self.new.count }
     {
         self.count = self.count.saturating_add(1);
+    }
+    /// The count after a call that answered so.
+    pub fn after<T, E>(self, answer: &Result<T, E>) -> FaultCount
+        ensures counts { result.count ≡ count_after answer.now self.count }
+        ensures cause { HasCause self.count result.count answer.now }
+    {
+        let mut faults = self;
+        if answer.is_err() {
+            faults.rise();
+        }
+        faults
     }
 }

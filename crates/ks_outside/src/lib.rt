@@ -3,7 +3,7 @@
 //! and output and the system's random device, and a cursor over bytes for the codecs.
 //!
 //! The one contract: the content (bytes left, bytes written, bytes to come), where an object tells it, moves exactly as a call
-//! answers and stays where it fails; and a call fails only where the object's count of faults rose in that call.
+//! answers and stays where it fails; and the object's count of faults rises in a call that fails, and stays as it was in a call that answers Ok.
 #![tactic(auto)]
 
 mod adapters;
@@ -12,6 +12,7 @@ mod counting;
 mod cursor;
 mod device;
 mod disk;
+mod edge;
 mod endless;
 mod entropy;
 mod faults;
@@ -27,6 +28,7 @@ pub use counting::{MemoryEntropy, SteadyEntropy};
 pub use cursor::Cursor;
 pub use device::{DeviceEntropy, open_device};
 pub use disk::{Disk, EmptyDisk};
+pub use edge::{RealReader, RealWriter};
 pub use entropy::Entropy;
 pub use faults::{Failed, FaultCount};
 pub use seeded::SeededEntropy;

@@ -115,7 +115,6 @@ impl Sink for MemorySink<'_> {
         ensures room { ¬ Contains self.old.plan.numbers.now self.new.plan.calls → length self.old.pieces.items < vec_capacity self.old.pieces → length self.old.written.items + length piece.now ≤ vec_capacity self.old.written → IsOk result }
         ensures numbers { self.new.plan.numbers.now ≡ self.old.plan.numbers.now }
         ensures calls { self.new.plan.calls ≡ one_more self.old.plan.calls }
-        ensures steady { IsOk result → self.new.faults.count ≡ self.old.faults.count }
         ensures bytes_room { vec_capacity self.old.written ≤ vec_capacity self.new.written }
         ensures calls_room { vec_capacity self.old.pieces ≤ vec_capacity self.new.pieces }
     {

@@ -125,7 +125,6 @@ impl Source for MemorySource<'_> {
         ensures planned { IsErr result ↔ Contains self.old.plan.numbers.now self.new.plan.calls }
         ensures whole { IfOk result (λ n. n ≡ min (length out.old) (length self.old.source.left.now)) }
         ensures same { OnErr result (out.new ≡ out.old) }
-        ensures steady { IsOk result → self.new.faults.count ≡ self.old.faults.count }
     {
         if self.plan.next_fails() {
             self.faults.rise();

@@ -34,6 +34,25 @@ impl Write for Broken {
     }
 }
 
+/// A reader that fails once, and then gives the byte 7 for each place of the buffer.
+#[derive(Drop)]
+struct FailsOnce {
+    asked: u64,
+}
+
+impl Read for FailsOnce {
+    fn read(&mut self, buf: &mut [u8]) -> io::Result<usize> {
+        self.asked = self.asked.saturating_add(1);
+        if self.asked == 1 {
+            return Err(Error::from(ErrorKind::Other));
+        }
+        for byte in buf.iter_mut() {
+            *byte = 7;
+        }
+        Ok(buf.len())
+    }
+}
+
 #[test]
 fn sources_in_memory(rt: HostRuntime) {
     let mut out = [9; 3];
@@ -94,6 +113,23 @@ fn adapters_over_standard_input_and_output(rt: HostRuntime) {
     assert_eq!(rt; EmptyDisk.faults(), 0);
 }
 
+// Each read is one call of the reader, whatever the buffer's length, and a failed one is answered and counted.
+#[test]
+fn a_reader_that_fails_once(rt: HostRuntime) {
+    let mut out = [0; 3];
+    let mut source = ReaderSource::new(FailsOnce { asked: 0 });
+    assert_eq!(rt; source.read(&mut out), Err(Failed));
+    assert_eq!(rt; (out, source.faults()), ([0; 3], 1));
+    assert_eq!(rt; source.read(&mut out), Ok(3));
+    assert_eq!(rt; (out, source.faults()), ([7; 3], 1));
+
+    let mut device = DeviceEntropy::new(FailsOnce { asked: 0 });
+    assert_eq!(rt; device.draw(&mut out), Err(Failed));
+    assert_eq!(rt; device.faults(), 1);
+    assert_eq!(rt; device.draw(&mut out), Ok(()));
+    assert_eq!(rt; (out, device.faults()), ([7; 3], 1));
+}
+
 #[test]
 fn entropy_that_counts(rt: HostRuntime) {
     let mut all = [0; 255];
@@ -134,11 +170,12 @@ fn entropy_of_a_seed(rt: HostRuntime) {
 
 #[test]
 fn entropy_of_the_random_device(rt: HostRuntime) {
-    let (mut first, mut second) = ([0; 32], [0; 32]);
+    let (mut first, mut second) = ([0; 64], [0; 64]);
     let mut device = open_device(&rt);
     assert_eq!(rt; device.draw(&mut first), Ok(()));
     assert_eq!(rt; device.draw(&mut second), Ok(()));
     assert!(rt; first != second);
+    assert!(rt; first != [0; 64] && second != [0; 64]);
     assert_eq!(rt; device.faults(), 0);
 
     let mut missing = open_file(&rt, "no_such_device");
