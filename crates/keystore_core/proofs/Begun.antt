@@ -1,8 +1,6 @@
--- The beginning of an operation: its answer, and the tables behind it.
-use Rattle.std.proofs.Common.{◌≡◌, ℕ, ◌+◌, ◌<◌, ◌≤◌, ◌==◌, if◌then◌else◌, Bool, true, false, List, [], ◌∷◌, ◌++◌, length, Option, Some, None, Result, Ok, Err, find, is_some, is_ok, unwrap_or, inl, inr, refl, sym, ap, ◌∙◌, subst, arith}
+-- The beginning of an operation: its answer, and the tables after it.
+use Rattle.std.proofs.Common.{◌≡◌, ℕ, ◌+◌, ◌<◌, ◌≤◌, ◌==◌, Bool, true, false, if◌then◌else◌, List, [], ◌∷◌, length, Option, Some, None, Result, Ok, Err, is_some, is_ok, unwrap_or, refl, sym, ap, ◌∙◌, subst, arith}
 use Rattle.std.specs.Option.{option_and_then, option_map_or}
-use Rattle.std.specs.Ordering.{nat_cmp}
-use Rattle.std.specs.BTreeMap.{get}
 use Rattle.tags.specs.declared.code.Code.{Code}
 use Rattle.tags.specs.declared.code.Code.TheVariants.{EntropyFault, InvalidKeyBlob, MemoryAllocationFailed}
 use Rattle.tags.specs.declared.descriptor.Descriptor.{Descriptor}
@@ -16,40 +14,39 @@ use Rattle.use_rules.specs.Table.{asked_of, key_of}
 use Rattle.use_rules.specs.Rules.{names_key}
 use Rattle.key_rules.specs.TableK.{key_rules}
 use Rattle.key_rules.specs.Verdicts.{first_broken}
+use Rattle.cipher_ops.specs.declared.state.CipherState.{CipherState}
+use Rattle.cipher_ops.specs.Standing.{StandsFor}
 use Rattle.keymint_ops.specs.declared.begin.Begin.{Begin}
 use Rattle.keymint_ops.specs.Begin.{MayBegin, nonce_used}
 use Rattle.rule_model.specs.declared.entry.Entry.TheVariants.{Acted}
 use Rattle.rule_model.specs.declared.entry.KeyRecord.{KeyRecord}
 use Rattle.rule_model.specs.declared.event.Act.TheVariants.{CreateOperation}
-use Rattle.rule_model.specs.declared.event.Reading.{Reading}
+use Rattle.rule_model.specs.declared.event.Event.{Event}
+use Rattle.rule_model.specs.declared.facts.Caller.{Caller}
+use Rattle.rule_model.specs.declared.reply.Reply.{Reply}
 use Rattle.rule_model.specs.declared.reply.Reply.TheVariants.{Done, Broken, Stopped}
-use Rattle.rule_model.specs.Answer.{MayFollow, broken_or, drawn_nonce, no_fields, wanted, wanted_by_begin}
-use Rattle.rule_model.specs.Entries.{History, count_of, is_begin, uid_of}
-use Rattle.rule_model.specs.Keys.{alias_of, is_named, key_found}
-use Rattle.rule_model.specs.Operations as model
-use Rattle.rule_model.specs.Operations.{begin_facts, begun, facts_on, is_limited, list_of}
+use Rattle.rule_model.specs.Acts.{is_begin}
+use Rattle.rule_model.specs.Answer.{answer_by_rules, broken_or, drawn_nonce, no_fields}
+use Rattle.rule_model.specs.BeginFacts as model
+use Rattle.rule_model.specs.BeginFacts.{begin_facts, facts_on}
+use Rattle.rule_model.specs.Clients.{caller_of}
+use Rattle.rule_model.specs.Drawn.{size_of, wanted_by_begin, wanted_by_rules}
+use Rattle.rule_model.specs.Entries.{History, count_of}
+use Rattle.rule_model.specs.Keys.{alias_of, key_found}
+use Rattle.rule_model.specs.Legal.{MayFollow, Answered, WithoutMemory, WithoutEntropy}
+use Rattle.rule_model.specs.Operations.{OperationChange, Opens, SameOperations, aad_after, aad_of, found_after, is_limited, nonce_of, operation_at, operation_change, operation_on, opens, text_after, text_of}
 use Rattle.rule_model.specs.Setup.{Setup}
 use Rattle.keystore_core.specs.declared.operations.Operation.{Operation}
+use Rattle.keystore_core.specs.declared.operations.Operations.{Operations}
+use Rattle.keystore_core.specs.declared.ciphers.Ciphers.{Ciphers}
 use Rattle.keystore_core.specs.declared.tables.Tables.{Tables}
-use Rattle.keystore_core.specs.Beginning.{IsBegun}
-use Rattle.keystore_core.specs.Stands.{SameOperation, TablesStand, event_of}
-
--- the key that the tables find is that of the history
-pub found_key : (setup : Setup) (past : History) (tables : Tables) (client : ℕ) (key : Descriptor) → TablesStand setup tables past
-    → option_and_then (λ uid. find (is_named 0 uid (alias_of key)) tables.keys.keys.items) (get nat_cmp tables.clients.uids client) ≡ key_found setup past client key
-found_key setup past tables client key stands = rw (stands.clients client, stands.keys) refl
-
--- what the rules read is that of the history
-pub facts_are : (setup : Setup) (past : History) (tables : Tables) (client : ℕ) (key : Descriptor) (params : List ℕ) (found : Option KeyRecord) (connected : Bool) (uid : Option ℕ) (lent : List ℕ) → TablesStand setup tables past
-    → found ≡ option_and_then (λ uid. find (is_named 0 uid (alias_of key)) tables.keys.keys.items) (get nat_cmp tables.clients.uids client)
-    → uid ≡ get nat_cmp tables.clients.uids client → connected ≡ is_some uid → lent ≡ params
-    → facts_on found connected key lent ≡ begin_facts setup past client key params
-facts_are setup past tables client key params found connected uid lent stands is there some same =
-    rw (is ∙ found_key setup past tables client key stands, some, there, stands.clients client, same) refl
-
--- what may begin over the facts that were gathered may begin over those of the history
-pub may_begin : (begin : Begin) (gathered facts : BeginFacts) → gathered ≡ facts → MayBegin begin gathered → MayBegin begin facts
-may_begin begin gathered facts e may = subst (MayBegin begin) e may
+use Rattle.keystore_core.specs.Beginning.{IsNewRow}
+use Rattle.keystore_core.specs.Ciphers.{CiphersStand, IsCipher, SetsCipher, cipher_in}
+use Rattle.keystore_core.specs.Keys.{key_named_in}
+use Rattle.keystore_core.specs.Operations.{OperationsStand, OtherRowsStay, SameOperation, operation_in, operations_given}
+use Rattle.keystore_core.specs.Tables.{AnswersAfter, IsCaller, SameTables, TablesStand, event_by}
+use Rattle.keystore_core.proofs.Pointwise.{pointwise}
+use Rattle.keystore_core.proofs.Standing.{called, clients_stay, denied_tables, keys_stay, same_tables, still, without_memory}
 
 -- a key is found where the rules hold
 first_found : (connected named found : Bool) (later : Result (Unit {0}) (Rule × Code)) (a b d : Rule × Code) (own plan : Plan)
@@ -59,137 +56,164 @@ first_found true true false later a b d own plan e = cc
 first_found true false found later a b d own plan e = cc
 first_found false named found later a b d own plan e = cc
 
-pub is_found : (facts : BeginFacts) (plan : Plan) → table.answer facts ≡ Ok plan → facts.found ≡ true
+is_found : (facts : BeginFacts) (plan : Plan) → table.answer facts ≡ Ok plan → facts.found ≡ true
 unfolding table.answer
 is_found facts plan e = first_found facts.connected (names_key facts.descriptor) facts.found
     (table.first_broken (table.check 6 (table.fault_of facts.asked) (is_ok facts.asked) ∷ table.check 7 InvalidKeyBlob (is_some facts.opened) ∷ table.check 8 InvalidKeyBlob facts.fits ∷ table.list_rules (asked_of facts) (key_of facts)))
     _ _ _ (plan_of (asked_of facts) (key_of facts)) plan e
 
--- the plan where the rules hold
-held : (verdict : Result (Unit {0}) (Rule × Code)) (own plan : Plan) → table.or_plan verdict own ≡ Ok plan → plan ≡ own
-held (Ok none) own plan e = cc
-held (Err broken) own plan e = cc
+-- no key is found where none is there
+pub no_key : (facts : BeginFacts) (found : Option KeyRecord) (caller : Caller) (key : Descriptor) (params : List ℕ) (plan : Plan)
+    → facts ≡ facts_on found caller key params → found ≡ None → table.answer facts ≡ Ok plan → ⊥
+no_key facts found caller key params plan e none held =
+    let there : facts.found ≡ is_some found = ap (λ (f : BeginFacts). f.found) e in
+    let no : is_some found ≡ false = rw none refl in
+    cc (there, no, is_found facts plan held)
 
-pub plan_is : (facts : BeginFacts) (plan : Plan) → table.answer facts ≡ Ok plan → plan ≡ plan_of (asked_of facts) (key_of facts)
+-- the plan where the rules hold
+held_plan : (verdict : Result (Unit {0}) (Rule × Code)) (own plan : Plan) → table.or_plan verdict own ≡ Ok plan → plan ≡ own
+held_plan (Ok none) own plan e = cc
+held_plan (Err broken) own plan e = cc
+
+plan_is : (facts : BeginFacts) (plan : Plan) → table.answer facts ≡ Ok plan → plan ≡ plan_of (asked_of facts) (key_of facts)
 unfolding table.answer
-plan_is facts plan e = held _ _ plan e
+plan_is facts plan e = held_plan _ _ plan e
 
 -- the key's list and material are usable where the facts say so
-pub usable_where_fits : (found : Option KeyRecord) (connected : Bool) (key : Descriptor) (params : List ℕ)
-    → (facts_on found connected key params).fits ≡ true
-    → is_ok (first_broken (key_rules (length (option_map_or (λ (k : KeyRecord). k.blob) found [])) (key_of (facts_on found connected key params)))) ≡ true
-usable_where_fits None connected key params e = cc
-usable_where_fits (Some k) connected key params e = by_list (list_of k) e where
+pub usable_where_fits : (found : Option KeyRecord) (caller : Caller) (key : Descriptor) (params : List ℕ)
+    → (facts_on found caller key params).fits ≡ true
+    → is_ok (first_broken (key_rules (length (option_map_or (λ (k : KeyRecord). k.blob) found [])) (key_of (facts_on found caller key params)))) ≡ true
+usable_where_fits None caller key params e = cc
+usable_where_fits (Some k) caller key params e = by_list (model.list_of k) e where
   by_list : (list : Option (List Param)) → option_map_or (model.is_usable k.blob) list false ≡ true → is_ok (first_broken (key_rules (length k.blob) (unwrap_or list []))) ≡ true
   by_list None e = cc
   by_list (Some list) e = e
 
 -- the nonce of the operation
-pub nonce_is : (facts : BeginFacts) (begin : Begin) (drawn : List ℕ) → MayBegin begin facts → nonce_used begin.nonce drawn ≡ model.nonce_of facts drawn
+nonce_is : (facts : BeginFacts) (begin : Begin) (drawn : List ℕ) → MayBegin begin facts → nonce_used begin.nonce drawn ≡ nonce_of facts drawn
 nonce_is facts begin drawn may = ap (λ n. nonce_used n drawn) may.nonce_is ∙ by_nonce (nonce_given (asked_of facts) (key_of facts)) where
   by_nonce : (nonce : Option (List ℕ)) → nonce_used nonce drawn ≡ unwrap_or nonce drawn
   by_nonce None = refl
   by_nonce (Some nonce) = refl
 
--- the event of a begin
-abbrev pub beginning : Reading → ℕ → Descriptor → List ℕ → Rattle.rule_model.specs.declared.event.Event.Event
-beginning reading client key params = event_of reading client (CreateOperation key params false)
+-- what may begin over the facts that were gathered may begin over those of the history
+pub may_begin : (begin : Begin) (gathered facts : BeginFacts) → gathered ≡ facts → MayBegin begin gathered → MayBegin begin facts
+may_begin begin gathered facts e may = subst (MayBegin begin) e may
 
-pub wanted_is : (setup : Setup) (past : History) (reading : Reading) (client : ℕ) (key : Descriptor) (params : List ℕ) (begin : Begin)
-    → MayBegin begin (begin_facts setup past client key params) → wanted setup past (beginning reading client key params) ≡ begin.wanted
-wanted_is setup past reading client key params begin may =
-    ap (λ found. wanted_by_begin found (begin_facts setup past client key params)) may.plan_is ∙ sym may.wanted_is
+module _ (setup : Setup) (past : History) (tables : Tables) (caller : Caller) (key : Descriptor) (params : List ℕ) (stands : TablesStand setup tables past) (is_caller : IsCaller tables caller) where
+  same : caller ≡ caller_of past (event_by caller (CreateOperation key params false))
+  same = called past tables caller (CreateOperation key params false) stands.clients is_caller
 
-pub refused_begin : (setup : Setup) (past : History) (reading : Reading) (client : ℕ) (key : Descriptor) (params : List ℕ) (rule : Rule) (code : Code)
-    → table.answer (begin_facts setup past client key params) ≡ Err (rule, code)
-    → MayFollow setup past (Acted (beginning reading client key params) [] (Broken rule code))
-refused_begin setup past reading client key params rule code e = inl (record {
-  drew = sym (ap (λ found. wanted_by_begin found (begin_facts setup past client key params)) e);
-  is_answer = sym (ap (λ found. broken_or found (Done (record no_fields { op = Some (count_of is_begin past + 1); nonce = drawn_nonce (begin_facts setup past client key params) [] }))) e);
-})
+  -- the key that the tables find is that of the history
+  pub found_key : option_and_then (λ uid. key_named_in tables.keys 0 uid (alias_of key)) caller.uid ≡ key_found setup past caller key
+  found_key = by_uid caller.uid where
+    by_uid : (uid : Option ℕ) → option_and_then (λ uid. key_named_in tables.keys 0 uid (alias_of key)) uid ≡ option_and_then (λ uid. Rattle.rule_model.specs.Keys.key_named setup past 0 uid (alias_of key)) uid
+    by_uid None = refl
+    by_uid (Some uid) = stands.keys.named 0 uid (alias_of key)
 
-pub undrawn_begin : (setup : Setup) (past : History) (reading : Reading) (client : ℕ) (key : Descriptor) (params : List ℕ) (begin : Begin) (drawn : List ℕ)
-    → MayBegin begin (begin_facts setup past client key params) → length drawn < begin.wanted
-    → MayFollow setup past (Acted (beginning reading client key params) drawn (Stopped EntropyFault))
-undrawn_begin setup past reading client key params begin drawn may few = inr (inr (record {
-  drew = subst (λ n. length drawn < n) (sym (wanted_is setup past reading client key params begin may)) few;
-  is_fault = refl;
-}))
+  -- what the rules read is that of the history
+  pub facts_are : (found : Option KeyRecord) → found ≡ option_and_then (λ uid. key_named_in tables.keys 0 uid (alias_of key)) caller.uid
+      → facts_on found caller key params ≡ begin_facts setup past caller key params
+  facts_are found is = ap (λ f. facts_on f caller key params) (is ∙ found_key)
 
-pub unkept_begin : (setup : Setup) (past : History) (reading : Reading) (client : ℕ) (key : Descriptor) (params : List ℕ) (begin : Begin) (drawn : List ℕ)
-    → MayBegin begin (begin_facts setup past client key params) → length drawn ≡ begin.wanted
-    → MayFollow setup past (Acted (beginning reading client key params) drawn (Stopped MemoryAllocationFailed))
-unkept_begin setup past reading client key params begin drawn may long = inr (inl (record {
-  drew = subst (λ n. length drawn ≤ n) (sym (wanted_is setup past reading client key params begin may)) (omega (arith, long));
-  takes = refl;
-  is_want = refl;
-}))
+  answered : (drawn : List ℕ) (reply : Reply) → length drawn ≡ size_of (wanted_by_begin (table.answer (begin_facts setup past caller key params)) (begin_facts setup past caller key params))
+      → reply ≡ answer_by_rules (CreateOperation key params false) setup past caller drawn → MayFollow setup past (event_by caller (CreateOperation key params false)) drawn reply
+  answered drawn reply drew is = Answered (record {
+    drew = drew ∙ ap (λ c. size_of (wanted_by_rules (CreateOperation key params false) setup past c)) same;
+    is_answer = is ∙ ap (λ c. answer_by_rules (CreateOperation key params false) setup past c drawn) same;
+  })
 
-pub begun_answer : (setup : Setup) (past : History) (reading : Reading) (client : ℕ) (key : Descriptor) (params : List ℕ) (begin : Begin) (drawn : List ℕ) (number : ℕ) (told : Option (List ℕ))
-    → MayBegin begin (begin_facts setup past client key params) → length drawn ≡ begin.wanted → number ≡ count_of is_begin past + 1
-    → told ≡ (if begin.wanted == 0 then None else Some drawn)
-    → MayFollow setup past (Acted (beginning reading client key params) drawn (Done (record no_fields { op = Some number; nonce = told })))
-begun_answer setup past reading client key params begin drawn number told may long next is = inl (record {
-  drew = long ∙ sym (wanted_is setup past reading client key params begin may);
-  is_answer =
-      rw (next, is, may.wanted_is) (sym (ap (λ found. broken_or found (Done (record no_fields { op = Some (count_of is_begin past + 1); nonce = drawn_nonce (begin_facts setup past client key params) drawn }))) may.plan_is));
-})
+  -- a broken rule
+  pub refused : (rule : Rule) (code : Code) → table.answer (begin_facts setup past caller key params) ≡ Err (rule, code)
+      → AnswersAfter setup past tables (event_by caller (CreateOperation key params false)) (record { reply = Broken rule code; drawn = [] })
+  refused rule code e = record {
+    follows = answered [] (Broken rule code)
+        (sym (ap (λ found. size_of (wanted_by_begin found (begin_facts setup past caller key params))) e))
+        (sym (ap (λ found. broken_or found (Done (record no_fields { op = Some (count_of is_begin past + 1); nonce = drawn_nonce (begin_facts setup past caller key params) [] }))) e));
+    stands = denied_tables setup past (event_by caller (CreateOperation key params false)) [] (Broken rule code) tables tables stands (same_tables tables) refl (either (Rattle.step_rules.specs.Table.ends_operation rule));
+  } where
+    either : (b : Bool) → (if b then SameOperations else SameOperations) ≡ SameOperations
+    either true = refl
+    either false = refl
 
--- the tables behind a begin
-pub begun_tables : (setup : Setup) (past : History) (old new : Tables) (reading : Reading) (client : ℕ) (key : Descriptor) (params : List ℕ) (found : KeyRecord) (begin : Begin) (row : Operation) (drawn : List ℕ) (number : ℕ) (told : Option (List ℕ))
-    → TablesStand setup old past → key_found setup past client key ≡ Some found → MayBegin begin (begin_facts setup past client key params)
-    → IsBegun row client found begin.plan (nonce_used begin.nonce drawn)
-    → number ≡ old.operations.made + 1 → new.operations.made ≡ number
-    → ((other : ℕ) → get nat_cmp new.operations.rows other ≡ (if number == other then Some row else get nat_cmp old.operations.rows other))
-    → new.clients ≡ old.clients → new.keys ≡ old.keys
-    → TablesStand setup new (Acted (beginning reading client key params) drawn (Done (record no_fields { op = Some number; nonce = told })) ∷ past)
-begun_tables setup past old new reading client key params found begin row drawn number told stands key_is may is next made rows clients keys = record {
-  connects = ap (λ t. t.made) clients ∙ stands.connects;
-  begins = made ∙ next ∙ ap (λ n. n + 1) stands.begins;
-  next_key = ap (λ t. t.next) keys ∙ stands.next_key;
-  clients = λ other. ap (λ t. get nat_cmp t.uids other) clients ∙ stands.clients other;
-  keys = ap (λ t. t.keys.items) keys ∙ stands.keys;
-  operations = λ other. one_row other;
-} where
-  one_row : (other : ℕ) → SameOperation (if number == other then [] else model.aad_of past other) (if number == other then [] else model.text_of past other) (get nat_cmp new.operations.rows other)
-      (find (λ (o : model.Operation). o.number == other) (begun (key_found setup past client key) (begin_facts setup past client key params) number client (unwrap_or (uid_of past client) 0) drawn ++ model.open_of setup past))
-  one_row other =
-      subst (λ k. SameOperation (if number == other then [] else model.aad_of past other) (if number == other then [] else model.text_of past other) (get nat_cmp new.operations.rows other)
-      (find (λ (o : model.Operation). o.number == other) (begun k (begin_facts setup past client key params) number client (unwrap_or (uid_of past client) 0) drawn ++ model.open_of setup past))) (sym key_is)
-      (subst (λ (r : Option Operation). SameOperation (if number == other then [] else model.aad_of past other) (if number == other then [] else model.text_of past other) r
-      (if number == other then Some (record {
-        number = number;
-        client = client;
-        uid = unwrap_or (uid_of past client) 0;
-        key = found;
-        plan = plan_of (asked_of (begin_facts setup past client key params)) (key_of (begin_facts setup past client key params));
-        nonce = model.nonce_of (begin_facts setup past client key params) drawn;
-      }) else find (λ (o : model.Operation). o.number == other) (model.open_of setup past))) (sym (rows other))
-      (by_number (number == other))) where
-        by_number : (b : Bool) → SameOperation (if b then [] else model.aad_of past other) (if b then [] else model.text_of past other) (if b then Some row else get nat_cmp old.operations.rows other)
-            (if b then Some (record {
-              number = number;
-              client = client;
-              uid = unwrap_or (uid_of past client) 0;
-              key = found;
-              plan = plan_of (asked_of (begin_facts setup past client key params)) (key_of (begin_facts setup past client key params));
-              nonce = model.nonce_of (begin_facts setup past client key params) drawn;
-            }) else find (λ (o : model.Operation). o.number == other) (model.open_of setup past))
-        by_number true = record {
-          client = is.client_is;
-          key = is.key_is;
-          plan = is.plan_is ∙ plan_is (begin_facts setup past client key params) begin.plan may.plan_is;
-          limited = is.limited_is;
-          aad_is = is.aad_is;
-          text_is = is.text_is;
-          state = rw (plan_is (begin_facts setup past client key params) begin.plan may.plan_is, nonce_is (begin_facts setup past client key params) begin drawn may) at is.state_is;
-        }
-        by_number false = stands.operations other
+  wanted_is : (begin : Begin) → MayBegin begin (begin_facts setup past caller key params)
+      → size_of (wanted_by_begin (table.answer (begin_facts setup past caller key params)) (begin_facts setup past caller key params)) ≡ begin.wanted
+  wanted_is begin may = ap (λ found. size_of (wanted_by_begin found (begin_facts setup past caller key params))) may.plan_is ∙ omega (arith, may.wanted_is)
 
--- no key is found where none is there
-pub no_key : (facts : BeginFacts) (found : Option KeyRecord) (connected : Bool) (key : Descriptor) (params : List ℕ)
-    → facts ≡ facts_on found connected key params → found ≡ None → facts.found ≡ true → ⊥
-no_key facts found connected key params e none held =
-    let there : facts.found ≡ is_some found = ap (λ (f : BeginFacts). f.found) e in
-    let no : is_some found ≡ false = rw none refl in
-    cc (there, no, held)
+  -- a draw that failed
+  pub without_entropy : (new : Tables) (begin : Begin) (drawn : List ℕ) → MayBegin begin (begin_facts setup past caller key params) → SameTables tables new → length drawn < begin.wanted
+      → AnswersAfter setup past new (event_by caller (CreateOperation key params false)) (record { reply = Stopped EntropyFault; drawn = drawn })
+  without_entropy new begin drawn may still few = record {
+    follows = WithoutEntropy (record {
+      drew = subst (λ c. length drawn < size_of (wanted_by_rules (CreateOperation key params false) setup past c)) same (subst (λ n. length drawn < n) (sym (wanted_is begin may)) few);
+      is_fault = refl;
+    });
+    stands = denied_tables setup past (event_by caller (CreateOperation key params false)) drawn (Stopped EntropyFault) tables new stands still refl refl;
+  }
+
+  -- want of memory for the cipher's state
+  pub unkept : (new : Tables) (begin : Begin) (drawn : List ℕ) → MayBegin begin (begin_facts setup past caller key params) → SameTables tables new → length drawn ≡ begin.wanted
+      → AnswersAfter setup past new (event_by caller (CreateOperation key params false)) (record { reply = Stopped MemoryAllocationFailed; drawn = drawn })
+  unkept new begin drawn may still long = record {
+    follows = WithoutMemory (record {
+      drew = subst (λ c. length drawn ≤ size_of (wanted_by_rules (CreateOperation key params false) setup past c)) same (omega (arith, long, wanted_is begin may));
+      takes = refl;
+      is_want = refl;
+    });
+    stands = without_memory setup past tables new (event_by caller (CreateOperation key params false)) drawn stands still;
+  }
+
+  -- the operation that begins
+  opened : (found : KeyRecord) (drawn : List ℕ) (number : ℕ) (nonce : Option (List ℕ)) → key_found setup past caller key ≡ Some found
+      → operation_change setup past (event_by caller (CreateOperation key params false)) drawn (Done (record no_fields { op = Some number; nonce = nonce }))
+      ≡ Opens (operation_on found (begin_facts setup past caller key params) caller number drawn)
+  opened found drawn number nonce is =
+      sym (ap (λ c. opens (key_found setup past c key) (begin_facts setup past c key params) c (Some number) drawn) same)
+      ∙ ap (λ k. opens k (begin_facts setup past caller key params) caller (Some number) drawn) is
+
+  pub begins : (middle : Tables) (rows : Operations) (states : Ciphers) (found : KeyRecord) (begin : Begin) (row : Operation) (state : CipherState) (drawn : List ℕ) (number : ℕ) (nonce : Option (List ℕ))
+      → key_found setup past caller key ≡ Some found → MayBegin begin (begin_facts setup past caller key params) → SameTables tables middle → length drawn ≡ begin.wanted
+      → number ≡ operations_given middle.operations + 1 → nonce ≡ (if begin.wanted == 0 then None else Some drawn)
+      → IsNewRow row caller.client found begin.plan → operation_in rows number ≡ Some row → OtherRowsStay number middle.operations rows → operations_given rows ≡ number
+      → StandsFor state begin.plan (is_limited found.limit) found.blob (nonce_used begin.nonce drawn) [] [] → SetsCipher number (Some state) middle.ciphers states
+      → AnswersAfter setup past (record middle { operations = rows; ciphers = states }) (event_by caller (CreateOperation key params false))
+      (record { reply = Done (record no_fields { op = Some number; nonce = nonce }); drawn = drawn })
+  begins middle rows states found begin row state drawn number nonce is may still_same long next nonce_told row_is here there given standing sets =
+      let facts : BeginFacts = begin_facts setup past caller key params in
+      let o : Rattle.rule_model.specs.Operations.Operation = operation_on found facts caller number drawn in
+      let ev : Event = event_by caller (CreateOperation key params false) in
+      let reply : Reply = Done (record no_fields { op = Some number; nonce = nonce }) in
+      let now : TablesStand setup middle past = still setup past tables middle stands still_same in
+      let first : number ≡ count_of is_begin past + 1 = next ∙ ap (λ n. n + 1) now.operations.given in
+      let told : nonce ≡ drawn_nonce facts drawn = nonce_told ∙ ap (λ w. if w == 0 then None else Some drawn) may.wanted_is in
+      let change : operation_change setup past ev drawn reply ≡ Opens o = opened found drawn number nonce is in
+      let plan : begin.plan ≡ o.plan = plan_is facts begin.plan may.plan_is in
+      let same_nonce : nonce_used begin.nonce drawn ≡ o.nonce = nonce_is facts begin drawn may in
+      record {
+        follows = answered drawn reply (long ∙ sym (wanted_is begin may)) (rw (first, told)
+            (sym (ap (λ found. broken_or found (Done (record no_fields { op = Some (count_of is_begin past + 1); nonce = drawn_nonce facts drawn }))) may.plan_is)));
+        stands = record {
+          clients = clients_stay setup past ev drawn reply middle.clients middle.clients now.clients (same_tables middle).clients refl refl;
+          keys = keys_stay setup past ev drawn reply middle.keys middle.keys now.keys (same_tables middle).keys refl refl;
+          operations = record {
+            rows = λ n. subst (λ change. SameOperation (length (aad_after change n (aad_of setup past n))) (length (text_after change n (text_of setup past n))) (operation_in rows n) (found_after change n (operation_at setup past n))) (sym change)
+                (pointwise (λ aad text entry at. SameOperation (length aad) (length text) entry at) (Opens o) number (aad_of setup past) (text_of setup past) (operation_at setup past)
+                (operation_in middle.operations) (operation_in rows) now.operations.rows refl there
+                (subst (λ entry. SameOperation 0 0 entry (Some o)) (sym here) (record {
+                  client = row_is.client_is;
+                  key = row_is.key_is;
+                  plan = row_is.plan_is ∙ plan;
+                  limited = row_is.limited_is;
+                  aad_is = row_is.aad_is;
+                  text_is = row_is.text_is;
+                })) n);
+            given = given ∙ first;
+          };
+          ciphers = record {
+            states = λ n. subst (λ change. IsCipher (aad_after change n (aad_of setup past n)) (text_after change n (text_of setup past n)) (cipher_in states n) (found_after change n (operation_at setup past n))) (sym change)
+                (pointwise IsCipher (Opens o) number (aad_of setup past) (text_of setup past) (operation_at setup past)
+                (cipher_in middle.ciphers) (cipher_in states) now.ciphers.states refl sets.there
+                (subst (λ entry. IsCipher [] [] entry (Some o)) (sym sets.here) (rw (plan, same_nonce) at standing)) n);
+          };
+        };
+      }

@@ -1,5 +1,7 @@
-pub mod Drawing
-pub mod Entering
-pub mod After
+pub mod KeyTable
+pub mod Drawn
+pub mod Pointwise
+pub mod Standing
 pub mod Making
 pub mod Begun
+pub mod Stepped

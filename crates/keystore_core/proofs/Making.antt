@@ -1,10 +1,9 @@
--- A new key: its answer, and the tables behind it.
-use Rattle.std.proofs.Common.{◌≡◌, ℕ, ◌+◌, ◌<◌, ◌≤◌, ◌==◌, if◌then◌else◌, Bool, true, false, List, [], ◌∷◌, length, Option, Some, None, Result, Ok, Err, find, is_some, unwrap_or, inl, inr, refl, sym, ap, ◌∙◌, subst, arith}
+-- A new key: its answer, and the tables after it.
+use Rattle.std.proofs.Common.{◌≡◌, ℕ, ◌+◌, ◌<◌, ◌≤◌, ◌-◌, ◌^◌, Bool, true, false, ◌||◌, if◌then◌else◌, List, [], ◌∷◌, length, take, drop, Option, Some, None, Result, Ok, Err, unwrap_or, find, refl, sym, ap, ◌∙◌, subst, arith, length-drop, length-take}
+use Rattle.std.specs.List.{list_any}
 use Rattle.std.specs.Option.{option_map}
-use Rattle.std.specs.Ordering.{nat_cmp}
-use Rattle.std.specs.BTreeMap.{get}
 use Rattle.tags.specs.declared.code.Code.{Code}
-use Rattle.tags.specs.declared.code.Code.TheVariants.{EntropyFault, MemoryAllocationFailed}
+use Rattle.tags.specs.declared.code.Code.TheVariants.{EntropyFault}
 use Rattle.tags.specs.declared.descriptor.Descriptor.{Descriptor}
 use Rattle.tags.specs.declared.rule.Rule.{Rule}
 use Rattle.key_rules.specs.declared.facts.ImportFacts.{ImportFacts}
@@ -15,39 +14,65 @@ use Rattle.key_rules.specs.Creation.{new_key, plan_of, where_all_hold}
 use Rattle.key_rules.specs.Facts.{Facts}
 use Rattle.key_rules.specs.TableK.{table}
 use Rattle.key_rules.specs.Verdicts.{Verdict, first_broken}
-use Rattle.step_rules.specs.Table as step_table
 use Rattle.keymint_ops.specs.declared.creation.NewKey.{NewKey}
 use Rattle.keymint_ops.specs.Creation.{planned, spelled, where_planned}
 use Rattle.rule_model.specs.declared.entry.Entry.TheVariants.{Acted}
-use Rattle.rule_model.specs.declared.event.Event.{Event}
-use Rattle.rule_model.specs.declared.event.Reading.{Reading}
+use Rattle.rule_model.specs.declared.entry.KeyRecord.{KeyRecord}
+use Rattle.rule_model.specs.declared.facts.Caller.{Caller}
+use Rattle.rule_model.specs.declared.facts.Pieces.{Pieces}
+use Rattle.rule_model.specs.declared.reply.Reply.{Reply}
 use Rattle.rule_model.specs.declared.reply.Reply.TheVariants.{Done, Broken, Stopped}
-use Rattle.rule_model.specs.Answer.{MayFollow, answer, made_or, no_fields, wanted, wanted_by_key}
-use Rattle.rule_model.specs.Entries.{History, uid_of}
-use Rattle.rule_model.specs.Keys.{new_facts, next_key, with_key}
-use Rattle.rule_model.specs.Operations as model
+use Rattle.rule_model.specs.declared.event.Event.{Event}
+use Rattle.rule_model.specs.declared.reply.Fields.{Fields}
+use Rattle.rule_model.specs.Acts.{is_begin, is_connect}
+use Rattle.rule_model.specs.Answer.{answer_by_rules, made_or, no_fields}
+use Rattle.rule_model.specs.Clients.{caller_of}
+use Rattle.rule_model.specs.Drawn.{size_of, wanted_by_key, wanted_by_rules}
+use Rattle.rule_model.specs.Entries.{History}
+use Rattle.rule_model.specs.Keys.{KeyChange, Makes, is_named, key_change, keys_after, keys_of, next_key, owner_of, with_key}
+use Rattle.rule_model.specs.Legal.{MayFollow, Answered, WithoutMemory, WithoutEntropy}
+use Rattle.rule_model.specs.NewFacts.{new_facts}
+use Rattle.rule_model.specs.Operations.{SameOperations, operation_change}
 use Rattle.rule_model.specs.Setup.{Setup}
+use Rattle.rule_model.proofs.Clients.{moves_clients, same_clients}
+use Rattle.rule_model.proofs.Operations.{moves_operations, same_operations}
 use Rattle.keystore_core.specs.declared.creating.Import.{Import}
-use Rattle.keystore_core.specs.declared.operations.Operation.{Operation}
+use Rattle.keystore_core.specs.declared.creating.KeyRoom.{KeyRoom}
+use Rattle.keystore_core.specs.declared.creating.Material.{Material}
+use Rattle.keystore_core.specs.declared.creating.Material.TheVariants as materials
+use Rattle.keystore_core.specs.declared.keys.Keys.{Keys}
 use Rattle.keystore_core.specs.declared.tables.Tables.{Tables}
-use Rattle.keystore_core.specs.Creating.{facts_of_import, making, new_record}
-use Rattle.keystore_core.specs.Records.{record_of}
-use Rattle.keystore_core.specs.Stands.{SameOperation, TablesStand, event_of}
+use Rattle.keystore_core.specs.Creating.{CanFill, IsDrawn, IsKeyRoom, IsMaterial, facts_of_import, making, material_in, record_of}
+use Rattle.keystore_core.specs.Keys.{KeysStand, PutsKey, SameKeys, apart, next_in}
+use Rattle.keystore_core.specs.Room.{room_in}
+use Rattle.keystore_core.specs.Tables.{AnswersAfter, IsCaller, SameTables, TablesStand, event_by}
+use Rattle.keystore_core.proofs.KeyTable.{any_with, named_with}
+use Rattle.keystore_core.proofs.Standing.{called, ciphers_stay, clients_stay, denied_tables, operations_stay, same_tables}
 
--- the facts of a call that makes a key
-abbrev pub facts_of : History → Reading → ℕ → Descriptor → List ℕ → Option Import → Facts
-facts_of past reading client key params import =
-    new_facts past (event_of reading client (making key params import)) key params (option_map facts_of_import import)
+abbrev facts_of : Caller → Descriptor → List ℕ → Option Import → Facts
+facts_of caller key params import = new_facts caller key params (option_map facts_of_import import)
 
-making_answer : (setup : Setup) (past : History) (reading : Reading) (client : ℕ) (key : Descriptor) (params : List ℕ) (import : Option Import) (drawn : List ℕ)
-    → answer setup past (event_of reading client (making key params import)) drawn ≡ made_or (new_key (facts_of past reading client key params import)) (record no_fields { key = Some (next_key setup past) })
-making_answer setup past reading client key params None drawn = refl
-making_answer setup past reading client key params (Some import) drawn = refl
+making_answer : (setup : Setup) (past : History) (caller : Caller) (key : Descriptor) (params : List ℕ) (import : Option Import) (drawn : List ℕ)
+    → answer_by_rules (making key params import) setup past caller drawn ≡ made_or (new_key (facts_of caller key params import)) (record no_fields { key = Some (next_key setup past) })
+making_answer setup past caller key params None drawn = refl
+making_answer setup past caller key params (Some import) drawn = refl
 
-making_wanted : (setup : Setup) (past : History) (reading : Reading) (client : ℕ) (key : Descriptor) (params : List ℕ) (import : Option Import)
-    → wanted setup past (event_of reading client (making key params import)) ≡ wanted_by_key (new_key (facts_of past reading client key params import)) (option_map facts_of_import import)
-making_wanted setup past reading client key params None = refl
-making_wanted setup past reading client key params (Some import) = refl
+making_wanted : (setup : Setup) (past : History) (caller : Caller) (key : Descriptor) (params : List ℕ) (import : Option Import)
+    → wanted_by_rules (making key params import) setup past caller ≡ wanted_by_key (new_key (facts_of caller key params import)) (option_map facts_of_import import)
+making_wanted setup past caller key params None = refl
+making_wanted setup past caller key params (Some import) = refl
+
+moves_none : (key : Descriptor) (params : List ℕ) (import : Option Import) → moves_clients (making key params import) ≡ false
+moves_none key params None = refl
+moves_none key params (Some import) = refl
+
+connects_none : (key : Descriptor) (params : List ℕ) (import : Option Import) → is_connect (making key params import) ≡ false
+connects_none key params None = refl
+connects_none key params (Some import) = refl
+
+begins_none : (key : Descriptor) (params : List ℕ) (import : Option Import) → is_begin (making key params import) ≡ false
+begins_none key params None = refl
+begins_none key params (Some import) = refl
 
 -- a broken rule of the plan is one of the table
 broken_rule : (import : Option ImportFacts) (found : Result KeyPlan NewFault) (rule : Rule) (code : Code) → where_planned import found ≡ Err (new_faults.Broken rule code) → found ≡ Err (new_faults.Broken rule code)
@@ -78,154 +103,148 @@ pub is_broken : (facts : Facts) (rule : Rule) (code : Code) → planned facts �
 unfolding planned
 is_broken facts rule code e = broken_rule facts.import (new_key facts) rule code e
 
--- the bytes that are wanted for it
-wanted_is : (import : Option Import) (own : KeyPlan) → wanted_by_key (Ok own) (option_map facts_of_import import) ≡ (spelled (option_map facts_of_import import) own).size + 12
-wanted_is None own = refl
-wanted_is (Some import) own = refl
+-- the pieces that are wanted for it
+pieces_wanted : (import : Option Import) (own : KeyPlan) → size_of (wanted_by_key (Ok own) (option_map facts_of_import import)) ≡ (spelled (option_map facts_of_import import) own).size + 12
+pieces_wanted None own = refl
+pieces_wanted (Some import) own = refl
 
-pub planned_wanted : (setup : Setup) (past : History) (reading : Reading) (client : ℕ) (key : Descriptor) (params : List ℕ) (import : Option Import) (plan : NewKey)
-    → IsPlanned (facts_of past reading client key params import) plan → wanted setup past (event_of reading client (making key params import)) ≡ plan.size + 12
-planned_wanted setup past reading client key params import plan is =
-    let facts : Facts = facts_of past reading client key params import in
-    making_wanted setup past reading client key params import ∙ ap (λ found. wanted_by_key found (option_map facts_of_import import)) is.holds
-    ∙ wanted_is import (plan_of facts) ∙ ap (λ (p : NewKey). p.size + 12) (sym is.plan_is)
+planned_wanted : (setup : Setup) (past : History) (caller : Caller) (key : Descriptor) (params : List ℕ) (import : Option Import) (plan : NewKey)
+    → IsPlanned (facts_of caller key params import) plan → size_of (wanted_by_rules (making key params import) setup past caller) ≡ plan.size + 12
+planned_wanted setup past caller key params import plan is =
+    ap size_of (making_wanted setup past caller key params import ∙ ap (λ found. wanted_by_key found (option_map facts_of_import import)) is.holds)
+    ∙ pieces_wanted import (plan_of (facts_of caller key params import)) ∙ ap (λ (p : NewKey). p.size + 12) (sym is.plan_is)
 
--- the answer of a broken rule
-pub refused_answer : (setup : Setup) (past : History) (reading : Reading) (client : ℕ) (key : Descriptor) (params : List ℕ) (import : Option Import) (rule : Rule) (code : Code)
-    → new_key (facts_of past reading client key params import) ≡ Err (new_faults.Broken rule code)
-    → MayFollow setup past (Acted (event_of reading client (making key params import)) [] (Broken rule code))
-refused_answer setup past reading client key params import rule code e = inl (record {
-  drew = sym (making_wanted setup past reading client key params import ∙ ap (λ found. wanted_by_key found (option_map facts_of_import import)) e);
-  is_answer = sym (making_answer setup past reading client key params import [] ∙ ap (λ found. made_or found (record no_fields { key = Some (next_key setup past) })) e);
-})
+none_moves : (key : Descriptor) (params : List ℕ) (import : Option Import) → moves_operations (making key params import) ≡ false
+none_moves key params None = refl
+none_moves key params (Some import) = refl
 
--- the answer of a key that is made
-pub made_answer : (setup : Setup) (past : History) (reading : Reading) (client : ℕ) (key : Descriptor) (params : List ℕ) (import : Option Import) (plan : NewKey) (drawn : List ℕ) (number : ℕ)
-    → IsPlanned (facts_of past reading client key params import) plan → length drawn ≡ plan.size + 12 → number ≡ next_key setup past
-    → MayFollow setup past (Acted (event_of reading client (making key params import)) drawn (Done (record no_fields { key = Some number })))
-made_answer setup past reading client key params import plan drawn number is long next = inl (record {
-  drew = long ∙ sym (planned_wanted setup past reading client key params import plan is);
-  is_answer = ap (λ n. Done (record no_fields { key = Some n })) next
-      ∙ sym (making_answer setup past reading client key params import drawn ∙ ap (λ found. made_or found (record no_fields { key = Some (next_key setup past) })) is.holds);
-})
+module _ (setup : Setup) (past : History) (tables : Tables) (caller : Caller) (key : Descriptor) (params : List ℕ) (stands : TablesStand setup tables past) (is_caller : IsCaller tables caller) where
+  same : (import : Option Import) → caller ≡ caller_of past (event_by caller (making key params import))
+  same import = called past tables caller (making key params import) stands.clients is_caller
 
--- the entries that change nothing
-pub undrawn_entry : (setup : Setup) (past : History) (reading : Reading) (client : ℕ) (key : Descriptor) (params : List ℕ) (import : Option Import) (plan : NewKey) (drawn : List ℕ)
-    → IsPlanned (facts_of past reading client key params import) plan → length drawn < plan.size + 12
-    → MayFollow setup past (Acted (event_of reading client (making key params import)) drawn (Stopped EntropyFault))
-undrawn_entry setup past reading client key params import plan drawn is few = inr (inr (record {
-  drew = subst (λ n. length drawn < n) (sym (planned_wanted setup past reading client key params import plan is)) few;
-  is_fault = refl;
-}))
+  none : (import : Option Import) (drawn : List ℕ) (reply : Reply) → operation_change setup past (event_by caller (making key params import)) drawn reply ≡ SameOperations
+  none import drawn reply = same_operations setup past (event_by caller (making key params import)) drawn reply (none_moves key params import)
 
-pub unkept_entry : (setup : Setup) (past : History) (reading : Reading) (client : ℕ) (key : Descriptor) (params : List ℕ) (import : Option Import) (plan : NewKey) (drawn : List ℕ)
-    → IsPlanned (facts_of past reading client key params import) plan → length drawn ≡ plan.size + 12
-    → MayFollow setup past (Acted (event_of reading client (making key params import)) drawn (Stopped MemoryAllocationFailed))
-unkept_entry setup past reading client key params None plan drawn is long = inr (inl (record {
-  drew = subst (λ n. length drawn ≤ n) (sym (planned_wanted setup past reading client key params None plan is)) (omega (arith, long));
-  takes = refl;
-  is_want = refl;
-}))
-unkept_entry setup past reading client key params (Some import) plan drawn is long = inr (inl (record {
-  drew = subst (λ n. length drawn ≤ n) (sym (planned_wanted setup past reading client key params (Some import) plan is)) (omega (arith, long));
-  takes = refl;
-  is_want = refl;
-}))
+  answered : (import : Option Import) (drawn : List ℕ) (reply : Reply) → length drawn ≡ size_of (wanted_by_rules (making key params import) setup past caller)
+      → reply ≡ answer_by_rules (making key params import) setup past caller drawn → MayFollow setup past (event_by caller (making key params import)) drawn reply
+  answered None drawn reply drew is = Answered (record {
+    drew = drew ∙ ap (λ c. size_of (wanted_by_rules (making key params None) setup past c)) (same None);
+    is_answer = is ∙ ap (λ c. answer_by_rules (making key params None) setup past c drawn) (same None);
+  })
+  answered (Some import) drawn reply drew is = Answered (record {
+    drew = drew ∙ ap (λ c. size_of (wanted_by_rules (making key params (Some import)) setup past c)) (same (Some import));
+    is_answer = is ∙ ap (λ c. answer_by_rules (making key params (Some import)) setup past c drawn) (same (Some import));
+  })
 
--- tables that hold the same
-pub record AsBefore (old new : Tables) : Type 0 where
-  pub clients : new.clients ≡ old.clients
-  pub next : new.keys.next ≡ old.keys.next
-  pub keys : new.keys.keys.items ≡ old.keys.keys.items
-  pub made : new.operations.made ≡ old.operations.made
-  pub rows : (other : ℕ) → get nat_cmp new.operations.rows other ≡ get nat_cmp old.operations.rows other
+  undrawn : (import : Option Import) (drawn : List ℕ) → length drawn < size_of (wanted_by_rules (making key params import) setup past caller)
+      → MayFollow setup past (event_by caller (making key params import)) drawn (Stopped EntropyFault)
+  undrawn None drawn few = WithoutEntropy (record {
+    drew = subst (λ c. length drawn < size_of (wanted_by_rules (making key params None) setup past c)) (same None) few;
+    is_fault = refl;
+  })
+  undrawn (Some import) drawn few = WithoutEntropy (record {
+    drew = subst (λ c. length drawn < size_of (wanted_by_rules (making key params (Some import)) setup past c)) (same (Some import)) few;
+    is_fault = refl;
+  })
 
-pub as_before : (tables : Tables) → AsBefore tables tables
-as_before tables = record { clients = refl; next = refl; keys = refl; made = refl; rows = λ other. refl }
+  -- a broken rule
+  pub refused : (import : Option Import) (rule : Rule) (code : Code) → planned (facts_of caller key params import) ≡ Err (new_faults.Broken rule code)
+      → AnswersAfter setup past tables (event_by caller (making key params import)) (record { reply = Broken rule code; drawn = [] })
+  refused import rule code e =
+      let broken = is_broken (facts_of caller key params import) rule code e in
+      record {
+        follows = answered import [] (Broken rule code)
+            (sym (ap size_of (making_wanted setup past caller key params import ∙ ap (λ found. wanted_by_key found (option_map facts_of_import import)) broken)))
+            (sym (making_answer setup past caller key params import [] ∙ ap (λ found. made_or found (record no_fields { key = Some (next_key setup past) })) broken));
+        stands = denied_tables setup past (event_by caller (making key params import)) [] (Broken rule code) tables tables stands (same_tables tables) refl (none import [] (Broken rule code));
+      }
 
-pub still_stand : (setup : Setup) (past : History) (old new : Tables) → AsBefore old new → TablesStand setup old past → TablesStand setup new past
-still_stand setup past old new same stands = record {
-  connects = ap (λ t. t.made) same.clients ∙ stands.connects;
-  begins = same.made ∙ stands.begins;
-  next_key = same.next ∙ stands.next_key;
-  clients = λ other. ap (λ t. get nat_cmp t.uids other) same.clients ∙ stands.clients other;
-  keys = same.keys ∙ stands.keys;
-  operations = λ other. subst (λ (r : Option Operation). SameOperation (model.aad_of past other) (model.text_of past other) r (model.operation_at setup past other)) (sym (same.rows other)) (stands.operations other);
-}
+  -- a draw that failed
+  pub without_entropy : (import : Option Import) (new : Tables) (plan : NewKey) (drawn : List ℕ) → planned (facts_of caller key params import) ≡ Ok plan
+      → SameTables tables new → length drawn < plan.size + 12
+      → AnswersAfter setup past new (event_by caller (making key params import)) (record { reply = Stopped EntropyFault; drawn = drawn })
+  without_entropy import new plan drawn e still few =
+      let is = is_planned (facts_of caller key params import) plan e in
+      record {
+        follows = undrawn import drawn (subst (λ n. length drawn < n) (sym (planned_wanted setup past caller key params import plan is)) few);
+        stands = denied_tables setup past (event_by caller (making key params import)) drawn (Stopped EntropyFault) tables new stands still refl (none import drawn (Stopped EntropyFault));
+      }
 
--- the tables behind an entry that names no operation and changes nothing
-pub refused_tables : (setup : Setup) (past : History) (tables : Tables) (event : Event) (drawn : List ℕ) (rule : Rule) (code : Code) → TablesStand setup tables past → model.operation_of event.act ≡ None
-    → TablesStand setup tables (Acted event drawn (Broken rule code) ∷ past)
-refused_tables setup past tables event drawn rule code stands unnamed = record {
-  connects = stands.connects;
-  begins = stands.begins;
-  next_key = stands.next_key;
-  clients = stands.clients;
-  keys = stands.keys;
-  operations = λ other.
-      let aad : List ℕ = model.aad_of past other in
-      let text : List ℕ = model.text_of past other in
-      let opened : List model.Operation = model.open_of setup past in
-      let row : Option Operation = get nat_cmp tables.operations.rows other in
-      subst (λ (n : Option ℕ). SameOperation aad text row (find (λ (o : model.Operation). o.number == other) (if step_table.ends_operation rule then model.without_named n opened else opened))) (sym unnamed)
-      (elim (step_table.ends_operation rule) as (λ ends. SameOperation aad text row (find (λ (o : model.Operation). o.number == other) (if ends then opened else opened)))
-      [ true ↦ stands.operations other | false ↦ stands.operations other ]);
-}
+  -- the record of a key that is made
+  given_material : (material : Material) (import : Import) (size : ℕ) (drawn : List ℕ) → IsMaterial material (Some import) size → material_in material drawn ≡ import.material
+  given_material (materials.Given material) import size drawn is = is
+  given_material (materials.Drawn room) import size drawn is = absurd is
 
-pub unchanged : (setup : Setup) (past : History) (tables : Tables) (event : Event) (drawn : List ℕ) → TablesStand setup tables past → TablesStand setup tables (Acted event drawn (Stopped MemoryAllocationFailed) ∷ past)
-unchanged setup past tables event drawn stands = record {
-  connects = stands.connects;
-  begins = stands.begins;
-  next_key = stands.next_key;
-  clients = stands.clients;
-  keys = stands.keys;
-  operations = stands.operations;
-}
+  drawn_material : (material : Material) (size : ℕ) (drawn : List ℕ) → IsMaterial material None size → material_in material drawn ≡ drawn
+  drawn_material (materials.Given material) size drawn is = absurd is
+  drawn_material (materials.Drawn room) size drawn is = refl
 
-pub undrawn_tables : (setup : Setup) (past : History) (tables : Tables) (event : Event) (drawn : List ℕ) → TablesStand setup tables past → model.finished_by event.act ≡ None → TablesStand setup tables (Acted event drawn (Stopped EntropyFault) ∷ past)
-undrawn_tables setup past tables event drawn stands unnamed = record {
-  connects = stands.connects;
-  begins = stands.begins;
-  next_key = stands.next_key;
-  clients = stands.clients;
-  keys = stands.keys;
-  operations = λ other. subst (λ (n : Option ℕ). SameOperation (model.aad_of past other) (model.text_of past other) (get nat_cmp tables.operations.rows other) (find (λ (o : model.Operation). o.number == other) (model.without_named n (model.open_of setup past)))) (sym unnamed) (stands.operations other);
-}
+  made_record : (import : Option Import) (plan : NewKey) (room : KeyRoom) (number : ℕ) (drawn : List ℕ) → IsPlanned (facts_of caller key params import) plan
+      → IsKeyRoom room (owner_of caller) key plan import → key_change (making key params import) caller drawn number ≡ Makes (record_of number room drawn)
+  made_record None plan room number drawn is room_is =
+      let material = drawn_material room.material plan.size (take room.size drawn) room_is.material_is in
+      rw (material, room_is.owner_is, room_is.alias_is, room_is.list_is, room_is.limit_is, room_is.size_is, is.plan_is) refl
+  made_record (Some import) plan room number drawn is room_is =
+      let material = given_material room.material import plan.size (take room.size drawn) room_is.material_is in
+      rw (material, room_is.owner_is, room_is.alias_is, room_is.list_is, room_is.limit_is, room_is.size_is, is.plan_is) refl
 
-pub names_none : (key : Descriptor) (params : List ℕ) (import : Option Import) → model.operation_of (making key params import) ≡ None
-names_none key params None = refl
-names_none key params (Some import) = refl
+  made_answer : (import : Option Import) (plan : NewKey) (number : ℕ) (drawn : List ℕ) → IsPlanned (facts_of caller key params import) plan → number ≡ next_key setup past
+      → Done (record no_fields { key = Some number }) ≡ answer_by_rules (making key params import) setup past caller drawn
+  made_answer import plan number drawn is next =
+      ap (λ n. Done (record no_fields { key = Some n })) next
+      ∙ sym (making_answer setup past caller key params import drawn ∙ ap (λ found. made_or found (record no_fields { key = Some (next_key setup past) })) is.holds)
 
-pub finishes_none : (key : Descriptor) (params : List ℕ) (import : Option Import) → model.finished_by (making key params import) ≡ None
-finishes_none key params None = refl
-finishes_none key params (Some import) = refl
+  -- the keys after one that is made
+  made_keys : (import : Option Import) (middle new : Keys) (made : KeyRecord) (drawn : List ℕ) (fields : Fields) → SameKeys tables.keys middle → PutsKey made middle new
+      → key_change (making key params import) (caller_of past (event_by caller (making key params import))) drawn (next_key setup past) ≡ Makes made
+      → KeysStand setup new (Acted (event_by caller (making key params import)) drawn (Done fields) ∷ past)
+  made_keys import middle new made drawn fields still puts is =
+      let keys : keys_of setup (Acted (event_by caller (making key params import)) drawn (Done fields) ∷ past) ≡ with_key made (keys_of setup past) =
+      ap (λ change. keys_after change (keys_of setup past)) is in
+      record {
+        named = λ domain nspace alias.
+            puts.named domain nspace alias
+            ∙ ap (λ found. if is_named domain nspace alias made then Some made else found) (still.named domain nspace alias ∙ stands.keys.named domain nspace alias)
+            ∙ sym (ap (find (is_named domain nspace alias)) keys ∙ named_with made (keys_of setup past) domain nspace alias);
+        any = λ test.
+            puts.any test ∙ ap (λ b. b || test made) (still.any (apart made test) ∙ stands.keys.any (apart made test))
+            ∙ sym (ap (list_any test) keys ∙ any_with made (keys_of setup past) test);
+        next = puts.next ∙ ap (λ n. n + 1) (still.next ∙ stands.keys.next) ∙ sym (one_more import);
+      } where
+        one_more : (i : Option Import) → next_key setup (Acted (event_by caller (making key params i)) drawn (Done fields) ∷ past) ≡ next_key setup past + 1
+        one_more None = refl
+        one_more (Some i) = refl
 
--- the tables behind a key that is made
-pub made_tables : (setup : Setup) (past : History) (old new : Tables) (reading : Reading) (client uid : ℕ) (key : Descriptor) (params : List ℕ) (import : Option Import) (plan : NewKey) (drawn : List ℕ) (number : ℕ)
-    → TablesStand setup old past → IsPlanned (facts_of past reading client key params import) plan → uid ≡ unwrap_or (uid_of past client) 0
-    → number ≡ old.keys.next → new.keys.next ≡ number + 1 → new.keys.keys.items ≡ with_key (record_of number (new_record uid key plan import drawn)) old.keys.keys.items
-    → new.clients ≡ old.clients → new.operations ≡ old.operations
-    → TablesStand setup new (Acted (event_of reading client (making key params import)) drawn (Done (record no_fields { key = Some number })) ∷ past)
-made_tables setup past old new reading client uid key params None plan drawn number stands is owner first next keys clients operations = record {
-  connects = ap (λ t. t.made) clients ∙ stands.connects;
-  begins = ap (λ t. t.made) operations ∙ stands.begins;
-  next_key = next ∙ ap (λ n. n + 1) (first ∙ stands.next_key);
-  clients = λ other. ap (λ t. get nat_cmp t.uids other) clients ∙ stands.clients other;
-  keys = rw (is.plan_is, owner, first ∙ stands.next_key, stands.keys) at keys;
-  operations = λ other. subst (λ t. SameOperation (model.aad_of past other) (model.text_of past other) (get nat_cmp t.rows other) (model.operation_at setup past other)) (sym operations) (stands.operations other);
-}
-made_tables setup past old new reading client uid key params (Some import) plan drawn number stands is owner first next keys clients operations = record {
-  connects = ap (λ t. t.made) clients ∙ stands.connects;
-  begins = ap (λ t. t.made) operations ∙ stands.begins;
-  next_key = next ∙ ap (λ n. n + 1) (first ∙ stands.next_key);
-  clients = λ other. ap (λ t. get nat_cmp t.uids other) clients ∙ stands.clients other;
-  keys = rw (is.plan_is, owner, first ∙ stands.next_key, stands.keys) at keys;
-  operations = λ other. subst (λ t. SameOperation (model.aad_of past other) (model.text_of past other) (get nat_cmp t.rows other) (model.operation_at setup past other)) (sym operations) (stands.operations other);
-}
+  pub made : (import : Option Import) (middle : Tables) (new : Keys) (plan : NewKey) (room : KeyRoom) (drawn : List ℕ) (number : ℕ) → planned (facts_of caller key params import) ≡ Ok plan
+      → IsKeyRoom room (owner_of caller) key plan import → length drawn ≡ plan.size + 12 → number ≡ next_in middle.keys
+      → SameTables tables middle → PutsKey (record_of number room drawn) middle.keys new
+      → AnswersAfter setup past (record middle { keys = new }) (event_by caller (making key params import)) (record { reply = Done (record no_fields { key = Some number }); drawn = drawn })
+  made import middle new plan room drawn number e room_is long first still puts =
+      let is = is_planned (facts_of caller key params import) plan e in
+      let next : number ≡ next_key setup past = first ∙ still.keys.next ∙ stands.keys.next in
+      let event : Event = event_by caller (making key params import) in
+      let reply : Reply = Done (record no_fields { key = Some number }) in
+      record {
+        follows = answered import drawn reply (long ∙ sym (planned_wanted setup past caller key params import plan is)) (made_answer import plan number drawn is next);
+        stands = record {
+          clients = clients_stay setup past event drawn reply tables.clients middle.clients stands.clients still.clients (same_clients event reply (moves_none key params import)) (connects_none key params import);
+          keys = made_keys import middle.keys new (record_of number room drawn) drawn _ still.keys puts
+              (ap (λ c. key_change (making key params import) c drawn (next_key setup past)) (sym (same import)) ∙ ap (λ n. key_change (making key params import) caller drawn n) (sym next)
+              ∙ made_record import plan room number drawn is room_is);
+          operations = operations_stay setup past event drawn reply tables.operations middle.operations stands.operations still.operations (none import drawn reply) (begins_none key params import);
+          ciphers = ciphers_stay setup past event drawn reply tables.ciphers middle.ciphers stands.ciphers still.ciphers (none import drawn reply);
+        };
+      }
 
--- what the rules read of a call is what the history says
-pub same_facts : (setup : Setup) (past : History) (tables : Tables) (reading : Reading) (client : ℕ) (key : Descriptor) (params lent : List ℕ) (connected : Bool) (uid : Option ℕ) (imported : Option ImportFacts) (import : Option Import)
-    → TablesStand setup tables past → uid ≡ get nat_cmp tables.clients.uids client → connected ≡ is_some uid → lent ≡ params → imported ≡ option_map facts_of_import import
-    → ◌≡◌ {A = Facts} (record { connected = connected; descriptor = key; params = lent; import = imported; wall = reading.wall }) (facts_of past reading client key params import)
-same_facts setup past tables reading client key params lent connected uid imported import stands there some same is =
-    rw (some, there, stands.clients client, same, is) refl
+-- the bytes that are drawn fill the room
+pub fills : (room : KeyRoom) (owner : ℕ) (key : Descriptor) (plan : NewKey) (import : Option Import) (drawn : List ℕ) → IsKeyRoom room owner key plan import → length drawn ≡ plan.size + 12 → IsDrawn room drawn
+fills room owner key plan import drawn is long = record {
+  material = by_material import room.material is.material_is;
+  nonce = omega (arith, is.nonce_is, is.size_is, long, length-drop room.size drawn);
+  long = omega (arith, is.size_is, long);
+} where
+  by_material : (import : Option Import) (material : Material) → IsMaterial material import plan.size → CanFill material (take room.size drawn)
+  by_material None (materials.Given material) is_material = tt
+  by_material (Some i) (materials.Given material) is_material = tt
+  by_material None (materials.Drawn r) is_material = omega (arith, is_material, is.size_is, long, length-take room.size drawn)
+  by_material (Some i) (materials.Drawn r) is_material = absurd is_material

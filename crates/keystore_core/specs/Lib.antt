@@ -1,9 +1,11 @@
-pub mod Counts
-pub mod Records
-pub mod Drawing
-pub mod Running
+pub mod Clients
+pub mod Keys
+pub mod Operations
+pub mod Ciphers
+pub mod Room
+pub mod Drawn
 pub mod Creating
 pub mod Beginning
+pub mod Tables
 pub mod Stepping
-pub mod Stands
 pub mod Engine

@@ -1,29 +1,28 @@
 //! The beginning of an operation.
 
-ghost use Rattle.std.specs.Prelude.{◌≡◌, ℕ, ◌+◌, ◌-◌, ◌^◌, ◌==◌, false, [], Some, None, find, IfOk, if◌then◌else◌};
-ghost use Rattle.std.specs.BTreeMap.{get};
-ghost use Rattle.std.specs.Option.{option_and_then, option_copied, option_map_or};
-ghost use Rattle.std.specs.Ordering.{nat_cmp};
+ghost use Rattle.std.specs.Prelude.{◌≡◌, ℕ, ◌+◌, ◌-◌, ◌^◌, ◌==◌, ◌<◌, List, [], false, Some, None, IfOk, length, if◌then◌else◌};
+ghost use Rattle.std.specs.Option.{option_copied, option_map_or};
 ghost use Rattle.cipher_ops.specs.Sizes.{Fits};
+ghost use Rattle.cipher_ops.specs.Standing.{StandsFor};
 ghost use Rattle.keymint_ops.specs.Begin.{nonce_used};
 ghost use Rattle.rule_model.specs.declared.event.Act.TheVariants as acts;
-ghost use Rattle.rule_model.specs.declared.event.Reading.{Reading};
 ghost use Rattle.rule_model.specs.declared.entry.KeyRecord.{KeyRecord};
-ghost use Rattle.rule_model.specs.Keys.{alias_of, is_named};
-ghost use Rattle.rule_model.specs.Operations as model;
-ghost use Rattle.keystore_core.specs.Beginning.{IsBegun};
-ghost use Rattle.keystore_core.specs.Counts.{HasGiven};
-ghost use Rattle.keystore_core.specs.Drawing.{HasDrawn, HasDrawnFor};
-ghost use Rattle.keystore_core.specs.Stands.{Serves, event_of};
+ghost use Rattle.rule_model.specs.BeginFacts as model;
+ghost use Rattle.rule_model.specs.Operations.{is_limited};
+ghost use Rattle.keystore_core.specs.Beginning as spec;
+ghost use Rattle.keystore_core.specs.Drawn.{DrewForResult};
+ghost use Rattle.keystore_core.specs.Tables.{IsCaller, IsTables, ServesAfter, event_by};
 
-use crate::draws::draw_two;
+use crate::answered::Answered;
+use crate::draw_room::DrawRoom;
 use crate::operations::Operation;
-use crate::served::Served;
-use crate::tables::{Tables, alias_bytes};
+use crate::room::Room;
+use crate::tables::Tables;
+use cipher_ops::CipherState;
 use key_rules::{read_asked, usable};
 use keymint_ops::{Begin, BeginFault, plan_begin};
 use ks_outside::Entropy;
-use rule_model::{Fields, KeyRecord, NO_FIELDS, Reply};
+use rule_model::{Caller, Fields, KeyRecord, NO_FIELDS, Pieces, Reply};
 use std::alloc::Global;
 use tag_lists::{AuthList, ListFault};
 use tags::{Bytes, Descriptor, NoMemory};
@@ -51,14 +50,14 @@ fn is_usable(key: &KeyRecord, list: &Option<AuthList>) -> bool
 }
 
 /// What the rules of a begin read, by the key that is found.
-fn facts_on(
+fn begin_facts(
     alloc: Global,
     found: Option<&KeyRecord>,
-    connected: bool,
+    caller: Caller,
     key: Descriptor,
     params: &[u8],
 ) -> Result<BeginFacts, NoMemory>
-    ensures { IfOk result (λ facts. facts ≡ model.facts_on (option_copied found.entry) connected key params.now) }
+    ensures { IfOk result (λ facts. facts ≡ model.facts_on (option_copied found.entry) caller key params.now) }
 {
     let asked = read_asked(alloc, params)?;
     let (opened, fits) = match found {
@@ -70,7 +69,7 @@ fn facts_on(
         None => (None, false),
     };
     Ok(BeginFacts {
-        connected,
+        connected: caller.uid.is_some(),
         descriptor: key,
         found: found.is_some(),
         asked,
@@ -89,95 +88,82 @@ fn material_of(found: Option<&KeyRecord>) -> &[u8]
     }
 }
 
-/// The operation of a begin on a key, with nothing taken so far.
-fn new_operation(
-    alloc: Global,
-    client: u64,
-    key: &KeyRecord,
-    begin: &Begin,
-    drawn: &[u8],
-) -> Result<Operation, NoMemory>
-    requires { Fits begin.now.plan key.now.blob (nonce_used begin.now.nonce drawn.now) }
-    ensures { IfOk result (λ row. IsBegun row client key.now begin.now.plan (nonce_used begin.now.nonce drawn.now)) }
+/// What the rules read of a new operation on a key.
+fn new_operation(client: u64, key: &KeyRecord, begin: &Begin) -> Operation
+    ensures { spec.IsNewRow result client key.now begin.now.plan }
 {
-    let limited = key.limit != 0;
-    let state = begin.start(alloc, limited, key.blob.as_slice(), drawn)?;
-    Ok(Operation {
+    Operation {
         client,
-        key: key.id,
+        key: Some(key.id),
         plan: begin.plan,
-        limited,
+        limited: key.limit != 0,
         aad: 0,
         text: 0,
-        state: Some(state),
-    })
+    }
+}
+
+/// The cipher's state of a new operation on a key.
+fn new_cipher(alloc: Global, key: &KeyRecord, begin: &Begin, drawn: &[u8]) -> Result<CipherState, NoMemory>
+    requires { Fits begin.now.plan key.now.blob (nonce_used begin.now.nonce drawn.now) }
+    ensures { IfOk result (λ state. StandsFor state begin.now.plan (is_limited key.now.limit) key.now.blob (nonce_used begin.now.nonce drawn.now) [] []) }
+{
+    begin.start(alloc, key.limit != 0, key.blob.as_slice(), drawn)
 }
 
 /// The nonce that was drawn, for the reply.
-fn drawn_nonce(alloc: Global, wanted: usize, drawn: &[u8]) -> Result<Option<Bytes>, NoMemory>
-    ensures { IfOk result (λ nonce. nonce ≡ (if wanted == 0 then None else Some drawn.now)) }
+fn drawn_nonce(room: Room, wanted: usize, drawn: &[u8]) -> Option<Bytes>
+    requires { spec.IsNonceRoom room drawn.now }
+    ensures { result ≡ (if wanted == 0 then None else Some drawn.now) }
 {
     if wanted == 0 {
-        return Ok(None);
+        return None;
     }
-    Ok(Some(Bytes::copy_of(alloc, drawn)?))
+    Some(room.filled(drawn))
 }
 
 impl Tables {
-    /// The key that a client's descriptor finds.
-    fn find_key(&self, client: u64, key: &Descriptor) -> Option<&KeyRecord>
-        ensures { option_copied result ≡
-            option_and_then (λ uid. find (is_named 0 uid (alias_of key.now)) self.now.keys.keys.items) (get nat_cmp self.now.clients.uids client) }
-    {
-        match self.clients.uid_of(client) {
-            Some(uid) => self.keys.named(uid, alias_bytes(key)),
-            None => None,
-        }
-    }
-
     /// A client begins an operation on a key of its own.
     pub fn begin<N: Entropy>(
         &mut self,
         alloc: Global,
         entropy: &mut N,
-        client: u64,
+        caller: Caller,
         key: Descriptor,
         params: Bytes,
-    ) -> Result<Served, NoMemory>
-        requires { HasGiven self.old (2 ^ 62 - 1) }
-        ensures serves { (reading : Reading) → Serves self.old self.new (event_of reading client (acts.CreateOperation key params false)) result }
-        ensures drawn { HasDrawnFor (N.content entropy.old) (N.content entropy.new) (N.fault_count entropy.old) (N.fault_count entropy.new) result }
-        ensures given { (n : ℕ) → HasGiven self.old n → HasGiven self.new (n + 1) }
+    ) -> Result<Answered, NoMemory>
+        requires tables { ∥ IsTables self.old (2 ^ 62 - 1) ∥₁ }
+        requires caller { IsCaller self.old caller }
+        ensures serves { ServesAfter self.old self.new (event_by caller (acts.CreateOperation key params false)) result }
+        ensures drew { DrewForResult N.Entropy entropy.old entropy.new result }
     {
-        let connected = self.clients.uid_of(client).is_some();
-        let found = self.find_key(client, &key);
-        let facts = facts_on(alloc, found, connected, key, params.as_slice())?;
+        let found = self.keys.found(caller, &key);
+        let facts = begin_facts(alloc, found, caller, key, params.as_slice())?;
         let begin = match plan_begin(alloc, &facts, material_of(found)) {
             Ok(begin) => begin,
-            Err(BeginFault::Broken(rule, code)) => return Ok(Served::refused(alloc, rule, code)),
+            Err(BeginFault::Broken(rule, code)) => return Ok(Answered::refused(alloc, rule, code)),
             Err(BeginFault::Memory) => return Err(NoMemory),
         };
         let Some(found) = found else { unreachable!() };
-        let room = vec![in alloc; 0; begin.wanted]?;
-        let drawn = match draw_two(entropy, room, begin.wanted) {
+        let nonce = Room::of(alloc, begin.wanted)?;
+        let draws = DrawRoom::of(alloc, Pieces { first: begin.wanted, second: 0 })?;
+        let op = self.operations.next();
+        self.operations.reserve()?;
+        self.ciphers.reserve(op)?;
+        let drawn = match draws.draw(entropy) {
             Ok(drawn) => drawn,
-            Err(drawn) => return Ok(Served::without_entropy(drawn)),
+            Err(drawn) => return Ok(Answered::without_entropy(drawn)),
         };
-        let Ok(nonce) = drawn_nonce(alloc, begin.wanted, drawn.as_slice()) else {
-            return Ok(Served::without_memory(drawn));
+        let Ok(state) = new_cipher(alloc, found, &begin, drawn.as_slice()) else {
+            return Ok(Answered::without_memory(drawn));
         };
-        let Ok(operation) = new_operation(alloc, client, found, &begin, drawn.as_slice()) else {
-            return Ok(Served::without_memory(drawn));
-        };
-        let Ok(op) = self.operations.begin(operation) else {
-            return Ok(Served::without_memory(drawn));
-        };
+        self.operations.open(new_operation(caller.client, found, &begin));
+        self.ciphers.put(op, state);
         let fields = Fields {
             op: Some(op),
-            nonce,
+            nonce: drawn_nonce(nonce, begin.wanted, drawn.as_slice()),
             ..NO_FIELDS
         };
-        Ok(Served {
+        Ok(Answered {
             reply: Reply::Done(fields),
             drawn,
         })

@@ -1,6 +1,8 @@
-ghost use Rattle.std.specs.Prelude.{◌≡◌, ◌≢◌, ℕ, ◌+◌, ◌^◌, ◌<◌, ◌==◌, Some, IfOk, OnOk, OnErr, if◌then◌else◌};
-ghost use Rattle.std.specs.Ordering.{nat_cmp};
-ghost use Rattle.std.specs.BTreeMap.{get};
+//! The connected clients.
+
+ghost use Rattle.std.specs.Prelude.{◌≡◌, ◌+◌, ◌^◌, ◌<◌, IfOk, OnErr, None, ℕ};
+ghost use Rattle.rule_model.specs.Clients.{Comes};
+ghost use Rattle.keystore_core.specs.Clients.{ChangesClients, SameClients, clients_given, uid_in};
 
 use std::alloc::Global;
 use std::collections::BTreeMap;
@@ -15,8 +17,8 @@ pub struct Clients {
 
 impl Clients {
     pub fn new(alloc: Global) -> Clients
-        ensures uids { (client : ℕ) → get nat_cmp result.uids client ≡ None }
-        ensures made { result.made ≡ 0 }
+        ensures uids { (client : ℕ) → uid_in result client ≡ None }
+        ensures given { clients_given result ≡ 0 }
     {
         Clients {
             uids: BTreeMap::new(alloc),
@@ -26,19 +28,18 @@ impl Clients {
 
     /// The uid of a connected client.
     pub fn uid_of(&self, client: u64) -> Option<u32>
-        ensures { result ≡ get nat_cmp self.now.uids client }
+        ensures { result ≡ uid_in self.now client }
     {
         self.uids.get(&client).copied()
     }
 
     /// Takes in a new client and answers its number.
     pub fn connect(&mut self, uid: u32) -> Result<u64, NoMemory>
-        requires { self.old.made < 2 ^ 62 }
-        ensures number { IfOk result (λ client. (client ≡ self.old.made + 1) × (self.new.made ≡ client)) }
-        ensures uids { IfOk result (λ client. (other : ℕ) →
-            get nat_cmp self.new.uids other ≡ (if client == other then Some uid else get nat_cmp self.old.uids other)) }
-        ensures made { OnErr result (self.new.made ≡ self.old.made) }
-        ensures err { OnErr result ((other : ℕ) → get nat_cmp self.new.uids other ≡ get nat_cmp self.old.uids other) }
+        requires { clients_given self.old < 2 ^ 62 }
+        ensures number { IfOk result (λ client. client ≡ clients_given self.old + 1) }
+        ensures given { IfOk result (λ client. clients_given self.new ≡ client) }
+        ensures comes { IfOk result (λ client. ChangesClients (Comes client uid) self.old self.new) }
+        ensures err { OnErr result (SameClients self.old self.new) }
     {
         let client = self.made + 1;
         self.uids.insert(client, uid)?;

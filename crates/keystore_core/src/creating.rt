@@ -1,23 +1,22 @@
 //! A new key of an app: generated, or imported.
 
-ghost use Rattle.std.specs.Prelude.{◌≡◌, ℕ, ◌+◌, ◌-◌, ◌^◌, ◌≤◌, length, IfOk, OnErr};
+ghost use Rattle.std.specs.Prelude.{◌≡◌, ◌+◌, ◌-◌, ◌^◌, ◌<◌, length, IfOk};
 ghost use Rattle.std.specs.Option.{option_map};
-ghost use Rattle.rule_model.specs.declared.event.Reading.{Reading};
-ghost use Rattle.rule_model.specs.Keys.{alias_of, with_key};
-ghost use Rattle.keystore_core.specs.Counts.{HasGiven};
+ghost use Rattle.key_rules.specs.Facts.{lent};
+ghost use Rattle.rule_model.specs.NewFacts as model;
 ghost use Rattle.keystore_core.specs.Creating as spec;
-ghost use Rattle.keystore_core.specs.Drawing.{HasDrawn, HasDrawnFor};
-ghost use Rattle.keystore_core.specs.Records.{record_of};
-ghost use Rattle.keystore_core.specs.Stands.{Serves, event_of};
+ghost use Rattle.keystore_core.specs.Drawn.{DrewForResult};
+ghost use Rattle.keystore_core.specs.Tables.{IsCaller, IsTables, ServesAfter, event_by};
 
-use crate::draws::draw_two;
-use crate::keys::NewRecord;
-use crate::served::Served;
-use crate::tables::{Tables, into_alias};
+use crate::answered::Answered;
+use crate::descriptors::into_alias;
+use crate::draw_room::DrawRoom;
+use crate::room::Room;
+use crate::tables::Tables;
 use key_rules::{ImportFacts, NewFacts, NewFault};
 use keymint_ops::{NewKey, plan_key};
 use ks_outside::Entropy;
-use rule_model::{Fields, NO_FIELDS, Reading, Reply};
+use rule_model::{Caller, Fields, KeyRecord, NO_FIELDS, Pieces, Reply};
 use std::alloc::Global;
 use tags::{Bytes, Descriptor, NoMemory};
 
@@ -31,7 +30,28 @@ pub struct Import {
     pub material: Bytes,
 }
 
-/// What the rules read of an import.
+/// Where a new key's material comes from: it was given, or it is drawn into this room.
+#[derive(Drop)]
+pub enum Material {
+    Given(Bytes),
+    Drawn(Room),
+}
+
+/// All of a new key but its number and what is drawn for it.
+#[derive(Drop)]
+pub struct KeyRoom {
+    owner: u32,
+    alias: Bytes,
+    /// the kept list, encoded
+    list: Bytes,
+    /// how many uses the key has in its life, or 0 for no limit
+    limit: u32,
+    /// how many bytes of material are drawn
+    size: usize,
+    material: Material,
+    nonce: Room,
+}
+
 fn import_facts(import: &Option<Import>) -> Option<ImportFacts>
     ensures { result ≡ option_map spec.facts_of_import import.now }
 {
@@ -44,106 +64,147 @@ fn import_facts(import: &Option<Import>) -> Option<ImportFacts>
     }
 }
 
-/// What is kept of a new key: its material is the imported one or the first bytes that were drawn, and its nonce the last.
-fn new_record(
-    alloc: Global,
-    uid: u32,
-    key: Descriptor,
-    plan: NewKey,
-    import: Option<Import>,
-    drawn: &[u8],
-) -> Result<NewRecord, NoMemory>
-    requires { plan.size ≤ length drawn.now }
-    ensures { IfOk result (λ new. new ≡ spec.new_record uid key plan import drawn.now) }
+/// What the rules of a new key read.
+fn new_facts<'a>(
+    caller: Caller,
+    key: &'a Descriptor,
+    params: &'a [u8],
+    import: &Option<Import>,
+) -> NewFacts<'a>
+    ensures { lent result ≡ model.new_facts caller key.now params.now (option_map spec.facts_of_import import.now) }
 {
-    let (front, back) = drawn.split_at(plan.size);
-    let material = match import {
-        Some(import) => import.material,
-        None => Bytes::copy_of(alloc, front)?,
-    };
-    let nonce = Bytes::copy_of(alloc, back)?;
-    Ok(NewRecord {
-        uid,
-        alias: into_alias(alloc, key),
-        material,
-        nonce,
-        list: plan.list,
-        limit: plan.limit,
-    })
+    NewFacts {
+        connected: caller.uid.is_some(),
+        descriptor: key,
+        params,
+        import: import_facts(import),
+        wall: caller.reading.wall,
+    }
 }
 
-impl Tables {
-    /// Keeps a new key by its plan and the drawn bytes, and answers its number.
-    fn keep_key(
-        &mut self,
+impl Material {
+    /// The imported material, or room for `size` drawn bytes.
+    fn of(alloc: Global, import: Option<Import>, size: usize) -> Result<Material, NoMemory>
+        ensures { IfOk result (λ material. spec.IsMaterial material import size) }
+    {
+        match import {
+            Some(import) => Ok(Material::Given(import.material)),
+            None => Ok(Material::Drawn(Room::of(alloc, size)?)),
+        }
+    }
+
+    /// The material, where these bytes are drawn for it.
+    fn filled(self, drawn: &[u8]) -> Bytes
+        requires { spec.CanFill self drawn.now }
+        ensures { result ≡ spec.material_in self drawn.now }
+    {
+        match self {
+            Material::Given(material) => material,
+            Material::Drawn(room) => room.filled(drawn),
+        }
+    }
+}
+
+impl KeyRoom {
+    /// Takes the room of a planned key.
+    fn of(
         alloc: Global,
-        uid: u32,
+        owner: u32,
         key: Descriptor,
         plan: NewKey,
         import: Option<Import>,
-        drawn: &[u8],
-    ) -> Result<u64, NoMemory>
-        requires given { HasGiven self.old (2 ^ 62 - 1) }
-        requires size { plan.size ≤ length drawn.now }
-        ensures number { IfOk result (λ number. (number ≡ self.old.keys.next) × (self.new.keys.next ≡ number + 1)) }
-        ensures keys { IfOk result (λ number. self.new.keys.keys.items ≡
-            with_key (record_of number (spec.new_record uid key plan import drawn.now)) self.old.keys.keys.items) }
-        ensures next { OnErr result (self.new.keys.next ≡ self.old.keys.next) }
-        ensures err { OnErr result (self.new.keys.keys.items ≡ self.old.keys.keys.items) }
-        ensures clients { self.new.clients ≡ self.old.clients }
-        ensures operations { self.new.operations ≡ self.old.operations }
+    ) -> Result<KeyRoom, NoMemory>
+        ensures { IfOk result (λ room. spec.IsKeyRoom room owner key plan import) }
     {
-        let record = new_record(alloc, uid, key, plan, import, drawn)?;
-        self.keys.put(record)
+        let NewKey { list, limit, size } = plan;
+        Ok(KeyRoom {
+            owner,
+            alias: into_alias(alloc, key),
+            list,
+            limit,
+            size,
+            material: Material::of(alloc, import, size)?,
+            nonce: Room::of(alloc, NONCE_BYTES)?,
+        })
     }
 
+    /// What is drawn for the key.
+    fn pieces(&self) -> Pieces
+        ensures { result ≡ spec.pieces_of self.now }
+    {
+        Pieces {
+            first: self.size,
+            second: NONCE_BYTES,
+        }
+    }
+
+    /// The key under its number, by the bytes that were drawn for it.
+    fn into_record(self, id: u64, drawn: &[u8]) -> KeyRecord
+        requires { spec.IsDrawn self drawn.now }
+        ensures { result ≡ spec.record_of id self drawn.now }
+    {
+        let KeyRoom {
+            owner,
+            alias,
+            list,
+            limit,
+            size,
+            material,
+            nonce,
+        } = self;
+        let (front, back) = drawn.split_at(size);
+        KeyRecord {
+            id,
+            domain: 0,
+            nspace: u64::from(owner),
+            alias,
+            blob: material.filled(front),
+            nonce: nonce.filled(back),
+            list,
+            limit,
+            left: limit,
+        }
+    }
+}
+
+impl Tables {
     /// A client makes a key under an alias of its own: an imported one, or else a generated one.
     pub fn make_key<N: Entropy>(
         &mut self,
         alloc: Global,
         entropy: &mut N,
-        reading: Reading,
-        client: u64,
+        caller: Caller,
         key: Descriptor,
         params: Bytes,
         import: Option<Import>,
-    ) -> Result<Served, NoMemory>
-        requires { HasGiven self.old (2 ^ 62 - 1) }
-        ensures serves { Serves self.old self.new (event_of reading client (spec.making key params import)) result }
-        ensures drawn { HasDrawnFor (N.content entropy.old) (N.content entropy.new) (N.fault_count entropy.old) (N.fault_count entropy.new) result }
-        ensures given { (n : ℕ) → HasGiven self.old n → HasGiven self.new (n + 1) }
+    ) -> Result<Answered, NoMemory>
+        requires tables { ∥ IsTables self.old (2 ^ 62 - 1) ∥₁ }
+        requires caller { IsCaller self.old caller }
+        ensures serves { ServesAfter self.old self.new (event_by caller (spec.making key params import)) result }
+        ensures drew { DrewForResult N.Entropy entropy.old entropy.new result }
     {
-        let uid = self.clients.uid_of(client);
-        let facts = NewFacts {
-            connected: uid.is_some(),
-            descriptor: &key,
-            params: params.as_slice(),
-            import: import_facts(&import),
-            wall: reading.wall,
-        };
+        let facts = new_facts(caller, &key, params.as_slice(), &import);
         let plan = match plan_key(alloc, &facts) {
             Ok(plan) => plan,
-            Err(NewFault::Broken(rule, code)) => return Ok(Served::refused(alloc, rule, code)),
+            Err(NewFault::Broken(rule, code)) => return Ok(Answered::refused(alloc, rule, code)),
             Err(NewFault::Memory) => return Err(NoMemory),
         };
-        let room = vec![in alloc; 0; plan.size + NONCE_BYTES]?;
-        let drawn = match draw_two(entropy, room, plan.size) {
+        let room = KeyRoom::of(alloc, caller.uid.unwrap_or(0), key, plan, import)?;
+        let draws = DrawRoom::of(alloc, room.pieces())?;
+        self.keys.reserve()?;
+        let drawn = match draws.draw(entropy) {
             Ok(drawn) => drawn,
-            Err(drawn) => return Ok(Served::without_entropy(drawn)),
+            Err(drawn) => return Ok(Answered::without_entropy(drawn)),
         };
-        let owner = uid.unwrap_or(0);
-        match self.keep_key(alloc, owner, key, plan, import, drawn.as_slice()) {
-            Ok(id) => {
-                let fields = Fields {
-                    key: Some(id),
-                    ..NO_FIELDS
-                };
-                Ok(Served {
-                    reply: Reply::Done(fields),
-                    drawn,
-                })
-            }
-            Err(NoMemory) => Ok(Served::without_memory(drawn)),
-        }
+        let id = self.keys.next();
+        self.keys.put(room.into_record(id, drawn.as_slice()));
+        let fields = Fields {
+            key: Some(id),
+            ..NO_FIELDS
+        };
+        Ok(Answered {
+            reply: Reply::Done(fields),
+            drawn,
+        })
     }
 }

@@ -1,13 +1,12 @@
-ghost use Rattle.std.specs.Prelude.{◌≡◌, ℕ, ◌+◌, ◌^◌, ◌<◌, ◌≤◌, ◌∷◌, [], true, None, IfOk};
-ghost use Rattle.ks_outside.specs.Draws.{Draws};
-ghost use Rattle.ks_outside.specs.Faults.{Rises};
-ghost use Rattle.rule_model.specs.declared.entry.Entry.TheVariants.{Acted};
-ghost use Rattle.rule_model.specs.Answer.{MayFollow};
-ghost use Rattle.rule_model.specs.Drawing.{is_entropy_fault};
-ghost use Rattle.rule_model.specs.Entries.{History};
+//! The engine's step.
+
+ghost use Rattle.std.specs.Prelude.{◌≡◌, ℕ, ◌+◌, ◌^◌, ◌<◌, [], None, IfOk};
+ghost use Rattle.ks_outside.specs.Shown.{Drew};
+ghost use Rattle.rule_model.specs.Drawn.{is_entropy_fault};
+ghost use Rattle.rule_model.specs.Entries.{History, after_step};
+ghost use Rattle.rule_model.specs.Legal.{MayStep};
 ghost use Rattle.rule_model.specs.Setup.{Setup, empty_lasting};
-ghost use Rattle.keystore_core.specs.Counts.{HasGiven};
-ghost use Rattle.keystore_core.specs.Stands.{IsTables};
+ghost use Rattle.keystore_core.specs.Tables.{IsTables};
 
 use crate::tables::Tables;
 use ks_outside::{Disk, Entropy};
@@ -22,8 +21,7 @@ pub struct Engine {
     /// how many entries were made
     entries: u64,
     tables: Tables,
-    ghost given: { HasGiven tables entries },
-    ghost stands: { ∥ IsTables tables ∥₁ },
+    ghost stands: { ∥ IsTables tables entries ∥₁ },
 }
 
 impl Engine {
@@ -46,8 +44,9 @@ impl Engine {
         })
     }
 
-    /// Takes one event. What the engine stood for goes on by one entry: the event, the bytes that were drawn for it, and
-    /// the reply. The bytes are those that the entropy gave, and a draw failed only where its count rose.
+    /// Takes one event. What the engine stood for goes on by one step: what it settled, and the event with the bytes that
+    /// were drawn for it and the reply. The bytes are those that the entropy gave, and a draw failed exactly where the reply
+    /// says so.
     pub fn step<D: Disk, N: Entropy>(
         &mut self,
         _disk: &mut D,
@@ -56,22 +55,20 @@ impl Engine {
     ) -> Stepped
         requires { entries_of self.old < 2 ^ 62 }
         ensures stands { (setup : Setup) (past : History) → Stands setup self.old past →
-            Stands setup self.new (Acted event result.drawn result.reply ∷ past) }
+            Stands setup self.new (after_step result.settled event result.drawn result.reply past) }
         ensures follows { (setup : Setup) (past : History) → Stands setup self.old past →
-            MayFollow setup past (Acted event result.drawn result.reply) }
+            MayStep setup past result.settled event result.drawn result.reply }
         ensures settled { result.settled ≡ None }
         ensures entries { entries_of self.new ≡ entries_of self.old + 1 }
         ensures disk { _disk.new ≡ _disk.old }
-        ensures draws { Draws (N.content entropy.old) (N.content entropy.new) result.drawn }
-        ensures later { N.fault_count entropy.old ≤ N.fault_count entropy.new }
-        ensures cause { is_entropy_fault result.reply ≡ true → Rises (N.fault_count entropy.old) (N.fault_count entropy.new) }
+        ensures drew { Drew N.Entropy entropy.old entropy.new result.drawn (is_entropy_fault result.reply) }
     {
-        let served = self.tables.answer(self.alloc, entropy, event);
+        let answered = self.tables.answer(self.alloc, entropy, event);
         self.entries += 1;
         Stepped {
             settled: None,
-            reply: served.reply,
-            drawn: served.drawn,
+            reply: answered.reply,
+            drawn: answered.drawn,
         }
     }
 }

@@ -1,60 +1,20 @@
-ghost use Rattle.std.specs.Prelude.{◌≡◌, ℕ, ◌+◌, ◌^◌, ◌<◌, ◌≤◌, ◌==◌, [], ◌∷◌, ◌++◌, not, filter, find, vec_len, vec_capacity, IfOk, OnOk, OnErr};
-ghost use Rattle.std.specs.List.{list_any};
-ghost use Rattle.std.specs.Option.{option_copied};
-ghost use Rattle.rule_model.specs.declared.entry.KeyRecord.{KeyRecord};
-ghost use Rattle.rule_model.specs.Keys.{is_named as has_name, with_key};
+//! The live keys.
 
-use rule_model::KeyRecord;
+ghost use Rattle.std.specs.Prelude.{◌≡◌, ℕ, ◌+◌, ◌^◌, ◌<◌, ◌≤◌, List, not, filter, vec_len, vec_capacity, None, false, OnOk};
+ghost use Rattle.std.specs.Option.{option_and_then, option_copied};
+ghost use Rattle.rule_model.specs.Keys.{alias_of, is_named as has_name};
+ghost use Rattle.keystore_core.specs.Keys.{HasRoomForKey, PutsKey, SameKeys, any_in, key_named_in, live_in, next_in};
+
+use crate::descriptors::alias_bytes;
+use rule_model::{Caller, KeyRecord};
 use std::alloc::Global;
-use tags::{Bytes, NoMemory};
+use tags::{Descriptor, NoMemory};
 
 /// The live keys in the order of their numbers.
 #[derive(Drop)]
 pub struct Keys {
     keys: Vec<KeyRecord>,
     next: u64,
-}
-
-/// What is kept of a new key of an app.
-#[derive(Drop)]
-pub struct NewRecord {
-    pub uid: u32,
-    pub alias: Bytes,
-    pub material: Bytes,
-    pub nonce: Bytes,
-    /// the kept list, encoded
-    pub list: Bytes,
-    /// how many uses the key has in its life, or 0 for no limit
-    pub limit: u32,
-}
-
-impl NewRecord {
-    ghost use Rattle.keystore_core.specs.Records.{record_of};
-
-    /// The key's record under its number.
-    fn into_record(self, id: u64) -> KeyRecord
-        ensures { result ≡ record_of id self }
-    {
-        let NewRecord {
-            uid,
-            alias,
-            material,
-            nonce,
-            list,
-            limit,
-        } = self;
-        KeyRecord {
-            id,
-            domain: 0,
-            nspace: u64::from(uid),
-            alias,
-            blob: material,
-            nonce,
-            list,
-            limit,
-            left: limit,
-        }
-    }
 }
 
 fn is_named(key: &KeyRecord, domain: u32, nspace: u64, alias: &[u8]) -> bool
@@ -73,11 +33,13 @@ fn end_named(keys: &mut Vec<KeyRecord>, domain: u32, nspace: u64, alias: &[u8])
 }
 
 impl Keys {
-    ghost use Rattle.keystore_core.specs.Records.{record_of};
+    ghost use Rattle.std.specs.Prelude.{Bool};
+    ghost use Rattle.rule_model.specs.declared.entry.KeyRecord.{KeyRecord};
 
     pub fn new(alloc: Global) -> Keys
-        ensures keys { result.keys.items ≡ [] }
-        ensures next { result.next ≡ 1 }
+        ensures named { (domain nspace : ℕ) (alias : List ℕ) → key_named_in result domain nspace alias ≡ None }
+        ensures any { (test : KeyRecord → Bool) → any_in result test ≡ false }
+        ensures next { next_in result ≡ 1 }
     {
         Keys {
             keys: Vec::new(alloc),
@@ -85,38 +47,59 @@ impl Keys {
         }
     }
 
-    /// The key of an app with this alias.
-    pub fn named(&self, uid: u32, alias: &[u8]) -> Option<&KeyRecord>
-        ensures { option_copied result ≡ find (has_name 0 uid alias.now) self.now.keys.items }
+    /// The key of an owner with this alias.
+    pub fn named(&self, domain: u32, nspace: u64, alias: &[u8]) -> Option<&KeyRecord>
+        ensures { option_copied result ≡ key_named_in self.now domain nspace alias.now }
     {
         self.keys
             .iter()
-            .find(|key| is_named(key, 0, u64::from(uid), alias))
+            .find(|key| is_named(key, domain, nspace, alias))
+    }
+
+    /// The key that a caller's descriptor finds.
+    pub fn found(&self, caller: Caller, key: &Descriptor) -> Option<&KeyRecord>
+        ensures { option_copied result ≡ option_and_then (λ uid. key_named_in self.now 0 uid (alias_of key.now)) caller.uid }
+    {
+        match caller.uid {
+            Some(uid) => self.named(0, u64::from(uid), alias_bytes(key)),
+            None => None,
+        }
     }
 
     /// Whether the key of this number has not ended.
     pub fn is_live(&self, id: u64) -> bool
-        ensures { result ≡ list_any (λ (key : KeyRecord). key.id == id) self.now.keys.items }
+        ensures { result ≡ live_in self.now id }
     {
         self.keys.iter().any(|key| key.id == id)
     }
 
-    /// Keeps a new key of an app and answers its number; one under the same alias ends.
-    pub fn put(&mut self, new: NewRecord) -> Result<u64, NoMemory>
-        requires { self.old.next < 2 ^ 63 }
-        ensures number { IfOk result (λ number. (number ≡ self.old.next) × (self.new.next ≡ number + 1)) }
-        ensures keys { IfOk result (λ number. self.new.keys.items ≡ with_key (record_of number new) self.old.keys.items) }
-        ensures next { OnErr result (self.new.next ≡ self.old.next) }
-        ensures err { OnErr result (self.new.keys.items ≡ self.old.keys.items) }
+    /// The number that the next key takes.
+    pub fn next(&self) -> u64
+        ensures { result ≡ next_in self.now }
+    {
+        self.next
+    }
+
+    /// Takes room for one key more.
+    pub fn reserve(&mut self) -> Result<(), NoMemory>
+        ensures room { OnOk result (HasRoomForKey self.new) }
+        ensures same { SameKeys self.old self.new }
     {
         self.keys.reserve(1)?;
-        let id = self.next;
-        let key = new.into_record(id);
+        Ok(())
+    }
+
+    /// Keeps a new key under the next number; one under the same owner and alias ends.
+    pub fn put(&mut self, key: KeyRecord)
+        requires room { HasRoomForKey self.old }
+        requires few { next_in self.old < 2 ^ 63 }
+        requires number { key.id ≡ next_in self.old }
+        ensures { PutsKey key self.old self.new }
+    {
         end_named(&mut self.keys, key.domain, key.nspace, key.alias.as_slice());
         let Ok(()) = self.keys.push(key) else {
             unreachable!()
         };
-        self.next = id + 1;
-        Ok(id)
+        self.next += 1;
     }
 }

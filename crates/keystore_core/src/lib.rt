@@ -4,14 +4,19 @@
 //! history with the step's entry, and that entry may follow the history by the definitions of `rule_model`.
 #![tactic(auto)]
 
+mod answered;
 mod beginning;
+mod ciphers;
 mod clients;
+mod connecting;
 mod creating;
+mod descriptors;
+mod draw_room;
 mod draws;
 mod engine;
 mod keys;
 mod operations;
-mod served;
+mod room;
 mod stepping;
 mod tables;
 

@@ -1,19 +1,19 @@
-ghost use Rattle.std.specs.Prelude.{◌≡◌, ℕ, ◌+◌, ◌^◌, ◌<◌, ◌≤◌, ◌==◌, false, Option, Some, None, IfOk, IfSome, OnErr, if◌then◌else◌};
-ghost use Rattle.std.specs.Option.{option_copied};
-ghost use Rattle.std.specs.Ordering.{nat_cmp};
-ghost use Rattle.std.specs.BTreeMap.{get};
+//! The open operations, with what the rules read of each.
 
-use cipher_ops::{CipherState, Job, JobRoom};
+ghost use Rattle.std.specs.Prelude.{◌≡◌, ℕ, ◌+◌, ◌^◌, ◌<◌, ◌≤◌, ◌==◌, false, Some, None, OnOk, OnErr, if◌then◌else◌};
+ghost use Rattle.std.specs.Option.{option_copied};
+ghost use Rattle.keystore_core.specs.Operations.{HasRoomForOperation, Lengthens, MayLengthen, OtherRowsStay, SameRows, operation_in, operations_given};
+
 use std::alloc::Global;
 use std::collections::BTreeMap;
-use tags::{Bytes, Code, NoMemory, Plan};
+use tags::{NoMemory, Plan};
 
-/// An open operation, with what the rules read of it. Lengths are in bytes.
-#[derive(Drop)]
+/// What the rules read of an open operation. Lengths are in bytes.
+#[derive(Clone, Copy, Debug, PartialEq, Eq)]
 pub struct Operation {
     pub client: u64,
-    /// the key's number
-    pub key: u64,
+    /// the key's number, where the key is stored
+    pub key: Option<u64>,
     pub plan: Plan,
     /// whether all output comes at the finish
     pub limited: bool,
@@ -21,8 +21,6 @@ pub struct Operation {
     pub aad: u64,
     /// how long the text is so far
     pub text: u64,
-    /// the cipher's state, which its last work uses up
-    pub state: Option<CipherState>,
 }
 
 /// How many bytes a work adds to an operation.
@@ -32,40 +30,31 @@ pub struct Added {
     pub text: u64,
 }
 
-impl Operation {
-    ghost use Rattle.keystore_core.specs.Running.{CanWork, Worked};
-
-    /// Does a work, and goes on by it.
-    fn work(&mut self, number: u64, room: JobRoom, added: Added) -> Result<Bytes, Code>
-        requires ready { CanWork self.old.state room }
-        requires few { self.old.aad + added.aad + (self.old.text + added.text) ≤ 1048576 }
-        ensures { Worked self.old self.new room added result }
-    {
-        let Some(state) = self.state.take() else {
-            unreachable!()
-        };
-        let done = Job::new(state, number, room).run();
-        self.state = done.state;
-        self.aad += added.aad;
-        self.text += added.text;
-        done.result
-    }
-}
-
-/// The open operations by their numbers.
+/// The open operations by their numbers. A place without an operation is room for one.
 #[derive(Drop)]
 pub struct Operations {
-    rows: BTreeMap<u64, Operation>,
+    rows: BTreeMap<u64, Option<Operation>>,
     made: u64,
 }
 
-impl Operations {
-    ghost use Rattle.keystore_core.specs.declared.operations.Operation.{Operation};
-    ghost use Rattle.keystore_core.specs.Running.{CanWorkAt, WorkedAt};
+/// Counts what a work adds to the operation of a place.
+fn lengthen_row(place: &mut Option<Operation>, added: Added)
+    requires { MayLengthen place.old added }
+    ensures { Lengthens added.aad added.text place.old place.new }
+{
+    match place {
+        Some(row) => {
+            row.aad += added.aad;
+            row.text += added.text;
+        }
+        None => unreachable!(),
+    }
+}
 
+impl Operations {
     pub fn new(alloc: Global) -> Operations
-        ensures rows { (number : ℕ) → get nat_cmp result.rows number ≡ None }
-        ensures made { result.made ≡ 0 }
+        ensures rows { (number : ℕ) → operation_in result number ≡ None }
+        ensures given { operations_given result ≡ 0 }
     {
         Operations {
             rows: BTreeMap::new(alloc),
@@ -74,47 +63,71 @@ impl Operations {
     }
 
     /// The open operation of a number.
-    pub fn get(&self, number: u64) -> Option<&Operation>
-        ensures { option_copied result ≡ get nat_cmp self.now.rows number }
+    pub fn get(&self, number: u64) -> Option<Operation>
+        ensures { result ≡ operation_in self.now number }
     {
-        self.rows.get(&number)
+        match self.rows.get(&number) {
+            Some(row) => *row,
+            None => None,
+        }
     }
 
-    /// Opens an operation and answers its number.
-    pub fn begin(&mut self, operation: Operation) -> Result<u64, NoMemory>
-        requires { self.old.made < 2 ^ 62 }
-        ensures number { IfOk result (λ number. (number ≡ self.old.made + 1) × (self.new.made ≡ number)) }
-        ensures rows { IfOk result (λ number. (other : ℕ) →
-            get nat_cmp self.new.rows other ≡ (if number == other then Some operation else get nat_cmp self.old.rows other)) }
-        ensures made { OnErr result (self.new.made ≡ self.old.made) }
-        ensures err { OnErr result ((other : ℕ) → get nat_cmp self.new.rows other ≡ get nat_cmp self.old.rows other) }
+    /// The number that the next operation takes.
+    pub fn next(&self) -> u64
+        requires { operations_given self.now < 2 ^ 62 }
+        ensures { result ≡ operations_given self.now + 1 }
     {
-        let number = self.made + 1;
-        self.rows.insert(number, operation)?;
+        self.made + 1
+    }
+
+    /// Takes the room of the next operation.
+    pub fn reserve(&mut self) -> Result<(), NoMemory>
+        requires { operations_given self.old < 2 ^ 62 }
+        ensures room { OnOk result (HasRoomForOperation self.new) }
+        ensures same { SameRows self.old self.new }
+    {
+        let number = self.next();
+        if !self.rows.contains_key(&number) {
+            self.rows.insert(number, None)?;
+        }
+        Ok(())
+    }
+
+    /// Opens an operation under the next number.
+    pub fn open(&mut self, operation: Operation)
+        requires room { HasRoomForOperation self.old }
+        requires few { operations_given self.old < 2 ^ 62 }
+        ensures given { operations_given self.new ≡ operations_given self.old + 1 }
+        ensures here { operation_in self.new (operations_given self.old + 1) ≡ Some operation }
+        ensures there { OtherRowsStay (operations_given self.old + 1) self.old self.new }
+    {
+        let number = self.next();
+        match self.rows.get_mut(&number) {
+            Some(place) => *place = Some(operation),
+            None => unreachable!(),
+        }
         self.made = number;
-        Ok(number)
     }
 
-    /// Does a work on an open operation.
-    pub fn work(&mut self, number: u64, room: JobRoom, added: Added) -> Result<Bytes, Code>
-        requires { CanWorkAt (get nat_cmp self.old.rows number) room added }
-        ensures here { WorkedAt (get nat_cmp self.old.rows number) (get nat_cmp self.new.rows number) room added result }
-        ensures there { (other : ℕ) → (other == number) ≡ false → get nat_cmp self.new.rows other ≡ get nat_cmp self.old.rows other }
-        ensures made { self.new.made ≡ self.old.made }
+    /// Counts what a work adds to an open operation.
+    pub fn lengthen(&mut self, number: u64, added: Added)
+        requires { MayLengthen (operation_in self.old number) added }
+        ensures here { Lengthens added.aad added.text (operation_in self.old number) (operation_in self.new number) }
+        ensures there { OtherRowsStay number self.old self.new }
+        ensures given { operations_given self.new ≡ operations_given self.old }
     {
         match self.rows.get_mut(&number) {
-            Some(operation) => operation.work(number, room, added),
+            Some(place) => lengthen_row(place, added),
             None => unreachable!(),
         }
     }
 
     /// Closes an operation, where it is open.
-    pub fn close(&mut self, number: u64) -> Option<Operation>
-        ensures closed { result ≡ get nat_cmp self.old.rows number }
-        ensures rows { (other : ℕ) →
-            get nat_cmp self.new.rows other ≡ (if other == number then None else get nat_cmp self.old.rows other) }
-        ensures made { self.new.made ≡ self.old.made }
+    pub fn close(&mut self, number: u64)
+        ensures here { operation_in self.new number ≡ None }
+        ensures there { OtherRowsStay number self.old self.new }
+        ensures given { operations_given self.new ≡ operations_given self.old }
     {
-        self.rows.remove(&number)
+        let _ = self.rows.remove(&number);
     }
 }

@@ -1,41 +1,33 @@
 //! The steps of an open operation: additional data, text, the finish, and the abort.
 
-ghost use Rattle.std.specs.Prelude.{◌≡◌, ℕ, ◌+◌, ◌==◌, [], false, None, Ok, IfOk, if◌then◌else◌};
-ghost use Rattle.std.specs.Ordering.{nat_cmp};
-ghost use Rattle.std.specs.BTreeMap.{get};
-ghost use Rattle.keystore_core.specs.Drawing.{IsUndrawn};
-ghost use Rattle.step_rules.specs.Table.{ends_operation as ends};
+ghost use Rattle.std.specs.Prelude.{◌≡◌, ℕ, ◌-◌, ◌^◌, [], Ok, IfOk};
 ghost use Rattle.rule_model.specs.declared.event.Act.TheVariants as acts;
-ghost use Rattle.rule_model.specs.declared.event.Reading.{Reading};
 ghost use Rattle.rule_model.specs.declared.reply.Reply.TheVariants as replies;
-ghost use Rattle.rule_model.specs.Answer as model;
 ghost use Rattle.rule_model.specs.Entries.{History};
 ghost use Rattle.rule_model.specs.Setup.{Setup};
-ghost use Rattle.keystore_core.specs.Counts.{HasGiven};
-ghost use Rattle.keystore_core.specs.Stands.{IsTables, Serves, TablesStand, event_of};
+ghost use Rattle.rule_model.specs.StepFacts as model;
+ghost use Rattle.keystore_core.specs.Drawn.{IsUndrawn};
 ghost use Rattle.keystore_core.specs.Stepping as spec;
+ghost use Rattle.keystore_core.specs.Tables.{IsCaller, IsTables, ServesAfter, TablesStand, event_by, live_key, row_at, state_at};
 
+use crate::answered::Answered;
 use crate::operations::Added;
-use crate::served::Served;
 use crate::tables::Tables;
-use cipher_ops::{JobRoom, Work};
-use rule_model::{Fields, NO_FIELDS, Reply};
+use cipher_ops::{Done, Job, JobRoom, Work};
+use rule_model::{Brought, Caller, Fields, NO_FIELDS, Reply};
 use std::alloc::Global;
 use step_rules::{StepFacts, StepKind, check_step, ends_operation};
 use tags::{Bytes, Code, NoMemory, Plan, Rule};
 
-/// What a step brings, as the rules read it.
-#[derive(Clone, Copy, Debug, PartialEq, Eq)]
-pub struct Brought {
-    pub kind: StepKind,
-    /// the length of the input in bytes
-    pub input: u64,
-    /// the length of the signature in bytes
-    pub signature: u64,
-}
+/// What an abort brings.
+const ABORT: Brought = Brought {
+    kind: StepKind::Abort,
+    input: 0,
+    signature: 0,
+};
 
 fn brought_by(work: &Work) -> Brought
-    ensures { result ≡ spec.brought_by work.now }
+    ensures { result ≡ model.brought_by work.now }
 {
     match work {
         Work::Aad { input } => Brought {
@@ -90,10 +82,19 @@ fn reply_of(kind: StepKind, given: Result<Bytes, Code>) -> Reply
 }
 
 impl Tables {
+    /// Whether the key of an operation has ended; an operation on no stored key has none that could.
+    fn has_ended(&self, key: Option<u64>) -> bool
+        ensures { result ≡ model.has_ended (live_key self.now) key }
+    {
+        match key {
+            Some(key) => !self.keys.is_live(key),
+            None => false,
+        }
+    }
+
     /// What the rules read of a step.
-    fn step_facts(&self, client: u64, op: u64, brought: Brought) -> StepFacts
-        ensures { (setup : Setup) (past : History) → TablesStand setup self.now past →
-            result ≡ model.step_facts setup past client op brought.kind brought.input brought.signature }
+    fn step_facts(&self, caller: Caller, op: u64, brought: Brought) -> StepFacts
+        ensures { (setup : Setup) (past : History) → TablesStand setup self.now past → result ≡ model.step_facts setup past caller op brought }
     {
         let Brought {
             kind,
@@ -103,10 +104,10 @@ impl Tables {
         match self.operations.get(op) {
             Some(operation) => StepFacts {
                 kind,
-                own: operation.client == client,
+                own: operation.client == caller.client,
                 input,
                 signature,
-                ended: !self.keys.is_live(operation.key),
+                ended: self.has_ended(operation.key),
                 plan: operation.plan,
                 aad: operation.aad,
                 text: operation.text,
@@ -124,26 +125,30 @@ impl Tables {
         }
     }
 
+    /// Closes an operation, where it is open.
+    fn close(&mut self, op: u64)
+        ensures { spec.ClosesOne op self.old self.new }
+    {
+        self.operations.close(op);
+        self.ciphers.close(op);
+    }
+
     /// Answers a step that a rule denies, and closes the operation where the rule says so.
-    fn deny(&mut self, alloc: Global, op: u64, rule: Rule, code: Code) -> Served
+    fn deny(&mut self, alloc: Global, op: u64, rule: Rule, code: Code) -> Answered
         ensures reply { result.reply ≡ replies.Broken rule code }
         ensures drawn { result.drawn ≡ [] }
-        ensures rows { (other : ℕ) → get nat_cmp self.new.operations.rows other ≡
-            (if ends rule then (if other == op then None else get nat_cmp self.old.operations.rows other) else get nat_cmp self.old.operations.rows other) }
-        ensures made { self.new.operations.made ≡ self.old.operations.made }
-        ensures clients { self.new.clients ≡ self.old.clients }
-        ensures keys { self.new.keys ≡ self.old.keys }
+        ensures closes { spec.Denies rule op self.old self.new }
     {
         if ends_operation(rule) {
-            let _ = self.operations.close(op);
+            self.close(op);
         }
-        Served::refused(alloc, rule, code)
+        Answered::refused(alloc, rule, code)
     }
 
     /// Takes the room of a work on an open operation.
     fn room(&self, alloc: Global, op: u64, work: Work) -> Result<JobRoom, NoMemory>
-        requires { spec.MayGrow (get nat_cmp self.now.operations.rows op) work }
-        ensures { IfOk result (λ room. spec.IsRoomAt (get nat_cmp self.now.operations.rows op) work room) }
+        requires { spec.MayGrow (row_at self.now op) work }
+        ensures { IfOk result (λ room. spec.IsRoomAt (row_at self.now op) work room) }
     {
         match self.operations.get(op) {
             Some(operation) => JobRoom::of(
@@ -157,61 +162,64 @@ impl Tables {
         }
     }
 
-    /// Does a work on an open operation, and closes it behind its last work.
+    /// Does a work on an open operation, and closes it after its last work.
     fn run(&mut self, op: u64, brought: Brought, room: JobRoom) -> Result<Bytes, Code>
-        requires { spec.CanRunAt (get nat_cmp self.old.operations.rows op) brought room }
-        ensures here { spec.RanAt (get nat_cmp self.old.operations.rows op) (get nat_cmp self.new.operations.rows op) brought room result }
-        ensures there { (other : ℕ) → (other == op) ≡ false → get nat_cmp self.new.operations.rows other ≡ get nat_cmp self.old.operations.rows other }
-        ensures made { self.new.operations.made ≡ self.old.operations.made }
-        ensures clients { self.new.clients ≡ self.old.clients }
-        ensures keys { self.new.keys ≡ self.old.keys }
+        requires row { spec.MayTake (row_at self.old op) brought }
+        requires state { spec.CanWork (state_at self.old op) room }
+        ensures { spec.Runs op brought room self.old self.new result }
     {
-        let given = self.operations.work(op, room, added_by(brought));
-        if brought.kind == StepKind::Last {
-            let _ = self.operations.close(op);
+        let Some(state) = self.ciphers.take(op) else {
+            unreachable!()
+        };
+        let Done {
+            ticket: _,
+            state,
+            result,
+        } = Job::new(state, op, room).run();
+        match state {
+            Some(state) => {
+                self.operations.lengthen(op, added_by(brought));
+                self.ciphers.put(op, state);
+            }
+            None => self.close(op),
         }
-        given
+        result
     }
 
     /// A client enters an operation with a work.
     pub fn enter(
         &mut self,
         alloc: Global,
-        client: u64,
+        caller: Caller,
         op: u64,
         work: Work,
-    ) -> Result<Served, NoMemory>
-        requires { ∥ IsTables self.old ∥₁ }
-        ensures serves { (reading : Reading) → Serves self.old self.new (event_of reading client (spec.entering op work)) result }
-        ensures drawn { IfOk result (λ served. IsUndrawn served) }
-        ensures given { (n : ℕ) → HasGiven self.old n → HasGiven self.new (n + 1) }
+    ) -> Result<Answered, NoMemory>
+        requires tables { ∥ IsTables self.old (2 ^ 62 - 1) ∥₁ }
+        requires caller { IsCaller self.old caller }
+        ensures serves { ServesAfter self.old self.new (event_by caller (spec.entering op work)) result }
+        ensures drew { IfOk result (λ answered. IsUndrawn answered) }
     {
         let brought = brought_by(&work);
-        let facts = self.step_facts(client, op, brought);
+        let facts = self.step_facts(caller, op, brought);
         if let Err((rule, code)) = check_step(&facts) {
             return Ok(self.deny(alloc, op, rule, code));
         }
         let room = self.room(alloc, op, work)?;
         let given = self.run(op, brought, room);
-        Ok(Served::undrawn(alloc, reply_of(brought.kind, given)))
+        Ok(Answered::undrawn(alloc, reply_of(brought.kind, given)))
     }
 
     /// A client gives an operation up.
-    pub fn abort(&mut self, alloc: Global, client: u64, op: u64) -> Served
-        ensures serves { (reading : Reading) → Serves self.old self.new (event_of reading client (acts.Abort op)) (Ok result) }
-        ensures drawn { IsUndrawn result }
-        ensures given { (n : ℕ) → HasGiven self.old n → HasGiven self.new (n + 1) }
+    pub fn abort(&mut self, alloc: Global, caller: Caller, op: u64) -> Answered
+        requires { IsCaller self.old caller }
+        ensures serves { ServesAfter self.old self.new (event_by caller (acts.Abort op)) (Ok result) }
+        ensures drew { IsUndrawn result }
     {
-        let brought = Brought {
-            kind: StepKind::Abort,
-            input: 0,
-            signature: 0,
-        };
-        let facts = self.step_facts(client, op, brought);
+        let facts = self.step_facts(caller, op, ABORT);
         if let Err((rule, code)) = check_step(&facts) {
             return self.deny(alloc, op, rule, code);
         }
-        let _ = self.operations.close(op);
-        Served::undrawn(alloc, Reply::Done(NO_FIELDS))
+        self.close(op);
+        Answered::undrawn(alloc, Reply::Done(NO_FIELDS))
     }
 }

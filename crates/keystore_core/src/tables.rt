@@ -1,83 +1,63 @@
-ghost use Rattle.std.specs.Prelude.{◌≡◌, ℕ, ◌+◌, ◌-◌, ◌^◌, [], IsTrue, IfOk, OnErr};
-ghost use Rattle.rule_model.specs.declared.event.Act.TheVariants as acts;
-ghost use Rattle.rule_model.specs.Answer.{needs_memory};
-ghost use Rattle.rule_model.specs.Forms.{is_built as is_event};
-ghost use Rattle.rule_model.specs.Keys.{alias_of};
-ghost use Rattle.rule_model.specs.Setup.{Setup, empty_lasting};
-ghost use Rattle.keystore_core.specs.Counts.{HasGiven};
-ghost use Rattle.keystore_core.specs.Drawing.{HasDrawn, HasDrawnFor, IsUndrawn};
-ghost use Rattle.keystore_core.specs.Stands.{Answers, IsTables, Serves, TablesStand, event_of};
+//! What the engine knows, and how an event is answered from it.
 
+ghost use Rattle.std.specs.Prelude.{◌≡◌, ◌-◌, ◌^◌, IsTrue, OnErr};
+ghost use Rattle.rule_model.specs.Acts.{fixed_for, is_built as is_event};
+ghost use Rattle.rule_model.specs.Setup.{Setup, empty_lasting};
+ghost use Rattle.keystore_core.specs.Drawn.{DrewFor, DrewForResult};
+ghost use Rattle.keystore_core.specs.Tables.{Answers, IsCaller, IsTables, ServesAfter, TablesStand, event_by};
+
+use crate::answered::Answered;
+use crate::ciphers::Ciphers;
 use crate::clients::Clients;
 use crate::creating::Import;
 use crate::keys::Keys;
 use crate::operations::Operations;
-use crate::served::Served;
 use cipher_ops::Work;
 use ks_outside::Entropy;
-use rule_model::{Act, Event, Fields, NO_FIELDS, Reading, Reply};
+use rule_model::{Act, Caller, Event, Reading};
 use std::alloc::Global;
-use tags::{Bytes, Code, Descriptor, NoMemory, Rule, RuleTable};
+use tags::{Bytes, Code, NoMemory, Rule, RuleTable};
 
-/// What the engine knows: the connected clients, the live keys and the open operations.
+/// What the engine knows: the connected clients, the live keys, and the open operations with their ciphers.
 #[derive(Drop)]
 pub struct Tables {
     pub(crate) clients: Clients,
     pub(crate) keys: Keys,
     pub(crate) operations: Operations,
+    pub(crate) ciphers: Ciphers,
 }
 
-/// The bytes of a descriptor's alias, and none where it has no alias.
-pub(crate) fn alias_bytes(key: &Descriptor) -> &[u8]
-    ensures { result.now ≡ alias_of key.now }
-{
-    match &key.alias {
-        Some(alias) => alias.as_slice(),
-        None => &[],
-    }
-}
-
-/// The same of a descriptor that is used up.
-pub(crate) fn into_alias(alloc: Global, key: Descriptor) -> Bytes
-    ensures { result ≡ alias_of key }
-{
-    let Descriptor {
-        domain: _,
-        nspace: _,
-        alias,
-        blob: _,
-    } = key;
-    match alias {
-        Some(alias) => alias,
-        None => Bytes::empty(alloc),
-    }
-}
+/// The answer to a line that is no event.
+const MALFORMED: Rule = Rule {
+    table: RuleTable::L,
+    number: 1,
+};
 
 impl Tables {
+    ghost use Rattle.std.specs.Prelude.{[]};
+
     pub fn new(alloc: Global) -> Tables
-        ensures given { HasGiven result 0 }
-        ensures stands { (setup : Setup) → setup.start ≡ empty_lasting → TablesStand setup result [] }
+        ensures { (setup : Setup) → setup.start ≡ empty_lasting → TablesStand setup result [] }
     {
         Tables {
             clients: Clients::new(alloc),
             keys: Keys::new(alloc),
             operations: Operations::new(alloc),
+            ciphers: Ciphers::new(alloc),
         }
     }
 
-    /// A client comes.
-    pub fn connect(&mut self, alloc: Global, uid: u32) -> Result<Served, NoMemory>
-        requires { HasGiven self.old (2 ^ 62 - 1) }
-        ensures serves { (reading : Reading) (client : ℕ) → Serves self.old self.new (event_of reading client (acts.Connect uid)) result }
-        ensures drawn { IfOk result (λ served. IsUndrawn served) }
-        ensures given { (n : ℕ) → HasGiven self.old n → HasGiven self.new (n + 1) }
+    /// Who makes a call.
+    fn caller(&self, reading: Reading, client: u64) -> Caller
+        ensures caller { IsCaller self.now result }
+        ensures reading { result.reading ≡ reading }
+        ensures client { result.client ≡ client }
     {
-        let client = self.clients.connect(uid)?;
-        let fields = Fields {
-            client: Some(client),
-            ..NO_FIELDS
-        };
-        Ok(Served::undrawn(alloc, Reply::Done(fields)))
+        Caller {
+            reading,
+            client,
+            uid: self.clients.uid_of(client),
+        }
     }
 
     /// Serves an act that is built, by the rules.
@@ -85,22 +65,20 @@ impl Tables {
         &mut self,
         alloc: Global,
         entropy: &mut N,
-        reading: Reading,
-        client: u64,
+        caller: Caller,
         act: Act,
-    ) -> Result<Served, NoMemory>
-        requires given { HasGiven self.old (2 ^ 62 - 1) }
-        requires tables { ∥ IsTables self.old ∥₁ }
+    ) -> Result<Answered, NoMemory>
+        requires tables { ∥ IsTables self.old (2 ^ 62 - 1) ∥₁ }
+        requires caller { IsCaller self.old caller }
         requires built { IsTrue (is_event act) }
-        ensures serves { Serves self.old self.new (event_of reading client act) result }
-        ensures memory { OnErr result (IsTrue (needs_memory act)) }
-        ensures drawn { HasDrawnFor (N.content entropy.old) (N.content entropy.new) (N.fault_count entropy.old) (N.fault_count entropy.new) result }
-        ensures given { (n : ℕ) → HasGiven self.old n → HasGiven self.new (n + 1) }
+        ensures serves { ServesAfter self.old self.new (event_by caller act) result }
+        ensures memory { OnErr result (IsTrue (fixed_for act).takes_memory) }
+        ensures drew { DrewForResult N.Entropy entropy.old entropy.new result }
     {
         match act {
-            Act::Connect { uid } => self.connect(alloc, uid),
+            Act::Connect { uid } => self.connect(alloc, caller, uid),
             Act::GenerateKey { key, params } => {
-                self.make_key(alloc, entropy, reading, client, key, params, None)
+                self.make_key(alloc, entropy, caller, key, params, None)
             }
             Act::ImportKey {
                 key,
@@ -109,41 +87,41 @@ impl Tables {
                 material,
             } => {
                 let import = Some(Import { format, material });
-                self.make_key(alloc, entropy, reading, client, key, params, import)
+                self.make_key(alloc, entropy, caller, key, params, import)
             }
             Act::CreateOperation { key, params, .. } => {
-                self.begin(alloc, entropy, client, key, params)
+                self.begin(alloc, entropy, caller, key, params)
             }
-            Act::EnterAad { op, input } => self.enter(alloc, client, op, Work::Aad { input }),
-            Act::EnterUpdate { op, input } => self.enter(alloc, client, op, Work::Text { input }),
+            Act::EnterAad { op, input } => self.enter(alloc, caller, op, Work::Aad { input }),
+            Act::EnterUpdate { op, input } => self.enter(alloc, caller, op, Work::Text { input }),
             Act::EnterFinish {
                 op,
                 input,
                 signature,
-            } => self.enter(alloc, client, op, Work::Last { input, signature }),
-            Act::Abort { op } => Ok(self.abort(alloc, client, op)),
+            } => self.enter(alloc, caller, op, Work::Last { input, signature }),
+            Act::Abort { op } => Ok(self.abort(alloc, caller, op)),
             _ => unreachable!(),
         }
     }
 
     /// Answers an event: by the rules, as a malformed line where its act is not built, or with want of memory.
-    pub fn answer<N: Entropy>(&mut self, alloc: Global, entropy: &mut N, event: Event) -> Served
-        requires given { HasGiven self.old (2 ^ 62 - 1) }
-        requires tables { ∥ IsTables self.old ∥₁ }
+    pub fn answer<N: Entropy>(&mut self, alloc: Global, entropy: &mut N, event: Event) -> Answered
+        requires { ∥ IsTables self.old (2 ^ 62 - 1) ∥₁ }
         ensures answers { Answers self.old self.new event result }
-        ensures drawn { HasDrawn (N.content entropy.old) (N.content entropy.new) (N.fault_count entropy.old) (N.fault_count entropy.new) result }
-        ensures given { (n : ℕ) → HasGiven self.old n → HasGiven self.new (n + 1) }
+        ensures drew { DrewFor N.Entropy entropy.old entropy.new result }
     {
-        if !event.act.is_built() {
-            let rule = Rule {
-                table: RuleTable::L,
-                number: 1,
-            };
-            return Served::refused(alloc, rule, Code::InvalidArgument);
+        let Event {
+            reading,
+            client,
+            act,
+        } = event;
+        if !act.is_built() {
+            return Answered::refused(alloc, MALFORMED, Code::InvalidArgument);
         }
-        match self.serve(alloc, entropy, event.reading, event.client, event.act) {
-            Ok(served) => served,
-            Err(NoMemory) => Served::without_memory(Bytes::empty(alloc)),
+        let caller = self.caller(reading, client);
+        match self.serve(alloc, entropy, caller, act) {
+            Ok(answered) => answered,
+            Err(NoMemory) => Answered::without_memory(Bytes::empty(alloc)),
         }
     }
 }

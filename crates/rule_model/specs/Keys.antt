@@ -1,5 +1,5 @@
--- The keys behind a history.
-use Rattle.std.specs.Prelude.{ℕ, ◌+◌, Bool, true, false, ◌&&◌, ◌||◌, not, ◌==◌, List, [], ◌∷◌, ◌++◌, Option, Some, None, if◌then◌else◌, is_some, unwrap_or, length, take, drop, filter, find}
+-- The keys of a history.
+use Rattle.std.specs.Prelude.{ℕ, ◌+◌, Bool, true, false, ◌&&◌, ◌||◌, not, ◌==◌, List, [], ◌∷◌, ◌++◌, Option, Some, None, if◌then◌else◌, unwrap_or, length, take, drop, filter, find}
 use Rattle.std.specs.List.{list_any}
 use Rattle.std.specs.Option.{option_and_then}
 use Rattle.std.specs.Str.{bytes_eq}
@@ -8,11 +8,11 @@ use Rattle.tags.specs.declared.code.Code.TheVariants.{SystemError}
 use Rattle.tags.specs.declared.settled.Settled.{Settled}
 use Rattle.tags.specs.declared.settled.Settled.TheVariants.{Kept, Lost}
 use Rattle.tags.specs.declared.descriptor.Descriptor.{Descriptor}
+use Rattle.tags.specs.declared.param.Param.{Param}
 use Rattle.tag_lists.specs.Spelling.{spelling}
 use Rattle.key_rules.specs.declared.facts.ImportFacts.{ImportFacts}
 use Rattle.key_rules.specs.declared.plan.KeyPlan.{KeyPlan}
 use Rattle.key_rules.specs.Creation.{material_size, plan_of}
-use Rattle.key_rules.specs.Facts.{Facts}
 use Rattle.rule_model.specs.declared.entry.Entry.TheVariants.{Acted, Settling}
 use Rattle.rule_model.specs.declared.entry.KeyRecord.{KeyRecord}
 use Rattle.rule_model.specs.declared.event.Event.{Event}
@@ -20,7 +20,11 @@ use Rattle.rule_model.specs.declared.event.Act.{Act}
 use Rattle.rule_model.specs.declared.event.Act.TheVariants.{GenerateKey, ImportKey}
 use Rattle.rule_model.specs.declared.reply.Reply.{Reply}
 use Rattle.rule_model.specs.declared.reply.Reply.TheVariants.{Done, Broken, Stopped}
-use Rattle.rule_model.specs.Entries.{History, uid_of, is_restart}
+use Rattle.rule_model.specs.declared.facts.Caller.{Caller}
+use Rattle.rule_model.specs.Acts.{is_restart}
+use Rattle.rule_model.specs.Clients.{caller_of}
+use Rattle.rule_model.specs.Entries.{History}
+use Rattle.rule_model.specs.NewFacts.{import_of, new_facts}
 use Rattle.rule_model.specs.Setup.{Setup}
 
 -- the reply to a change whose device call failed
@@ -45,7 +49,7 @@ is_kept None = false
 is_kept (Some Lost) = false
 is_kept (Some Kept) = true
 
--- An entry counts where it is admitted, or is faulted and the settling behind it says kept.
+-- An entry counts where it is admitted, or is faulted and the settling after it says kept.
 abbrev pub counts : Option Settled → History → Act → Reply → Bool
 counts verdict past act (Done fields) = true
 counts verdict past act (Broken rule code) = false
@@ -82,53 +86,57 @@ alias_of key = unwrap_or key.alias []
 abbrev pub is_named : ℕ → ℕ → List ℕ → KeyRecord → Bool
 is_named domain nspace alias key = (key.domain == domain) && ((key.nspace == nspace) && bytes_eq key.alias alias)
 
--- what the rules of a new key read, of a client's call at a time
-abbrev pub new_facts : History → Event → Descriptor → List ℕ → Option ImportFacts → Facts
-new_facts past event key params import = record {
-  connected = is_some (uid_of past event.client);
-  descriptor = key;
-  params = params;
-  import = import;
-  wall = event.reading.wall;
-}
+-- the material of a new key: the imported one, or the first bytes drawn
+abbrev pub material_of : Option (List ℕ) → List Param → List ℕ → List ℕ
+material_of None list drawn = take (material_size list) drawn
+material_of (Some material) list drawn = material
 
--- what is known of an imported material
-abbrev pub import_of : ℕ → List ℕ → Option ImportFacts
-import_of format material = Some (record { format = format; length = length material })
+-- the 12 bytes of the nonce: all that is drawn for an import, and what is drawn after a generated material
+abbrev pub seal_nonce : Option (List ℕ) → List Param → List ℕ → List ℕ
+seal_nonce None list drawn = drop (material_size list) drawn
+seal_nonce (Some material) list drawn = drawn
 
 -- the key that an app makes: its kept list is encoded, and its material stands beside the nonce that was drawn for it
-abbrev pub made : ℕ → ℕ → Descriptor → KeyPlan → List ℕ → List ℕ → KeyRecord
-made number uid key plan material nonce = record {
+abbrev pub new_key_record : ℕ → ℕ → Descriptor → KeyPlan → Option (List ℕ) → List ℕ → KeyRecord
+new_key_record number uid key plan import drawn = record {
   id = number;
   domain = 0;
   nspace = uid;
   alias = alias_of key;
-  blob = material;
-  nonce = nonce;
+  blob = material_of import plan.list drawn;
+  nonce = seal_nonce import plan.list drawn;
   list = spelling plan.list;
   limit = plan.limit;
   left = plan.limit;
 }
 
--- a generated key: the material is drawn, and then the nonce
-abbrev pub generated : ℕ → ℕ → Descriptor → KeyPlan → List ℕ → KeyRecord
-generated number uid key plan drawn = made number uid key plan (take (material_size plan.list) drawn) (drop (material_size plan.list) drawn)
+-- what a counting entry makes of the keys: a new key, which ends the one under the same owner and alias
+pub data KeyChange : Type 0 where
+  SameKeys : KeyChange
+  Makes : KeyRecord → KeyChange
 
--- a new key ends the one under the same owner and alias
+-- the uid of a caller; the rules let none make a key that has none
+abbrev pub owner_of : Caller → ℕ
+owner_of caller = unwrap_or caller.uid 0
+
+abbrev pub made_by : Caller → Descriptor → List ℕ → Option (ℕ × List ℕ) → List ℕ → ℕ → KeyChange
+made_by caller key params None drawn number =
+    Makes (new_key_record number (owner_of caller) key (plan_of (new_facts caller key params None)) None drawn)
+made_by caller key params (Some (format, material)) drawn number =
+    Makes (new_key_record number (owner_of caller) key (plan_of (new_facts caller key params (import_of format material))) (Some material) drawn)
+
+-- an app's new key has the next number, and is made by its plan and the drawn bytes
+abbrev pub key_change : Act → Caller → List ℕ → ℕ → KeyChange
+key_change (GenerateKey key params) caller drawn number = made_by caller key params None drawn number
+key_change (ImportKey key params format material) caller drawn number = made_by caller key params (Some (format, material)) drawn number
+key_change _ caller drawn number = SameKeys
+
 abbrev pub with_key : KeyRecord → List KeyRecord → List KeyRecord
 with_key key keys = filter (λ other. not (is_named key.domain key.nspace key.alias other)) keys ++ key ∷ []
 
--- the uid of a client behind whose call a key is made
-abbrev pub owner_of : History → Event → ℕ
-owner_of past event = unwrap_or (uid_of past event.client) 0
-
--- what a counting act makes of the keys: an app's new key has the next number, and is made by its plan and the drawn bytes
-abbrev pub keys_after : Act → History → Event → List ℕ → ℕ → List KeyRecord → List KeyRecord
-keys_after (GenerateKey key params) past event drawn number keys =
-    with_key (generated number (owner_of past event) key (plan_of (new_facts past event key params None)) drawn) keys
-keys_after (ImportKey key params format material) past event drawn number keys =
-    with_key (made number (owner_of past event) key (plan_of (new_facts past event key params (import_of format material))) material drawn) keys
-keys_after _ past event drawn number keys = keys
+abbrev pub keys_after : KeyChange → List KeyRecord → List KeyRecord
+keys_after SameKeys keys = keys
+keys_after (Makes key) keys = with_key key keys
 
 -- the keys of the start and of the counting entries that made one, without those that a later counting entry ended
 abbrev pub keys_settled : Setup → Option Settled → History → List KeyRecord
@@ -136,20 +144,20 @@ keys_settled setup verdict [] = setup.start.keys
 keys_settled setup verdict (Settling settled ∷ past) = keys_settled setup (Some settled) past
 keys_settled setup verdict (Acted event drawn reply ∷ past) =
     if counts verdict past event.act reply
-    then keys_after event.act past event drawn (next_key_settled setup (verdict_before verdict past event.act reply) past)
+    then keys_after (key_change event.act (caller_of past event) drawn (next_key_settled setup (verdict_before verdict past event.act reply) past))
     (keys_settled setup (verdict_before verdict past event.act reply) past)
     else keys_settled setup (verdict_before verdict past event.act reply) past
 
 abbrev pub keys_of : Setup → History → List KeyRecord
 keys_of setup past = keys_settled setup None past
 
--- the live key of an app with this alias
-abbrev pub key_named : Setup → History → ℕ → List ℕ → Option KeyRecord
-key_named setup past uid alias = find (is_named 0 uid alias) (keys_of setup past)
+-- the live key of an owner with this alias
+abbrev pub key_named : Setup → History → ℕ → ℕ → List ℕ → Option KeyRecord
+key_named setup past domain nspace alias = find (is_named domain nspace alias) (keys_of setup past)
 
--- the key that a client's descriptor finds
-abbrev pub key_found : Setup → History → ℕ → Descriptor → Option KeyRecord
-key_found setup past client key = option_and_then (λ uid. key_named setup past uid (alias_of key)) (uid_of past client)
+-- the key that a caller's descriptor finds
+abbrev pub key_found : Setup → History → Caller → Descriptor → Option KeyRecord
+key_found setup past caller key = option_and_then (λ uid. key_named setup past 0 uid (alias_of key)) caller.uid
 
 -- whether a key of this number has not ended
 abbrev pub is_live : Setup → History → ℕ → Bool

@@ -1,7 +1,12 @@
+pub mod Acts
 pub mod Entries
-pub mod Drawing
+pub mod Clients
 pub mod Setup
+pub mod NewFacts
 pub mod Keys
-pub mod Forms
+pub mod BeginFacts
 pub mod Operations
+pub mod StepFacts
+pub mod Drawn
 pub mod Answer
+pub mod Legal

@@ -4,11 +4,15 @@
 //! entries and whole byte strings; the engine's tables, slots and journals are not named here.
 #![tactic(auto)]
 
+mod act_kind;
+mod built;
 mod entry;
 mod event;
-mod forms;
+mod facts;
 mod reply;
 
+pub use act_kind::{ActKind, ActRow};
 pub use entry::{Entry, KeyRecord, Stepped};
 pub use event::{Act, Event, Line, Reading};
+pub use facts::{Brought, Caller, NO_PIECES, Pieces};
 pub use reply::{Entries, Fields, NO_FIELDS, Reply};

@@ -1,0 +1,5 @@
+pub mod Clients
+pub mod Counting
+pub mod Keys
+pub mod Legal
+pub mod Operations

@@ -1,0 +1,122 @@
+-- The acts of the service as one table: what is fixed for each kind, and the kind of an act.
+use Rattle.std.specs.Prelude.{ℕ, Bool, true, false, ◌&&◌, not, List, [], ◌∷◌, codes, Option, find}
+use Rattle.std.specs.Str.{bytes_eq}
+use Rattle.rule_model.specs.declared.act_kind.ActKind.{ActKind}
+use Rattle.rule_model.specs.declared.act_kind.ActKind.TheVariants as kinds
+use Rattle.rule_model.specs.declared.act_kind.ActRow.{ActRow}
+use Rattle.rule_model.specs.declared.event.Act.{Act}
+use Rattle.rule_model.specs.declared.event.Act.TheVariants as acts
+
+-- a call of a client: it takes memory, draws nothing, settles first, and is not built yet
+abbrev pub call : ℕ → ActRow
+call number = record { number = number; has_client = true; takes_memory = true; draws = false; settles = true; enters = false; is_built = false }
+
+-- Each kind's row. These take no memory: disconnect, abort, a token, the device's state, and a leave, whose room its enter
+-- took. A disconnect and a leave settle nothing.
+abbrev pub row_of : ActKind → ActRow
+row_of kinds.Connect = record (call 1) { has_client = false; is_built = true }
+row_of kinds.Disconnect = record (call 2) { takes_memory = false; settles = false }
+row_of kinds.GenerateKey = record (call 3) { draws = true; is_built = true }
+row_of kinds.ImportKey = record (call 4) { draws = true; is_built = true }
+row_of kinds.CreateOperation = record (call 5) { draws = true; is_built = true }
+row_of kinds.UpdateAad = record (call 6) { enters = true; is_built = true }
+row_of kinds.Update = record (call 7) { enters = true; is_built = true }
+row_of kinds.Finish = record (call 8) { enters = true; is_built = true }
+row_of kinds.Abort = record (call 9) { takes_memory = false; is_built = true }
+row_of kinds.GetKeyEntry = call 10
+row_of kinds.DeleteKey = call 11
+row_of kinds.Grant = call 12
+row_of kinds.Ungrant = call 13
+row_of kinds.GetNumberOfEntries = call 14
+row_of kinds.ListEntriesBatched = call 15
+row_of kinds.AddAuthToken = record (call 16) { takes_memory = false }
+row_of kinds.DeviceLocked = record (call 17) { takes_memory = false }
+row_of kinds.DeviceUnlocked = record (call 18) { takes_memory = false }
+row_of kinds.EarlyBootEnded = record (call 19) { takes_memory = false }
+row_of kinds.ClearNamespace = call 20
+row_of kinds.UserRemoved = call 21
+row_of kinds.Leave = record (call 22) { has_client = false; takes_memory = false; settles = false }
+row_of kinds.Restart = record (call 23) { has_client = false }
+
+-- the name of each kind, as a script writes it
+abbrev pub text_of : ActKind → List ℕ
+text_of kinds.Connect = codes "connect"
+text_of kinds.Disconnect = codes "disconnect"
+text_of kinds.GenerateKey = codes "generateKey"
+text_of kinds.ImportKey = codes "importKey"
+text_of kinds.CreateOperation = codes "createOperation"
+text_of kinds.UpdateAad = codes "updateAad"
+text_of kinds.Update = codes "update"
+text_of kinds.Finish = codes "finish"
+text_of kinds.Abort = codes "abort"
+text_of kinds.GetKeyEntry = codes "getKeyEntry"
+text_of kinds.DeleteKey = codes "deleteKey"
+text_of kinds.Grant = codes "grant"
+text_of kinds.Ungrant = codes "ungrant"
+text_of kinds.GetNumberOfEntries = codes "getNumberOfEntries"
+text_of kinds.ListEntriesBatched = codes "listEntriesBatched"
+text_of kinds.AddAuthToken = codes "addAuthToken"
+text_of kinds.DeviceLocked = codes "deviceLocked"
+text_of kinds.DeviceUnlocked = codes "deviceUnlocked"
+text_of kinds.EarlyBootEnded = codes "earlyBootEnded"
+text_of kinds.ClearNamespace = codes "clearNamespace"
+text_of kinds.UserRemoved = codes "userRemoved"
+text_of kinds.Leave = codes "leave"
+text_of kinds.Restart = codes "restart"
+
+abbrev pub all_kinds : List ActKind
+all_kinds = kinds.Connect ∷ kinds.Disconnect ∷ kinds.GenerateKey ∷ kinds.ImportKey ∷ kinds.CreateOperation ∷ kinds.UpdateAad ∷ kinds.Update ∷ kinds.Finish ∷ kinds.Abort ∷ kinds.GetKeyEntry ∷ kinds.DeleteKey ∷ kinds.Grant ∷ kinds.Ungrant ∷ kinds.GetNumberOfEntries ∷ kinds.ListEntriesBatched ∷ kinds.AddAuthToken ∷ kinds.DeviceLocked ∷ kinds.DeviceUnlocked ∷ kinds.EarlyBootEnded ∷ kinds.ClearNamespace ∷ kinds.UserRemoved ∷ kinds.Leave ∷ kinds.Restart ∷ []
+
+-- the kind that a name stands for
+abbrev pub kind_named : List ℕ → Option ActKind
+kind_named name = find (λ kind. bytes_eq (text_of kind) name) all_kinds
+
+abbrev pub kind_of : Act → ActKind
+kind_of (acts.Connect uid) = kinds.Connect
+kind_of acts.Disconnect = kinds.Disconnect
+kind_of (acts.GenerateKey key params) = kinds.GenerateKey
+kind_of (acts.ImportKey key params format material) = kinds.ImportKey
+kind_of (acts.CreateOperation key params forced) = kinds.CreateOperation
+kind_of (acts.EnterAad op input) = kinds.UpdateAad
+kind_of (acts.EnterUpdate op input) = kinds.Update
+kind_of (acts.EnterFinish op input signature) = kinds.Finish
+kind_of (acts.Abort op) = kinds.Abort
+kind_of (acts.GetKeyEntry key) = kinds.GetKeyEntry
+kind_of (acts.DeleteKey key) = kinds.DeleteKey
+kind_of (acts.Grant key uid bits) = kinds.Grant
+kind_of (acts.Ungrant key uid) = kinds.Ungrant
+kind_of (acts.GetNumberOfEntries domain nspace) = kinds.GetNumberOfEntries
+kind_of (acts.ListEntriesBatched domain nspace past) = kinds.ListEntriesBatched
+kind_of (acts.AddAuthToken challenge user authenticator kind time mac) = kinds.AddAuthToken
+kind_of (acts.DeviceLocked user) = kinds.DeviceLocked
+kind_of (acts.DeviceUnlocked user) = kinds.DeviceUnlocked
+kind_of acts.EarlyBootEnded = kinds.EarlyBootEnded
+kind_of (acts.ClearNamespace domain nspace) = kinds.ClearNamespace
+kind_of (acts.UserRemoved user) = kinds.UserRemoved
+kind_of (acts.Leave ticket) = kinds.Leave
+kind_of (acts.Restart root) = kinds.Restart
+
+-- what is fixed for an act
+abbrev pub fixed_for : Act → ActRow
+fixed_for act = row_of (kind_of act)
+
+abbrev pub is_forced : Act → Bool
+is_forced (acts.CreateOperation key params forced) = forced
+is_forced _ = false
+
+-- Whether an act is an event by now; one that is not is answered as a malformed line. A begin that forces is not built yet.
+abbrev pub is_built : Act → Bool
+is_built act = (fixed_for act).is_built && not (is_forced act)
+
+-- the acts of one kind each
+abbrev pub is_connect : Act → Bool
+is_connect (acts.Connect uid) = true
+is_connect _ = false
+
+abbrev pub is_begin : Act → Bool
+is_begin (acts.CreateOperation key params forced) = true
+is_begin _ = false
+
+abbrev pub is_restart : Act → Bool
+is_restart (acts.Restart root) = true
+is_restart _ = false

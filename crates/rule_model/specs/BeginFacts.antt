@@ -1,0 +1,39 @@
+-- What the rules of a begin read.
+use Rattle.std.specs.Prelude.{ℕ, Bool, false, List, Option, is_ok, is_some, length}
+use Rattle.std.specs.Result.{result_ok}
+use Rattle.std.specs.Option.{option_and_then, option_map_or}
+use Rattle.tags.specs.declared.descriptor.Descriptor.{Descriptor}
+use Rattle.tags.specs.declared.param.Param.{Param}
+use Rattle.tag_lists.specs.Reading.{listed}
+use Rattle.key_rules.specs.Asked.{asked}
+use Rattle.key_rules.specs.TableK.{key_rules}
+use Rattle.key_rules.specs.Verdicts.{first_broken}
+use Rattle.use_rules.specs.declared.facts.BeginFacts.{BeginFacts}
+use Rattle.rule_model.specs.declared.entry.KeyRecord.{KeyRecord}
+use Rattle.rule_model.specs.declared.facts.Caller.{Caller}
+use Rattle.rule_model.specs.Entries.{History}
+use Rattle.rule_model.specs.Keys.{key_found}
+use Rattle.rule_model.specs.Setup.{Setup}
+
+-- the list that is kept with a key
+abbrev pub list_of : KeyRecord → Option (List Param)
+list_of key = result_ok (listed key.list)
+
+-- the key's list and material are those of a key
+abbrev pub is_usable : List ℕ → List Param → Bool
+is_usable material list = is_ok (first_broken (key_rules (length material) list))
+
+-- the facts of a caller's call, by the key that is found
+abbrev pub facts_on : Option KeyRecord → Caller → Descriptor → List ℕ → BeginFacts
+facts_on found caller key params = record {
+  connected = is_some caller.uid;
+  descriptor = key;
+  found = is_some found;
+  asked = asked params;
+  opened = option_and_then list_of found;
+  fits = option_map_or (λ key. option_map_or (is_usable key.blob) (list_of key) false) found false;
+}
+
+-- the facts of a caller's call
+abbrev pub begin_facts : Setup → History → Caller → Descriptor → List ℕ → BeginFacts
+begin_facts setup past caller key params = facts_on (key_found setup past caller key) caller key params

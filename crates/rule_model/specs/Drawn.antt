@@ -1,0 +1,89 @@
+-- The bytes that are drawn for an event, and those that were drawn for the entries of a history.
+use Rattle.std.specs.Prelude.{ℕ, ◌+◌, Bool, true, false, ◌&&◌, List, [], ◌∷◌, ◌++◌, Option, Some, None, Result, Ok, Err, if◌then◌else◌}
+use Rattle.tags.specs.declared.code.Code.{Code}
+use Rattle.tags.specs.declared.code.Code.TheVariants.{EntropyFault}
+use Rattle.tags.specs.declared.plan.Plan.{Plan}
+use Rattle.tags.specs.declared.rule.Rule.{Rule}
+use Rattle.key_rules.specs.declared.facts.ImportFacts.{ImportFacts}
+use Rattle.key_rules.specs.declared.fault.NewFault.{NewFault}
+use Rattle.key_rules.specs.declared.plan.KeyPlan.{KeyPlan}
+use Rattle.key_rules.specs.Creation.{material_size, new_key}
+use Rattle.use_rules.specs.declared.facts.BeginFacts.{BeginFacts}
+use Rattle.use_rules.specs.Plans.{nonce_wanted}
+use Rattle.use_rules.specs.Table as begin_table
+use Rattle.use_rules.specs.Table.{asked_of, key_of}
+use Rattle.rule_model.specs.declared.entry.Entry.{Entry}
+use Rattle.rule_model.specs.declared.entry.Entry.TheVariants.{Acted, Settling}
+use Rattle.rule_model.specs.declared.event.Event.{Event}
+use Rattle.rule_model.specs.declared.event.Act.{Act}
+use Rattle.rule_model.specs.declared.event.Act.TheVariants.{GenerateKey, ImportKey, CreateOperation}
+use Rattle.rule_model.specs.declared.facts.Caller.{Caller}
+use Rattle.rule_model.specs.declared.facts.Pieces.{Pieces}
+use Rattle.rule_model.specs.declared.reply.Reply.{Reply}
+use Rattle.rule_model.specs.declared.reply.Reply.TheVariants.{Done, Broken, Stopped}
+use Rattle.rule_model.specs.Acts.{is_built}
+use Rattle.rule_model.specs.BeginFacts.{begin_facts}
+use Rattle.rule_model.specs.Clients.{caller_of}
+use Rattle.rule_model.specs.Entries.{History}
+use Rattle.rule_model.specs.NewFacts.{import_of, new_facts}
+use Rattle.rule_model.specs.Setup.{Setup}
+
+-- how many bytes the pieces have
+abbrev pub size_of : Pieces → ℕ
+size_of pieces = pieces.first + pieces.second
+
+abbrev pub no_pieces : Pieces
+no_pieces = record { first = 0; second = 0 }
+
+-- what a new key draws: a generated material, and then the 12 bytes of a nonce
+abbrev pub wanted_by_key : Result KeyPlan NewFault → Option ImportFacts → Pieces
+wanted_by_key (Err fault) import = no_pieces
+wanted_by_key (Ok plan) None = record { first = material_size plan.list; second = 12 }
+wanted_by_key (Ok plan) (Some import) = record { first = 0; second = 12 }
+
+-- what a begin draws: the nonce, where one is wanted
+abbrev pub wanted_by_begin : Result Plan (Rule × Code) → BeginFacts → Pieces
+wanted_by_begin (Err broken) facts = no_pieces
+wanted_by_begin (Ok plan) facts = record { first = nonce_wanted (asked_of facts) (key_of facts); second = 0 }
+
+abbrev pub wanted_by_rules : Act → Setup → History → Caller → Pieces
+wanted_by_rules (GenerateKey key params) setup past caller = wanted_by_key (new_key (new_facts caller key params None)) None
+wanted_by_rules (ImportKey key params format material) setup past caller =
+    wanted_by_key (new_key (new_facts caller key params (import_of format material))) (import_of format material)
+wanted_by_rules (CreateOperation key params forced) setup past caller =
+    wanted_by_begin (begin_table.answer (begin_facts setup past caller key params)) (begin_facts setup past caller key params)
+wanted_by_rules _ setup past caller = no_pieces
+
+-- what is drawn for an event: nothing where a rule is broken
+abbrev pub wanted : Setup → History → Event → Pieces
+wanted setup past event = if is_built event.act then wanted_by_rules event.act setup past (caller_of past event) else no_pieces
+
+-- the bytes that were drawn for an entry
+abbrev pub drawn_in : Entry → List ℕ
+drawn_in (Acted event drawn reply) = drawn
+drawn_in (Settling settled) = []
+
+-- the bytes that were drawn for the entries, in the order in which they were drawn
+abbrev pub drawn_of : History → List ℕ
+drawn_of [] = []
+drawn_of (entry ∷ past) = drawn_of past ++ drawn_in entry
+
+-- the code of a call that a failed draw stopped
+abbrev pub is_entropy_code : Code → Bool
+is_entropy_code EntropyFault = true
+is_entropy_code _ = false
+
+abbrev pub is_entropy_fault : Reply → Bool
+is_entropy_fault (Done fields) = false
+is_entropy_fault (Broken rule code) = false
+is_entropy_fault (Stopped code) = is_entropy_code code
+
+-- an entry that a failed draw stopped
+abbrev pub is_undrawn : Entry → Bool
+is_undrawn (Acted event drawn reply) = is_entropy_fault reply
+is_undrawn (Settling settled) = false
+
+-- how many entries a failed draw stopped
+abbrev pub undrawn_of : History → ℕ
+undrawn_of [] = 0
+undrawn_of (entry ∷ past) = if is_undrawn entry then undrawn_of past + 1 else undrawn_of past

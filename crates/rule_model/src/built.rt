@@ -1,0 +1,53 @@
+//! The kind of an act, and which acts are events by now.
+
+ghost use Rattle.std.specs.Prelude.{◌≡◌};
+ghost use Rattle.rule_model.specs.Acts.{is_built as is_event, kind_of};
+
+use crate::{Act, ActKind};
+
+impl Act {
+    /// The kind of the act.
+    pub fn kind(&self) -> ActKind
+        ensures { result ≡ kind_of self.now }
+    {
+        match self {
+            Act::Connect { .. } => ActKind::Connect,
+            Act::Disconnect => ActKind::Disconnect,
+            Act::GenerateKey { .. } => ActKind::GenerateKey,
+            Act::ImportKey { .. } => ActKind::ImportKey,
+            Act::CreateOperation { .. } => ActKind::CreateOperation,
+            Act::EnterAad { .. } => ActKind::UpdateAad,
+            Act::EnterUpdate { .. } => ActKind::Update,
+            Act::EnterFinish { .. } => ActKind::Finish,
+            Act::Abort { .. } => ActKind::Abort,
+            Act::GetKeyEntry { .. } => ActKind::GetKeyEntry,
+            Act::DeleteKey { .. } => ActKind::DeleteKey,
+            Act::Grant { .. } => ActKind::Grant,
+            Act::Ungrant { .. } => ActKind::Ungrant,
+            Act::GetNumberOfEntries { .. } => ActKind::GetNumberOfEntries,
+            Act::ListEntriesBatched { .. } => ActKind::ListEntriesBatched,
+            Act::AddAuthToken { .. } => ActKind::AddAuthToken,
+            Act::DeviceLocked { .. } => ActKind::DeviceLocked,
+            Act::DeviceUnlocked { .. } => ActKind::DeviceUnlocked,
+            Act::EarlyBootEnded => ActKind::EarlyBootEnded,
+            Act::ClearNamespace { .. } => ActKind::ClearNamespace,
+            Act::UserRemoved { .. } => ActKind::UserRemoved,
+            Act::Leave { .. } => ActKind::Leave,
+            Act::Restart { .. } => ActKind::Restart,
+        }
+    }
+
+    /// Whether the act is a begin that forces.
+    fn is_forced(&self) -> bool
+        ensures { result ≡ Rattle.rule_model.specs.Acts.is_forced self.now }
+    {
+        matches!(self, Act::CreateOperation { forced: true, .. })
+    }
+
+    /// Whether the act is an event by now. One that is not is answered as a malformed line.
+    pub fn is_built(&self) -> bool
+        ensures { result ≡ is_event self.now }
+    {
+        self.kind().row().is_built && !self.is_forced()
+    }
+}
