@@ -1,68 +1,59 @@
 -- What a history drew, part by part.
-use Rattle.std.proofs.Common.{◌≡◌, ℕ, zero, suc, ◌+◌, ◌-◌, ◌^◌, ◌<◌, ◌≤◌, ◌⊎◌, inl, inr, Bool, true, false, if◌then◌else◌, List, [], ◌∷◌, refl, sym, subst, arith, append-nil}
+use Rattle.std.proofs.Common.{◌≡◌, ℕ, zero, suc, ◌+◌, ◌-◌, ◌^◌, ◌<◌, ◌≤◌, inl, inr, Bool, true, false, if◌then◌else◌, List, [], ◌∷◌, ◌++◌, Option, None, Some, refl, sym, ap, ◌∙◌, subst, arith, append-nil}
 use Rattle.ks_outside.proofs.DrawLaws.{Draws-nil, Draws-trans}
-use Rattle.ks_outside.specs.Draws.{Draws}
 use Rattle.ks_outside.specs.Faults.{Rises}
-use Rattle.rule_model.specs.declared.entry.Entry.TheVariants.{Acted}
+use Rattle.ks_outside.specs.Shown.{Drew}
+use Rattle.ks_outside.specs.declared.entropy.Entropy.{Ghosts}
+use Rattle.tags.specs.declared.settled.Settled.{Settled}
 use Rattle.rule_model.specs.declared.event.Event.{Event}
 use Rattle.rule_model.specs.declared.reply.Reply.{Reply}
-use Rattle.rule_model.specs.Drawing.{drawn_of, undrawn_of, is_entropy_fault}
-use Rattle.rule_model.specs.Entries.{History}
-use Rattle.keystore_program.specs.Drawing.{Supply, Drew, DrewMore}
+use Rattle.rule_model.specs.Drawn.{drawn_of, is_entropy_fault, undrawn_of}
+use Rattle.rule_model.specs.Entries.{History, after_settling, after_step}
+use Rattle.keystore_program.specs.Drawn.{DrewAll, DrewMore}
 
--- the history without entries drew nothing
-pub drew_none : (supply : Supply) → Drew supply supply []
-drew_none supply = record { bytes = Draws-nil supply.coming; faults = λ few. omega arith }
+settled_drawn : (settled : Option Settled) (past : History) → drawn_of (after_settling settled past) ≡ drawn_of past
+settled_drawn None past = refl
+settled_drawn (Some settled) past = append-nil (drawn_of past)
 
--- a history stayed, and nothing was drawn
-pub drew_nothing : (before after : Supply) (past : History) → Draws before.coming after.coming [] → DrewMore before after past past
-drew_nothing before after past none = record {
-  drawn = [];
-  added = sym (append-nil (drawn_of past));
-  bytes = none;
-  once = omega arith;
-  cause = λ more. absurd (omega arith);
-}
+settled_undrawn : (settled : Option Settled) (past : History) → undrawn_of (after_settling settled past) ≡ undrawn_of past
+settled_undrawn None past = refl
+settled_undrawn (Some settled) past = refl
 
--- an entry adds one fault at most, and one where a failed draw stopped it
-at_most_one : (stops : Bool) (n : ℕ) → (if stops then n + 1 else n) ≤ n + 1
-at_most_one true n = omega arith
-at_most_one false n = omega arith
+module _ {N : Type 0} (g : Ghosts N) where
+  -- the history without entries drew nothing
+  pub drew_none : (entropy : N) → DrewAll g entropy entropy []
+  drew_none entropy = record { bytes = Draws-nil (g.content entropy); faults = λ few. omega arith; none = λ e. refl; later = omega arith }
 
-stopped : (stops : Bool) (n : ℕ) → n < (if stops then n + 1 else n) → stops ≡ true
-stopped true n more = refl
-stopped false n more = absurd (omega arith)
+  -- a history stayed, and nothing was drawn
+  pub drew_nothing : (old new : N) (past : History) → Drew g old new [] false → DrewMore g old new past past
+  drew_nothing old new past none = record { drawn = []; failed = false; added = sym (append-nil (drawn_of past)); drew = none; undrawn = refl }
 
--- a history went on by one entry
-pub drew_entry : (before after : Supply) (past : History) (event : Event) (drawn : List ℕ) (reply : Reply)
-    → Draws before.coming after.coming drawn → (is_entropy_fault reply ≡ true → Rises before.faults after.faults)
-    → DrewMore before after past (Acted event drawn reply ∷ past)
-drew_entry before after past event drawn reply draws cause = record {
-  drawn = drawn;
-  added = refl;
-  bytes = draws;
-  once = at_most_one (is_entropy_fault reply) (undrawn_of past);
-  cause = λ more. cause (stopped (is_entropy_fault reply) (undrawn_of past) more);
-}
+  -- a history went on by a step
+  pub drew_step : (old new : N) (past : History) (settled : Option Settled) (event : Event) (drawn : List ℕ) (reply : Reply)
+      → Drew g old new drawn (is_entropy_fault reply) → DrewMore g old new past (after_step settled event drawn reply past)
+  drew_step old new past settled event drawn reply drew = record {
+    drawn = drawn;
+    failed = is_entropy_fault reply;
+    added = ap (λ bytes. bytes ++ drawn) (settled_drawn settled past);
+    drew = drew;
+    undrawn = ap (λ n. if is_entropy_fault reply then n + 1 else n) (settled_undrawn settled past);
+  }
 
-below_or_not : (a b : ℕ) → (a < b) ⊎ (b ≤ a)
-below_or_not a zero = inr (omega arith)
-below_or_not zero (suc b) = inl (omega arith)
-below_or_not (suc a) (suc b) = elim (below_or_not a b) [ inl less ↦ inl (omega arith) | inr more ↦ inr (omega arith) ]
+  -- so many faults and one more where a draw failed
+  counted : (failed : Bool) (n m a b c : ℕ) → (b < 2 ^ 64 - 1 → n + a ≤ b) → m ≡ (if failed then n + 1 else n) → b ≤ c → (failed ≡ true → Rises b c) → c < 2 ^ 64 - 1 → m + a ≤ c
+  counted true n m a b c so is later rises few =
+      elim (rises refl) [ inl rose ↦ omega (arith, so (omega (arith, rose, few)), is, rose) | inr most ↦ absurd (omega (arith, most.0, most.1, few)) ]
+  counted false n m a b c so is later rises few = omega (arith, so (omega (arith, later, few)), is, later)
 
--- so many faults and at most one more, and that where the count rose
-counted : (n m a b c : ℕ) → (b < 2 ^ 64 - 1 → n + a ≤ b) → m ≤ n + 1 → (n < m → Rises b c) → b ≤ c → c < 2 ^ 64 - 1 → m + a ≤ c
-counted n m a b c so once cause later few =
-    let sum : n + a ≤ b = so (omega arith) in
-    elim (below_or_not n m) [
-      | inl more ↦ elim (cause more) [ inl rose ↦ omega arith | inr most ↦ absurd (omega (arith, most.0)) ]
-      | inr same ↦ omega arith
-    ]
+  unchanged : (failed : Bool) (n m a b c : ℕ) → (n ≡ 0 → b ≡ a) → m ≡ (if failed then n + 1 else n) → (failed ≡ false → c ≡ b) → m ≡ 0 → c ≡ a
+  unchanged true n m a b c so is same e = absurd (omega (arith, is, e))
+  unchanged false n m a b c so is same e = same refl ∙ so (sym is ∙ e)
 
--- a part after another
-pub drew_on : (before mid after : Supply) (past later : History) → Drew before mid past → DrewMore mid after past later → mid.faults ≤ after.faults → Drew before after later
-drew_on before mid after past later drew more rises = record {
-  bytes = subst (Draws before.coming after.coming) (sym more.added)
-      (Draws-trans before.coming mid.coming after.coming (drawn_of past) more.drawn drew.bytes more.bytes);
-  faults = counted (undrawn_of past) (undrawn_of later) before.faults mid.faults after.faults drew.faults more.once more.cause rises;
-}
+  -- a part after another
+  pub drew_on : (a b c : N) (past later : History) → DrewAll g a b past → DrewMore g b c past later → DrewAll g a c later
+  drew_on a b c past later drew more = record {
+    bytes = rw more.added (Draws-trans (g.content a) (g.content b) (g.content c) (drawn_of past) more.drawn drew.bytes more.drew.bytes);
+    faults = counted more.failed (undrawn_of past) (undrawn_of later) (g.fault_count a) (g.fault_count b) (g.fault_count c) drew.faults more.undrawn more.drew.faults.later more.drew.faults.rises;
+    none = unchanged more.failed (undrawn_of past) (undrawn_of later) (g.fault_count a) (g.fault_count b) (g.fault_count c) drew.none more.undrawn more.drew.faults.same;
+    later = omega (arith, drew.later, more.drew.faults.later);
+  }

@@ -1,5 +1,5 @@
 -- What a reader found.
-use Rattle.std.specs.Prelude.{◌≡◌, ℕ, ◌^◌, ◌<◌, ◌≤◌, List, length, Option}
+use Rattle.std.specs.Prelude.{◌≡◌, ℕ, ◌^◌, ◌<◌, ◌≤◌, Bool, true, false, List, length, Option}
 use Rattle.std.specs.Io.KnownBytes.{IsAtEnd}
 use Rattle.keystore_program.specs.declared.reader.Found.{Found}
 use Rattle.keystore_program.specs.declared.reader.Found.TheVariants.{Line, End, TooLong, ScriptTooLong, Fault}
@@ -37,3 +37,8 @@ Finds left held End = FindsEnd left held
 Finds left held TooLong = FindsTooLong held
 Finds left held ScriptTooLong = FindsScriptTooLong held
 Finds left held Fault = FindsFault held
+
+-- whether a read failed
+abbrev pub is_fault : Found → Bool
+is_fault Fault = true
+is_fault _ = false

@@ -1,4 +1,4 @@
-pub mod Drawing
+pub mod Drawn
 pub mod Ends
 pub mod Finds
 pub mod Follows

@@ -1,34 +1,37 @@
 -- What serving a line leaves.
-use Rattle.std.specs.Prelude.{ℕ, ◌⊎◌, List, [], ◌++◌, Option, Result, Ok, Err}
-use Rattle.std.specs.Io.KnownBytes.{Appends}
+use Rattle.std.specs.Prelude.{ℕ, ◌⊎◌, Bool, true, false, List, [], ◌++◌, Result, Ok, Err}
+use Rattle.ks_outside.specs.Shown.{Put}
+use Rattle.ks_outside.specs.declared.entropy.Entropy.{Ghosts as EntropyGhosts}
+use Rattle.ks_outside.specs.declared.sink.Sink.{Ghosts as SinkGhosts}
 use Rattle.rule_model.specs.Entries.{History}
 use Rattle.rule_model.specs.Setup.{Setup}
 use Rattle.keystore_program.specs.declared.serve.Halt.{Halt}
+use Rattle.keystore_program.specs.declared.serve.Halt.TheVariants.{Memory, Write}
 use Rattle.keystore_program.specs.declared.session.Session.{Session}
-use Rattle.keystore_program.specs.Drawing.{Supply}
 use Rattle.keystore_program.specs.Session.{GoesOn, Stays}
 
 -- the line was served, and its text was written
-pub record IsServed (setup : Setup) (past : History) (new : Session) (line : List ℕ) (sink written : Option (List ℕ)) (before after : Supply) : Type 0 where
+pub record IsServed {K N : Type 0} (k : SinkGhosts K) (n : EntropyGhosts N) (setup : Setup) (past : History) (new : Session) (line : List ℕ) (sink written : K) (before after : N) : Type 0 where
   pub later : History
   pub text : List ℕ
-  pub goes_on : GoesOn setup past new line before after later text
-  pub wrote : Appends sink written text
+  pub goes_on : GoesOn n setup past new line before after later text
+  pub put : Put k sink written text false
 
--- the line was served, and a front of its text was written
-pub record IsServedInPart (setup : Setup) (past : History) (new : Session) (line : List ℕ) (sink written : Option (List ℕ)) (before after : Supply) : Type 0 where
+-- the line was served, and a front of its text was written; then a write failed, or none did
+pub record IsServedInPart {K N : Type 0} (k : SinkGhosts K) (n : EntropyGhosts N) (setup : Setup) (past : History) (new : Session) (line : List ℕ) (sink written : K) (before after : N) (failed : Bool) : Type 0 where
   pub later : History
   pub part : List ℕ
   pub missing : List ℕ
-  pub goes_on : GoesOn setup past new line before after later (part ++ missing)
-  pub wrote : Appends sink written part
+  pub goes_on : GoesOn n setup past new line before after later (part ++ missing)
+  pub put : Put k sink written part failed
 
 -- the line was not served, and nothing was drawn or written
-pub record IsUnserved (setup : Setup) (past : History) (new : Session) (sink written : Option (List ℕ)) (before after : Supply) : Type 0 where
-  pub stays : Stays setup past new before after
-  pub wrote : Appends sink written []
+pub record IsUnserved {K N : Type 0} (k : SinkGhosts K) (n : EntropyGhosts N) (setup : Setup) (past : History) (new : Session) (sink written : K) (before after : N) : Type 0 where
+  pub stays : Stays n setup past new before after
+  pub put : Put k sink written [] false
 
-abbrev pub ServesLine : Setup → History → Session → List ℕ → Option (List ℕ) → Option (List ℕ) → Supply → Supply → Result (Unit {0}) Halt → Type 0
-ServesLine setup past new line sink written before after (Ok u) = IsServed setup past new line sink written before after
-ServesLine setup past new line sink written before after (Err halt) =
-    IsServedInPart setup past new line sink written before after ⊎ IsUnserved setup past new sink written before after
+abbrev pub ServesLine : {K N : Type 0} → SinkGhosts K → EntropyGhosts N → Setup → History → Session → List ℕ → K → K → N → N → Result (Unit {0}) Halt → Type 0
+ServesLine k n setup past new line sink written before after (Ok u) = IsServed k n setup past new line sink written before after
+ServesLine k n setup past new line sink written before after (Err Write) = IsServedInPart k n setup past new line sink written before after true
+ServesLine k n setup past new line sink written before after (Err Memory) =
+    IsServedInPart k n setup past new line sink written before after false ⊎ IsUnserved k n setup past new sink written before after

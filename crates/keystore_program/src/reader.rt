@@ -1,9 +1,9 @@
 //! Lines out of a source, one at a time.
 
-ghost use Rattle.std.specs.Prelude.{◌≡◌, ℕ, ◌+◌, ◌-◌, ◌^◌, ◌<◌, ◌≤◌, List, ◌++◌, [], length, take, drop, IfOk, IfSome, IfNone, OnErr};
-ghost use Rattle.std.specs.Io.KnownBytes.{Consumes, Keeps, IsAtEnd, ReadConsumes};
-ghost use Rattle.ks_outside.specs.Faults.{HasCause, Rises};
-ghost use Rattle.keystore_program.specs.Finds.{Finds};
+ghost use Rattle.std.specs.Prelude.{◌≡◌, ℕ, ◌+◌, ◌-◌, ◌^◌, ◌<◌, ◌≤◌, true, false, List, ◌++◌, [], length, take, drop, IfOk, IfSome, IfNone, OnErr};
+ghost use Rattle.std.specs.Io.KnownBytes.{IsAtEnd};
+ghost use Rattle.ks_outside.specs.Shown.{Took};
+ghost use Rattle.keystore_program.specs.Finds.{Finds, is_fault};
 ghost use Rattle.keystore_program.specs.Window.{HasNoFeedBelow, IsFirstFeed};
 
 use ks_outside::{Failed, Source};
@@ -95,10 +95,9 @@ fn read_behind<S: Source>(
     requires some { 0 < room }
     ensures count { IfOk result (λ n. n ≤ room) }
     ensures front { take from buffer.new ≡ take from buffer.old }
-    ensures taken { IfOk result (λ n. Consumes (S.content source.old) (S.content source.new) (take n (drop from buffer.new))) }
+    ensures taken { IfOk result (λ n. Took S.Source source.old source.new (take n (drop from buffer.new)) false) }
     ensures end { IfOk result (λ n. n ≡ 0 → IsAtEnd (S.content source.new)) }
-    ensures kept { OnErr result (Keeps (S.content source.old) (S.content source.new)) }
-    ensures cause { HasCause (S.fault_count source.old) (S.fault_count source.new) result }
+    ensures err { OnErr result (Took S.Source source.old source.new [] true) }
 {
     source.read(&mut buffer[from..from + room])
 }
@@ -117,10 +116,9 @@ fn refill<S: Source>(
     requires inside { end ≤ length buffer.old }
     ensures count { IfOk result (λ n. n ≤ room) }
     ensures ok { IfOk result (λ n. (piece : List ℕ) × (length piece ≡ n) × (take (end - start + n) buffer.new ≡ take (end - start) (drop start buffer.old) ++ piece)
-        × Consumes (S.content source.old) (S.content source.new) piece) }
+        × Took S.Source source.old source.new piece false) }
     ensures end { IfOk result (λ n. n ≡ 0 → IsAtEnd (S.content source.new)) }
-    ensures err { OnErr result ((take (end - start) buffer.new ≡ take (end - start) (drop start buffer.old)) × Keeps (S.content source.old) (S.content source.new)) }
-    ensures cause { HasCause (S.fault_count source.old) (S.fault_count source.new) result }
+    ensures err { OnErr result ((take (end - start) buffer.new ≡ take (end - start) (drop start buffer.old)) × Took S.Source source.old source.new [] true) }
 {
     let held = to_front(buffer, start, end);
     let count = read_behind(source, buffer, held, room)?;
@@ -176,11 +174,10 @@ impl LineReader {
         requires room { length self.old.bytes ≤ 262144 }
         requires few { self.old.taken < 2 ^ 30 }
         ensures bytes { IfOk result (λ n. (piece : List ℕ) × (length piece ≡ n) × (self.new.bytes ≡ self.old.bytes ++ piece)
-            × (self.new.taken ≡ self.old.taken + n) × Consumes (S.content source.old) (S.content source.new) piece) }
+            × (self.new.taken ≡ self.old.taken + n) × Took S.Source source.old source.new piece false) }
         ensures taken { self.new.taken ≤ 2 ^ 30 }
         ensures end { IfOk result (λ n. n ≡ 0 → IsAtEnd (S.content source.new)) }
-        ensures err { OnErr result ((self.new.bytes ≡ self.old.bytes) × (self.new.taken ≡ self.old.taken) × Keeps (S.content source.old) (S.content source.new)) }
-        ensures cause { HasCause (S.fault_count source.old) (S.fault_count source.new) result }
+        ensures err { OnErr result ((self.new.bytes ≡ self.old.bytes) × (self.new.taken ≡ self.old.taken) × Took S.Source source.old source.new [] true) }
     {
         let held = self.end - self.start;
         let room = (self.buffer.len() - held).min((SCRIPT_LIMIT - self.taken) as usize);
@@ -211,23 +208,20 @@ impl LineReader {
         self.scanned = 0;
     }
 
-    /// Takes bytes from the source until a line, its end or a limit is found.
-    pub fn fill<S: Source>(&mut self, source: &mut S) -> Found
+    /// Takes bytes from the source until a line, its end or a limit is found; no line is held yet.
+    fn seek<S: Source>(&mut self, source: &mut S) -> Found
+        requires free { HasNoFeedBelow self.old.bytes (length self.old.bytes) }
         ensures bytes { (piece : List ℕ) × (self.new.bytes ≡ self.old.bytes ++ piece) × (self.new.taken ≡ self.old.taken + length piece)
-            × Consumes (S.content source.old) (S.content source.new) piece }
+            × Took S.Source source.old source.new piece (is_fault result) }
         ensures taken { self.new.taken ≤ 2 ^ 30 }
         ensures found { Finds (S.content source.new) self.new result }
-        ensures later { S.fault_count source.old ≤ S.fault_count source.new }
-        ensures fault { result ≡ Found.Fault → Rises (S.fault_count source.old) (S.fault_count source.new) }
     {
         'reads: loop {
-            if let Some(count) = self.line_end() {
-                return Found::Line { count };
-            }
+            let taken = self.taken();
             if self.held() > LINE_LIMIT {
                 return Found::TooLong;
             }
-            if self.taken() == SCRIPT_LIMIT {
+            if taken == SCRIPT_LIMIT {
                 return Found::ScriptTooLong;
             }
             match self.read(source) {
@@ -235,6 +229,23 @@ impl LineReader {
                 Ok(_) => {}
                 Err(Failed) => return Found::Fault,
             }
+            if let Some(count) = self.line_end() {
+                return Found::Line { count };
+            }
         }
+    }
+
+    /// Takes bytes from the source until a line, its end or a limit is found. Where a line is held, nothing is taken.
+    pub fn fill<S: Source>(&mut self, source: &mut S) -> Found
+        ensures bytes { (piece : List ℕ) × (self.new.bytes ≡ self.old.bytes ++ piece) × (self.new.taken ≡ self.old.taken + length piece)
+            × Took S.Source source.old source.new piece (is_fault result) }
+        ensures taken { self.new.taken ≤ 2 ^ 30 }
+        ensures found { Finds (S.content source.new) self.new result }
+        ensures held { (count : ℕ) → IsFirstFeed self.old.bytes count → source.new ≡ source.old }
+    {
+        if let Some(count) = self.line_end() {
+            return Found::Line { count };
+        }
+        self.seek(source)
     }
 }

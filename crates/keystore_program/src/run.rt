@@ -1,10 +1,9 @@
 //! The top call: a script from a source, served line by line into a sink.
 
 ghost use Rattle.std.specs.Prelude.{◌≡◌, ◌↔◌, ℕ, ◌+◌, ◌-◌, ◌^◌, ◌<◌, ◌≤◌, [], true, false};
-ghost use Rattle.ks_outside.specs.Faults.{Rises};
+ghost use Rattle.ks_outside.specs.Faults.{CountsFaults};
 ghost use Rattle.rule_model.specs.Setup.{Setup};
-ghost use Rattle.keystore_program.specs.Drawing.{supply_of};
-ghost use Rattle.keystore_program.specs.Ends.{Ends, fresh_setup};
+ghost use Rattle.keystore_program.specs.Ends.{Ends, fresh_setup, is_read_fault, is_write_fault, outside};
 ghost use Rattle.keystore_program.specs.Session.{StandsFor, entries_in};
 ghost use Rattle.keystore_program.specs.Words.{is_run as is_run_form};
 
@@ -35,14 +34,10 @@ fn serve_script<S: Source, K: Sink, D: Disk, N: Entropy>(
     requires untaken { reader.old.taken ≡ 0 }
     requires fresh { entries_in session.old ≡ 0 }
     ensures ends { (setup : Setup) → StandsFor setup session.old [] →
-        Ends setup (S.content source.old) (S.content source.new) (K.content sink.old) (K.content sink.new)
-        (supply_of (N.content entropy.old) (N.fault_count entropy.old)) (supply_of (N.content entropy.new) (N.fault_count entropy.new)) result }
-    ensures read_fault { result ≡ Status.ReadFault → Rises (S.fault_count source.old) (S.fault_count source.new) }
-    ensures write_fault { result ≡ Status.WriteFault → Rises (K.fault_count sink.old) (K.fault_count sink.new) }
-    ensures source_later { S.fault_count source.old ≤ S.fault_count source.new }
-    ensures sink_later { K.fault_count sink.old ≤ K.fault_count sink.new }
+        Ends S.Source K.Sink N.Entropy setup (outside source.old sink.old disk.old entropy.old) (outside source.new sink.new disk.new entropy.new) result }
+    ensures source_faults { CountsFaults (S.fault_count source.old) (S.fault_count source.new) (is_read_fault result) }
+    ensures sink_faults { CountsFaults (K.fault_count sink.old) (K.fault_count sink.new) (is_write_fault result) }
     ensures disk { disk.new ≡ disk.old }
-    ensures entropy_later { N.fault_count entropy.old ≤ N.fault_count entropy.new }
 {
     let mut served = 0u64;
     'lines: loop {
@@ -91,16 +86,12 @@ pub fn run_words<S: Source, K: Sink, D: Disk, N: Entropy>(
 
     // One legal history follows the lines of the source with a text and draws what the entropy gives, as each status says.
     ensures ends { is_run_form words.now ≡ true →
-        Ends (fresh_setup device.now policy.now) (S.content source.old) (S.content source.new) (K.content sink.old) (K.content sink.new)
-        (supply_of (N.content entropy.old) (N.fault_count entropy.old)) (supply_of (N.content entropy.new) (N.fault_count entropy.new)) result }
+        Ends S.Source K.Sink N.Entropy (fresh_setup device.now policy.now) (outside source.old sink.old disk.old entropy.old) (outside source.new sink.new disk.new entropy.new) result }
 
-    // The causes of the other statuses.
-    ensures read_fault { result ≡ Status.ReadFault → Rises (S.fault_count source.old) (S.fault_count source.new) }
-    ensures write_fault { result ≡ Status.WriteFault → Rises (K.fault_count sink.old) (K.fault_count sink.new) }
-    ensures source_later { S.fault_count source.old ≤ S.fault_count source.new }
-    ensures sink_later { K.fault_count sink.old ≤ K.fault_count sink.new }
+    // A read failed exactly where the status says so, and so did a write.
+    ensures source_faults { CountsFaults (S.fault_count source.old) (S.fault_count source.new) (is_read_fault result) }
+    ensures sink_faults { CountsFaults (K.fault_count sink.old) (K.fault_count sink.new) (is_write_fault result) }
     ensures disk { disk.new ≡ disk.old }
-    ensures entropy_later { N.fault_count entropy.old ≤ N.fault_count entropy.new }
 {
     if !is_run(words) {
         return Status::Usage;

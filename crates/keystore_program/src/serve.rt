@@ -1,10 +1,10 @@
 //! A line of a script, served and answered.
 
-ghost use Rattle.std.specs.Prelude.{◌≡◌, ◌+◌, ◌-◌, ◌^◌, ◌<◌, ◌≤◌, Err};
-ghost use Rattle.ks_outside.specs.Faults.{Rises};
+ghost use Rattle.std.specs.Prelude.{◌≡◌, ◌+◌, ◌-◌, ◌^◌, ◌<◌, ◌≤◌};
+ghost use Rattle.ks_outside.specs.Faults.{CountsFaults};
 ghost use Rattle.rule_model.specs.Entries.{History};
 ghost use Rattle.rule_model.specs.Setup.{Setup};
-ghost use Rattle.keystore_program.specs.Drawing.{supply_of};
+ghost use Rattle.keystore_program.specs.Halts.{is_write_halt};
 ghost use Rattle.keystore_program.specs.Serving.{ServesLine};
 ghost use Rattle.keystore_program.specs.Session.{StandsFor, entries_in};
 
@@ -48,13 +48,10 @@ pub fn serve_line<K: Sink, D: Disk, N: Entropy>(
 ) -> Result<(), Halt>
     requires { entries_in session.old < 2 ^ 62 - 2 }
     ensures serves { (setup : Setup) (past : History) → StandsFor setup session.old past →
-        ServesLine setup past session.new line.now (K.content sink.old) (K.content sink.new)
-        (supply_of (N.content entropy.old) (N.fault_count entropy.old)) (supply_of (N.content entropy.new) (N.fault_count entropy.new)) result }
+        ServesLine K.Sink N.Entropy setup past session.new line.now sink.old sink.new entropy.old entropy.new result }
     ensures entries { entries_in session.new ≤ entries_in session.old + 1 }
-    ensures sink_later { K.fault_count sink.old ≤ K.fault_count sink.new }
-    ensures cause { result ≡ Err Halt.Write → Rises (K.fault_count sink.old) (K.fault_count sink.new) }
+    ensures sink_faults { CountsFaults (K.fault_count sink.old) (K.fault_count sink.new) (is_write_halt result) }
     ensures disk { disk.new ≡ disk.old }
-    ensures entropy_later { N.fault_count entropy.old ≤ N.fault_count entropy.new }
 {
     let Ok(text) = session.line(alloc, disk, entropy, line) else {
         return Err(Halt::Memory);

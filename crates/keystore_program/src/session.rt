@@ -18,7 +18,6 @@ pub struct Session {
 
 impl Session {
     ghost use Rattle.keystore_core.specs.Engine.{Stands, entries_of};
-    ghost use Rattle.keystore_program.specs.Drawing.{supply_of};
     ghost use Rattle.keystore_program.specs.Session.{StandsFor, Serves, entries_in};
 
     pub fn new(engine: Engine) -> Session
@@ -29,8 +28,8 @@ impl Session {
     }
 
     /// Makes the steps of one line and gives their reply lines. After want of memory the session stands for the
-    /// history with all of the line's entries, or with none of them. What the entropy gave was drawn for these entries; at
-    /// most one of them is the reply to a failed draw, and that only where the entropy's count of faults rose.
+    /// history with all of the line's entries, or with none of them. What the entropy gave was drawn for these entries; one
+    /// of them is the reply to a failed draw exactly where a draw failed.
     pub fn line<D: Disk, N: Entropy>(
         &mut self,
         alloc: Global,
@@ -39,11 +38,10 @@ impl Session {
         line: &[u8],
     ) -> Result<Bytes, NoMemory>
         requires { entries_in self.old < 2 ^ 62 - 2 }
-        ensures serves { (setup : Setup) (past : History) → StandsFor setup self.old past → Serves setup past self.new line.now
-            (supply_of (N.content entropy.old) (N.fault_count entropy.old)) (supply_of (N.content entropy.new) (N.fault_count entropy.new)) result }
+        ensures serves { (setup : Setup) (past : History) → StandsFor setup self.old past →
+            Serves N.Entropy setup past self.new line.now entropy.old entropy.new result }
         ensures entries { entries_in self.new ≤ entries_in self.old + 1 }
         ensures disk { disk.new ≡ disk.old }
-        ensures later { N.fault_count entropy.old ≤ N.fault_count entropy.new }
     {
         match event_of(alloc, line) {
             Ok(line) => {

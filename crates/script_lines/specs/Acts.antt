@@ -5,45 +5,13 @@ use Rattle.tags.specs.declared.descriptor.Descriptor.{Descriptor}
 use Rattle.rule_model.specs.declared.event.Act.{Act}
 use Rattle.rule_model.specs.declared.event.Act.TheVariants as acts
 use Rattle.rule_model.specs.declared.event.Reading.{Reading}
+use Rattle.rule_model.specs.Acts.{kind_named, row_of}
 use Rattle.serde_json.specs.Data.{Data}
 use Rattle.serde_json.specs.Find.{as_bool, as_str}
 use Rattle.script_lines.specs.Members.{◌>>=◌, u32_of, u64_of, hex_of, hex_32_of, two_of, needed, defaulted, optional}
 use Rattle.script_lines.specs.Params.{params_of}
-use Rattle.script_lines.specs.declared.act_name.ActName.{ActName}
-use Rattle.script_lines.specs.declared.act_name.ActName.TheVariants.{Connect, Disconnect, GenerateKey, ImportKey, CreateOperation, UpdateAad, Update, Finish, Abort, GetKeyEntry, DeleteKey, Grant, Ungrant, GetNumberOfEntries, ListEntriesBatched, AddAuthToken, DeviceLocked, DeviceUnlocked, EarlyBootEnded, ClearNamespace, UserRemoved, Leave, Restart}
-
--- the name of each act, as a script writes it
-abbrev pub text_of : ActName → List ℕ
-text_of Connect = codes "connect"
-text_of Disconnect = codes "disconnect"
-text_of GenerateKey = codes "generateKey"
-text_of ImportKey = codes "importKey"
-text_of CreateOperation = codes "createOperation"
-text_of UpdateAad = codes "updateAad"
-text_of Update = codes "update"
-text_of Finish = codes "finish"
-text_of Abort = codes "abort"
-text_of GetKeyEntry = codes "getKeyEntry"
-text_of DeleteKey = codes "deleteKey"
-text_of Grant = codes "grant"
-text_of Ungrant = codes "ungrant"
-text_of GetNumberOfEntries = codes "getNumberOfEntries"
-text_of ListEntriesBatched = codes "listEntriesBatched"
-text_of AddAuthToken = codes "addAuthToken"
-text_of DeviceLocked = codes "deviceLocked"
-text_of DeviceUnlocked = codes "deviceUnlocked"
-text_of EarlyBootEnded = codes "earlyBootEnded"
-text_of ClearNamespace = codes "clearNamespace"
-text_of UserRemoved = codes "userRemoved"
-text_of Leave = codes "leave"
-text_of Restart = codes "restart"
-
-abbrev pub all_names : List ActName
-all_names = Connect ∷ Disconnect ∷ GenerateKey ∷ ImportKey ∷ CreateOperation ∷ UpdateAad ∷ Update ∷ Finish ∷ Abort ∷ GetKeyEntry ∷ DeleteKey ∷ Grant ∷ Ungrant ∷ GetNumberOfEntries ∷ ListEntriesBatched ∷ AddAuthToken ∷ DeviceLocked ∷ DeviceUnlocked ∷ EarlyBootEnded ∷ ClearNamespace ∷ UserRemoved ∷ Leave ∷ Restart ∷ []
-
--- the act that a name stands for
-abbrev pub act_named : List ℕ → Option ActName
-act_named name = find (λ act. bytes_eq (text_of act) name) all_names
+use Rattle.rule_model.specs.declared.act_kind.ActKind.{ActKind}
+use Rattle.rule_model.specs.declared.act_kind.ActKind.TheVariants.{Connect, Disconnect, GenerateKey, ImportKey, CreateOperation, UpdateAad, Update, Finish, Abort, GetKeyEntry, DeleteKey, Grant, Ungrant, GetNumberOfEntries, ListEntriesBatched, AddAuthToken, DeviceLocked, DeviceUnlocked, EarlyBootEnded, ClearNamespace, UserRemoved, Leave, Restart}
 
 -- a descriptor: an object with a domain, a namespace, an alias as text and a blob in hex
 abbrev pub descriptor_of : Data → Option Descriptor
@@ -160,7 +128,7 @@ clear_namespace members = do
   Some (acts.ClearNamespace domain nspace)
 
 -- the act of a name, with its fields from the members of the line
-abbrev pub act_of : ActName → Data → Option Act
+abbrev pub act_of : ActKind → Data → Option Act
 act_of Connect members = uid_of members >>= λ uid. Some (acts.Connect uid)
 act_of Disconnect members = Some acts.Disconnect
 act_of GenerateKey members = generate_key members
@@ -187,26 +155,13 @@ act_of Restart members = optional hex_32_of (codes "root") members >>= λ root. 
 
 -- ---- who, when, and whether an enter waits for its leave
 
--- connect, leave and restart are of no client
-abbrev pub has_client : ActName → Bool
-has_client Connect = false
-has_client Leave = false
-has_client Restart = false
-has_client _ = true
-
 -- the client's number; for acts of no client it is 0, and the member is not looked at
-abbrev pub client_of : ActName → Data → Option ℕ
-client_of name members = if has_client name then needed u64_of (codes "c") members else Some 0
-
-abbrev pub is_enter : ActName → Bool
-is_enter UpdateAad = true
-is_enter Update = true
-is_enter Finish = true
-is_enter _ = false
+abbrev pub client_of : ActKind → Data → Option ℕ
+client_of name members = if (row_of name).has_client then needed u64_of (codes "c") members else Some 0
 
 -- whether an enter waits for its leave; for other acts the member is not looked at
-abbrev pub hold_of : ActName → Data → Option Bool
-hold_of name members = if is_enter name then defaulted false as_bool (codes "hold") members else Some false
+abbrev pub hold_of : ActKind → Data → Option Bool
+hold_of name members = if (row_of name).enters then defaulted false as_bool (codes "hold") members else Some false
 
 -- two numbers, in milliseconds: since the start, and since 1970
 abbrev pub reading_of : Data → Option Reading
@@ -216,5 +171,5 @@ reading_of members = do
   wall ← u64_of both.1
   Some (record { boot = boot; wall = wall })
 
-abbrev pub name_of : Data → Option ActName
-name_of members = needed as_str (codes "do") members >>= act_named
+abbrev pub name_of : Data → Option ActKind
+name_of members = needed as_str (codes "do") members >>= kind_named

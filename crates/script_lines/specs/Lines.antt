@@ -7,7 +7,7 @@ use Rattle.serde_json.specs.Data.{Data}
 use Rattle.serde_json.specs.Read.{read}
 use Rattle.script_lines.specs.Members.{◌>>=◌}
 use Rattle.script_lines.specs.Acts.{reading_of, name_of, act_of, client_of, hold_of}
-use Rattle.rule_model.specs.Forms.{is_built}
+use Rattle.rule_model.specs.Acts.{is_built}
 
 -- the JSON value of a line: UTF-8 that is a JSON text
 abbrev pub parsed : List ℕ → Option Data

@@ -7,7 +7,7 @@ ghost use Rattle.script_lines.specs.Acts.{act_of as spec_act_of, client_of as sp
 ghost use Rattle.script_lines.specs.Lines.{event_of as spec_event_of, line_in as spec_line_in, parsed as spec_parsed};
 
 use crate::LineFault;
-use crate::act_name::{ActName, name_of};
+use crate::act_name::name_of;
 use crate::key_acts::{
     clear_namespace, create_operation, delete_key, generate_key, get_key_entry,
     get_number_of_entries, grant, import_key, list_entries_batched, ungrant,
@@ -17,7 +17,7 @@ use crate::service_acts::{
     add_auth_token, connect, device_locked, device_unlocked, restart, user_removed,
 };
 use crate::step_acts::{abort, finish, leave, update, update_aad};
-use rule_model::{Act, Event, Line, Reading};
+use rule_model::{Act, ActKind, Event, Line, Reading};
 use serde_json::Value;
 use std::alloc::Global;
 use std::str;
@@ -81,20 +81,20 @@ fn reading_of(object: &Value) -> Result<Reading, LineFault>
     Ok(Reading { boot, wall })
 }
 
-fn client_of(name: ActName, object: &Value) -> Result<u64, LineFault>
+fn client_of(name: ActKind, object: &Value) -> Result<u64, LineFault>
     ensures { Says result (spec_client_of name (view object.now)) }
 {
-    if name.has_client() {
+    if name.row().has_client {
         needed_u64(object, "c")
     } else {
         Ok(0)
     }
 }
 
-fn hold_of(name: ActName, object: &Value) -> Result<bool, LineFault>
+fn hold_of(name: ActKind, object: &Value) -> Result<bool, LineFault>
     ensures { Says result (spec_hold_of name (view object.now)) }
 {
-    if name.is_enter() {
+    if name.row().enters {
         flag_or_false(object, "hold")
     } else {
         Ok(false)
@@ -102,32 +102,32 @@ fn hold_of(name: ActName, object: &Value) -> Result<bool, LineFault>
 }
 
 /// The act of a name, with its fields from the members of the line.
-pub fn act_of(alloc: Global, name: ActName, object: &Value) -> Result<Act, LineFault>
+pub fn act_of(alloc: Global, name: ActKind, object: &Value) -> Result<Act, LineFault>
     ensures { Says result (spec_act_of name (view object.now)) }
 {
     match name {
-        ActName::Connect => connect(object),
-        ActName::Disconnect => Ok(Act::Disconnect),
-        ActName::GenerateKey => generate_key(alloc, object),
-        ActName::ImportKey => import_key(alloc, object),
-        ActName::CreateOperation => create_operation(alloc, object),
-        ActName::UpdateAad => update_aad(alloc, object),
-        ActName::Update => update(alloc, object),
-        ActName::Finish => finish(alloc, object),
-        ActName::Abort => abort(object),
-        ActName::GetKeyEntry => get_key_entry(alloc, object),
-        ActName::DeleteKey => delete_key(alloc, object),
-        ActName::Grant => grant(alloc, object),
-        ActName::Ungrant => ungrant(alloc, object),
-        ActName::GetNumberOfEntries => get_number_of_entries(object),
-        ActName::ListEntriesBatched => list_entries_batched(alloc, object),
-        ActName::AddAuthToken => add_auth_token(alloc, object),
-        ActName::DeviceLocked => device_locked(object),
-        ActName::DeviceUnlocked => device_unlocked(object),
-        ActName::EarlyBootEnded => Ok(Act::EarlyBootEnded),
-        ActName::ClearNamespace => clear_namespace(object),
-        ActName::UserRemoved => user_removed(object),
-        ActName::Leave => leave(object),
-        ActName::Restart => restart(alloc, object),
+        ActKind::Connect => connect(object),
+        ActKind::Disconnect => Ok(Act::Disconnect),
+        ActKind::GenerateKey => generate_key(alloc, object),
+        ActKind::ImportKey => import_key(alloc, object),
+        ActKind::CreateOperation => create_operation(alloc, object),
+        ActKind::UpdateAad => update_aad(alloc, object),
+        ActKind::Update => update(alloc, object),
+        ActKind::Finish => finish(alloc, object),
+        ActKind::Abort => abort(object),
+        ActKind::GetKeyEntry => get_key_entry(alloc, object),
+        ActKind::DeleteKey => delete_key(alloc, object),
+        ActKind::Grant => grant(alloc, object),
+        ActKind::Ungrant => ungrant(alloc, object),
+        ActKind::GetNumberOfEntries => get_number_of_entries(object),
+        ActKind::ListEntriesBatched => list_entries_batched(alloc, object),
+        ActKind::AddAuthToken => add_auth_token(alloc, object),
+        ActKind::DeviceLocked => device_locked(object),
+        ActKind::DeviceUnlocked => device_unlocked(object),
+        ActKind::EarlyBootEnded => Ok(Act::EarlyBootEnded),
+        ActKind::ClearNamespace => clear_namespace(object),
+        ActKind::UserRemoved => user_removed(object),
+        ActKind::Leave => leave(object),
+        ActKind::Restart => restart(alloc, object),
     }
 }

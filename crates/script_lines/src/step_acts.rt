@@ -3,7 +3,7 @@
 ghost use Rattle.std.specs.Prelude.{◌≡◌};
 ghost use Rattle.serde_json.specs.View.{view};
 ghost use Rattle.script_lines.specs.Reads.{Says};
-ghost use Rattle.script_lines.specs.declared.act_name.ActName.TheVariants as names;
+ghost use Rattle.rule_model.specs.declared.act_kind.ActKind.TheVariants as names;
 ghost use Rattle.script_lines.specs.Acts.{act_of};
 
 use crate::LineFault;
