@@ -1,5 +1,6 @@
 ghost use Rattle.std.specs.Prelude.{◌≡◌, ℕ, ◌%◌, ◌^◌, ◌≤◌, List, [], is_some, length, IfOk};
 ghost use Rattle.std.specs.BTreeMap.{values};
+ghost use Rattle.tags.specs.Tag.{tag_with_low};
 ghost use Rattle.tag_lists.specs.Reading as spec;
 ghost use Rattle.tag_lists.specs.Reading.{Gives};
 
@@ -10,23 +11,16 @@ use std::alloc::Global;
 use std::collections::BTreeMap;
 use tags::{Bytes, Param, ParamValue, Tag};
 
-// The tag of a number.
-fn tag_numbered(number: u32) -> Option<Tag>
-    ensures { result ≡ spec.tag_numbered number }
-{
-    Tag::of_number(number)
-}
-
 // Whether a tag of any type has the number's 28 low bits.
 fn is_low_known(number: u32) -> bool
-    ensures { result ≡ is_some (spec.tag_with_low (number % 2 ^ 28)) }
+    ensures { result ≡ is_some (tag_with_low (number % 2 ^ 28)) }
 {
     Tag::of_low(number % (1 << 28)).is_some()
 }
 
 // Whether a parameter of the tag was read.
-fn stands(tag: Tag, before: &BTreeMap<u128, Param>) -> bool
-    ensures { result ≡ spec.stands tag (values before.now) }
+fn was_read(tag: Tag, before: &BTreeMap<u128, Param>) -> bool
+    ensures { result ≡ spec.was_read tag (values before.now) }
 {
     before.values().any(|param| is_tag(param.tag, tag))
 }
@@ -111,7 +105,7 @@ fn known_at<'a>(
     if is_wrong_flag(shape, bytes) {
         return Err(ListFault::WrongKind { at });
     }
-    if !tag.kind().is_repeatable() && stands(tag, before) {
+    if !tag.kind().is_repeatable() && was_read(tag, before) {
         return Err(ListFault::Repeated { at });
     }
     let (value, rest) = value_at(alloc, at, shape, bytes)?;
@@ -133,7 +127,7 @@ fn param_at<'a>(
         return Err(ListFault::Truncated { at });
     }
     let number = BigEndian::read_u32(bytes);
-    match tag_numbered(number) {
+    match Tag::of_number(number) {
         Some(tag) => known_at(alloc, at, before, tag, &bytes[4..]),
         None => {
             if is_low_known(number) {
