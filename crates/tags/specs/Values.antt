@@ -66,7 +66,13 @@ IMPORTED = 2
 abbrev pub RAW : ℕ
 RAW = 3
 
--- the modes and paddings that AES takes, and the digests that HMAC takes
+-- the purposes, modes and paddings of AES, and the purposes and digests of HMAC
+abbrev pub AES_PURPOSES : List ℕ
+AES_PURPOSES = ENCRYPT ∷ DECRYPT ∷ []
+
+abbrev pub HMAC_PURPOSES : List ℕ
+HMAC_PURPOSES = SIGN ∷ VERIFY ∷ []
+
 abbrev pub MODES : List ℕ
 MODES = ECB ∷ CBC ∷ CTR ∷ GCM ∷ []
 
@@ -78,7 +84,7 @@ DIGESTS = SHA_224 ∷ SHA_256 ∷ SHA_384 ∷ SHA_512 ∷ []
 
 -- the number is one of these
 abbrev pub one_in : List ℕ → ℕ → Bool
-one_in numbers n = list_any (λ m. m == n) numbers
+one_in numbers n = list_any (λ own. n == own) numbers
 
 -- there is a number, and it passes the test
 abbrev pub passes : (ℕ → Bool) → Option ℕ → Bool

@@ -48,6 +48,10 @@ pub const IMPORTED: u64 = 2;
 /// The format of an imported key whose material is its bytes.
 pub const RAW: u32 = 3;
 
+/// The values of PURPOSE that AES takes here.
+pub const AES_PURPOSES: [u64; 2] = [ENCRYPT, DECRYPT];
+/// The values of PURPOSE that HMAC takes here.
+pub const HMAC_PURPOSES: [u64; 2] = [SIGN, VERIFY];
 /// The values of BLOCK_MODE that AES takes here.
 pub const MODES: [u64; 4] = [ECB, CBC, CTR, GCM];
 /// The values of PADDING that AES takes here.
@@ -59,7 +63,7 @@ pub const DIGESTS: [u64; 4] = [SHA_224, SHA_256, SHA_384, SHA_512];
 pub fn one_in(numbers: &[u64], number: u64) -> bool
     ensures { result ≡ spec.one_in numbers.now number }
 {
-    numbers.iter().any(|own| *own == number)
+    numbers.iter().any(|own| number == *own)
 }
 
 /// Whether so many bits are whole bytes, from the least to the most bits. It takes no memory.
