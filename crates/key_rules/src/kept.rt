@@ -4,14 +4,9 @@ ghost use Rattle.tag_lists.specs.Order.{Fits};
 ghost use Rattle.key_rules.specs.Kept as spec;
 
 use crate::ImportFacts;
-use crate::values::stands;
 use tag_lists::AuthList;
+use tags::values::{GENERATED, IMPORTED};
 use tags::{NoMemory, Param, ParamValue, Tag};
-
-/// The origin GENERATED.
-const GENERATED: u64 = 0;
-/// The origin IMPORTED.
-const IMPORTED: u64 = 2;
 
 // The list with this number as the tag's one parameter.
 fn set(list: AuthList, tag: Tag, number: u64) -> Result<AuthList, NoMemory>
@@ -33,7 +28,7 @@ fn set_missing(list: AuthList, tag: Tag, number: u64) -> Result<AuthList, NoMemo
     ensures set { IfOk result (λ new. new ≡ spec.set_missing tag number list) }
     ensures room { IfOk result (λ new. length new ≤ length list + 1) }
 {
-    if stands(&list, tag) {
+    if list.stands(tag) {
         Ok(list)
     } else {
         set(list, tag, number)
@@ -99,12 +94,5 @@ pub(crate) fn limit(list: &AuthList) -> u32
     ensures { result ≡ spec.limit list.now }
 {
     let _params = list.params();
-    match list.one(Tag::UsageCountLimit) {
-        None => 0,
-        Some(param) => match &param.value {
-            ParamValue::Number(number) => *number as u32,
-            ParamValue::Flag => 0,
-            ParamValue::Raw(_) => 0,
-        },
-    }
+    list.number(Tag::UsageCountLimit).unwrap_or(0) as u32
 }
