@@ -1,6 +1,6 @@
 use Rattle.std.proofs.Common.{◌≡◌, ℕ, ◌+◌, List, ◌++◌, length, take, ap, ◌∙◌}
 use Rattle.cipher_ops.proofs.Pieces.{front_of_both, joined_more}
-use Rattle.cipher_ops.proofs.engine.Engine.advance.Goals as goal
+use Rattle.cipher_ops.proofs.transform.Transform.advance.Goals as goal
 
 pub returns-clause-joined : goal.returns-clause-joined
 returns-clause-joined c = λ plan key nonce aad text before holds joined.

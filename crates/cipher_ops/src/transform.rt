@@ -1,6 +1,6 @@
-// The cipher or mac of an operation, whichever its plan asks for.
+//! The cipher or mac of an operation, whichever its plan asks for.
 
-ghost use Rattle.std.specs.Prelude.{◌≡◌, ℕ, ◌-◌, ◌≤◌, Bool, true, List, [], ◌++◌, length, take, MatchResult, IfOk, Option};
+ghost use Rattle.std.specs.Prelude.{◌≡◌, ℕ, ◌+◌, ◌-◌, ◌≤◌, Bool, true, List, [], ◌++◌, length, take, MatchResult, IfOk, Option};
 ghost use Rattle.tags.specs.declared.plan.Plan.{Plan};
 ghost use Rattle.aes_core.specs.Cipher.{is_key_size};
 ghost use Rattle.aes_core.specs.KeyOf.{key_of};
@@ -15,7 +15,7 @@ use tags::{Bytes, Code, Plan};
 
 /// A text under way in its mode, or under its mac.
 #[derive(Drop)]
-pub(crate) enum Engine {
+pub(crate) enum Transform {
     /// ECB, CBC or CTR
     Modes(Blocks<AesKey>),
     /// GCM, sealing
@@ -59,32 +59,33 @@ fn code_of(fault: ModeFault) -> Code
     }
 }
 
-impl Engine {
+impl Transform {
+    ghost use Rattle.tags.specs.Plan.{Fits};
     ghost use Rattle.cipher_ops.specs.Output.{whole};
-    ghost use Rattle.cipher_ops.specs.Sizes.{Fits, piece_room};
-    ghost use Rattle.cipher_ops.specs.Standing.{Holds, given, TakesAad, HasRoom, MayEnd, Ends};
+    ghost use Rattle.cipher_ops.specs.Sizes.{piece_room};
+    ghost use Rattle.cipher_ops.specs.Standing.{Holds, given, TakesAad, HasRoom, MayEnd, CanComplete, Ends};
 
-    /// The engine of a plan, with no additional data and no text.
-    pub(crate) fn new(plan: Plan, key: &[u8], nonce: &[u8]) -> Engine
+    /// The transform of a plan, with no additional data and no text.
+    pub(crate) fn new(plan: Plan, key: &[u8], nonce: &[u8]) -> Transform
         requires { Fits plan key.now nonce.now }
         ensures { Holds result plan key.now nonce.now [] [] }
     {
         match plan {
-            Plan::Ecb { .. } => Engine::Modes(Blocks::new(aes_of(key), plan, [0; 16])),
-            Plan::Cbc { .. } => Engine::Modes(Blocks::new(aes_of(key), plan, array_of(nonce))),
-            Plan::Ctr => Engine::Modes(Blocks::new(aes_of(key), plan, array_of(nonce))),
+            Plan::Ecb { .. } => Transform::Modes(Blocks::new(aes_of(key), plan, [0; 16])),
+            Plan::Cbc { .. } => Transform::Modes(Blocks::new(aes_of(key), plan, array_of(nonce))),
+            Plan::Ctr => Transform::Modes(Blocks::new(aes_of(key), plan, array_of(nonce))),
             Plan::Gcm { seal, tag } => {
                 if seal {
-                    Engine::Seal(GcmSeal::new(aes_of(key), array_of(nonce), tag as usize))
+                    Transform::Seal(GcmSeal::new(aes_of(key), array_of(nonce), tag as usize))
                 } else {
-                    Engine::Open(GcmOpen::new(aes_of(key), array_of(nonce), tag as usize))
+                    Transform::Open(GcmOpen::new(aes_of(key), array_of(nonce), tag as usize))
                 }
             }
-            Plan::HmacSign { digest, size } => Engine::Sign {
+            Plan::HmacSign { digest, size } => Transform::Sign {
                 mac: Hmac::new(digest, key),
                 size: size as usize,
             },
-            Plan::HmacVerify { digest, least } => Engine::Verify {
+            Plan::HmacVerify { digest, least } => Transform::Verify {
                 mac: Hmac::new(digest, key),
                 least: least as usize,
             },
@@ -97,8 +98,8 @@ impl Engine {
         ensures { (plan : Plan) (key nonce aad : List ℕ) → Holds self.old plan key nonce aad [] → Holds self.new plan key nonce (aad ++ input.now) [] }
     {
         match self {
-            Engine::Seal(seal) => seal.aad(input),
-            Engine::Open(open) => open.aad(input),
+            Transform::Seal(seal) => seal.aad(input),
+            Transform::Open(open) => open.aad(input),
             _ => {}
         }
     }
@@ -113,14 +114,14 @@ impl Engine {
         ensures within { result ≤ length out.new }
     {
         match self {
-            Engine::Modes(blocks) => blocks.update(input, out),
-            Engine::Seal(seal) => seal.update(input, out),
-            Engine::Open(open) => open.update(input, out),
-            Engine::Sign { mac, .. } => {
+            Transform::Modes(blocks) => blocks.update(input, out),
+            Transform::Seal(seal) => seal.update(input, out),
+            Transform::Open(open) => open.update(input, out),
+            Transform::Sign { mac, .. } => {
                 mac.update(input);
                 0
             }
-            Engine::Verify { mac, .. } => {
+            Transform::Verify { mac, .. } => {
                 mac.update(input);
                 0
             }
@@ -135,20 +136,59 @@ impl Engine {
         ensures within { IfOk result (λ n. n ≤ length out.new) }
     {
         match self {
-            Engine::Modes(blocks) => match blocks.finish(out) {
+            Transform::Modes(blocks) => match blocks.finish(out) {
                 Ok(size) => Ok(size),
                 Err(fault) => Err(code_of(fault)),
             },
-            Engine::Seal(seal) => Ok(seal.finish(out)),
-            Engine::Open(open) => match open.finish(out) {
+            Transform::Seal(seal) => Ok(seal.finish(out)),
+            Transform::Open(open) => match open.finish(out) {
                 Ok(_) => Ok(0),
                 Err(TagWrong) => Err(Code::VerificationFailed),
             },
-            Engine::Sign { mac, size } => Ok(put_mac(mac, size, out)),
-            Engine::Verify { mac, least } => match verify(mac, least, signature) {
+            Transform::Sign { mac, size } => Ok(put_mac(mac, size, out)),
+            Transform::Verify { mac, least } => match verify(mac, least, signature) {
                 Ok(()) => Ok(0),
                 Err(code) => Err(code),
             },
+        }
+    }
+
+    /// Puts the bytes that are held, and behind them what the mode gives for the next bytes of the text.
+    pub(crate) fn advance(&mut self, held: &[u8], input: &[u8], out: &mut [u8]) -> usize
+        requires fits { length held.now ≤ length out.old }
+        requires room { HasRoom self.old (length input.now) (length out.old - length held.now) }
+        ensures holds { (plan : Plan) (key nonce aad text : List ℕ) → Holds self.old plan key nonce aad text → Holds self.new plan key nonce aad (text ++ input.now) }
+        ensures joined { (plan : Plan) (key nonce aad text before : List ℕ) → Holds self.old plan key nonce aad text →
+            before ++ held.now ≡ given plan key nonce text → before ++ take result out.new ≡ given plan key nonce (text ++ input.now) }
+        ensures room { (plan : Plan) (key nonce aad text : List ℕ) → Holds self.old plan key nonce aad text → result ≤ length held.now + piece_room plan (length input.now) }
+        ensures within { result ≤ length out.new }
+    {
+        let (front, back) = out.split_at_mut(held.len());
+        front.copy_from_slice(held);
+        held.len() + self.update(input, back)
+    }
+
+    /// Puts the bytes that are held, and behind them all that the last bytes of the text and its end add.
+    pub(crate) fn complete(
+        self,
+        held: &[u8],
+        input: &[u8],
+        signature: Option<Bytes>,
+        out: &mut [u8],
+    ) -> Result<usize, Code>
+        requires fits { length held.now ≤ length out.old }
+        requires room { HasRoom self (length input.now) (length out.old - length held.now) }
+        requires end { ∥ CanComplete self input.now (length held.now) (length out.old) ∥₁ }
+        ensures ends { (plan : Plan) (key nonce aad text before : List ℕ) → Holds self plan key nonce aad text → before ++ held.now ≡ given plan key nonce text →
+            Ends (whole plan key nonce aad (text ++ input.now) signature) before result out.new }
+        ensures within { IfOk result (λ n. n ≤ length out.new) }
+    {
+        let mut transform = self;
+        let at = transform.advance(held, input, out);
+        let (_, back) = out.split_at_mut(at);
+        match transform.finish(signature, back) {
+            Ok(size) => Ok(at + size),
+            Err(code) => Err(code),
         }
     }
 }

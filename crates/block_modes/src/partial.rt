@@ -7,12 +7,12 @@ use std::marker::Model;
 
 /// At most 16 bytes. Contracts see their list.
 #[derive(Drop)]
-pub(crate) struct Held {
+pub(crate) struct Partial {
     bytes: [u8; 16],
     len: usize,
 }
 
-impl Model for Held {
+impl Model for Partial {
     ghost use Rattle.std.specs.Prelude.{ℕ, ◌≤◌, List, take};
 
     ghost Value = { List ℕ };
@@ -22,11 +22,11 @@ impl Model for Held {
     ghost invariant = { λ s. s.len ≤ 16 };
 }
 
-impl Held {
-    pub(crate) fn new() -> Held
+impl Partial {
+    pub(crate) fn new() -> Partial
         ensures { result ≡ [] }
     {
-        Held {
+        Partial {
             bytes: [0; 16],
             len: 0,
         }

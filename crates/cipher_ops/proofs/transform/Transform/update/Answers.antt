@@ -1,24 +1,24 @@
--- Each engine goes on, and gives what its mode gives.
+-- Each transform goes on, and gives what its mode gives.
 use Rattle.std.proofs.Common.{◌≡◌, ◌≤◌, length, take, ◌∙◌, arith}
 use Rattle.std.proofs.lemmas.List.{length-take-le}
 use Rattle.aes_core.specs.Cipher.{cipher, inverse_cipher}
 use Rattle.cipher_ops.specs.Output.{first_block}
 use Rattle.cipher_ops.proofs.GoingOn.{modes_more, seal_more, open_more, sign_more, verify_more}
-use Rattle.cipher_ops.proofs.engine.Engine.update.Goals as goal
+use Rattle.cipher_ops.proofs.transform.Transform.update.Goals as goal
 
 pub returns-in-Modes-clause-holds : goal.returns-in-Modes-clause-holds
 returns-in-Modes-clause-holds c = λ plan key nonce aad text holds.
     let h = rw c.in-Modes.is at holds in
     (modes_more c.in-Modes.blocks c.update.new.self plan key nonce aad text c.args.input.now (take c.update.result c.update.new.out) h
-    (c.update.ensures.holds (cipher key) (inverse_cipher key) plan (first_block plan nonce) text h.engine_is)
-    (c.update.ensures.gives (cipher key) (inverse_cipher key) plan (first_block plan nonce) text h.engine_is)).holds
+    (c.update.ensures.holds (cipher key) (inverse_cipher key) plan (first_block plan nonce) text h.transform_is)
+    (c.update.ensures.gives (cipher key) (inverse_cipher key) plan (first_block plan nonce) text h.transform_is)).holds
 
 pub returns-in-Modes-clause-joined : goal.returns-in-Modes-clause-joined
 returns-in-Modes-clause-joined c = λ plan key nonce aad text holds.
     let h = rw c.in-Modes.is at holds in
     (modes_more c.in-Modes.blocks c.update.new.self plan key nonce aad text c.args.input.now (take c.update.result c.update.new.out) h
-    (c.update.ensures.holds (cipher key) (inverse_cipher key) plan (first_block plan nonce) text h.engine_is)
-    (c.update.ensures.gives (cipher key) (inverse_cipher key) plan (first_block plan nonce) text h.engine_is)).joined
+    (c.update.ensures.holds (cipher key) (inverse_cipher key) plan (first_block plan nonce) text h.transform_is)
+    (c.update.ensures.gives (cipher key) (inverse_cipher key) plan (first_block plan nonce) text h.transform_is)).joined
 
 pub returns-in-Seal-clause-holds : goal.returns-in-Seal-clause-holds
 returns-in-Seal-clause-holds c = λ plan key nonce aad text holds.

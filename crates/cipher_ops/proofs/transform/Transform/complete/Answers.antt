@@ -2,7 +2,7 @@ use Rattle.std.proofs.Common.{◌≡◌, ℕ, ◌+◌, List, ◌++◌, length, t
 use mathlib.Core.Logic.{∥∥₁_elim}
 use Rattle.cipher_ops.proofs.Pieces.{front_of_both, done}
 use Rattle.cipher_ops.proofs.Rooms.{may_end_now, MayEnd-prop}
-use Rattle.cipher_ops.proofs.engine.Engine.complete.Goals as goal
+use Rattle.cipher_ops.proofs.transform.Transform.complete.Goals as goal
 
 pub finish-requires : goal.finish-requires
 finish-requires c =
@@ -10,7 +10,7 @@ finish-requires c =
     let later = c.advance-at.ensures.holds can.plan can.key can.nonce can.aad can.text can.holds in
     let at = c.advance-at.ensures.room can.plan can.key can.nonce can.aad can.text can.holds in
     let enough = can.enough in
-    may_end_now c.advance-at.new.self can.plan can.key can.nonce can.aad (can.text ++ c.args.input.now) (length c.split_at_mut-back.result.1.now) later.engine_is can.may (omega arith))
+    may_end_now c.advance-at.new.self can.plan can.key can.nonce can.aad (can.text ++ c.args.input.now) (length c.split_at_mut-back.result.1.now) later.transform_is can.may (omega arith))
 
 pub returns-in-Ok-clause-ends : goal.returns-in-Ok-clause-ends
 returns-in-Ok-clause-ends c = λ plan key nonce aad text before holds joined.

@@ -1,7 +1,7 @@
 use Rattle.std.proofs.Common.{Bool, refl, ap, ◌∙◌}
 use Rattle.tags.specs.declared.plan.Plan.TheVariants.{Gcm}
-use Rattle.cipher_ops.proofs.Beginning.{modes_begin, seal_begin, open_begin, sign_begin, verify_begin}
-use Rattle.cipher_ops.proofs.engine.Engine.new.Goals as goal
+use Rattle.cipher_ops.proofs.Beginning.{mac_fits, modes_begin, seal_begin, open_begin, sign_begin, verify_begin}
+use Rattle.cipher_ops.proofs.transform.Transform.new.Goals as goal
 
 pub returns-in-Ecb : goal.returns-in-Ecb
 returns-in-Ecb c =
@@ -29,8 +29,8 @@ returns-else-seal c =
 
 pub returns-in-HmacSign : goal.returns-in-HmacSign
 returns-in-HmacSign c =
-    let fits = rw c.in-HmacSign.is at c.requires in
-    sign_begin c.new-in-HmacSign.result c.args.plan c.in-HmacSign.digest c.in-HmacSign.size c.args.key.now c.args.nonce.now c.in-HmacSign.is fits.2 c.new-in-HmacSign.ensures
+    let works = rw c.in-HmacSign.is at c.requires.works in
+    sign_begin c.new-in-HmacSign.result c.args.plan c.in-HmacSign.digest c.in-HmacSign.size c.args.key.now c.args.nonce.now c.in-HmacSign.is (mac_fits c.in-HmacSign.digest c.in-HmacSign.size works) c.new-in-HmacSign.ensures
 
 pub returns-in-HmacVerify : goal.returns-in-HmacVerify
 returns-in-HmacVerify c =

@@ -1,21 +1,21 @@
--- Each engine ends as its mode does.
+-- Each transform ends as its mode does.
 use Rattle.std.proofs.Common.{take, ◌∙◌}
 use Rattle.aes_core.specs.Cipher.{cipher, inverse_cipher}
 use Rattle.cipher_ops.specs.Output.{first_block, mode_code}
 use Rattle.cipher_ops.proofs.Ending.{modes_end, modes_fault, seal_end, open_end, open_fault, sign_end, verify_end, verify_fault, err_is}
-use Rattle.cipher_ops.proofs.engine.Engine.finish.Goals as goal
+use Rattle.cipher_ops.proofs.transform.Transform.finish.Goals as goal
 
 pub returns-in-Ok-clause-ends : goal.returns-in-Ok-clause-ends
 returns-in-Ok-clause-ends c = λ plan key nonce aad text holds.
     let h = rw c.in-Modes.is at holds in
     modes_end c.in-Modes.blocks plan key nonce aad text (take c.in-Ok.size c.finish.new.out) c.args.signature h
-    (c.in-Ok.ensures.gives (cipher key) (inverse_cipher key) plan (first_block plan nonce) text h.engine_is)
+    (c.in-Ok.ensures.gives (cipher key) (inverse_cipher key) plan (first_block plan nonce) text h.transform_is)
 
 pub returns-in-Modes-clause-ends : goal.returns-in-Modes-clause-ends
 returns-in-Modes-clause-ends c = λ plan key nonce aad text holds.
     let h = rw c.in-Modes.is at holds in
     modes_fault c.in-Modes.blocks plan key nonce aad text c.args.signature c.in-Err.fault h
-    (c.in-Err.ensures.gives (cipher key) (inverse_cipher key) plan (first_block plan nonce) text h.engine_is)
+    (c.in-Err.ensures.gives (cipher key) (inverse_cipher key) plan (first_block plan nonce) text h.transform_is)
     ∙ err_is (mode_code c.in-Err.fault) c.code_of.result c.code_of.ensures
 
 pub returns-in-Seal-clause-ends : goal.returns-in-Seal-clause-ends

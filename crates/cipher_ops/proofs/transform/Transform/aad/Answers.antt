@@ -1,6 +1,6 @@
 use Rattle.aes_core.specs.Cipher.{cipher}
 use Rattle.cipher_ops.proofs.Beginning.{seal_aad, open_aad}
-use Rattle.cipher_ops.proofs.engine.Engine.aad.Goals as goal
+use Rattle.cipher_ops.proofs.transform.Transform.aad.Goals as goal
 
 pub returns-in-Seal : goal.returns-in-Seal
 returns-in-Seal c = λ plan key nonce aad holds.
