@@ -7,8 +7,6 @@ use Rattle.tags.specs.declared.plan.Plan.TheVariants.{Ctr}
 use Rattle.tags.specs.declared.rule.Rule.{Rule}
 use Rattle.tags.specs.declared.rule.RuleTable.TheVariants.{L}
 use Rattle.key_rules.specs.declared.facts.ImportFacts.{ImportFacts}
-use Rattle.key_rules.specs.declared.fault.NewFault.{NewFault}
-use Rattle.key_rules.specs.declared.fault.NewFault.TheVariants as new_faults
 use Rattle.key_rules.specs.declared.plan.KeyPlan.{KeyPlan}
 use Rattle.key_rules.specs.Creation.{material_size, new_key}
 use Rattle.use_rules.specs.declared.facts.BeginFacts.{BeginFacts}
@@ -57,10 +55,9 @@ no_fields = record {
 }
 
 -- a call that makes a key: the first broken rule of table K, or its fields; the table itself never wants memory
-abbrev pub made_or : Result KeyPlan NewFault → Fields → Reply
+abbrev pub made_or : Result KeyPlan (Rule × Code) → Fields → Reply
 made_or (Ok plan) fields = Done fields
-made_or (Err (new_faults.Broken rule code)) fields = Broken rule code
-made_or (Err new_faults.Memory) fields = Stopped MemoryAllocationFailed
+made_or (Err broken) fields = Broken broken.0 broken.1
 
 -- the first broken rule of a table, or else this reply
 abbrev pub broken_or : {T : Type 0} → Result T (Rule × Code) → Reply → Reply
@@ -153,7 +150,7 @@ answer setup past event drawn =
     else Broken (record { table = L; number = 1 }) InvalidArgument
 
 -- the bytes that a new key draws: a generated material, and then the 12 bytes of a nonce
-abbrev pub wanted_by_key : Result KeyPlan NewFault → Option ImportFacts → ℕ
+abbrev pub wanted_by_key : Result KeyPlan (Rule × Code) → Option ImportFacts → ℕ
 wanted_by_key (Err fault) import = 0
 wanted_by_key (Ok plan) None = material_size plan.list + 12
 wanted_by_key (Ok plan) (Some import) = 12

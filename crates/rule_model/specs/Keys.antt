@@ -10,9 +10,9 @@ use Rattle.tags.specs.declared.settled.Settled.TheVariants.{Kept, Lost}
 use Rattle.tags.specs.declared.descriptor.Descriptor.{Descriptor}
 use Rattle.tag_lists.specs.Spelling.{spelling}
 use Rattle.key_rules.specs.declared.facts.ImportFacts.{ImportFacts}
+use Rattle.key_rules.specs.declared.facts.NewFacts.{NewFacts}
 use Rattle.key_rules.specs.declared.plan.KeyPlan.{KeyPlan}
 use Rattle.key_rules.specs.Creation.{material_size, plan_of}
-use Rattle.key_rules.specs.Facts.{Facts}
 use Rattle.rule_model.specs.declared.entry.Entry.TheVariants.{Acted, Settling}
 use Rattle.rule_model.specs.declared.entry.KeyRecord.{KeyRecord}
 use Rattle.rule_model.specs.declared.event.Event.{Event}
@@ -83,7 +83,7 @@ abbrev pub is_named : ℕ → ℕ → List ℕ → KeyRecord → Bool
 is_named domain nspace alias key = (key.domain == domain) && ((key.nspace == nspace) && bytes_eq key.alias alias)
 
 -- what the rules of a new key read, of a client's call at a time
-abbrev pub new_facts : History → Event → Descriptor → List ℕ → Option ImportFacts → Facts
+abbrev pub new_facts : History → Event → Descriptor → List ℕ → Option ImportFacts → NewFacts
 new_facts past event key params import = record {
   connected = is_some (uid_of past event.client);
   descriptor = key;

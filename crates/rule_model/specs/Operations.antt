@@ -6,11 +6,12 @@ use Rattle.tags.specs.declared.code.Code.TheVariants.{MemoryAllocationFailed}
 use Rattle.tags.specs.declared.descriptor.Descriptor.{Descriptor}
 use Rattle.tags.specs.declared.param.Param.{Param}
 use Rattle.tags.specs.declared.plan.Plan.{Plan}
+use Rattle.tags.specs.declared.rule.RuleTable.TheVariants.{K}
+use Rattle.tags.specs.Table.{first_broken}
 use Rattle.tag_lists.specs.declared.fault.ListFault.{ListFault}
 use Rattle.tag_lists.specs.Reading.{listed}
 use Rattle.key_rules.specs.Asked.{asked}
-use Rattle.key_rules.specs.TableK.{key_rules}
-use Rattle.key_rules.specs.Verdicts.{first_broken}
+use Rattle.key_rules.specs.Table.{key_rules}
 use Rattle.use_rules.specs.declared.facts.BeginFacts.{BeginFacts}
 use Rattle.use_rules.specs.Plans.{nonce_given, plan_of}
 use Rattle.use_rules.specs.Table.{asked_of, key_of}
@@ -49,7 +50,7 @@ list_of key = list_or_none (listed key.list)
 
 -- the key's list and material are those of a key
 abbrev pub is_usable : List ℕ → List Param → Bool
-is_usable material list = is_ok (first_broken (key_rules (length material) list))
+is_usable material list = is_ok (first_broken K (key_rules (length material) list))
 
 -- what the rules of a begin read, by the key that is found
 abbrev pub facts_on : Option KeyRecord → Bool → Descriptor → List ℕ → BeginFacts
