@@ -2,23 +2,19 @@
 use Rattle.std.proofs.Common.{◌≡◌, ℕ, Bool, true, false, ◌==◌, if◌then◌else◌, List, [], ◌∷◌, ◌++◌, length, Option, Some, None, Result, Ok, Err, find, inl, inr, ◌⊎◌, refl, sym, ap, ◌∙◌, subst, arith}
 use Rattle.std.specs.Ordering.{nat_cmp}
 use Rattle.std.specs.BTreeMap.{get}
-use Rattle.std.specs.Option.{ok_or}
+use Rattle.std.specs.Prelude.{IfErr}
+use Rattle.std.proofs.lemmas.Bool.{false≢true}
 use Rattle.std.proofs.lemmas.Bool.Decides.{nat_tests}
 use Rattle.tags.specs.declared.code.Code.{Code}
-use Rattle.tags.specs.declared.code.Code.TheVariants.{VerificationFailed, InvalidKeyArgument, InvalidInputLength}
-use Rattle.tags.specs.declared.plan.Plan.{Plan}
-use Rattle.tags.specs.declared.plan.Plan.TheVariants.{Ecb, Cbc, Ctr, Gcm, HmacSign, HmacVerify}
+use Rattle.tags.specs.declared.code.Code.TheVariants.{VerificationFailed, InvalidKeyArgument}
 use Rattle.tags.specs.declared.rule.Rule.{Rule}
 use Rattle.step_rules.specs.declared.facts.StepFacts.{StepFacts}
 use Rattle.step_rules.specs.Rules as rules
 use Rattle.step_rules.specs.Rules.{Enters}
 use Rattle.step_rules.specs.Table as step_table
-use Rattle.block_modes.specs.declared.fault.ModeFault.{ModeFault}
-use Rattle.block_modes.specs.declared.fault.ModeFault.TheVariants.{Length, Padding}
 use Rattle.cipher_ops.specs.declared.room.Work.{Work}
 use Rattle.cipher_ops.specs.declared.room.Work.TheVariants.{Aad, Text, Last}
-use Rattle.cipher_ops.specs.Output as outputs
-use Rattle.cipher_ops.specs.Output.{whole as whole_output}
+use Rattle.cipher_ops.specs.Jobs.{is_refusal}
 use Rattle.rule_model.specs.declared.entry.Entry.TheVariants.{Acted}
 use Rattle.rule_model.specs.declared.event.Act.TheVariants.{EnterAad, EnterUpdate, EnterFinish, Abort}
 use Rattle.rule_model.specs.declared.event.Event.{Event}
@@ -93,57 +89,17 @@ aborted setup past old new reading client op stands rows made clients keys = rec
   operations = closes setup past old new op stands rows;
 }
 
--- the codes with which an output is refused
-abbrev IsRefusal : Code → Type 0
-IsRefusal code = (code ≡ VerificationFailed) ⊎ (code ≡ InvalidKeyArgument) ⊎ (code ≡ InvalidInputLength)
-
-abbrev code_of : Result (List ℕ) Code → Code
-code_of (Ok bytes) = VerificationFailed
-code_of (Err code) = code
-
-same_code : (code own : Code) → ◌≡◌ {A = Result (List ℕ) Code} (Err own) (Err code) → code ≡ own
-same_code code own e = sym (ap code_of e)
-
-coded_refusal : (whole : Result (List ℕ) ModeFault) (code : Code) → outputs.coded whole ≡ Err code → IsRefusal code
-coded_refusal (Ok bytes) code e = cc
-coded_refusal (Err Length) code e = inr (inr (same_code code _ e))
-coded_refusal (Err Padding) code e = inr (inl (same_code code _ e))
-
-opened_refusal : (opened : Option (List ℕ)) (code : Code) → ok_or opened VerificationFailed ≡ Err code → IsRefusal code
-opened_refusal (Some bytes) code e = cc
-opened_refusal None code e = inl (same_code code _ e)
-
-tested_refusal : (b : Bool) (code : Code) → ◌≡◌ {A = Result (List ℕ) Code} (if b then Ok [] else Err VerificationFailed) (Err code) → IsRefusal code
-tested_refusal true code e = cc
-tested_refusal false code e = inl (same_code code _ e)
-
-verified_refusal : (digest least : ℕ) (mac : List ℕ) (signature : Option (List ℕ)) (code : Code) → outputs.verified digest least mac signature ≡ Err code → IsRefusal code
-verified_refusal digest least mac None code e = inl (same_code code _ e)
-verified_refusal digest least mac (Some signature) code e = tested_refusal (outputs.is_signature digest least mac signature) code e
-
-whole_refusal : (plan : Plan) (key nonce aad text : List ℕ) (signature : Option (List ℕ)) (code : Code) → whole_output plan key nonce aad text signature ≡ Err code → IsRefusal code
-unfolding whole_output
-whole_refusal (Gcm true tag) key nonce aad text signature code e = cc
-whole_refusal (Gcm false tag) key nonce aad text signature code e = opened_refusal _ code e
-whole_refusal (HmacSign digest size) key nonce aad text signature code e = cc
-whole_refusal (HmacVerify digest least) key nonce aad text signature code e = verified_refusal digest least _ signature code e
-whole_refusal (Ecb seal padded) key nonce aad text signature code e = coded_refusal _ code e
-whole_refusal (Cbc seal padded) key nonce aad text signature code e = coded_refusal _ code e
-whole_refusal Ctr key nonce aad text signature code e = coded_refusal _ code e
-
-behind_refusal : (n : ℕ) (whole : Result (List ℕ) Code) (code : Code) → outputs.behind n whole ≡ Err code → whole ≡ Err code
-behind_refusal n (Ok bytes) code e = cc
-behind_refusal n (Err own) code e = e
-
-refusal : (o : Option model.Operation) (aad text input : List ℕ) (signature : Option (List ℕ)) (code : Code) → model.output_of o aad text (Last input signature) ≡ Err code → IsRefusal code
-refusal None aad text input signature code e = cc
-refusal (Some o) aad text input signature code e = whole_refusal o.plan _ _ _ _ signature code (behind_refusal _ _ code e)
+-- an output is refused with one of two codes
+refused_by : (code : Code) → is_refusal code ≡ true → (code ≡ VerificationFailed) ⊎ (code ≡ InvalidKeyArgument)
+refused_by VerificationFailed e = inl refl
+refused_by InvalidKeyArgument e = inr refl
+refused_by _ e = absurd (false≢true e)
 
 -- the tables behind a finish
 finished : (setup : Setup) (past : History) (old new : Tables) (reading : Reading) (client op : ℕ) (input : List ℕ) (signature : Option (List ℕ)) (result : Result (List ℕ) Code) → TablesStand setup old past
     → ((other : ℕ) → get nat_cmp new.operations.rows other ≡ (if other == op then None else get nat_cmp old.operations.rows other))
     → new.operations.made ≡ old.operations.made → new.clients ≡ old.clients → new.keys ≡ old.keys
-    → ((code : Code) → result ≡ Err code → IsRefusal code)
+    → IfErr result (λ code. is_refusal code ≡ true)
     → TablesStand setup new (Acted (event_of reading client (EnterFinish op input signature)) [] (given_or (Last input signature) result) ∷ past)
 finished setup past old new reading client op input signature (Ok out) stands rows made clients keys refused = record {
   connects = ap (λ t. t.made) clients ∙ stands.connects;
@@ -153,8 +109,8 @@ finished setup past old new reading client op input signature (Ok out) stands ro
   keys = ap (λ t. t.keys.items) keys ∙ stands.keys;
   operations = closes setup past old new op stands rows;
 }
-finished setup past old new reading client op input signature (Err code) stands rows made clients keys refused = by_code (refused code refl) where
-  by_code : IsRefusal code → TablesStand setup new (Acted (event_of reading client (EnterFinish op input signature)) [] (Stopped code) ∷ past)
+finished setup past old new reading client op input signature (Err code) stands rows made clients keys refused = by_code (refused_by code refused) where
+  by_code : (code ≡ VerificationFailed) ⊎ (code ≡ InvalidKeyArgument) → TablesStand setup new (Acted (event_of reading client (EnterFinish op input signature)) [] (Stopped code) ∷ past)
   by_code (inl e) = subst (λ c. TablesStand setup new (Acted (event_of reading client (EnterFinish op input signature)) [] (Stopped c) ∷ past)) (sym e) (record {
     connects = ap (λ t. t.made) clients ∙ stands.connects;
     begins = made ∙ stands.begins;
@@ -163,15 +119,7 @@ finished setup past old new reading client op input signature (Err code) stands 
     keys = ap (λ t. t.keys.items) keys ∙ stands.keys;
     operations = closes setup past old new op stands rows;
   })
-  by_code (inr (inl e)) = subst (λ c. TablesStand setup new (Acted (event_of reading client (EnterFinish op input signature)) [] (Stopped c) ∷ past)) (sym e) (record {
-    connects = ap (λ t. t.made) clients ∙ stands.connects;
-    begins = made ∙ stands.begins;
-    next_key = ap (λ t. t.next) keys ∙ stands.next_key;
-    clients = λ other. ap (λ t. get nat_cmp t.uids other) clients ∙ stands.clients other;
-    keys = ap (λ t. t.keys.items) keys ∙ stands.keys;
-    operations = closes setup past old new op stands rows;
-  })
-  by_code (inr (inr e)) = subst (λ c. TablesStand setup new (Acted (event_of reading client (EnterFinish op input signature)) [] (Stopped c) ∷ past)) (sym e) (record {
+  by_code (inr e) = subst (λ c. TablesStand setup new (Acted (event_of reading client (EnterFinish op input signature)) [] (Stopped c) ∷ past)) (sym e) (record {
     connects = ap (λ t. t.made) clients ∙ stands.connects;
     begins = made ∙ stands.begins;
     next_key = ap (λ t. t.next) keys ∙ stands.next_key;
@@ -244,7 +192,7 @@ entered_tables setup past old new reading client op (Text input) result stands o
 entered_tables setup past old new reading client op (Last input signature) result stands outcome there made clients keys =
     finished setup past old new reading client op input signature result stands
     (one_row old new op None outcome.behind there) made clients keys
-    (λ code e. refusal (model.operation_at setup past op) _ _ input signature code (sym outcome.result_is ∙ e))
+    outcome.refuses
 
 -- the reply of the code is that of the work
 pub replied : (work : Work) (result : Result (List ℕ) Code) → reply_of (kind_of work) result ≡ given_or work result
@@ -307,8 +255,7 @@ no_fault None (Aad input) aad text row (Err code) outcome = cc (outcome.result_i
 no_fault (Some o) (Aad input) aad text row (Err code) outcome = cc (outcome.result_is)
 no_fault None (Text input) aad text row (Err code) outcome = cc (outcome.result_is)
 no_fault (Some o) (Text input) aad text row (Err code) outcome = cc (outcome.result_is)
-no_fault o (Last input signature) aad text row (Err code) outcome = by_code (refusal o aad text input signature code (sym outcome.result_is)) where
-  by_code : IsRefusal code → is_entropy_code code ≡ false
+no_fault o (Last input signature) aad text row (Err code) outcome = by_code (refused_by code outcome.refuses) where
+  by_code : (code ≡ VerificationFailed) ⊎ (code ≡ InvalidKeyArgument) → is_entropy_code code ≡ false
   by_code (inl e) = subst (λ c. is_entropy_code c ≡ false) (sym e) refl
-  by_code (inr (inl e)) = subst (λ c. is_entropy_code c ≡ false) (sym e) refl
-  by_code (inr (inr e)) = subst (λ c. is_entropy_code c ≡ false) (sym e) refl
+  by_code (inr e) = subst (λ c. is_entropy_code c ≡ false) (sym e) refl

@@ -4,18 +4,14 @@ use Rattle.std.specs.Option.{option_and_then, option_map_or}
 use Rattle.std.specs.Ordering.{nat_cmp}
 use Rattle.std.specs.BTreeMap.{get}
 use Rattle.tags.specs.declared.code.Code.{Code}
-use Rattle.tags.specs.declared.code.Code.TheVariants.{EntropyFault, InvalidKeyBlob, MemoryAllocationFailed}
+use Rattle.tags.specs.declared.code.Code.TheVariants.{EntropyFault, MemoryAllocationFailed}
 use Rattle.tags.specs.declared.descriptor.Descriptor.{Descriptor}
-use Rattle.tags.specs.declared.param.Param.{Param}
 use Rattle.tags.specs.declared.plan.Plan.{Plan}
 use Rattle.tags.specs.declared.rule.Rule.{Rule}
 use Rattle.use_rules.specs.declared.facts.BeginFacts.{BeginFacts}
 use Rattle.use_rules.specs.Plans.{nonce_given, plan_of}
 use Rattle.use_rules.specs.Table as table
 use Rattle.use_rules.specs.Table.{asked_of, key_of}
-use Rattle.use_rules.specs.Rules.{names_key}
-use Rattle.key_rules.specs.TableK.{key_rules}
-use Rattle.key_rules.specs.Verdicts.{first_broken}
 use Rattle.keymint_ops.specs.declared.begin.Begin.{Begin}
 use Rattle.keymint_ops.specs.Begin.{MayBegin, nonce_used}
 use Rattle.rule_model.specs.declared.entry.Entry.TheVariants.{Acted}
@@ -51,39 +47,6 @@ facts_are setup past tables client key params found connected uid lent stands is
 pub may_begin : (begin : Begin) (gathered facts : BeginFacts) → gathered ≡ facts → MayBegin begin gathered → MayBegin begin facts
 may_begin begin gathered facts e may = subst (MayBegin begin) e may
 
--- a key is found where the rules hold
-first_found : (connected named found : Bool) (later : Result (Unit {0}) (Rule × Code)) (a b d : Rule × Code) (own plan : Plan)
-    → table.or_plan (if connected then (if named then (if found then later else Err d) else Err b) else Err a) own ≡ Ok plan → found ≡ true
-first_found true true true later a b d own plan e = refl
-first_found true true false later a b d own plan e = cc
-first_found true false found later a b d own plan e = cc
-first_found false named found later a b d own plan e = cc
-
-pub is_found : (facts : BeginFacts) (plan : Plan) → table.answer facts ≡ Ok plan → facts.found ≡ true
-unfolding table.answer
-is_found facts plan e = first_found facts.connected (names_key facts.descriptor) facts.found
-    (table.first_broken (table.check 6 (table.fault_of facts.asked) (is_ok facts.asked) ∷ table.check 7 InvalidKeyBlob (is_some facts.opened) ∷ table.check 8 InvalidKeyBlob facts.fits ∷ table.list_rules (asked_of facts) (key_of facts)))
-    _ _ _ (plan_of (asked_of facts) (key_of facts)) plan e
-
--- the plan where the rules hold
-held : (verdict : Result (Unit {0}) (Rule × Code)) (own plan : Plan) → table.or_plan verdict own ≡ Ok plan → plan ≡ own
-held (Ok none) own plan e = cc
-held (Err broken) own plan e = cc
-
-pub plan_is : (facts : BeginFacts) (plan : Plan) → table.answer facts ≡ Ok plan → plan ≡ plan_of (asked_of facts) (key_of facts)
-unfolding table.answer
-plan_is facts plan e = held _ _ plan e
-
--- the key's list and material are usable where the facts say so
-pub usable_where_fits : (found : Option KeyRecord) (connected : Bool) (key : Descriptor) (params : List ℕ)
-    → (facts_on found connected key params).fits ≡ true
-    → is_ok (first_broken (key_rules (length (option_map_or (λ (k : KeyRecord). k.blob) found [])) (key_of (facts_on found connected key params)))) ≡ true
-usable_where_fits None connected key params e = cc
-usable_where_fits (Some k) connected key params e = by_list (list_of k) e where
-  by_list : (list : Option (List Param)) → option_map_or (model.is_usable k.blob) list false ≡ true → is_ok (first_broken (key_rules (length k.blob) (unwrap_or list []))) ≡ true
-  by_list None e = cc
-  by_list (Some list) e = e
-
 -- the nonce of the operation
 pub nonce_is : (facts : BeginFacts) (begin : Begin) (drawn : List ℕ) → MayBegin begin facts → nonce_used begin.nonce drawn ≡ model.nonce_of facts drawn
 nonce_is facts begin drawn may = ap (λ n. nonce_used n drawn) may.nonce_is ∙ by_nonce (nonce_given (asked_of facts) (key_of facts)) where
@@ -98,7 +61,7 @@ beginning reading client key params = event_of reading client (CreateOperation k
 pub wanted_is : (setup : Setup) (past : History) (reading : Reading) (client : ℕ) (key : Descriptor) (params : List ℕ) (begin : Begin)
     → MayBegin begin (begin_facts setup past client key params) → wanted setup past (beginning reading client key params) ≡ begin.wanted
 wanted_is setup past reading client key params begin may =
-    ap (λ found. wanted_by_begin found (begin_facts setup past client key params)) may.plan_is ∙ sym may.wanted_is
+    ap (λ found. wanted_by_begin found (begin_facts setup past client key params)) may.answers ∙ sym may.wanted_is
 
 pub refused_begin : (setup : Setup) (past : History) (reading : Reading) (client : ℕ) (key : Descriptor) (params : List ℕ) (rule : Rule) (code : Code)
     → table.answer (begin_facts setup past client key params) ≡ Err (rule, code)
@@ -132,7 +95,7 @@ pub begun_answer : (setup : Setup) (past : History) (reading : Reading) (client 
 begun_answer setup past reading client key params begin drawn number told may long next is = inl (record {
   drew = long ∙ sym (wanted_is setup past reading client key params begin may);
   is_answer =
-      rw (next, is, may.wanted_is) (sym (ap (λ found. broken_or found (Done (record no_fields { op = Some (count_of is_begin past + 1); nonce = drawn_nonce (begin_facts setup past client key params) drawn }))) may.plan_is));
+      rw (next, is, may.wanted_is) (sym (ap (λ found. broken_or found (Done (record no_fields { op = Some (count_of is_begin past + 1); nonce = drawn_nonce (begin_facts setup past client key params) drawn }))) may.answers));
 })
 
 -- the tables behind a begin
@@ -178,11 +141,11 @@ begun_tables setup past old new reading client key params found begin row drawn 
         by_number true = record {
           client = is.client_is;
           key = is.key_is;
-          plan = is.plan_is ∙ plan_is (begin_facts setup past client key params) begin.plan may.plan_is;
+          plan = is.plan_is ∙ may.plan_is;
           limited = is.limited_is;
           aad_is = is.aad_is;
           text_is = is.text_is;
-          state = rw (plan_is (begin_facts setup past client key params) begin.plan may.plan_is, nonce_is (begin_facts setup past client key params) begin drawn may) at is.state_is;
+          state = rw (may.plan_is, nonce_is (begin_facts setup past client key params) begin drawn may) at is.state_is;
         }
         by_number false = stands.operations other
 

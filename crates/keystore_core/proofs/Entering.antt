@@ -1,18 +1,18 @@
 -- A work on an open operation: that it may come, and what it leaves of the operation.
 use Rattle.std.proofs.Common.{◌≡◌, ℕ, ◌+◌, ◌≤◌, Bool, true, false, List, [], ◌∷◌, ◌++◌, length, Option, Some, None, Result, refl, sym, ap, ◌∙◌, arith, length-append}
+use Rattle.std.specs.Prelude.{IfErr}
 use Rattle.std.proofs.Math.Bridge.{le_prop}
 use Rattle.std.proofs.Props.{props}
 use mathlib.Core.Logic.{∥∥₁_prop}
 use Rattle.tags.specs.declared.code.Code.{Code}
 use Rattle.tags.specs.declared.plan.Plan.{Plan}
-use Rattle.tags.specs.declared.plan.Plan.TheVariants.{Ecb, Cbc, Ctr, Gcm, HmacSign, HmacVerify}
-use Rattle.step_rules.specs.Rules as rules
+use Rattle.tags.specs.Plan.{OPERATION_BYTES, may_end}
 use Rattle.step_rules.specs.Rules.{Enters}
 use Rattle.cipher_ops.specs.declared.room.JobRoom.{JobRoom}
 use Rattle.cipher_ops.specs.declared.room.Work.{Work}
 use Rattle.cipher_ops.specs.declared.room.Work.TheVariants.{Aad, Text, Last}
 use Rattle.cipher_ops.specs.declared.state.CipherState.{CipherState}
-use Rattle.cipher_ops.specs.Output.{may_end}
+use Rattle.cipher_ops.specs.Jobs.{is_refusal}
 use Rattle.cipher_ops.specs.Running.{CanRun, GoesOn, IsRoom, MayCome}
 use Rattle.rule_model.specs.Answer.{facts_of, input_of, kind_of, signature_of}
 use Rattle.rule_model.specs.Entries.{History}
@@ -24,50 +24,26 @@ use Rattle.keystore_core.specs.Running.{CanWork}
 use Rattle.keystore_core.specs.Stands.{IsOperation, SameOperation}
 use Rattle.keystore_core.specs.Stepping.{CanRunAt, IsRoomAt, MayGrow, RanAt, added_by, brought_by}
 
--- a length that the rules let end is one that the cipher lets end
-ends_rightly : (plan : Plan) (n : ℕ) → rules.fits_plan plan n ≡ true → may_end plan n ≡ true
-ends_rightly (Ecb false false) n fits = fits
-ends_rightly (Ecb false true) n fits = fits
-ends_rightly (Ecb true false) n fits = fits
-ends_rightly (Ecb true true) n fits = fits
-ends_rightly (Cbc false false) n fits = fits
-ends_rightly (Cbc false true) n fits = fits
-ends_rightly (Cbc true false) n fits = fits
-ends_rightly (Cbc true true) n fits = fits
-ends_rightly Ctr n fits = refl
-ends_rightly (Gcm false tag) n fits = fits
-ends_rightly (Gcm true tag) n fits = refl
-ends_rightly (HmacSign digest size) n fits = refl
-ends_rightly (HmacVerify digest least) n fits = refl
-
 no_text : (text : List ℕ) → length text ≡ 0 → text ≡ []
 no_text [] e = refl
 no_text (x ∷ text) e = absurd (omega arith)
-
-takes_aad : (plan : Plan) → rules.is_gcm plan ≡ true → Rattle.cipher_ops.specs.Running.is_gcm plan ≡ true
-takes_aad (Gcm seal tag) e = refl
-takes_aad (Ecb seal padded) e = cc
-takes_aad (Cbc seal padded) e = cc
-takes_aad Ctr e = cc
-takes_aad (HmacSign digest size) e = cc
-takes_aad (HmacVerify digest least) e = cc
 
 -- what the rules let through may come
 may_come : (setup : Setup) (past : History) (o : model.Operation) (client op : ℕ) (work : Work) (text : List ℕ)
     → length text ≡ length (model.text_of past op) → Enters (facts_of (Some o) setup past client op (kind_of work) (length (input_of work)) (length (signature_of work)))
     → MayCome o.plan text work
 may_come setup past o client op (Aad input) text same enters =
-    (takes_aad o.plan (enters.aad refl).0, no_text text (same ∙ (enters.aad refl).1))
+    ((enters.aad refl).0, no_text text (same ∙ (enters.aad refl).1))
 may_come setup past o client op (Text input) text same enters = tt
 may_come setup past o client op (Last input signature) text same enters =
     let long : length (text ++ input) ≡ length (model.text_of past op) + length input = length-append text input ∙ ap (λ n. n + length input) same in
-    ends_rightly o.plan (length (text ++ input)) (ap (rules.fits_plan o.plan) long ∙ enters.whole refl)
+    ap (may_end o.plan) long ∙ enters.whole refl
 
 -- the lengths with the work's are within the limit
 few : (setup : Setup) (past : History) (o : model.Operation) (client op : ℕ) (work : Work) (row : Operation)
     → row.aad ≡ length (model.aad_of past op) → row.text ≡ length (model.text_of past op)
     → Enters (facts_of (Some o) setup past client op (kind_of work) (length (input_of work)) (length (signature_of work)))
-    → row.aad + (added_by (brought_by work)).aad + (row.text + (added_by (brought_by work)).text) ≤ 1048576
+    → row.aad + (added_by (brought_by work)).aad + (row.text + (added_by (brought_by work)).text) ≤ OPERATION_BYTES
 few setup past o client op (Aad input) row aad text enters = omega (arith, aad, text, enters.total)
 few setup past o client op (Text input) row aad text enters = omega (arith, aad, text, enters.total)
 few setup past o client op (Last input signature) row aad text enters = omega (arith, aad, text, enters.total)
@@ -128,7 +104,7 @@ CanWork-prop (Some state) room = ∥∥₁_prop
 pub CanRunAt-prop : (row : Option Operation) (work : Work) (room : JobRoom) → IsProp (CanRunAt row (brought_by work) room)
 CanRunAt-prop None work room = hlevel props
 CanRunAt-prop (Some row) work room =
-    hlevel (CanWork-prop row.state room, le_prop {n = row.aad + (added_by (brought_by work)).aad + (row.text + (added_by (brought_by work)).text)} {m = 1048576})
+    hlevel (CanWork-prop row.state room, le_prop {n = row.aad + (added_by (brought_by work)).aad + (row.text + (added_by (brought_by work)).text)} {m = OPERATION_BYTES})
 
 -- what a work leaves of a row: it has taken the work's input, or behind the last it is closed
 abbrev pub Behind : Work → List ℕ → List ℕ → Option Operation → Option model.Operation → Type 0
@@ -138,6 +114,7 @@ Behind (Last input signature) aad text row o = row ≡ None
 
 pub record Outcome (o : Option model.Operation) (work : Work) (aad text : List ℕ) (row : Option Operation) (result : Result (List ℕ) Code) : Type 0 where
   pub result_is : result ≡ output_of o aad text work
+  pub refuses : IfErr result (λ code. is_refusal code ≡ true)
   pub behind : Behind work aad text row o
 
 -- the work of a row whose operation goes on
@@ -156,6 +133,7 @@ outcome setup past client op (Aad input) (Some row) (Some row') (Some o) room re
     let came = (rw (same.plan, same.limited) at ran.comes) o.key.blob o.nonce aad text (Aad input) same.state (room_of _ _ row o (Aad input) room same is_room) may in
     record {
       result_is = came.0;
+      refuses = ran.refuses;
       behind = record {
         client = ran.client ∙ same.client;
         key = ran.key ∙ same.key;
@@ -174,6 +152,7 @@ outcome setup past client op (Text input) (Some row) (Some row') (Some o) room r
     let came = (rw (same.plan, same.limited) at ran.comes) o.key.blob o.nonce aad text (Text input) same.state (room_of _ _ row o (Text input) room same is_room) may in
     record {
       result_is = came.0;
+      refuses = ran.refuses;
       behind = record {
         client = ran.client ∙ same.client;
         key = ran.key ∙ same.key;
@@ -189,4 +168,4 @@ outcome setup past client op (Last input signature) (Some row) row' (Some o) roo
     let text : List ℕ = model.text_of past op in
     let may = may_come setup past o client op (Last input signature) text refl enters in
     let came = (rw (same.plan, same.limited) at ran.1.worked.comes) o.key.blob o.nonce aad text (Last input signature) same.state (room_of _ _ row o (Last input signature) room same is_room) may in
-    record { result_is = came.0; behind = ran.0 }
+    record { result_is = came.0; refuses = ran.1.worked.refuses; behind = ran.0 }

@@ -8,13 +8,12 @@ use Rattle.tags.specs.declared.code.Code.TheVariants.{EntropyFault, MemoryAlloca
 use Rattle.tags.specs.declared.descriptor.Descriptor.{Descriptor}
 use Rattle.tags.specs.declared.rule.Rule.{Rule}
 use Rattle.key_rules.specs.declared.facts.ImportFacts.{ImportFacts}
-use Rattle.key_rules.specs.declared.fault.NewFault.{NewFault}
-use Rattle.key_rules.specs.declared.fault.NewFault.TheVariants as new_faults
+use Rattle.key_rules.specs.declared.facts.NewFacts.{NewFacts}
 use Rattle.key_rules.specs.declared.plan.KeyPlan.{KeyPlan}
-use Rattle.key_rules.specs.Creation.{new_key, plan_of, where_all_hold}
-use Rattle.key_rules.specs.Facts.{Facts}
-use Rattle.key_rules.specs.TableK.{table}
-use Rattle.key_rules.specs.Verdicts.{Verdict, first_broken}
+use Rattle.tags.specs.declared.rule.RuleTable.TheVariants.{K}
+use Rattle.tags.specs.Table.{Ruling, first_broken, where_all_hold}
+use Rattle.key_rules.specs.Creation.{new_key, plan_of}
+use Rattle.key_rules.specs.Table.{rules_of}
 use Rattle.step_rules.specs.Table as step_table
 use Rattle.keymint_ops.specs.declared.creation.NewKey.{NewKey}
 use Rattle.keymint_ops.specs.Creation.{planned, spelled, where_planned}
@@ -35,7 +34,7 @@ use Rattle.keystore_core.specs.Records.{record_of}
 use Rattle.keystore_core.specs.Stands.{SameOperation, TablesStand, event_of}
 
 -- the facts of a call that makes a key
-abbrev pub facts_of : History → Reading → ℕ → Descriptor → List ℕ → Option Import → Facts
+abbrev pub facts_of : History → Reading → ℕ → Descriptor → List ℕ → Option Import → NewFacts
 facts_of past reading client key params import =
     new_facts past (event_of reading client (making key params import)) key params (option_map facts_of_import import)
 
@@ -50,31 +49,31 @@ making_wanted setup past reading client key params None = refl
 making_wanted setup past reading client key params (Some import) = refl
 
 -- a broken rule of the plan is one of the table
-broken_rule : (import : Option ImportFacts) (found : Result KeyPlan NewFault) (rule : Rule) (code : Code) → where_planned import found ≡ Err (new_faults.Broken rule code) → found ≡ Err (new_faults.Broken rule code)
+broken_rule : (import : Option ImportFacts) (found : Result KeyPlan (Rule × Code)) (rule : Rule) (code : Code) → where_planned import found ≡ Err (rule, code) → found ≡ Err (rule, code)
 broken_rule import (Ok plan) rule code e = cc
-broken_rule import (Err fault) rule code e = let same : fault ≡ new_faults.Broken rule code = cc in ap Err same
+broken_rule import (Err broken) rule code e = let same : broken ≡ (rule, code) = cc in ap Err same
 
-new_plan : (import : Option ImportFacts) (found : Result KeyPlan NewFault) (plan : NewKey) → where_planned import found ≡ Ok plan → (own : KeyPlan) × (found ≡ Ok own) × (plan ≡ spelled import own)
+new_plan : (import : Option ImportFacts) (found : Result KeyPlan (Rule × Code)) (plan : NewKey) → where_planned import found ≡ Ok plan → (own : KeyPlan) × (found ≡ Ok own) × (plan ≡ spelled import own)
 new_plan import (Ok own) plan e = let same : plan ≡ spelled import own = cc in (own, refl, same)
 new_plan import (Err fault) plan e = cc
 
-held_plan : (verdict : Verdict) (facts : Facts) (own : KeyPlan) → where_all_hold verdict (plan_of facts) ≡ Ok own → own ≡ plan_of facts
+held_plan : (verdict : Ruling) (facts : NewFacts) (own : KeyPlan) → where_all_hold verdict (plan_of facts) ≡ Ok own → own ≡ plan_of facts
 held_plan (Ok done) facts own e = cc
 held_plan (Err fault) facts own e = cc
 
 -- the plan of a call that the rules let through
-pub record IsPlanned (facts : Facts) (plan : NewKey) : Type 0 where
+pub record IsPlanned (facts : NewFacts) (plan : NewKey) : Type 0 where
   pub holds : new_key facts ≡ Ok (plan_of facts)
   pub plan_is : plan ≡ spelled facts.import (plan_of facts)
 
-pub is_planned : (facts : Facts) (plan : NewKey) → planned facts ≡ Ok plan → IsPlanned facts plan
+pub is_planned : (facts : NewFacts) (plan : NewKey) → planned facts ≡ Ok plan → IsPlanned facts plan
 unfolding planned
 is_planned facts plan e =
     let found = new_plan facts.import (new_key facts) plan e in
-    let own : found.0 ≡ plan_of facts = held_plan (first_broken (table facts)) facts found.0 found.1 in
+    let own : found.0 ≡ plan_of facts = held_plan (first_broken K (rules_of facts)) facts found.0 found.1 in
     record { holds = found.1 ∙ ap Ok own; plan_is = found.2 ∙ ap (spelled facts.import) own }
 
-pub is_broken : (facts : Facts) (rule : Rule) (code : Code) → planned facts ≡ Err (new_faults.Broken rule code) → new_key facts ≡ Err (new_faults.Broken rule code)
+pub is_broken : (facts : NewFacts) (rule : Rule) (code : Code) → planned facts ≡ Err (rule, code) → new_key facts ≡ Err (rule, code)
 unfolding planned
 is_broken facts rule code e = broken_rule facts.import (new_key facts) rule code e
 
@@ -86,13 +85,13 @@ wanted_is (Some import) own = refl
 pub planned_wanted : (setup : Setup) (past : History) (reading : Reading) (client : ℕ) (key : Descriptor) (params : List ℕ) (import : Option Import) (plan : NewKey)
     → IsPlanned (facts_of past reading client key params import) plan → wanted setup past (event_of reading client (making key params import)) ≡ plan.size + 12
 planned_wanted setup past reading client key params import plan is =
-    let facts : Facts = facts_of past reading client key params import in
+    let facts : NewFacts = facts_of past reading client key params import in
     making_wanted setup past reading client key params import ∙ ap (λ found. wanted_by_key found (option_map facts_of_import import)) is.holds
     ∙ wanted_is import (plan_of facts) ∙ ap (λ (p : NewKey). p.size + 12) (sym is.plan_is)
 
 -- the answer of a broken rule
 pub refused_answer : (setup : Setup) (past : History) (reading : Reading) (client : ℕ) (key : Descriptor) (params : List ℕ) (import : Option Import) (rule : Rule) (code : Code)
-    → new_key (facts_of past reading client key params import) ≡ Err (new_faults.Broken rule code)
+    → new_key (facts_of past reading client key params import) ≡ Err (rule, code)
     → MayFollow setup past (Acted (event_of reading client (making key params import)) [] (Broken rule code))
 refused_answer setup past reading client key params import rule code e = inl (record {
   drew = sym (making_wanted setup past reading client key params import ∙ ap (λ found. wanted_by_key found (option_map facts_of_import import)) e);
@@ -224,8 +223,8 @@ made_tables setup past old new reading client uid key params (Some import) plan 
 }
 
 -- what the rules read of a call is what the history says
-pub same_facts : (setup : Setup) (past : History) (tables : Tables) (reading : Reading) (client : ℕ) (key : Descriptor) (params lent : List ℕ) (connected : Bool) (uid : Option ℕ) (imported : Option ImportFacts) (import : Option Import)
-    → TablesStand setup tables past → uid ≡ get nat_cmp tables.clients.uids client → connected ≡ is_some uid → lent ≡ params → imported ≡ option_map facts_of_import import
-    → ◌≡◌ {A = Facts} (record { connected = connected; descriptor = key; params = lent; import = imported; wall = reading.wall }) (facts_of past reading client key params import)
-same_facts setup past tables reading client key params lent connected uid imported import stands there some same is =
-    rw (some, there, stands.clients client, same, is) refl
+pub same_facts : (setup : Setup) (past : History) (tables : Tables) (reading : Reading) (client : ℕ) (key : Descriptor) (params : List ℕ) (connected : Bool) (uid : Option ℕ) (imported : Option ImportFacts) (import : Option Import)
+    → TablesStand setup tables past → uid ≡ get nat_cmp tables.clients.uids client → connected ≡ is_some uid → imported ≡ option_map facts_of_import import
+    → ◌≡◌ {A = NewFacts} (record { connected = connected; descriptor = key; params = params; import = imported; wall = reading.wall }) (facts_of past reading client key params import)
+same_facts setup past tables reading client key params connected uid imported import stands there some is =
+    rw (some, there, stands.clients client, is) refl

@@ -1,11 +1,12 @@
 -- A work on an operation that the engine holds.
-use Rattle.std.specs.Prelude.{◌≡◌, ℕ, ◌+◌, ◌≤◌, List, length, Option, Some, None, Result}
+use Rattle.std.specs.Prelude.{◌≡◌, ℕ, ◌+◌, ◌≤◌, true, List, length, Option, Some, None, Result, IfErr}
 use Rattle.tags.specs.declared.code.Code.{Code}
+use Rattle.tags.specs.Plan.{OPERATION_BYTES}
 use Rattle.cipher_ops.specs.declared.job.Done.{Done}
 use Rattle.cipher_ops.specs.declared.room.JobRoom.{JobRoom}
 use Rattle.cipher_ops.specs.declared.room.Work.{Work}
 use Rattle.cipher_ops.specs.declared.state.CipherState.{CipherState}
-use Rattle.cipher_ops.specs.Jobs.{ComesTo}
+use Rattle.cipher_ops.specs.Jobs.{ComesTo, is_refusal}
 use Rattle.cipher_ops.specs.Running.{CanRun, GoesOn, IsRoom, MayCome}
 use Rattle.keystore_core.specs.declared.operations.Added.{Added}
 use Rattle.keystore_core.specs.declared.operations.Operation.{Operation}
@@ -17,7 +18,7 @@ CanWork (Some state) room = ∥ CanRun state room ∥₁
 
 abbrev pub CanWorkAt : Option Operation → JobRoom → Added → Type 0
 CanWorkAt None room added = ⊥
-CanWorkAt (Some row) room added = CanWork row.state room × (row.aad + added.aad + (row.text + added.text) ≤ 1048576)
+CanWorkAt (Some row) room added = CanWork row.state room × (row.aad + added.aad + (row.text + added.text) ≤ OPERATION_BYTES)
 
 -- what a job comes back with is told by its state and its result
 abbrev pub done_of : Option CipherState → Result (List ℕ) Code → Done
@@ -31,6 +32,7 @@ pub record Worked (old new : Operation) (room : JobRoom) (added : Added) (result
   pub limited : new.limited ≡ old.limited
   pub aad : new.aad ≡ old.aad + added.aad
   pub text : new.text ≡ old.text + added.text
+  pub refuses : IfErr result (λ code. is_refusal code ≡ true)
   pub comes : (key nonce aad text : List ℕ) (work : Work) → GoesOn old.state old.plan old.limited key nonce aad text
       → IsRoom room old.plan old.limited (length text) work → MayCome old.plan text work
       → ComesTo (done_of new.state result) old.plan old.limited key nonce aad text work

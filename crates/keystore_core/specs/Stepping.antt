@@ -3,6 +3,7 @@ use Rattle.std.specs.Prelude.{◌≡◌, ℕ, ◌+◌, ◌≤◌, List, length, 
 use Rattle.tags.specs.declared.code.Code.{Code}
 use Rattle.step_rules.specs.declared.facts.StepKind.{StepKind}
 use Rattle.step_rules.specs.declared.facts.StepKind.TheVariants as kinds
+use Rattle.tags.specs.Plan.{OPERATION_BYTES}
 use Rattle.cipher_ops.specs.declared.room.JobRoom.{JobRoom}
 use Rattle.cipher_ops.specs.declared.room.Work.{Work}
 use Rattle.cipher_ops.specs.declared.room.Work.TheVariants.{Aad, Text, Last}
@@ -43,7 +44,7 @@ reply_of _ (Ok out) = Done (record no_fields { out = Some out })
 -- the operation is there, and its text has room for the work's
 abbrev pub MayGrow : Option Operation → Work → Type 0
 MayGrow None work = ⊥
-MayGrow (Some row) work = row.text + own_text work ≤ 1048576
+MayGrow (Some row) work = row.text + own_text work ≤ OPERATION_BYTES
 
 -- the operation is there, and the room is that of the work on it
 abbrev pub IsRoomAt : Option Operation → Work → JobRoom → Type 0

@@ -116,8 +116,8 @@ impl Tables {
         let uid = self.clients.uid_of(client);
         let facts = NewFacts {
             connected: uid.is_some(),
-            descriptor: &key,
-            params: params.as_slice(),
+            descriptor: key,
+            params,
             import: import_facts(&import),
             wall: reading.wall,
         };
@@ -126,6 +126,7 @@ impl Tables {
             Err(NewFault::Broken(rule, code)) => return Ok(Served::refused(alloc, rule, code)),
             Err(NewFault::Memory) => return Err(NoMemory),
         };
+        let key = facts.descriptor;
         let room = vec![in alloc; 0; plan.size + NONCE_BYTES]?;
         let drawn = match draw_two(entropy, room, plan.size) {
             Ok(drawn) => drawn,

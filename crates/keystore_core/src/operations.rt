@@ -33,12 +33,13 @@ pub struct Added {
 }
 
 impl Operation {
+    ghost use Rattle.tags.specs.Plan.{OPERATION_BYTES};
     ghost use Rattle.keystore_core.specs.Running.{CanWork, Worked};
 
     /// Does a work, and goes on by it.
     fn work(&mut self, number: u64, room: JobRoom, added: Added) -> Result<Bytes, Code>
         requires ready { CanWork self.old.state room }
-        requires few { self.old.aad + added.aad + (self.old.text + added.text) ≤ 1048576 }
+        requires few { self.old.aad + added.aad + (self.old.text + added.text) ≤ OPERATION_BYTES }
         ensures { Worked self.old self.new room added result }
     {
         let Some(state) = self.state.take() else {

@@ -9,6 +9,7 @@ returns c = record {
   limited = refl;
   aad = refl;
   text = refl;
+  refuses = c.run-done.ensures.codes;
   comes = λ key nonce aad text work goes is_room may.
       let held = rw (← c.take.ensures.value) at goes in
       c.run-done.ensures.comes _ _ key nonce aad text work (c.new.ensures.job _ _ key nonce aad text work (search rules) is_room may);

@@ -9,8 +9,8 @@ use Rattle.keystore_core.proofs.tables.Tables.make_key.Goals as goal
 
 pub returns-in-Err-Broken-clause-serves : goal.returns-in-Err-Broken-clause-serves
 returns-in-Err-Broken-clause-serves g c = λ setup past stands.
-    let facts = same_facts setup past c.args.self.now c.args.reading c.args.client c.args.key c.args.params c.as_slice.result.now c.is_some.result c.uid_of-uid.result c.import_facts.result c.args.import
-    stands c.uid_of-uid.ensures c.is_some.ensures c.as_slice.ensures c.import_facts.ensures in
+    let facts = same_facts setup past c.args.self.now c.args.reading c.args.client c.args.key c.args.params c.is_some.result c.uid_of-uid.result c.import_facts.result c.args.import
+    stands c.uid_of-uid.ensures c.is_some.ensures c.import_facts.ensures in
     rw (c.refused.ensures.reply, c.refused.ensures.drawn, c.in-Err-Broken.rule-is, c.in-Err-Broken.code-is) (
       refused_answer setup past c.args.reading c.args.client c.args.key c.args.params c.args.import _ _ (is_broken _ _ _ (sym (ap planned facts) ∙ rw c.in-Err-Broken.field-0-is at c.in-Err-Broken.ensures.key)),
       refused_tables setup past c.args.self.now (event_of c.args.reading c.args.client (making c.args.key c.args.params c.args.import)) [] _ _ stands (names_none c.args.key c.args.params c.args.import),
@@ -18,8 +18,8 @@ returns-in-Err-Broken-clause-serves g c = λ setup past stands.
 
 pub returns-in-Err-clause-serves : goal.returns-in-Err-clause-serves
 returns-in-Err-clause-serves g c = λ setup past stands.
-    let facts = same_facts setup past c.args.self.now c.args.reading c.args.client c.args.key c.args.params c.as_slice.result.now c.is_some.result c.uid_of-uid.result c.import_facts.result c.args.import
-    stands c.uid_of-uid.ensures c.is_some.ensures c.as_slice.ensures c.import_facts.ensures in
+    let facts = same_facts setup past c.args.self.now c.args.reading c.args.client c.args.key c.args.params c.is_some.result c.uid_of-uid.result c.import_facts.result c.args.import
+    stands c.uid_of-uid.ensures c.is_some.ensures c.import_facts.ensures in
     let is = is_planned _ c.in-Ok.plan (sym (ap planned facts) ∙ c.in-Ok.ensures.key) in
     let few : length c.in-Err.drawn < c.in-Ok.plan.size + 12 = omega (arith, c.in-Err.ensures.part, c.in_ok-room.ensures.len) in
     rw (c.without_entropy.ensures.reply, c.without_entropy.ensures.drawn) (
@@ -29,21 +29,21 @@ returns-in-Err-clause-serves g c = λ setup past stands.
 
 pub returns-in-Ok-keep_key-clause-serves : goal.returns-in-Ok-keep_key-clause-serves
 returns-in-Ok-keep_key-clause-serves g c = λ setup past stands.
-    let facts = same_facts setup past c.args.self.now c.args.reading c.args.client c.args.key c.args.params c.as_slice.result.now c.is_some.result c.uid_of-uid.result c.import_facts.result c.args.import
-    stands c.uid_of-uid.ensures c.is_some.ensures c.as_slice.ensures c.import_facts.ensures in
+    let facts = same_facts setup past c.args.self.now c.args.reading c.args.client c.args.key c.args.params c.is_some.result c.uid_of-uid.result c.import_facts.result c.args.import
+    stands c.uid_of-uid.ensures c.is_some.ensures c.import_facts.ensures in
     let is = is_planned _ c.in-Ok.plan (sym (ap planned facts) ∙ c.in-Ok.ensures.key) in
     let long : length c.in-Ok-draw_two.drawn ≡ c.in-Ok.plan.size + 12 = omega (arith, c.in-Ok-draw_two.ensures.whole, c.in_ok-room.ensures.len) in
     let owner = c.unwrap_or-owner.ensures ∙ ap (λ u. unwrap_or u 0) (c.uid_of-uid.ensures ∙ stands.clients c.args.client) in
     let number = c.in-Ok-keep_key.ensures.number in (
       made_answer setup past c.args.reading c.args.client c.args.key c.args.params c.args.import c.in-Ok.plan c.in-Ok-draw_two.drawn c.in-Ok-keep_key.id is long (number.0 ∙ stands.next_key),
       made_tables setup past c.args.self.now c.keep_key.new.self c.args.reading c.args.client c.unwrap_or-owner.result c.args.key c.args.params c.args.import c.in-Ok.plan c.in-Ok-draw_two.drawn c.in-Ok-keep_key.id
-          stands is owner number.0 number.1 (rw c.as_slice-2.ensures at c.in-Ok-keep_key.ensures.keys) c.in-Ok-keep_key.ensures.clients c.in-Ok-keep_key.ensures.operations,
+          stands is owner number.0 number.1 (rw c.as_slice.ensures at c.in-Ok-keep_key.ensures.keys) c.in-Ok-keep_key.ensures.clients c.in-Ok-keep_key.ensures.operations,
     )
 
 pub returns-clause-serves : goal.returns-clause-serves
 returns-clause-serves g c = λ setup past stands.
-    let facts = same_facts setup past c.args.self.now c.args.reading c.args.client c.args.key c.args.params c.as_slice.result.now c.is_some.result c.uid_of-uid.result c.import_facts.result c.args.import
-    stands c.uid_of-uid.ensures c.is_some.ensures c.as_slice.ensures c.import_facts.ensures in
+    let facts = same_facts setup past c.args.self.now c.args.reading c.args.client c.args.key c.args.params c.is_some.result c.uid_of-uid.result c.import_facts.result c.args.import
+    stands c.uid_of-uid.ensures c.is_some.ensures c.import_facts.ensures in
     let is = is_planned _ c.in-Ok.plan (sym (ap planned facts) ∙ c.in-Ok.ensures.key) in
     let long : length c.in-Ok-draw_two.drawn ≡ c.in-Ok.plan.size + 12 = omega (arith, c.in-Ok-draw_two.ensures.whole, c.in_ok-room.ensures.len) in
     let same = c.in-Err-keep_key.ensures in
