@@ -5,7 +5,7 @@ ghost use Rattle.tag_lists.specs.Spelling as spec;
 
 use crate::shape::{Shape, shape_of};
 use std::alloc::{AllocError, Global};
-use tags::{Param, ParamValue};
+use tags::{Bytes, NoMemory, Param, ParamValue};
 
 // Adds a value.
 fn put_value(out: &mut Vec<u8>, shape: Shape, value: &ParamValue) -> Result<(), AllocError>
@@ -47,4 +47,14 @@ pub(crate) fn spelling(alloc: Global, params: &[Param]) -> Result<Vec<u8>, Alloc
         put_param(&mut out, param)?;
     }
     Ok(out)
+}
+
+/// The bytes that spell these parameters in the order in which they are given, which need not be canonical: two bytes of
+/// count, and each as `AuthList::read` has it.
+pub fn spelled(alloc: Global, params: &[Param]) -> Result<Bytes, NoMemory>
+    requires few { length params.now ≤ 65535 }
+    requires fit { AllByRecursion Fits params.now }
+    ensures { IfOk result (λ bytes. bytes ≡ spec.spelling params.now) }
+{
+    Ok(Bytes::of(spelling(alloc, params)?))
 }
