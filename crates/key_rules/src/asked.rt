@@ -1,3 +1,5 @@
+//! The list of an operation, read as a key's is.
+
 ghost use Rattle.std.specs.Prelude.{◌≡◌, IfOk};
 ghost use Rattle.key_rules.specs.Asked as spec;
 

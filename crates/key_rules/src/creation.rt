@@ -1,10 +1,13 @@
-ghost use Rattle.std.specs.Prelude.{◌≡◌, ◌≤◌, ◌<◌, ◌^◌, is_ok, true, IfOk, IfSome, Ok, length};
+//! What becomes of a call that makes a key, and which keys are usable.
+
+ghost use Rattle.std.specs.Prelude.{◌≡◌, ◌≤◌, ◌<◌, ◌^◌, is_ok, true, IfOk, IfSome, OnOk, Ok, length};
 ghost use Rattle.tags.specs.declared.rule.RuleTable.TheVariants.{K};
 ghost use Rattle.tags.specs.Table.{first_broken};
 ghost use Rattle.tag_lists.specs.Lookups.{IsKey};
-ghost use Rattle.key_rules.specs.Creation.{new_key, material_size as size_of};
+ghost use Rattle.key_rules.specs.Creation.{key_size, new_key, material_size as size_of};
 ghost use Rattle.key_rules.specs.Gives.{Gives};
 ghost use Rattle.key_rules.specs.Kept as model;
+ghost use Rattle.key_rules.specs.Rules.{list_in};
 ghost use Rattle.key_rules.specs.Table.{key_rules};
 
 use crate::kept::{kept, limit};
@@ -14,7 +17,7 @@ use std::alloc::Global;
 use tag_lists::AuthList;
 use tags::Tag;
 
-// The plan of a key that meets the rules.
+/// The plan of a key that meets the rules.
 fn plan(list: AuthList, import: Option<ImportFacts>, wall: u64) -> Result<KeyPlan, NewFault>
     requires short { IfSome import (λ facts. facts.length ≤ 64) }
     requires few { length list ≤ 4096 }
@@ -26,9 +29,11 @@ fn plan(list: AuthList, import: Option<ImportFacts>, wall: u64) -> Result<KeyPla
 }
 
 /// Whether a key of these facts may be made: the first broken rule of table K and its code, or the plan. Of a rule with
-/// several codes the first part that is broken gives it. `Memory` comes where memory is wanted.
+/// several codes the first part that is broken gives it. Where it may be made, its list and its material, imported or to be
+/// drawn, are a key of their cipher. `Memory` comes where memory is wanted.
 pub fn check_new(alloc: Global, facts: &NewFacts) -> Result<KeyPlan, NewFault>
-    ensures { Gives (λ plan. plan) result (new_key facts.now) }
+    ensures plan { Gives (λ plan. plan) result (new_key facts.now) }
+    ensures key { OnOk result (IsKey (list_in facts.now.params) (key_size facts.now.import (list_in facts.now.params))) }
 {
     let list = check_facts(alloc, facts)?;
     plan(list, facts.import, facts.wall)

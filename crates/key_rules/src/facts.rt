@@ -1,3 +1,5 @@
+//! What the rules of a new key read.
+
 use tags::{Bytes, Descriptor};
 
 /// What is known of an imported key.

@@ -1,3 +1,5 @@
+//! Why no key is made.
+
 ghost use Rattle.std.specs.Prelude.{◌≡◌};
 ghost use Rattle.key_rules.specs.declared.fault.NewFault.TheVariants.{Broken, Memory};
 

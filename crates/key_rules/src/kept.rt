@@ -1,3 +1,5 @@
+//! The list that is kept with a new key, and its use limit.
+
 ghost use Rattle.std.specs.Prelude.{◌≡◌, ◌≤◌, ◌<◌, ◌+◌, length, IfOk, IfSome};
 ghost use Rattle.tags.specs.declared.param.ParamValue.TheVariants.{Number};
 ghost use Rattle.tag_lists.specs.Order.{Fits};
@@ -8,7 +10,7 @@ use tag_lists::AuthList;
 use tags::values::{GENERATED, IMPORTED};
 use tags::{NoMemory, Param, ParamValue, Tag};
 
-// The list with this number as the tag's one parameter.
+/// The list with this number as the tag's one parameter.
 fn set(list: AuthList, tag: Tag, number: u64) -> Result<AuthList, NoMemory>
     requires fits { Fits (record { tag = tag; value = Number number }) }
     requires room { length list < 65535 }
@@ -21,7 +23,7 @@ fn set(list: AuthList, tag: Tag, number: u64) -> Result<AuthList, NoMemory>
     })
 }
 
-// The list with this number where the tag is not there.
+/// The list with this number where the tag is not there.
 fn set_missing(list: AuthList, tag: Tag, number: u64) -> Result<AuthList, NoMemory>
     requires fits { Fits (record { tag = tag; value = Number number }) }
     requires room { length list < 65535 }
@@ -35,7 +37,7 @@ fn set_missing(list: AuthList, tag: Tag, number: u64) -> Result<AuthList, NoMemo
     }
 }
 
-// An import's size in bits, where the caller gave none.
+/// An import's size in bits, where the caller gave none.
 fn with_size(list: AuthList, import: Option<ImportFacts>) -> Result<AuthList, NoMemory>
     requires short { IfSome import (λ facts. facts.length ≤ 64) }
     requires room { length list < 65535 }
@@ -48,7 +50,7 @@ fn with_size(list: AuthList, import: Option<ImportFacts>) -> Result<AuthList, No
     }
 }
 
-// The caller's parameters that are kept.
+/// The caller's parameters that are kept.
 fn own(list: AuthList) -> AuthList
     ensures own { result ≡ spec.own list }
     ensures room { length result ≤ length list }

@@ -1,3 +1,5 @@
+//! The parts of the rules of a new key.
+
 ghost use Rattle.std.specs.Prelude.{◌≡◌, ◌≤◌, true, IfSome};
 ghost use Rattle.std.specs.List.{list_all, list_any};
 ghost use Rattle.tags.specs.Param.{as_number};
@@ -82,7 +84,7 @@ fn is_allowed_size(list: &AuthList, bits: u64) -> bool
     }
 }
 
-// Whether there is a number, and it is an allowed size.
+/// Whether there is a number, and it is an allowed size.
 fn is_number_allowed(list: &AuthList, number: Option<u64>) -> bool
     ensures { result ≡ passes (spec.is_allowed_size list.now) number }
 {
@@ -171,7 +173,7 @@ pub(crate) fn has_least_length(list: &AuthList) -> bool
     !(list.is_hmac() || is_gcm(list)) || list.stands(Tag::MinMacLength)
 }
 
-// The bits of the list's digest.
+/// The bits of the list's digest.
 fn own_digest_bits(list: &AuthList) -> u64
     ensures { result ≡ spec.own_digest_bits list.now }
 {
@@ -211,7 +213,7 @@ pub(crate) fn has_some_uses(list: &AuthList) -> bool
     !list.has(Tag::UsageCountLimit, 0)
 }
 
-// Whether one of the tags is there.
+/// Whether one of the tags is there.
 fn any_stands(list: &AuthList, tags: &[Tag]) -> bool
     ensures { result ≡ list_any (λ tag. stands tag list.now) tags.now }
 {

@@ -1,10 +1,10 @@
+//! Table K, walked in its order.
+
 ghost use Rattle.std.specs.Prelude.{◌≡◌, ℕ, ◌*◌, ◌≤◌, ◌∷◌, [], ◌++◌, true, List, length, IfOk, IfSome, OnOk, is_ok};
 ghost use Rattle.tags.specs.declared.rule.RuleTable.TheVariants.{K};
 ghost use Rattle.tags.specs.Table.{Check, check as row, first_broken, rule_of, where_all_hold};
-ghost use Rattle.tag_lists.specs.Lookups.{IsKey};
 ghost use Rattle.tag_lists.specs.Reading.{listed};
 ghost use Rattle.key_rules.specs.Asked.{read_by_rules};
-ghost use Rattle.key_rules.specs.Creation.{key_size};
 ghost use Rattle.key_rules.specs.Gives.{Gives};
 ghost use Rattle.key_rules.specs.Rules as rules;
 ghost use Rattle.key_rules.specs.Table as spec;
@@ -20,14 +20,14 @@ use tag_lists::{AuthList, ListFault};
 use tags::values::RAW;
 use tags::{Code, Rule, RuleTable, Ruling, check};
 
-// A rule of the table by its number.
+/// A rule of the table by its number.
 fn rule(number: u8) -> Rule
     ensures { result ≡ rule_of K number }
 {
     RuleTable::K.rule(number)
 }
 
-// The list that the bytes spell.
+/// The list that the bytes spell.
 #[tactic(auto, unfolding(crate::specs::Rules::list_in))]
 fn read(alloc: Global, params: &[u8]) -> Result<AuthList, NewFault>
     ensures list { Gives (λ list. list) result (where_all_hold (first_broken K (row 4 (rules.reading_code (listed params.now)) (is_ok (listed params.now)) ∷ [])) (rules.list_in params.now)) }
@@ -56,10 +56,12 @@ pub(crate) fn read_by_rule(alloc: Global, params: &[u8]) -> Result<AuthList, New
     Ok(list)
 }
 
-// The rules that read the list, in the table's order.
+/// The rules that read the list, in the table's order.
 #[tactic(auto, unfolding(crate::specs::Table::list_rules))]
 fn check_list(import: Option<ImportFacts>, list: &AuthList) -> Ruling
     ensures first { result ≡ first_broken K (spec.list_rules import list.now) }
+    ensures size { OnOk result (rules.has_allowed_size import list.now ≡ true) }
+    ensures digest { OnOk result (rules.has_one_digest list.now ≡ true) }
     ensures short { OnOk result (IfSome import (λ facts. facts.length ≤ 64)) }
 {
     check(rule(5), Code::UnsupportedAlgorithm, names_algorithm(list))?;
@@ -94,13 +96,16 @@ fn check_list(import: Option<ImportFacts>, list: &AuthList) -> Ruling
     Ok(())
 }
 
-// The rules of an encoded list and of what it spells.
+/// The rules of an encoded list and of what it spells.
 fn check_params(
     alloc: Global,
     params: &[u8],
     import: Option<ImportFacts>,
 ) -> Result<AuthList, NewFault>
     ensures list { Gives (λ list. list) result (where_all_hold (first_broken K (spec.bytes_rules params.now ++ spec.list_rules import (rules.list_in params.now))) (rules.list_in params.now)) }
+    ensures is { IfOk result (λ list. list ≡ rules.list_in params.now) }
+    ensures size { IfOk result (λ list. rules.has_allowed_size import list ≡ true) }
+    ensures digest { IfOk result (λ list. rules.has_one_digest list ≡ true) }
     ensures few { IfOk result (λ list. length list ≤ 4096) }
     ensures short { OnOk result (IfSome import (λ facts. facts.length ≤ 64)) }
 {
@@ -116,6 +121,9 @@ fn check_params(
 /// The table's rules, in its order, and the list that is read.
 pub(crate) fn check_facts(alloc: Global, facts: &NewFacts) -> Result<AuthList, NewFault>
     ensures list { Gives (λ list. list) result (where_all_hold (first_broken K (spec.rules_of facts.now)) (rules.list_in facts.now.params)) }
+    ensures is { IfOk result (λ list. list ≡ rules.list_in facts.now.params) }
+    ensures size { IfOk result (λ list. rules.has_allowed_size facts.now.import list ≡ true) }
+    ensures digest { IfOk result (λ list. rules.has_one_digest list ≡ true) }
     ensures few { IfOk result (λ list. length list ≤ 4096) }
     ensures short { OnOk result (IfSome facts.now.import (λ import. import.length ≤ 64)) }
 {

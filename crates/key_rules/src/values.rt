@@ -1,3 +1,5 @@
+//! What a list says of every parameter of a tag.
+
 ghost use Rattle.std.specs.Prelude.{◌≡◌};
 ghost use Rattle.std.specs.List.{list_all};
 ghost use Rattle.tags.specs.Param.{as_number};
@@ -9,7 +11,7 @@ use tag_lists::AuthList;
 use tags::values::is_whole_bytes;
 use tags::{Param, ParamValue, Tag};
 
-// Whether there is a number, and it is so many bits in whole bytes.
+/// Whether there is a number, and it is so many bits in whole bytes.
 fn has_whole_bytes(least: u64, most: u64, number: Option<u64>) -> bool
     ensures { result ≡ passes (whole_bytes least most) number }
 {
@@ -19,7 +21,7 @@ fn has_whole_bytes(least: u64, most: u64, number: Option<u64>) -> bool
     }
 }
 
-// Whether each parameter is so many bits in whole bytes.
+/// Whether each parameter is so many bits in whole bytes.
 fn all_whole_bytes(params: &[Param], least: u64, most: u64) -> bool
     ensures { result ≡ list_all (λ p. passes (whole_bytes least most) (as_number p.value)) params.now }
 {
@@ -33,7 +35,7 @@ pub(crate) fn each_whole_bytes(list: &AuthList, tag: Tag, least: u64, most: u64)
     all_whole_bytes(list.all(tag), least, most)
 }
 
-// Whether a value has at most 1,024 bytes.
+/// Whether a value has at most 1,024 bytes.
 fn is_short(value: &ParamValue) -> bool
     ensures { result ≡ short value.now }
 {
@@ -44,7 +46,7 @@ fn is_short(value: &ParamValue) -> bool
     }
 }
 
-// Whether each parameter has at most 1,024 bytes.
+/// Whether each parameter has at most 1,024 bytes.
 fn are_short(params: &[Param]) -> bool
     ensures { result ≡ list_all (λ p. short p.value) params.now }
 {

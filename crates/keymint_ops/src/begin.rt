@@ -1,3 +1,5 @@
+//! The plan of beginning an operation, and its start.
+
 ghost use Rattle.std.specs.Prelude.{◌≡◌, ℕ, ◌≤◌, List, length, IfOk, true};
 ghost use Rattle.std.specs.Option.{option_copied};
 ghost use Rattle.tags.specs.Plan.{Fits};
@@ -39,7 +41,7 @@ impl From<NoMemory> for BeginFault {
     }
 }
 
-// The nonce that is used: the caller's, or else the one that is drawn.
+/// The nonce that is used: the caller's, or else the one that is drawn.
 fn nonce_used<'a>(nonce: &'a Option<Bytes>, drawn: &'a [u8]) -> &'a [u8]
     ensures { result.now ≡ spec.nonce_used nonce.now drawn.now }
 {
@@ -70,7 +72,7 @@ impl Begin {
     }
 }
 
-// The nonce that the caller gives, in memory of its own.
+/// The nonce that the caller gives, in memory of its own.
 fn copy_of(alloc: Global, nonce: Option<&[u8]>) -> Result<Option<Bytes>, NoMemory>
     ensures { IfOk result (λ copy. copy ≡ option_copied nonce.entry) }
 {

@@ -1,3 +1,5 @@
+//! The plan of making a key.
+
 ghost use Rattle.std.specs.Prelude.{◌≡◌, ◌<◌, ◌^◌, IfOk, Ok};
 ghost use Rattle.key_rules.specs.Gives.{Gives};
 ghost use Rattle.keymint_ops.specs.Creation as spec;
@@ -18,7 +20,7 @@ pub struct NewKey {
     pub size: usize,
 }
 
-// How many bytes of material are drawn.
+/// How many bytes of material are drawn.
 fn drawn_size(import: Option<ImportFacts>, list: &AuthList) -> usize
     ensures size { result ≡ spec.drawn_size import list.now }
     ensures most { result < 2 ^ 61 }
@@ -29,7 +31,7 @@ fn drawn_size(import: Option<ImportFacts>, list: &AuthList) -> usize
     }
 }
 
-// A plan with its list spelled out.
+/// A plan with its list spelled out.
 fn spelled(alloc: Global, import: Option<ImportFacts>, plan: KeyPlan) -> Result<NewKey, NewFault>
     ensures key { Gives (λ key. key) result (Ok (spec.spelled import plan)) }
     ensures most { IfOk result (λ key. key.size < 2 ^ 61) }

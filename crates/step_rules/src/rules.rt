@@ -1,3 +1,5 @@
+//! The rules of a step.
+
 ghost use Rattle.std.specs.Prelude.{◌≡◌};
 ghost use Rattle.step_rules.specs.Rules as spec;
 

@@ -1,3 +1,5 @@
+//! Table S, walked in its order.
+
 ghost use Rattle.std.specs.Prelude.{◌≡◌, true, OnOk};
 ghost use Rattle.tags.specs.declared.rule.RuleTable.TheVariants.{S};
 ghost use Rattle.tags.specs.Table.{first_broken, rule_of};
@@ -8,14 +10,14 @@ use crate::StepFacts;
 use crate::rules::{are_pieces_short, has_whole_text, is_enter, is_total_within, may_take_aad};
 use tags::{Code, Rule, RuleTable, Ruling, check};
 
-// A rule of the table by its number.
+/// A rule of the table by its number.
 fn rule(number: u8) -> Rule
     ensures { result ≡ rule_of S number }
 {
     RuleTable::S.rule(number)
 }
 
-// The rules of every step.
+/// The rules of every step.
 fn check_call(facts: &StepFacts) -> Ruling
     ensures { result ≡ first_broken S (spec.call_rules facts.now) }
 {
@@ -23,7 +25,7 @@ fn check_call(facts: &StepFacts) -> Ruling
     Ok(())
 }
 
-// The rules of a step that enters the operation.
+/// The rules of a step that enters the operation.
 #[tactic(auto, using(crate::proofs::Entering::enters))]
 fn check_enter(facts: &StepFacts) -> Ruling
     ensures first { result ≡ first_broken S (spec.enter_rules facts.now) }

@@ -1,3 +1,5 @@
+//! An authorization list, and what it says of a tag.
+
 ghost use Rattle.std.specs.Prelude.{◌≡◌, ℕ, ◌+◌, ◌*◌, ◌<◌, ◌≤◌, List, [], length, drop, IfOk, Ok};
 ghost use Rattle.std.specs.Option.{option_copied};
 ghost use Rattle.std.specs.List.{list_all, list_any};
@@ -37,7 +39,7 @@ impl Model for AuthList {
     ghost invariant = { λ list. IsCanonical list.params.items };
 }
 
-// Whether a value is this number.
+/// Whether a value is this number.
 fn is_number(number: u64, value: &ParamValue) -> bool
     ensures { result ≡ spec.is_number number value.now }
 {
@@ -48,7 +50,7 @@ fn is_number(number: u64, value: &ParamValue) -> bool
     }
 }
 
-// The parameters from a place on.
+/// The parameters from a place on.
 fn behind(params: &[Param], place: usize) -> &[Param]
     requires { place ≤ length params.now }
     ensures { result.now ≡ drop place params.now }
@@ -56,7 +58,7 @@ fn behind(params: &[Param], place: usize) -> &[Param]
     &params[place..]
 }
 
-// The parameters of a tag, which stand side by side.
+/// The parameters of a tag, which stand side by side.
 fn of_tag(params: &[Param], tag: Tag) -> &[Param]
     requires { IsCanonical params.now }
     ensures { result.now ≡ spec.all_of tag params.now }
@@ -68,14 +70,14 @@ fn of_tag(params: &[Param], tag: Tag) -> &[Param]
     &rest[..count]
 }
 
-// Whether a parameter has this number.
+/// Whether a parameter has this number.
 fn any_number(params: &[Param], number: u64) -> bool
     ensures { result ≡ list_any (λ p. spec.is_number number p.value) params.now }
 {
     params.iter().any(|param| is_number(number, &param.value))
 }
 
-// The number of the one parameter.
+/// The number of the one parameter.
 fn number_alone(params: &[Param]) -> Option<u64>
     ensures { result ≡ spec.number_alone params.now }
 {
@@ -85,7 +87,7 @@ fn number_alone(params: &[Param]) -> Option<u64>
     }
 }
 
-// Whether there is a number, and it is one of these.
+/// Whether there is a number, and it is one of these.
 fn is_one_in(numbers: &[u64], number: Option<u64>) -> bool
     ensures { result ≡ passes (values.one_in numbers.now) number }
 {
@@ -95,7 +97,7 @@ fn is_one_in(numbers: &[u64], number: Option<u64>) -> bool
     }
 }
 
-// Whether each parameter has one of these numbers.
+/// Whether each parameter has one of these numbers.
 fn all_in(params: &[Param], numbers: &[u64]) -> bool
     ensures { result ≡ list_all (λ p. passes (values.one_in numbers.now) (as_number p.value)) params.now }
 {
@@ -104,7 +106,7 @@ fn all_in(params: &[Param], numbers: &[u64]) -> bool
         .all(|param| is_one_in(numbers, param.value.as_number()))
 }
 
-// The list that the bytes spell.
+/// The list that the bytes spell.
 fn list_of(alloc: Global, bytes: &[u8]) -> Result<AuthList, ListFault>
     ensures { Gives (λ list. list) result (listed bytes.now) }
 {

@@ -1,3 +1,5 @@
+//! Which key a call means.
+
 ghost use Rattle.std.specs.Prelude.{◌≡◌};
 ghost use Rattle.std.specs.Str.{is_utf8};
 ghost use Rattle.tags.specs.Descriptor as spec;

@@ -1,3 +1,5 @@
+//! The parameters of an authorization list.
+
 ghost use Rattle.std.specs.Prelude.{◌≡◌};
 ghost use Rattle.std.specs.Option.{option_copied};
 ghost use Rattle.tags.specs.Param as spec;

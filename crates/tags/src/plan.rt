@@ -1,3 +1,5 @@
+//! What the work of an operation is, and what it asks of key, nonce and lengths.
+
 ghost use Rattle.std.specs.Prelude.{◌≡◌};
 ghost use Rattle.tags.specs.Plan as spec;
 

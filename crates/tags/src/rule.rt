@@ -1,3 +1,5 @@
+//! The rules by table and number.
+
 ghost use Rattle.std.specs.Prelude.{◌≡◌, Some};
 
 use std::fmt;

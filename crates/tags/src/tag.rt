@@ -1,3 +1,5 @@
+//! The tags of authorization lists, by name and number.
+
 ghost use Rattle.std.specs.Prelude.{◌≡◌, ◌≢◌, ◌^◌, ◌<◌, ◌%◌, IfSome, IfNone};
 ghost use Rattle.tags.specs.declared.tag.Tag.{Tag};
 ghost use Rattle.tags.specs.Tag.{type_number, type_of, low_of, number_of, name_of, repeats, tag_named, tag_numbered, tag_with_low};
@@ -274,7 +276,7 @@ impl Tag {
         Tag::ALL.iter().copied().find(|tag| tag.name() == name)
     }
 
-    // The tag with these 28 low bits, by the table's rows.
+    /// The tag with these 28 low bits, by the table's rows.
     fn row_of_low(low: u32) -> Option<Tag>
         ensures found { IfSome result (λ tag. low_of tag ≡ low) }
         ensures none { IfNone result ((tag : Tag) → low_of tag ≢ low) }
@@ -320,7 +322,7 @@ impl Tag {
         Tag::row_of_low(low)
     }
 
-    // The tag with these low bits, where its type is that of the number.
+    /// The tag with these low bits, where its type is that of the number.
     fn row_of_number(number: u32) -> Option<Tag>
         ensures found { IfSome result (λ tag. number_of tag ≡ number) }
         ensures none { IfNone result ((tag : Tag) → number_of tag ≢ number) }

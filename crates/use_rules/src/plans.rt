@@ -1,3 +1,5 @@
+//! What the work of an operation is, and its nonce.
+
 ghost use Rattle.std.specs.Prelude.{◌≡◌};
 ghost use Rattle.std.specs.Option.{option_copied};
 ghost use Rattle.use_rules.specs.Plans as spec;
@@ -9,7 +11,7 @@ use tag_lists::AuthList;
 use tags::values::{CBC, CTR, ECB, ENCRYPT, PKCS7};
 use tags::{Plan, Tag};
 
-// A number of a plan has one byte; a list that the rules let through has no greater one.
+/// A number of a plan has one byte; a list that the rules let through has no greater one.
 fn byte(n: u64) -> u8
     ensures { result ≡ spec.byte n }
 {

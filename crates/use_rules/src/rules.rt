@@ -1,3 +1,5 @@
+//! The parts of the rules of a begin.
+
 ghost use Rattle.std.specs.Prelude.{◌≡◌};
 ghost use Rattle.use_rules.specs.Rules as spec;
 

@@ -1,3 +1,5 @@
+//! Table B, walked in its order.
+
 ghost use Rattle.std.specs.Prelude.{◌≡◌, ℕ, IfOk, OnOk, is_ok, is_some, true};
 ghost use Rattle.tags.specs.declared.rule.RuleTable.TheVariants.{B};
 ghost use Rattle.tags.specs.Plan.{IsWorkable, takes_key};
@@ -16,14 +18,14 @@ use crate::rules::{
 use tag_lists::AuthList;
 use tags::{Code, Plan, Rule, RuleTable, Ruling, check};
 
-// A rule of the table by its number.
+/// A rule of the table by its number.
 fn rule(number: u8) -> Rule
     ensures { result ≡ rule_of B number }
 {
     RuleTable::B.rule(number)
 }
 
-// The rules of the operation's list and the key's.
+/// The rules of the operation's list and the key's.
 #[tactic(auto, unfolding(crate::specs::Table::list_rules))]
 fn check_lists(asked: &AuthList, key: &AuthList) -> Ruling
     ensures first { result ≡ first_broken B (spec.list_rules asked.now key.now) }
@@ -74,7 +76,7 @@ fn check_lists(asked: &AuthList, key: &AuthList) -> Ruling
     Ok(())
 }
 
-// The plan, where no rule of the lists is broken.
+/// The plan, where no rule of the lists is broken.
 #[tactic(auto, using(crate::proofs::Begun::workable, crate::proofs::Begun::takes, crate::proofs::Begun::nonce_fits))]
 fn begun(asked: &AuthList, key: &AuthList) -> Result<Plan, (Rule, Code)>
     ensures first { result ≡ where_all_hold (first_broken B (spec.list_rules asked.now key.now)) (plan_by asked.now key.now) }
