@@ -1,8 +1,9 @@
 -- What an operation in a mode puts out: all of it, and how much of it is out after some text.
-use Rattle.std.specs.Prelude.{ℕ, ◌-◌, ◌*◌, ◌/◌, ◌%◌, Bool, true, false, ◌&&◌, not, if◌then◌else◌, ◌==◌, nat_le, List, [], length, Result, Ok, Err}
+use Rattle.std.specs.Prelude.{ℕ, ◌-◌, ◌*◌, ◌/◌, ◌%◌, Bool, true, false, ◌&&◌, not, if◌then◌else◌, ◌==◌, List, [], length, Result, Ok, Err}
 use Rattle.std.specs.Option.{ok_or}
 use Rattle.tags.specs.declared.plan.Plan.{Plan}
 use Rattle.tags.specs.declared.plan.Plan.TheVariants.{Ecb, Cbc, Ctr}
+use Rattle.tags.specs.Plan.{is_whole}
 use Rattle.block_modes.specs.declared.fault.ModeFault.{ModeFault}
 use Rattle.block_modes.specs.declared.fault.ModeFault.TheVariants.{Length, Padding}
 use Rattle.block_modes.specs.Modes.{ecb, cbc, cbc_open, ctr}
@@ -39,12 +40,6 @@ front_at _ size = 0
 -- how many bytes are out after a text: its length alone decides
 unfoldable pub front : Plan → List ℕ → ℕ
 front plan text = front_at plan (length text)
-
--- the lengths that a whole text may have: any to be padded; whole blocks, and at least one where a padding is to be taken off
-abbrev pub is_whole : Bool → Bool → ℕ → Bool
-is_whole true true size = true
-is_whole false true size = size % 16 == 0 && nat_le 16 size
-is_whole seal false size = size % 16 == 0
 
 -- all output for a text of an allowed length, by what the mode makes of texts
 abbrev pub completed : Bool → Bool → (List ℕ → List ℕ) → List ℕ → Result (List ℕ) ModeFault

@@ -4,7 +4,7 @@ ghost use Rattle.std.specs.Prelude.{◌≡◌, ℕ, ◌+◌, ◌<◌, ◌≤◌,
 ghost use Rattle.block_modes.specs.Steps.{is_counter, holds_back};
 
 use crate::fault::ModeFault;
-use crate::held::Held;
+use crate::partial::Partial;
 use crate::padding::text_size;
 use crate::step::step;
 use aes_core::BlockCipher;
@@ -18,7 +18,7 @@ pub struct Blocks<C> {
     cipher: C,
     plan: Plan,
     chain: [u8; 16],
-    held: Held,
+    held: Partial,
 }
 
 /// Puts the bytes into `out` at `at`, and says where they end.
@@ -51,7 +51,7 @@ impl<C: BlockCipher + Drop> Blocks<C> {
             cipher,
             plan,
             chain: nonce,
-            held: Held::new(),
+            held: Partial::new(),
         }
     }
 

@@ -6,8 +6,8 @@
 
 mod engine;
 mod fault;
-mod held;
 mod padding;
+mod partial;
 mod step;
 #[cfg(test)]
 mod tests;

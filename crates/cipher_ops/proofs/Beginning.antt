@@ -1,7 +1,8 @@
--- An engine at its begin, and with additional data.
-use Rattle.std.proofs.Common.{◌≡◌, ℕ, ◌≤◌, true, false, List, [], ◌++◌, length, sym, ap, ◌∙◌}
+-- An transform at its begin, and with additional data.
+use Rattle.std.proofs.Common.{◌≡◌, ℕ, ◌*◌, ◌≤◌, ◌==◌, if◌then◌else◌, Bool, true, false, arith, List, [], ◌++◌, length, sym, ap, ◌∙◌}
 use Rattle.tags.specs.declared.plan.Plan.{Plan}
 use Rattle.tags.specs.declared.plan.Plan.TheVariants.{Gcm, HmacSign, HmacVerify}
+use Rattle.tags.specs.Plan.{IsWorkable}
 use Rattle.aes_core.specs.Cipher.{cipher}
 use Rattle.aes_core.specs.KeyOf.{key_of}
 use Rattle.aes_core.specs.declared.aes_key.AesKey.{AesKey}
@@ -13,7 +14,7 @@ use Rattle.gcm_mode.specs.declared.open.GcmOpen.{GcmOpen}
 use Rattle.hmac_core.specs.declared.mac.Hmac.{Hmac}
 use Rattle.hmac_core.specs.Hmac.{digest_size}
 use Rattle.hmac_core.specs.State as macs
-use Rattle.cipher_ops.specs.declared.engine.Engine.TheVariants.{Modes, Seal, Open, Sign, Verify}
+use Rattle.cipher_ops.specs.declared.transform.Transform.TheVariants.{Modes, Seal, Open, Sign, Verify}
 use Rattle.cipher_ops.specs.Output.{first_block, full_front}
 use Rattle.cipher_ops.specs.Standing.{aes, aes_inverse, given, Holds}
 use Rattle.cipher_ops.proofs.GivenLemmas.{given_none, front_none}
@@ -30,28 +31,41 @@ modes_begin state aes_key plan key nonce block key_is block_is holds =
 pub seal_begin : (state : GcmSeal AesKey) (aes_key : AesKey) (plan : Plan) (tag : ℕ) (key nonce block : List ℕ) → plan ≡ Gcm true tag → key_of aes_key ≡ key → block ≡ nonce
     → Seals aes state (aes aes_key) block tag [] [] → Holds (Seal state) plan key nonce [] []
 seal_begin state aes_key plan tag key nonce block plan_is key_is block_is seals = record {
-  engine_is = record { tag = tag; plan_is = plan_is; seals = rw (← key_is, ← block_is) seals };
+  transform_is = record { tag = tag; plan_is = plan_is; seals = rw (← key_is, ← block_is) seals };
   within = within_none plan key nonce;
 }
 
 pub open_begin : (state : GcmOpen AesKey) (aes_key : AesKey) (plan : Plan) (tag : ℕ) (key nonce block : List ℕ) → plan ≡ Gcm false tag → key_of aes_key ≡ key → block ≡ nonce
     → Opens aes state (aes aes_key) block tag [] [] → Holds (Open state) plan key nonce [] []
 open_begin state aes_key plan tag key nonce block plan_is key_is block_is opens = record {
-  engine_is = record { tag = tag; plan_is = plan_is; opens = rw (← key_is, ← block_is) opens };
+  transform_is = record { tag = tag; plan_is = plan_is; opens = rw (← key_is, ← block_is) opens };
   within = within_none plan key nonce;
 }
+
+-- the bytes of a mac are no more than its digest's
+size_by : (three four five six : Bool) (size : ℕ) →
+    8 * size ≤ (if three then 224 else if four then 256 else if five then 384 else if six then 512 else 0) →
+    size ≤ (if three then 28 else if four then 32 else if five then 48 else 64)
+size_by true four five six size h = omega (arith, h)
+size_by false true five six size h = omega (arith, h)
+size_by false false true six size h = omega (arith, h)
+size_by false false false true size h = omega (arith, h)
+size_by false false false false size h = omega (arith, h)
+
+pub mac_fits : (digest size : ℕ) → IsWorkable (HmacSign digest size) → size ≤ digest_size digest
+mac_fits digest size works = size_by (digest == 3) (digest == 4) (digest == 5) (digest == 6) size works.2
 
 pub sign_begin : (mac : Hmac) (plan : Plan) (digest size : ℕ) (key nonce : List ℕ) → plan ≡ HmacSign digest size → size ≤ digest_size digest
     → macs.Holds mac digest key [] → Holds (Sign mac size) plan key nonce [] []
 sign_begin mac plan digest size key nonce plan_is fits holds = record {
-  engine_is = record { digest = digest; plan_is = plan_is; fits = fits; holds = holds };
+  transform_is = record { digest = digest; plan_is = plan_is; fits = fits; holds = holds };
   within = within_none plan key nonce;
 }
 
 pub verify_begin : (mac : Hmac) (plan : Plan) (digest least : ℕ) (key nonce : List ℕ) → plan ≡ HmacVerify digest least
     → macs.Holds mac digest key [] → Holds (Verify mac least) plan key nonce [] []
 verify_begin mac plan digest least key nonce plan_is holds = record {
-  engine_is = record { digest = digest; plan_is = plan_is; holds = holds };
+  transform_is = record { digest = digest; plan_is = plan_is; holds = holds };
   within = within_none plan key nonce;
 }
 
@@ -59,9 +73,9 @@ pub seal_aad : (old new : GcmSeal AesKey) (plan : Plan) (key nonce aad input : L
     → ((tag : ℕ) → Seals aes old (cipher key) nonce tag aad [] → Seals aes new (cipher key) nonce tag (aad ++ input) [])
     → Holds (Seal new) plan key nonce (aad ++ input) []
 seal_aad old new plan key nonce aad input holds more =
-    let is = holds.engine_is in
+    let is = holds.transform_is in
     record {
-      engine_is = record { tag = is.tag; plan_is = is.plan_is; seals = more is.tag is.seals };
+      transform_is = record { tag = is.tag; plan_is = is.plan_is; seals = more is.tag is.seals };
       within = holds.within;
     }
 
@@ -69,8 +83,8 @@ pub open_aad : (old new : GcmOpen AesKey) (plan : Plan) (key nonce aad input : L
     → ((tag : ℕ) → Opens aes old (cipher key) nonce tag aad [] → Opens aes new (cipher key) nonce tag (aad ++ input) [])
     → Holds (Open new) plan key nonce (aad ++ input) []
 open_aad old new plan key nonce aad input holds more =
-    let is = holds.engine_is in
+    let is = holds.transform_is in
     record {
-      engine_is = record { tag = is.tag; plan_is = is.plan_is; opens = more is.tag is.opens };
+      transform_is = record { tag = is.tag; plan_is = is.plan_is; opens = more is.tag is.opens };
       within = holds.within;
     }

@@ -5,3 +5,4 @@ pub mod Ending
 pub mod Rooms
 pub mod Pieces
 pub mod RunLemmas
+pub mod Refusals

@@ -1,4 +1,4 @@
--- The room that was taken is enough, and the engine may end where the text has a length that its plan allows.
+-- The room that was taken is enough, and the transform may end where the text has a length that its plan allows.
 use Rattle.std.proofs.Common.{◌≡◌, ℕ, ◌+◌, ◌-◌, ◌≤◌, Bool, true, false, if◌then◌else◌, ◌==◌, List, [], ◌++◌, length, refl, ap, ◌∙◌, arith, nat_le}
 use Rattle.std.proofs.lemmas.Bool.{leb-true}
 use Rattle.std.proofs.Math.Bridge.{le_prop}
@@ -10,12 +10,13 @@ use Rattle.tags.specs.declared.plan.Plan.TheVariants.{Ecb, Cbc, Ctr, Gcm, HmacSi
 use Rattle.block_modes.specs.Output.{is_served}
 use Rattle.gcm_mode.specs.Holds.{tag_size}
 use Rattle.hmac_core.specs.Hmac.{digest_size}
-use Rattle.cipher_ops.specs.declared.engine.Engine.{Engine}
-use Rattle.cipher_ops.specs.declared.engine.Engine.TheVariants.{Modes, Seal, Open, Sign, Verify}
+use Rattle.cipher_ops.specs.declared.transform.Transform.{Transform}
+use Rattle.cipher_ops.specs.declared.transform.Transform.TheVariants.{Modes, Seal, Open, Sign, Verify}
 use Rattle.cipher_ops.specs.declared.state.CipherState.{CipherState}
-use Rattle.cipher_ops.specs.Output.{full_front, may_end}
+use Rattle.tags.specs.Plan.{may_end}
+use Rattle.cipher_ops.specs.Output.{full_front}
 use Rattle.cipher_ops.specs.Sizes.{piece_room, end_room, taken}
-use Rattle.cipher_ops.specs.Standing.{EngineIs, given, kept, StandsFor, TakesAad, HasRoom, CanTake, MayEnd, CanComplete}
+use Rattle.cipher_ops.specs.Standing.{TransformIs, given, kept, StandsFor, TakesAad, HasRoom, CanTake, MayEnd, CanComplete}
 use Rattle.cipher_ops.proofs.GivenLemmas.{front_within}
 
 served_piece : (plan : Plan) (size : ℕ) → is_served plan ≡ true → piece_room plan size ≡ size + 16
@@ -34,7 +35,7 @@ served_end (Gcm seal tag) served = cc
 served_end (HmacSign digest mac) served = cc
 served_end (HmacVerify digest least) served = cc
 
-pub has_room : (engine : Engine) (plan : Plan) (key nonce aad text : List ℕ) (size room : ℕ) → EngineIs engine plan key nonce aad text → piece_room plan size ≤ room → HasRoom engine size room
+pub has_room : (transform : Transform) (plan : Plan) (key nonce aad text : List ℕ) (size room : ℕ) → TransformIs transform plan key nonce aad text → piece_room plan size ≤ room → HasRoom transform size room
 has_room (Modes blocks) plan key nonce aad text size room is enough = rw (served_piece plan size is.going.served) at enough
 has_room (Seal seal) plan key nonce aad text size room is enough = rw is.plan_is at enough
 has_room (Open opening) plan key nonce aad text size room is enough = rw is.plan_is at enough
@@ -50,8 +51,8 @@ digests false false false = omega arith
 digest_within : (digest : ℕ) → digest_size digest ≤ 64
 digest_within digest = digests (digest == 3) (digest == 4) (digest == 5)
 
-pub may_end_now : (engine : Engine) (plan : Plan) (key nonce aad text : List ℕ) (room : ℕ) → EngineIs engine plan key nonce aad text
-    → may_end plan (length text) ≡ true → end_room plan ≤ room → MayEnd engine room
+pub may_end_now : (transform : Transform) (plan : Plan) (key nonce aad text : List ℕ) (room : ℕ) → TransformIs transform plan key nonce aad text
+    → may_end plan (length text) ≡ true → end_room plan ≤ room → MayEnd transform room
 may_end_now (Modes blocks) plan key nonce aad text room is may enough = rw (served_end plan is.going.served) at enough
 may_end_now (Seal seal) plan key nonce aad text room is may enough = rw is.seals.tag_is (rw is.plan_is at enough)
 may_end_now (Open opening) plan key nonce aad text room is may enough =
@@ -85,42 +86,42 @@ held_left false plan key nonce text held size held_is within =
 pub can_take : (state : CipherState) (plan : Plan) (limited : Bool) (key nonce aad text : List ℕ) (size room : ℕ) → StandsFor state plan limited key nonce aad text
     → piece_room plan (taken limited (length text) size) ≤ room → CanTake state size room
 can_take state plan limited key nonce aad text size room stands enough =
-    let left = held_left limited plan key nonce text state.held size stands.held_is stands.engine.within in
+    let left = held_left limited plan key nonce text state.held size stands.held_is stands.transform.within in
     record {
       fits = omega arith;
-      engine = has_room state.engine plan key nonce aad text size (room - length state.held) stands.engine.engine_is (omega arith);
+      transform = has_room state.transform plan key nonce aad text size (room - length state.held) stands.transform.transform_is (omega arith);
     }
 
 pub can_complete : (state : CipherState) (plan : Plan) (limited : Bool) (key nonce aad text input : List ℕ) (room : ℕ) → StandsFor state plan limited key nonce aad text
     → may_end plan (length (text ++ input)) ≡ true → piece_room plan (taken limited (length text) (length input)) + end_room plan ≤ room
-    → CanComplete state.engine input (length state.held) room
+    → CanComplete state.transform input (length state.held) room
 can_complete state plan limited key nonce aad text input room stands may enough =
-    let left = held_left limited plan key nonce text state.held (length input) stands.held_is stands.engine.within in
+    let left = held_left limited plan key nonce text state.held (length input) stands.held_is stands.transform.within in
     record {
       plan = plan;
       key = key;
       nonce = nonce;
       aad = aad;
       text = text;
-      holds = stands.engine;
+      holds = stands.transform;
       may = may;
       enough = omega arith;
     }
 
-has_text_prop : (b c : Bool) → IsProp (b ≡ c)
-has_text_prop b c = ≡_prop coded_bool _ _
+pub flag_prop : (b c : Bool) → IsProp (b ≡ c)
+flag_prop b c = ≡_prop coded_bool _ _
 
 bytes_prop : (xs ys : List ℕ) → IsProp (xs ≡ ys)
 bytes_prop xs ys = hlevel props
 
-pub TakesAad-prop : (engine : Engine) → IsProp (TakesAad engine)
+pub TakesAad-prop : (transform : Transform) → IsProp (TakesAad transform)
 TakesAad-prop (Modes blocks) = hlevel props
-TakesAad-prop (Seal seal) = has_text_prop seal.hash.has_text false
-TakesAad-prop (Open opening) = hlevel (props, has_text_prop opening.hash.has_text false, bytes_prop opening.held.bytes [])
+TakesAad-prop (Seal seal) = flag_prop seal.hash.has_text false
+TakesAad-prop (Open opening) = hlevel (props, flag_prop opening.hash.has_text false, bytes_prop opening.held.bytes [])
 TakesAad-prop (Sign mac size) = hlevel props
 TakesAad-prop (Verify mac least) = hlevel props
 
-HasRoom-prop : (engine : Engine) (size room : ℕ) → IsProp (HasRoom engine size room)
+HasRoom-prop : (transform : Transform) (size room : ℕ) → IsProp (HasRoom transform size room)
 HasRoom-prop (Modes blocks) size room = le_prop {n = size + 16} {m = room}
 HasRoom-prop (Seal seal) size room = le_prop {n = size} {m = room}
 HasRoom-prop (Open opening) size room = le_prop {n = size} {m = room}
@@ -128,9 +129,9 @@ HasRoom-prop (Sign mac n) size room = hlevel props
 HasRoom-prop (Verify mac least) size room = hlevel props
 
 pub CanTake-prop : (state : CipherState) (size room : ℕ) → IsProp (CanTake state size room)
-CanTake-prop state size room = hlevel (HasRoom-prop state.engine size (room - length state.held), le_prop {n = length state.held} {m = room})
+CanTake-prop state size room = hlevel (HasRoom-prop state.transform size (room - length state.held), le_prop {n = length state.held} {m = room})
 
-pub MayEnd-prop : (engine : Engine) (room : ℕ) → IsProp (MayEnd engine room)
+pub MayEnd-prop : (transform : Transform) (room : ℕ) → IsProp (MayEnd transform room)
 MayEnd-prop (Modes blocks) room = le_prop {n = 16} {m = room}
 MayEnd-prop (Seal seal) room = le_prop {n = tag_size seal} {m = room}
 MayEnd-prop (Open opening) room = hlevel props

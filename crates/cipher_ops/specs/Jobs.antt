@@ -1,6 +1,8 @@
 -- The job and what it comes back with.
-use Rattle.std.specs.Prelude.{◌≡◌, ℕ, Bool, List, [], ◌++◌, length, None, Ok}
+use Rattle.std.specs.Prelude.{◌≡◌, ℕ, Bool, true, false, List, [], ◌++◌, length, None, Ok}
 use Rattle.tags.specs.declared.plan.Plan.{Plan}
+use Rattle.tags.specs.declared.code.Code.{Code}
+use Rattle.tags.specs.declared.code.Code.TheVariants.{VerificationFailed, InvalidKeyArgument}
 use Rattle.cipher_ops.specs.declared.room.Work.{Work}
 use Rattle.cipher_ops.specs.declared.room.Work.TheVariants.{Aad, Text, Last}
 use Rattle.cipher_ops.specs.declared.job.Job.{Job}
@@ -30,3 +32,9 @@ ComesTo done plan limited key nonce aad text (Text input) =
     (done.result ≡ Ok (update_output plan limited key nonce text (text ++ input))) × GoesOn done.state plan limited key nonce aad (text ++ input)
 ComesTo done plan limited key nonce aad text (Last input signature) =
     (done.result ≡ finish_output plan limited key nonce aad text (text ++ input) signature) × (done.state ≡ None)
+
+-- the codes with which an output is refused: a tag or mac that does not match, and a padding that is none
+abbrev pub is_refusal : Code → Bool
+is_refusal VerificationFailed = true
+is_refusal InvalidKeyArgument = true
+is_refusal _ = false

@@ -10,7 +10,6 @@ use Rattle.aes_core.specs.Cipher.{cipher, inverse_cipher}
 use Rattle.block_modes.specs.declared.fault.ModeFault.{ModeFault}
 use Rattle.block_modes.specs.declared.fault.ModeFault.TheVariants.{Length, Padding}
 use Rattle.block_modes.specs.Output as modes
-use Rattle.block_modes.specs.Output.{is_whole}
 use Rattle.gcm_mode.specs.Gcm as gcm
 use Rattle.gcm_mode.specs.Gcm.{gcm_seal, gcm_open}
 use Rattle.hmac_core.specs.Hmac.{hmac, digest_size}
@@ -67,14 +66,6 @@ whole (Gcm false tag) key nonce aad text signature = ok_or (gcm_open (cipher key
 whole (HmacSign digest size) key nonce aad text signature = Ok (take size (hmac digest key text))
 whole (HmacVerify digest least) key nonce aad text signature = verified digest least (hmac digest key text) signature
 whole plan key nonce aad text signature = coded (modes.whole (cipher key) (inverse_cipher key) plan (first_block plan nonce) text)
-
--- the lengths that a whole text may have: whole blocks where no padding is added, at least one where a padding is taken
--- off, and at least the tag where GCM opens
-abbrev pub may_end : Plan → ℕ → Bool
-may_end (Ecb seal padded) size = is_whole seal padded size
-may_end (Cbc seal padded) size = is_whole seal padded size
-may_end (Gcm false tag) size = nat_le tag size
-may_end _ size = true
 
 -- the output of an update from text a to text b: the bytes of `raw` of b from the front of a up to the front of b
 abbrev pub update_output : Plan → Bool → (key nonce a b : List ℕ) → List ℕ

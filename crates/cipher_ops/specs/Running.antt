@@ -1,12 +1,11 @@
 -- What a job stands for, and what it comes back with.
 use Rattle.std.specs.Prelude.{◌≡◌, ℕ, ◌≤◌, Bool, true, false, List, [], ◌++◌, length, Option, Some, None, ⊤}
 use Rattle.tags.specs.declared.plan.Plan.{Plan}
-use Rattle.tags.specs.declared.plan.Plan.TheVariants.{Gcm}
+use Rattle.tags.specs.Plan.{may_end, takes_aad}
 use Rattle.cipher_ops.specs.declared.room.Work.{Work}
 use Rattle.cipher_ops.specs.declared.room.Work.TheVariants.{Aad, Text, Last}
 use Rattle.cipher_ops.specs.declared.room.JobRoom.{JobRoom}
 use Rattle.cipher_ops.specs.declared.state.CipherState.{CipherState}
-use Rattle.cipher_ops.specs.Output.{may_end}
 use Rattle.cipher_ops.specs.Sizes.{job_room}
 use Rattle.cipher_ops.specs.Standing.{StandsFor}
 
@@ -16,15 +15,10 @@ pub record IsRoom (room : JobRoom) (plan : Plan) (limited : Bool) (size : ℕ) (
   pub enough : job_room plan limited size work ≤ length room.out.items
   pub nothing_is : room.nothing ≡ []
 
--- GCM alone takes additional data
-abbrev pub is_gcm : Plan → Bool
-is_gcm (Gcm seal tag) = true
-is_gcm _ = false
-
--- the work may come: additional data for GCM alone and before any byte of text, the last only where the whole text has
+-- the work may come: additional data where the plan takes it and before any byte of text, the last only where the whole text has
 -- a length that the plan allows
 abbrev pub MayCome : Plan → List ℕ → Work → Type 0
-MayCome plan text (Aad input) = (is_gcm plan ≡ true) × (text ≡ [])
+MayCome plan text (Aad input) = (takes_aad plan ≡ true) × (text ≡ [])
 MayCome plan text (Text input) = ⊤
 MayCome plan text (Last input signature) = may_end plan (length (text ++ input)) ≡ true
 

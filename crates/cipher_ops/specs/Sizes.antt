@@ -1,20 +1,9 @@
--- The lengths of what goes in, and the room that a job needs.
-use Rattle.std.specs.Prelude.{◌≡◌, ℕ, ◌+◌, ◌≤◌, Bool, true, false, if◌then◌else◌, List, length}
+-- The room that a job needs.
+use Rattle.std.specs.Prelude.{ℕ, ◌+◌, Bool, true, false, if◌then◌else◌, List, length}
 use Rattle.tags.specs.declared.plan.Plan.{Plan}
 use Rattle.tags.specs.declared.plan.Plan.TheVariants.{Ecb, Cbc, Ctr, Gcm, HmacSign, HmacVerify}
-use Rattle.aes_core.specs.Cipher.{is_key_size}
-use Rattle.hmac_core.specs.Hmac.{digest_size}
 use Rattle.cipher_ops.specs.declared.room.Work.{Work}
 use Rattle.cipher_ops.specs.declared.room.Work.TheVariants.{Aad, Text, Last}
-
--- key, nonce, tag, digest and mac size fit the plan
-abbrev pub Fits : Plan → List ℕ → List ℕ → Type 0
-Fits (Ecb seal padded) key nonce = is_key_size (length key) ≡ true
-Fits (Cbc seal padded) key nonce = (is_key_size (length key) ≡ true) × (length nonce ≡ 16)
-Fits Ctr key nonce = (is_key_size (length key) ≡ true) × (length nonce ≡ 16)
-Fits (Gcm seal tag) key nonce = (is_key_size (length key) ≡ true) × (length nonce ≡ 12) × (12 ≤ tag) × (tag ≤ 16)
-Fits (HmacSign digest size) key nonce = (3 ≤ digest) × (digest ≤ 6) × (size ≤ digest_size digest)
-Fits (HmacVerify digest least) key nonce = (3 ≤ digest) × (digest ≤ 6)
 
 -- the most bytes that are out after so many
 abbrev pub piece_room : Plan → ℕ → ℕ

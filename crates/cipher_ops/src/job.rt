@@ -30,12 +30,12 @@ pub struct Done {
 }
 
 impl Job {
-    ghost use Rattle.std.specs.Prelude.{◌≡◌, ℕ, Bool, List, length, not, is_some};
+    ghost use Rattle.std.specs.Prelude.{◌≡◌, ℕ, Bool, true, List, length, not, is_some, IfErr};
     ghost use Rattle.tags.specs.declared.plan.Plan.{Plan};
     ghost use Rattle.cipher_ops.specs.declared.room.Work.{Work};
     ghost use Rattle.cipher_ops.specs.Running.{IsRoom, MayCome, CanRun, is_last};
     ghost use Rattle.cipher_ops.specs.Standing.{StandsFor};
-    ghost use Rattle.cipher_ops.specs.Jobs.{JobFor, ComesTo, ticket_of, work_of};
+    ghost use Rattle.cipher_ops.specs.Jobs.{JobFor, ComesTo, is_refusal, ticket_of, work_of};
 
     /// A job on a state and with a room for the state's plan, flag and text length. Additional data comes only for GCM and
     /// before any byte of text, and the last only where the whole text has a length that its plan allows.
@@ -53,12 +53,14 @@ impl Job {
         }
     }
 
-    /// Does the work. What comes back is what `ComesTo` says of it, whatever else happens meanwhile.
+    /// Does the work. What comes back is what `ComesTo` says of it, whatever else happens meanwhile; an output is refused with
+    /// `VerificationFailed` or `InvalidKeyArgument` alone.
     pub fn run(self) -> Done
         ensures comes { (plan : Plan) (limited : Bool) (key nonce aad text : List ℕ) (work : Work) → JobFor self plan limited key nonce aad text work →
             ComesTo result plan limited key nonce aad text work }
         ensures ticket { result.ticket ≡ ticket_of self }
         ensures ends { is_some result.state ≡ not (is_last (work_of self)) }
+        ensures codes { IfErr result.result (λ code. is_refusal code ≡ true) }
     {
         let Job {
             mut state,

@@ -6,13 +6,13 @@
 //! takes all its memory before it begins: [`Job::new`] and [`Job::run`] take none.
 #![tactic(auto)]
 
-mod engine;
 mod job;
 mod mac;
 mod room;
 mod state;
 #[cfg(test)]
 mod tests;
+mod transform;
 
 pub use job::{Done, Job};
 pub use room::{JobRoom, Work};

@@ -1,4 +1,4 @@
-// The end of a mac: its leftmost bytes, or its comparison with a signature.
+//! The end of a mac: its leftmost bytes, or its comparison with a signature.
 
 ghost use Rattle.std.specs.Prelude.{◌≡◌, ℕ, ◌≤◌, nat_le, ◌&&◌, List, [], ◌++◌, length, take, MatchResult, Ok, Err, Option};
 ghost use Rattle.std.specs.Str.{bytes_eq};

@@ -1,6 +1,8 @@
 //! The work of a job and the memory that it needs.
 
 ghost use Rattle.std.specs.Prelude.{◌≡◌, ◌+◌, ◌≤◌, length, IfOk};
+ghost use Rattle.tags.specs.Plan.{OPERATION_BYTES};
+ghost use Rattle.cipher_ops.specs.Sizes as spec;
 
 use std::alloc::Global;
 use tags::{Bytes, NoMemory, Plan};
@@ -31,11 +33,9 @@ pub struct JobRoom {
     pub(crate) nothing: Bytes,
 }
 
-ghost use Rattle.cipher_ops.specs.Sizes as spec;
-
 /// The most bytes that are out after `size` bytes of text.
 fn piece_room(plan: Plan, size: usize) -> usize
-    requires { size ≤ 1048576 }
+    requires { size ≤ OPERATION_BYTES }
     ensures { result ≡ spec.piece_room plan size }
 {
     match plan {
@@ -65,16 +65,16 @@ fn end_room(plan: Plan) -> usize
 
 /// How many bytes of text the output of a work is of.
 fn taken(limited: bool, before: usize, size: usize) -> usize
-    requires { before + size ≤ 1048576 }
+    requires { before + size ≤ OPERATION_BYTES }
     ensures size { result ≡ spec.taken limited before size }
-    ensures most { result ≤ 1048576 }
+    ensures most { result ≤ OPERATION_BYTES }
 {
     if limited { before + size } else { size }
 }
 
 /// The room for the output of a work.
 fn job_room(plan: Plan, limited: bool, before: usize, work: &Work) -> usize
-    requires { before + spec.own_text work.now ≤ 1048576 }
+    requires { before + spec.own_text work.now ≤ OPERATION_BYTES }
     ensures { result ≡ spec.job_room plan limited before work.now }
 {
     match work {
@@ -90,7 +90,7 @@ impl JobRoom {
     ghost use Rattle.cipher_ops.specs.Running.{IsRoom};
 
     /// Takes all memory that the run of this work needs on an operation of this plan and flag with `text` bytes of text
-    /// so far, at most 1,048,576 with the work's own.
+    /// so far, at most `OPERATION_BYTES` with the work's own.
     pub fn of(
         alloc: Global,
         plan: Plan,
@@ -98,7 +98,7 @@ impl JobRoom {
         text: u64,
         work: Work,
     ) -> Result<JobRoom, NoMemory>
-        requires { text + spec.own_text work ≤ 1048576 }
+        requires { text + spec.own_text work ≤ OPERATION_BYTES }
         ensures { IfOk result (λ room. IsRoom room plan limited text work) }
     {
         let size = job_room(plan, limited, text as usize, &work);

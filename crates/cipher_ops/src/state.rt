@@ -3,7 +3,7 @@
 ghost use Rattle.std.specs.Prelude.{◌≡◌, ℕ, ◌+◌, ◌-◌, ◌≤◌, Bool, List, [], ◌++◌, length, take, IfOk, Option};
 ghost use Rattle.tags.specs.declared.plan.Plan.{Plan};
 
-use crate::engine::Engine;
+use crate::transform::Transform;
 use std::alloc::Global;
 use tags::{Bytes, Code, NoMemory, Plan};
 
@@ -14,57 +14,12 @@ use tags::{Bytes, Code, NoMemory, Plan};
 #[derive(Drop)]
 pub struct CipherState {
     pub(crate) limited: bool,
-    pub(crate) engine: Engine,
+    pub(crate) transform: Transform,
     pub(crate) held: Bytes,
 }
 
-impl Engine {
-    ghost use Rattle.cipher_ops.specs.Sizes.{piece_room};
-    ghost use Rattle.cipher_ops.specs.Output.{whole};
-    ghost use Rattle.cipher_ops.specs.Standing.{Holds, given, HasRoom, CanComplete, Ends};
-
-    /// Puts the bytes that are held, and behind them what the mode gives for the next bytes of the text.
-    fn advance(&mut self, held: &[u8], input: &[u8], out: &mut [u8]) -> usize
-        requires fits { length held.now ≤ length out.old }
-        requires room { HasRoom self.old (length input.now) (length out.old - length held.now) }
-        ensures holds { (plan : Plan) (key nonce aad text : List ℕ) → Holds self.old plan key nonce aad text → Holds self.new plan key nonce aad (text ++ input.now) }
-        ensures joined { (plan : Plan) (key nonce aad text before : List ℕ) → Holds self.old plan key nonce aad text →
-            before ++ held.now ≡ given plan key nonce text → before ++ take result out.new ≡ given plan key nonce (text ++ input.now) }
-        ensures room { (plan : Plan) (key nonce aad text : List ℕ) → Holds self.old plan key nonce aad text → result ≤ length held.now + piece_room plan (length input.now) }
-        ensures within { result ≤ length out.new }
-    {
-        let (front, back) = out.split_at_mut(held.len());
-        front.copy_from_slice(held);
-        held.len() + self.update(input, back)
-    }
-
-    /// Puts the bytes that are held, and behind them all that the last bytes of the text and its end add.
-    fn complete(
-        self,
-        held: &[u8],
-        input: &[u8],
-        signature: Option<Bytes>,
-        out: &mut [u8],
-    ) -> Result<usize, Code>
-        requires fits { length held.now ≤ length out.old }
-        requires room { HasRoom self (length input.now) (length out.old - length held.now) }
-        requires end { ∥ CanComplete self input.now (length held.now) (length out.old) ∥₁ }
-        ensures ends { (plan : Plan) (key nonce aad text before : List ℕ) → Holds self plan key nonce aad text → before ++ held.now ≡ given plan key nonce text →
-            Ends (whole plan key nonce aad (text ++ input.now) signature) before result out.new }
-        ensures within { IfOk result (λ n. n ≤ length out.new) }
-    {
-        let mut engine = self;
-        let at = engine.advance(held, input, out);
-        let (_, back) = out.split_at_mut(at);
-        match engine.finish(signature, back) {
-            Ok(size) => Ok(at + size),
-            Err(code) => Err(code),
-        }
-    }
-}
-
 impl CipherState {
-    ghost use Rattle.cipher_ops.specs.Sizes.{Fits};
+    ghost use Rattle.tags.specs.Plan.{Fits};
     ghost use Rattle.cipher_ops.specs.Output.{update_output, finish_output};
     ghost use Rattle.cipher_ops.specs.Standing.{StandsFor, TakesAad, CanTake, CanComplete};
 
@@ -83,18 +38,18 @@ impl CipherState {
     {
         Ok(CipherState {
             limited,
-            engine: Engine::new(plan, key, nonce),
+            transform: Transform::new(plan, key, nonce),
             held: Bytes::empty(alloc),
         })
     }
 
     /// Takes the next bytes of the additional data.
     pub(crate) fn aad(&mut self, input: &[u8])
-        requires { TakesAad self.old.engine }
+        requires { TakesAad self.old.transform }
         ensures { (plan : Plan) (limited : Bool) (key nonce aad : List ℕ) → StandsFor self.old plan limited key nonce aad [] →
             StandsFor self.new plan limited key nonce (aad ++ input.now) [] }
     {
-        self.engine.aad(input);
+        self.transform.aad(input);
     }
 
     /// Takes the next bytes of the text, and gives what is out for them.
@@ -107,7 +62,9 @@ impl CipherState {
             result ≡ update_output plan limited key nonce text (text ++ input.now) }
     {
         let mut out = out;
-        let end = self.engine.advance(self.held.as_slice(), input, &mut out);
+        let end = self
+            .transform
+            .advance(self.held.as_slice(), input, &mut out);
         out.truncate(end);
         let bytes = Bytes::of(out);
         if self.limited {
@@ -126,17 +83,17 @@ impl CipherState {
         out: Vec<u8>,
     ) -> Result<Bytes, Code>
         requires room { CanTake self (length input.now) (length out.items) }
-        requires end { ∥ CanComplete self.engine input.now (length self.held) (length out.items) ∥₁ }
+        requires end { ∥ CanComplete self.transform input.now (length self.held) (length out.items) ∥₁ }
         ensures { (plan : Plan) (limited : Bool) (key nonce aad text : List ℕ) → StandsFor self plan limited key nonce aad text →
             result ≡ finish_output plan limited key nonce aad text (text ++ input.now) signature }
     {
         let CipherState {
             limited: _,
-            engine,
+            transform,
             held,
         } = self;
         let mut out = out;
-        match engine.complete(held.as_slice(), input, signature, &mut out) {
+        match transform.complete(held.as_slice(), input, signature, &mut out) {
             Ok(size) => {
                 out.truncate(size);
                 Ok(Bytes::of(out))

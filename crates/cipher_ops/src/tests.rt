@@ -1,11 +1,10 @@
 // Jobs through a caller whose contract is that of the definitions, at every cut.
 
 ghost use Rattle.std.specs.Prelude.{◌≡◌, ℕ, ◌+◌, ◌≤◌, Bool, true, false, IsTrue, IfOk, List, [], ◌++◌, length};
-ghost use Rattle.block_modes.specs.Output.{is_whole};
+ghost use Rattle.tags.specs.Plan.{Fits, OPERATION_BYTES, may_end, takes_aad};
 ghost use Rattle.cipher_ops.specs.Output as output;
-ghost use Rattle.cipher_ops.specs.Sizes.{Fits, own_text};
+ghost use Rattle.cipher_ops.specs.Sizes.{own_text};
 ghost use Rattle.cipher_ops.specs.Standing.{StandsFor};
-ghost use Rattle.cipher_ops.specs.Running as running;
 ghost use Rattle.cipher_ops.specs.Running.{MayCome};
 ghost use Rattle.cipher_ops.specs.Jobs.{ComesTo};
 
@@ -13,13 +12,7 @@ use crate::{CipherState, Done, Job, JobRoom, Work};
 use std::alloc::Global;
 use std::process::Abort;
 use std::test::Fail;
-use tags::{Bytes, Code, NoMemory, Plan};
-
-fn is_gcm(plan: Plan) -> bool
-    ensures { result ≡ running.is_gcm plan }
-{
-    matches!(plan, Plan::Gcm { .. })
-}
+use tags::{Bytes, Code, NoMemory, OPERATION_BYTES, Plan};
 
 // One work on an operation that has taken two pieces of text.
 fn step(
@@ -34,7 +27,7 @@ fn step(
     work: Work,
 ) -> Result<Done, NoMemory>
     requires stands { StandsFor state plan limited key.now nonce.now aad.now (text.0.now ++ text.1.now) }
-    requires room { length text.0.now + length text.1.now + own_text work ≤ 1048576 }
+    requires room { length text.0.now + length text.1.now + own_text work ≤ OPERATION_BYTES }
     requires may { MayCome plan (text.0.now ++ text.1.now) work }
     ensures { IfOk result (λ done. ComesTo done plan limited key.now nonce.now aad.now (text.entry.0.now ++ text.entry.1.now) work) }
 {
@@ -53,11 +46,11 @@ fn begun(
     aad: &[u8],
 ) -> Result<CipherState, Fail>
     requires fits { Fits plan key.now nonce.now }
-    requires gcm { running.is_gcm plan ≡ false → aad.now ≡ [] }
+    requires gcm { takes_aad plan ≡ false → aad.now ≡ [] }
     ensures { IfOk result (λ state. StandsFor state plan limited key.now nonce.now aad.now []) }
 {
     let state = CipherState::begin(alloc, plan, limited, key, nonce).map_err(|_| "memory")?;
-    if !is_gcm(plan) {
+    if !plan.takes_aad() {
         return Ok(state);
     }
     let input = Bytes::copy_of(alloc, aad).map_err(|_| "memory")?;
@@ -80,30 +73,6 @@ fn begun(
     }
 }
 
-// The lengths that a whole text may have under a plan.
-fn may_end(plan: Plan, size: usize) -> bool
-    ensures { result ≡ output.may_end plan size }
-{
-    match plan {
-        Plan::Ecb { seal, padded } => whole_blocks(seal, padded, size),
-        Plan::Cbc { seal, padded } => whole_blocks(seal, padded, size),
-        Plan::Gcm { seal, tag } => seal || tag as usize <= size,
-        _ => true,
-    }
-}
-
-fn whole_blocks(seal: bool, padded: bool, size: usize) -> bool
-    ensures { result ≡ is_whole seal padded size }
-{
-    if seal && padded {
-        true
-    } else if padded {
-        size % 16 == 0 && 16 <= size
-    } else {
-        size % 16 == 0
-    }
-}
-
 // The output of a text in three pieces: what came before the finish, and what came at the finish or the code.
 fn cut_in_three(
     alloc: Global,
@@ -116,9 +85,9 @@ fn cut_in_three(
     signature: Option<Bytes>,
 ) -> Result<(Vec<u8>, Result<Bytes, Code>), Fail>
     requires fits { Fits plan key.now nonce.now }
-    requires gcm { running.is_gcm plan ≡ false → aad.now ≡ [] }
-    requires room { length text.0.now + length text.1.now + length text.2.now ≤ 1048576 }
-    requires may { output.may_end plan (length ((text.0.now ++ text.1.now) ++ text.2.now)) ≡ true }
+    requires gcm { takes_aad plan ≡ false → aad.now ≡ [] }
+    requires room { length text.0.now + length text.1.now + length text.2.now ≤ OPERATION_BYTES }
+    requires may { may_end plan (length ((text.0.now ++ text.1.now) ++ text.2.now)) ≡ true }
 {
     let state = begun(alloc, plan, limited, key, nonce, aad)?;
     let input = Bytes::copy_of(alloc, text.0).map_err(|_| "memory")?;
@@ -222,9 +191,9 @@ fn at_every_cut(
     signature: Option<&[u8]>,
 ) -> Result<Result<Bytes, Code>, Fail>
     requires fits { Fits plan key.now nonce.now }
-    requires gcm { running.is_gcm plan ≡ false → aad.now ≡ [] }
-    requires room { length text.now ≤ 1048576 }
-    requires may { output.may_end plan (length text.now) ≡ true }
+    requires gcm { takes_aad plan ≡ false → aad.now ≡ [] }
+    requires room { length text.now ≤ OPERATION_BYTES }
+    requires may { may_end plan (length text.now) ≡ true }
 {
     let given = copied(alloc, signature)?;
     let (_, whole) = cut_in_three(alloc, plan, true, key, nonce, aad, (&[], &[], text), given)?;
@@ -277,18 +246,18 @@ fn seals_and_opens(
 ) -> Result<(), Fail>
     requires seals { Fits plans.0 KEY nonce.now }
     requires opens { Fits plans.1 KEY nonce.now }
-    requires gcm { running.is_gcm plans.0 ≡ false → aad.now ≡ [] }
-    requires gcm_too { running.is_gcm plans.1 ≡ false → aad.now ≡ [] }
+    requires gcm { takes_aad plans.0 ≡ false → aad.now ≡ [] }
+    requires gcm_too { takes_aad plans.1 ≡ false → aad.now ≡ [] }
     requires room { length text.now ≤ 80 }
 {
-    if !may_end(plans.0, text.len()) {
+    if !plans.0.may_end(text.len() as u128) {
         return Ok(());
     }
     let sealed = at_every_cut(rt, alloc, plans.0, &KEY, nonce, aad, text, None)?.map_err(
         |_| "a sealed text",
     )?;
     let bytes = sealed.as_slice();
-    assert!(rt; bytes.len() <= 1048576 && may_end(plans.1, bytes.len()));
+    assert!(rt; bytes.len() <= OPERATION_BYTES as usize && plans.1.may_end(bytes.len() as u128));
     let opened = at_every_cut(rt, alloc, plans.1, &KEY, nonce, aad, bytes, None)?.map_err(
         |_| "an opened text",
     )?;

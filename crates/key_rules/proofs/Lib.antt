@@ -1,4 +1,5 @@
-pub mod Texts
 pub mod Lengths
 pub mod Dropped
 pub mod Limits
+pub mod Walks
+pub mod Keys

@@ -1,30 +1,32 @@
 -- What becomes of a call that makes a key.
-use Rattle.std.specs.Prelude.{ℕ, ◌/◌, List, Result, Ok, Err}
-use Rattle.std.specs.Option.{option_map_or}
+use Rattle.std.specs.Prelude.{ℕ, ◌/◌, List, Option, Some, None, Result, unwrap_or}
+use Rattle.tags.specs.declared.code.Code.{Code}
 use Rattle.tags.specs.declared.param.Param.{Param}
+use Rattle.tags.specs.declared.rule.Rule.{Rule}
+use Rattle.tags.specs.declared.rule.RuleTable.TheVariants.{K}
 use Rattle.tags.specs.declared.tag.Tag.TheVariants as tags
-use Rattle.tag_lists.specs.Lookups.{one_of}
-use Rattle.tag_lists.specs.Order.{number_in}
-use Rattle.key_rules.specs.declared.fault.NewFault.{NewFault}
+use Rattle.tags.specs.Table.{first_broken, where_all_hold}
+use Rattle.tag_lists.specs.Lookups.{number_of}
+use Rattle.key_rules.specs.declared.facts.ImportFacts.{ImportFacts}
+use Rattle.key_rules.specs.declared.facts.NewFacts.{NewFacts}
 use Rattle.key_rules.specs.declared.plan.KeyPlan.{KeyPlan}
-use Rattle.key_rules.specs.Facts.{Facts}
 use Rattle.key_rules.specs.Kept.{kept, limit}
-use Rattle.key_rules.specs.TableK.{table, list_in}
-use Rattle.key_rules.specs.Verdicts.{Verdict, first_broken}
+use Rattle.key_rules.specs.Rules.{list_in}
+use Rattle.key_rules.specs.Table.{rules_of}
 
 -- the plan of a new key
-abbrev pub plan_of : Facts → KeyPlan
+abbrev pub plan_of : NewFacts → KeyPlan
 plan_of facts = record { list = kept facts.import facts.wall (list_in facts.params); limit = limit (list_in facts.params) }
 
--- the plan where all rules hold
-abbrev pub where_all_hold : Verdict → KeyPlan → Result KeyPlan NewFault
-where_all_hold (Ok done) plan = Ok plan
-where_all_hold (Err fault) plan = Err fault
-
 -- the first broken rule of table K, or else the plan
-abbrev pub new_key : Facts → Result KeyPlan NewFault
-new_key facts = where_all_hold (first_broken (table facts)) (plan_of facts)
+abbrev pub new_key : NewFacts → Result KeyPlan (Rule × Code)
+new_key facts = where_all_hold (first_broken K (rules_of facts)) (plan_of facts)
 
--- the bytes of a generated key's material, over its kept list: KEY_SIZE is in bits
+-- the bytes of a generated key's material, over its list: KEY_SIZE is in bits
 unfoldable pub material_size : List Param → ℕ
-material_size list = option_map_or (λ p. number_in p.value) (one_of tags.KeySize list) 0 / 8
+material_size list = unwrap_or (number_of tags.KeySize list) 0 / 8
+
+-- the bytes of a new key's material: the imported one's, or those that are to be drawn
+abbrev pub key_size : Option ImportFacts → List Param → ℕ
+key_size None list = material_size list
+key_size (Some import) list = import.length

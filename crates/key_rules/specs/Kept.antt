@@ -1,15 +1,14 @@
 -- The list that is kept with a new key.
-use Rattle.std.specs.Prelude.{ℕ, ◌*◌, Bool, not, List, [], ◌∷◌, Option, Some, None, if◌then◌else◌}
+use Rattle.std.specs.Prelude.{ℕ, ◌*◌, Bool, not, List, [], ◌∷◌, Option, Some, None, if◌then◌else◌, unwrap_or}
 use Rattle.std.specs.List.{filter, list_all}
-use Rattle.std.specs.Option.{option_map_or}
 use Rattle.tags.specs.declared.param.Param.{Param}
 use Rattle.tags.specs.declared.param.ParamValue.TheVariants.{Number}
 use Rattle.tags.specs.declared.tag.Tag.{Tag}
 use Rattle.tags.specs.declared.tag.Tag.TheVariants as tags
-use Rattle.tag_lists.specs.Lookups.{is_of, one_of, without}
-use Rattle.tag_lists.specs.Order.{number_in, with_param}
+use Rattle.tags.specs.Values.{GENERATED, IMPORTED}
+use Rattle.tag_lists.specs.Lookups.{is_of, number_of, stands, without}
+use Rattle.tag_lists.specs.Order.{with_param}
 use Rattle.key_rules.specs.declared.facts.ImportFacts.{ImportFacts}
-use Rattle.key_rules.specs.Values.{stands}
 
 -- the tags whose parameters are not the caller's to keep
 abbrev pub dropped : List Tag
@@ -37,8 +36,8 @@ with_size (Some import) list = set_missing tags.KeySize (8 * import.length) list
 
 -- GENERATED or IMPORTED
 abbrev pub origin : Option ImportFacts → ℕ
-origin None = 0
-origin (Some import) = 2
+origin None = GENERATED
+origin (Some import) = IMPORTED
 
 -- The kept list: the caller's without the tags that are dropped, with CREATION_DATETIME and an import's KEY_SIZE where
 -- the caller gave none, and with ORIGIN.
@@ -47,4 +46,4 @@ kept import wall list = set tags.Origin (origin import) (with_size import (set_m
 
 -- the use limit, or 0
 unfoldable pub limit : List Param → ℕ
-limit list = option_map_or (λ p. number_in p.value) (one_of tags.UsageCountLimit list) 0
+limit list = unwrap_or (number_of tags.UsageCountLimit list) 0

@@ -1,7 +1,6 @@
-pub mod Values
-pub mod Verdicts
-pub mod Facts
-pub mod TableK
+pub mod Rules
+pub mod Table
 pub mod Asked
 pub mod Kept
 pub mod Creation
+pub mod Gives

@@ -1,8 +1,10 @@
+//! The list of an operation, read as a key's is.
+
 ghost use Rattle.std.specs.Prelude.{◌≡◌, IfOk};
 ghost use Rattle.key_rules.specs.Asked as spec;
 
 use crate::NewFault;
-use crate::rules::rule_k4;
+use crate::table::read_by_rule;
 use std::alloc::Global;
 use tag_lists::AuthList;
 use tags::{Code, NoMemory};
@@ -15,7 +17,7 @@ use tags::{Code, NoMemory};
 pub fn read_asked(alloc: Global, params: &[u8]) -> Result<Result<AuthList, Code>, NoMemory>
     ensures { IfOk result (λ asked. asked ≡ spec.asked params.now) }
 {
-    match rule_k4(alloc, params) {
+    match read_by_rule(alloc, params) {
         Ok(list) => Ok(Ok(list)),
         Err(NewFault::Broken(_, code)) => Ok(Err(code)),
         Err(NewFault::Memory) => Err(NoMemory),

@@ -1,4 +1,6 @@
-use tags::Descriptor;
+//! What the rules of a new key read.
+
+use tags::{Bytes, Descriptor};
 
 /// What is known of an imported key.
 #[derive(Clone, Copy, Debug, PartialEq, Eq)]
@@ -10,14 +12,14 @@ pub struct ImportFacts {
 }
 
 /// What the rules of a new key read. A field that only rules after a broken one read may hold any value.
-#[derive(Drop)]
-pub struct NewFacts<'a> {
-    /// whether the client is connected
+#[derive(Debug, Drop)]
+pub struct NewFacts {
+    /// the client is connected
     pub connected: bool,
     /// where the key is to stand
-    pub descriptor: &'a Descriptor,
+    pub descriptor: Descriptor,
     /// the encoded authorization list
-    pub params: &'a [u8],
+    pub params: Bytes,
     /// the import, or `None` where the key is generated
     pub import: Option<ImportFacts>,
     /// the wall reading, in milliseconds

@@ -1,5 +1,7 @@
+//! Why no key is made.
+
 ghost use Rattle.std.specs.Prelude.{◌≡◌};
-ghost use Rattle.key_rules.specs.declared.fault.NewFault.TheVariants.{Memory};
+ghost use Rattle.key_rules.specs.declared.fault.NewFault.TheVariants.{Broken, Memory};
 
 use tags::{Code, NoMemory, Rule};
 
@@ -17,5 +19,13 @@ impl From<NoMemory> for NewFault {
 
     fn from(_fault: NoMemory) -> NewFault {
         NewFault::Memory
+    }
+}
+
+impl From<(Rule, Code)> for NewFault {
+    ghost from_gives = { λ broken e. e ≡ Broken broken.0 broken.1 };
+
+    fn from(broken: (Rule, Code)) -> NewFault {
+        NewFault::Broken(broken.0, broken.1)
     }
 }

@@ -1,19 +1,16 @@
+//! The list that is kept with a new key, and its use limit.
+
 ghost use Rattle.std.specs.Prelude.{◌≡◌, ◌≤◌, ◌<◌, ◌+◌, length, IfOk, IfSome};
 ghost use Rattle.tags.specs.declared.param.ParamValue.TheVariants.{Number};
 ghost use Rattle.tag_lists.specs.Order.{Fits};
 ghost use Rattle.key_rules.specs.Kept as spec;
 
 use crate::ImportFacts;
-use crate::values::stands;
 use tag_lists::AuthList;
+use tags::values::{GENERATED, IMPORTED};
 use tags::{NoMemory, Param, ParamValue, Tag};
 
-/// The origin GENERATED.
-const GENERATED: u64 = 0;
-/// The origin IMPORTED.
-const IMPORTED: u64 = 2;
-
-// The list with this number as the tag's one parameter.
+/// The list with this number as the tag's one parameter.
 fn set(list: AuthList, tag: Tag, number: u64) -> Result<AuthList, NoMemory>
     requires fits { Fits (record { tag = tag; value = Number number }) }
     requires room { length list < 65535 }
@@ -26,21 +23,21 @@ fn set(list: AuthList, tag: Tag, number: u64) -> Result<AuthList, NoMemory>
     })
 }
 
-// The list with this number where the tag is not there.
+/// The list with this number where the tag is not there.
 fn set_missing(list: AuthList, tag: Tag, number: u64) -> Result<AuthList, NoMemory>
     requires fits { Fits (record { tag = tag; value = Number number }) }
     requires room { length list < 65535 }
     ensures set { IfOk result (λ new. new ≡ spec.set_missing tag number list) }
     ensures room { IfOk result (λ new. length new ≤ length list + 1) }
 {
-    if stands(&list, tag) {
+    if list.stands(tag) {
         Ok(list)
     } else {
         set(list, tag, number)
     }
 }
 
-// An import's size in bits, where the caller gave none.
+/// An import's size in bits, where the caller gave none.
 fn with_size(list: AuthList, import: Option<ImportFacts>) -> Result<AuthList, NoMemory>
     requires short { IfSome import (λ facts. facts.length ≤ 64) }
     requires room { length list < 65535 }
@@ -53,7 +50,7 @@ fn with_size(list: AuthList, import: Option<ImportFacts>) -> Result<AuthList, No
     }
 }
 
-// The caller's parameters that are kept.
+/// The caller's parameters that are kept.
 fn own(list: AuthList) -> AuthList
     ensures own { result ≡ spec.own list }
     ensures room { length result ≤ length list }
@@ -99,12 +96,5 @@ pub(crate) fn limit(list: &AuthList) -> u32
     ensures { result ≡ spec.limit list.now }
 {
     let _params = list.params();
-    match list.one(Tag::UsageCountLimit) {
-        None => 0,
-        Some(param) => match &param.value {
-            ParamValue::Number(number) => *number as u32,
-            ParamValue::Flag => 0,
-            ParamValue::Raw(_) => 0,
-        },
-    }
+    list.number(Tag::UsageCountLimit).unwrap_or(0) as u32
 }

@@ -1,3 +1,5 @@
+//! What is kept with a new key.
+
 use tag_lists::AuthList;
 
 /// What is kept with a new key.

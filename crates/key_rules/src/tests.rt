@@ -114,6 +114,12 @@ fn descriptor(domain: u32, alias: Option<Bytes>, blob: Option<Bytes>) -> Descrip
     }
 }
 
+// The key of an app.
+fn app_key(alloc: Global) -> Result<Descriptor, AllocError> {
+    let name = Bytes::of(Vec::from_elem(alloc, 107u8, 1)?);
+    Ok(descriptor(0, Some(name), None))
+}
+
 // The broken rule and its code, or zeros.
 fn broken(answer: &Result<KeyPlan, NewFault>) -> (u8, i32) {
     match answer {
@@ -130,9 +136,8 @@ fn broken(answer: &Result<KeyPlan, NewFault>) -> (u8, i32) {
 }
 
 // The rules that read the list, each part alone where it can be, and with a later one.
-
 // Lists that break no rule.
-const HELD: [Row; 11] = [
+static HELD: [Row; 11] = [
     (M, Some((3, 20)), &[], &[], (0, 0)),
     (M, Some((3, 8)), &[], &[], (0, 0)),
     (M, Some((3, 64)), &[], &[], (0, 0)),
@@ -147,7 +152,7 @@ const HELD: [Row; 11] = [
 ];
 
 // K4 to K6: the two ids, the algorithm and the format.
-const FIRST: [Row; 8] = [
+static FIRST: [Row; 8] = [
     (
         M,
         Some((3, 20)),
@@ -183,7 +188,7 @@ const FIRST: [Row; 8] = [
 ];
 
 // K7: the size.
-const SIZES: [Row; 18] = [
+static SIZES: [Row; 18] = [
     (G, None, &[Tag::KeySize], &[], (7, -6)),
     (G, None, &[Tag::KeySize], &[(Tag::KeySize, 129)], (7, -6)),
     (G, None, &[Tag::KeySize], &[(Tag::KeySize, 512)], (7, -6)),
@@ -211,7 +216,7 @@ const SIZES: [Row; 18] = [
 ];
 
 // K8 to K11: purposes, block modes, paddings and the digest.
-const USES: [Row; 17] = [
+static USES: [Row; 17] = [
     (E, Some((3, 16)), &[], &[(Tag::Purpose, 2)], (8, -2)),
     (E, Some((3, 16)), &[], &[(Tag::Purpose, 5)], (8, -2)),
     (M, Some((3, 20)), &[], &[(Tag::Purpose, 0)], (8, -2)),
@@ -268,7 +273,7 @@ const USES: [Row; 17] = [
 ];
 
 // K12: the least mac length.
-const MACS: [Row; 19] = [
+static MACS: [Row; 19] = [
     (M, Some((3, 20)), &[Tag::MinMacLength], &[], (12, -58)),
     (
         M,
@@ -393,7 +398,7 @@ const MACS: [Row; 19] = [
 ];
 
 // K13, K14, K16: what is not both there, not 0, or not there.
-const LAST: [Row; 17] = [
+static LAST: [Row; 17] = [
     (M, Some((3, 20)), &[], &[(Tag::UserSecureId, 7)], (13, -38)),
     (
         M,
@@ -481,13 +486,11 @@ const LAST: [Row; 17] = [
 
 // The first row whose answer is another.
 fn wrong_row(alloc: Global, rows: &[Row]) -> Result<Option<usize>, AllocError> {
-    let name = descriptor(0, Some(Bytes::of(Vec::from_elem(alloc, 107u8, 1)?)), None);
     for (row, (list, import, dropped, added, expected)) in rows.iter().enumerate() {
-        let params = encoded(alloc, list, dropped, added)?;
         let facts = NewFacts {
             connected: true,
-            descriptor: &name,
-            params: &params,
+            descriptor: app_key(alloc)?,
+            params: Bytes::of(encoded(alloc, list, dropped, added)?),
             import: import_of(*import),
             wall: 1000,
         };
@@ -498,41 +501,14 @@ fn wrong_row(alloc: Global, rows: &[Row]) -> Result<Option<usize>, AllocError> {
     Ok(None)
 }
 
-fn wrong_in_held(alloc: Global) -> Result<Option<usize>, AllocError> {
-    wrong_row(alloc, &HELD)
-}
-
-fn wrong_in_first(alloc: Global) -> Result<Option<usize>, AllocError> {
-    wrong_row(alloc, &FIRST)
-}
-
-fn wrong_in_sizes(alloc: Global) -> Result<Option<usize>, AllocError> {
-    wrong_row(alloc, &SIZES)
-}
-
-fn wrong_in_uses(alloc: Global) -> Result<Option<usize>, AllocError> {
-    wrong_row(alloc, &USES)
-}
-
-fn wrong_in_macs(alloc: Global) -> Result<Option<usize>, AllocError> {
-    wrong_row(alloc, &MACS)
-}
-
-fn wrong_in_last(alloc: Global) -> Result<Option<usize>, AllocError> {
-    wrong_row(alloc, &LAST)
-}
-
 #[test]
 fn the_first_broken_rule_of_the_list_is_answered(rt: HostRuntime) -> Result<(), Fail> {
     let alloc = rt.alloc();
-    assert_eq!(rt; wrong_in_held(alloc)?, None);
-    assert_eq!(rt; wrong_in_first(alloc)?, None);
-    assert_eq!(rt; wrong_in_sizes(alloc)?, None);
-    assert_eq!(rt; wrong_in_uses(alloc)?, None);
-    assert_eq!(rt; wrong_in_macs(alloc)?, None);
-    assert_eq!(rt; wrong_in_last(alloc)?, None);
+    assert_eq!(rt; wrong_row(alloc, &HELD)?, None);
+    assert_eq!(rt; wrong_row(alloc, &FIRST)?, None);
+    assert_eq!(rt; wrong_row(alloc, &SIZES)?, None);
+    assert_eq!(rt; wrong_row(alloc, &USES)?, None);
+    assert_eq!(rt; wrong_row(alloc, &MACS)?, None);
+    assert_eq!(rt; wrong_row(alloc, &LAST)?, None);
     Ok(())
 }
-
-// The rules before the list: whether the client is connected, the domain, the alias, whether a blob is given, and the
-// encoded list.

@@ -1,2 +1,1 @@
-mod Usable
 mod Fitting

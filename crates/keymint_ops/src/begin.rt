@@ -1,9 +1,10 @@
-ghost use Rattle.std.specs.Prelude.{◌≡◌, ℕ, ◌≤◌, List, length, IfOk, is_ok, true};
+//! The plan of beginning an operation, and its start.
+
+ghost use Rattle.std.specs.Prelude.{◌≡◌, ℕ, ◌≤◌, List, length, IfOk, true};
 ghost use Rattle.std.specs.Option.{option_copied};
-ghost use Rattle.key_rules.specs.TableK.{key_rules};
-ghost use Rattle.key_rules.specs.Verdicts.{first_broken};
+ghost use Rattle.tags.specs.Plan.{Fits};
+ghost use Rattle.tag_lists.specs.Lookups.{IsKey};
 ghost use Rattle.use_rules.specs.Table.{key_of};
-ghost use Rattle.cipher_ops.specs.Sizes.{Fits};
 ghost use Rattle.keymint_ops.specs.declared.begin.BeginFault.TheVariants.{Memory};
 ghost use Rattle.keymint_ops.specs.Begin as spec;
 
@@ -40,7 +41,7 @@ impl From<NoMemory> for BeginFault {
     }
 }
 
-// The nonce that is used: the caller's, or else the one that is drawn.
+/// The nonce that is used: the caller's, or else the one that is drawn.
 fn nonce_used<'a>(nonce: &'a Option<Bytes>, drawn: &'a [u8]) -> &'a [u8]
     ensures { result.now ≡ spec.nonce_used nonce.now drawn.now }
 {
@@ -71,7 +72,7 @@ impl Begin {
     }
 }
 
-// The nonce that the caller gives, in memory of its own.
+/// The nonce that the caller gives, in memory of its own.
 fn copy_of(alloc: Global, nonce: Option<&[u8]>) -> Result<Option<Bytes>, NoMemory>
     ensures { IfOk result (λ copy. copy ≡ option_copied nonce.entry) }
 {
@@ -83,11 +84,12 @@ fn copy_of(alloc: Global, nonce: Option<&[u8]>) -> Result<Option<Bytes>, NoMemor
 
 /// What begins by these facts on a key of this material: the plan, the nonce that the caller gave, and how many bytes of
 /// nonce are drawn, 0, 12 or 16; or else the first broken rule of table B and its code. The facts say that the key fits only
-/// where its list and material are usable, which `key_rules::usable` tells. Then the plan fits the material and the nonce, so
-/// that `Begin::start` may be called with any `wanted` bytes that are drawn. `Memory` comes where memory is wanted.
+/// where its list and material are a key of its cipher, which `key_rules::usable` tells. Then a key was found, the plan is that
+/// of the two lists, and it fits the material and the nonce, so that `Begin::start` may be called with any `wanted` bytes
+/// that are drawn. `Memory` comes where memory is wanted.
 pub fn plan_begin(alloc: Global, facts: &BeginFacts, material: &[u8]) -> Result<Begin, BeginFault>
-    requires { facts.now.fits ≡ true → is_ok (first_broken (key_rules (length material.now) (key_of facts.now))) ≡ true }
-    ensures plans { spec.Plans result facts.now }
+    requires { facts.now.fits ≡ true → IsKey (key_of facts.now) (length material.now) }
+    ensures gives { spec.GivesBegin result facts.now }
     ensures fits { IfOk result (λ begin. (drawn : List ℕ) → length drawn ≡ begin.wanted → Fits begin.plan material.now (spec.nonce_used begin.nonce drawn)) }
     ensures most { IfOk result (λ begin. begin.wanted ≤ 16) }
 {

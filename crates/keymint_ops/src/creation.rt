@@ -1,6 +1,7 @@
+//! The plan of making a key.
+
 ghost use Rattle.std.specs.Prelude.{◌≡◌, ◌<◌, ◌^◌, IfOk, Ok};
-ghost use Rattle.key_rules.specs.Facts.{lent};
-ghost use Rattle.key_rules.specs.Verdicts.{Says};
+ghost use Rattle.key_rules.specs.Gives.{Gives};
 ghost use Rattle.keymint_ops.specs.Creation as spec;
 
 use key_rules::{ImportFacts, KeyPlan, NewFacts, NewFault, check_new, material_size};
@@ -19,7 +20,7 @@ pub struct NewKey {
     pub size: usize,
 }
 
-// How many bytes of material are drawn.
+/// How many bytes of material are drawn.
 fn drawn_size(import: Option<ImportFacts>, list: &AuthList) -> usize
     ensures size { result ≡ spec.drawn_size import list.now }
     ensures most { result < 2 ^ 61 }
@@ -30,9 +31,9 @@ fn drawn_size(import: Option<ImportFacts>, list: &AuthList) -> usize
     }
 }
 
-// A plan with its list spelled out.
+/// A plan with its list spelled out.
 fn spelled(alloc: Global, import: Option<ImportFacts>, plan: KeyPlan) -> Result<NewKey, NewFault>
-    ensures key { Says (λ key. key) result (Ok (spec.spelled import plan)) }
+    ensures key { Gives (λ key. key) result (Ok (spec.spelled import plan)) }
     ensures most { IfOk result (λ key. key.size < 2 ^ 61) }
 {
     let KeyPlan { list, limit } = plan;
@@ -45,7 +46,7 @@ fn spelled(alloc: Global, import: Option<ImportFacts>, plan: KeyPlan) -> Result<
 /// comes where memory is wanted.
 #[tactic(auto, unfolding(crate::specs::Creation::planned))]
 pub fn plan_key(alloc: Global, facts: &NewFacts) -> Result<NewKey, NewFault>
-    ensures key { Says (λ key. key) result (spec.planned (lent facts.now)) }
+    ensures key { Gives (λ key. key) result (spec.planned facts.now) }
     ensures most { IfOk result (λ key. key.size < 2 ^ 61) }
 {
     let plan = check_new(alloc, facts)?;

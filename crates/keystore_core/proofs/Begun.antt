@@ -2,18 +2,13 @@
 use Rattle.std.proofs.Common.{◌≡◌, ℕ, ◌+◌, ◌<◌, ◌≤◌, ◌==◌, Bool, true, false, if◌then◌else◌, List, [], ◌∷◌, length, Option, Some, None, Result, Ok, Err, is_some, is_ok, unwrap_or, refl, sym, ap, ◌∙◌, subst, arith}
 use Rattle.std.specs.Option.{option_and_then, option_map_or}
 use Rattle.tags.specs.declared.code.Code.{Code}
-use Rattle.tags.specs.declared.code.Code.TheVariants.{EntropyFault, InvalidKeyBlob, MemoryAllocationFailed}
+use Rattle.tags.specs.declared.code.Code.TheVariants.{EntropyFault, MemoryAllocationFailed}
 use Rattle.tags.specs.declared.descriptor.Descriptor.{Descriptor}
-use Rattle.tags.specs.declared.param.Param.{Param}
-use Rattle.tags.specs.declared.plan.Plan.{Plan}
 use Rattle.tags.specs.declared.rule.Rule.{Rule}
 use Rattle.use_rules.specs.declared.facts.BeginFacts.{BeginFacts}
 use Rattle.use_rules.specs.Plans.{nonce_given, plan_of}
 use Rattle.use_rules.specs.Table as table
 use Rattle.use_rules.specs.Table.{asked_of, key_of}
-use Rattle.use_rules.specs.Rules.{names_key}
-use Rattle.key_rules.specs.TableK.{key_rules}
-use Rattle.key_rules.specs.Verdicts.{first_broken}
 use Rattle.cipher_ops.specs.declared.state.CipherState.{CipherState}
 use Rattle.cipher_ops.specs.Standing.{StandsFor}
 use Rattle.keymint_ops.specs.declared.begin.Begin.{Begin}
@@ -27,7 +22,6 @@ use Rattle.rule_model.specs.declared.reply.Reply.{Reply}
 use Rattle.rule_model.specs.declared.reply.Reply.TheVariants.{Done, Broken, Stopped}
 use Rattle.rule_model.specs.Acts.{is_begin}
 use Rattle.rule_model.specs.Answer.{answer_by_rules, broken_or, drawn_nonce, no_fields}
-use Rattle.rule_model.specs.BeginFacts as model
 use Rattle.rule_model.specs.BeginFacts.{begin_facts, facts_on}
 use Rattle.rule_model.specs.Clients.{caller_of}
 use Rattle.rule_model.specs.Drawn.{size_of, wanted_by_begin, wanted_by_rules}
@@ -48,46 +42,13 @@ use Rattle.keystore_core.specs.Tables.{AnswersAfter, IsCaller, SameTables, Table
 use Rattle.keystore_core.proofs.Pointwise.{pointwise}
 use Rattle.keystore_core.proofs.Standing.{called, clients_stay, denied_tables, keys_stay, same_tables, still, without_memory}
 
--- a key is found where the rules hold
-first_found : (connected named found : Bool) (later : Result (Unit {0}) (Rule × Code)) (a b d : Rule × Code) (own plan : Plan)
-    → table.or_plan (if connected then (if named then (if found then later else Err d) else Err b) else Err a) own ≡ Ok plan → found ≡ true
-first_found true true true later a b d own plan e = refl
-first_found true true false later a b d own plan e = cc
-first_found true false found later a b d own plan e = cc
-first_found false named found later a b d own plan e = cc
-
-is_found : (facts : BeginFacts) (plan : Plan) → table.answer facts ≡ Ok plan → facts.found ≡ true
-unfolding table.answer
-is_found facts plan e = first_found facts.connected (names_key facts.descriptor) facts.found
-    (table.first_broken (table.check 6 (table.fault_of facts.asked) (is_ok facts.asked) ∷ table.check 7 InvalidKeyBlob (is_some facts.opened) ∷ table.check 8 InvalidKeyBlob facts.fits ∷ table.list_rules (asked_of facts) (key_of facts)))
-    _ _ _ (plan_of (asked_of facts) (key_of facts)) plan e
-
 -- no key is found where none is there
-pub no_key : (facts : BeginFacts) (found : Option KeyRecord) (caller : Caller) (key : Descriptor) (params : List ℕ) (plan : Plan)
-    → facts ≡ facts_on found caller key params → found ≡ None → table.answer facts ≡ Ok plan → ⊥
-no_key facts found caller key params plan e none held =
+pub no_key : (facts : BeginFacts) (found : Option KeyRecord) (caller : Caller) (key : Descriptor) (params : List ℕ) (begin : Begin)
+    → facts ≡ facts_on found caller key params → found ≡ None → MayBegin begin facts → ⊥
+no_key facts found caller key params begin e none may =
     let there : facts.found ≡ is_some found = ap (λ (f : BeginFacts). f.found) e in
     let no : is_some found ≡ false = rw none refl in
-    cc (there, no, is_found facts plan held)
-
--- the plan where the rules hold
-held_plan : (verdict : Result (Unit {0}) (Rule × Code)) (own plan : Plan) → table.or_plan verdict own ≡ Ok plan → plan ≡ own
-held_plan (Ok none) own plan e = cc
-held_plan (Err broken) own plan e = cc
-
-plan_is : (facts : BeginFacts) (plan : Plan) → table.answer facts ≡ Ok plan → plan ≡ plan_of (asked_of facts) (key_of facts)
-unfolding table.answer
-plan_is facts plan e = held_plan _ _ plan e
-
--- the key's list and material are usable where the facts say so
-pub usable_where_fits : (found : Option KeyRecord) (caller : Caller) (key : Descriptor) (params : List ℕ)
-    → (facts_on found caller key params).fits ≡ true
-    → is_ok (first_broken (key_rules (length (option_map_or (λ (k : KeyRecord). k.blob) found [])) (key_of (facts_on found caller key params)))) ≡ true
-usable_where_fits None caller key params e = cc
-usable_where_fits (Some k) caller key params e = by_list (model.list_of k) e where
-  by_list : (list : Option (List Param)) → option_map_or (model.is_usable k.blob) list false ≡ true → is_ok (first_broken (key_rules (length k.blob) (unwrap_or list []))) ≡ true
-  by_list None e = cc
-  by_list (Some list) e = e
+    cc (there, no, may.is_found)
 
 -- the nonce of the operation
 nonce_is : (facts : BeginFacts) (begin : Begin) (drawn : List ℕ) → MayBegin begin facts → nonce_used begin.nonce drawn ≡ nonce_of facts drawn
@@ -138,7 +99,7 @@ module _ (setup : Setup) (past : History) (tables : Tables) (caller : Caller) (k
 
   wanted_is : (begin : Begin) → MayBegin begin (begin_facts setup past caller key params)
       → size_of (wanted_by_begin (table.answer (begin_facts setup past caller key params)) (begin_facts setup past caller key params)) ≡ begin.wanted
-  wanted_is begin may = ap (λ found. size_of (wanted_by_begin found (begin_facts setup past caller key params))) may.plan_is ∙ omega (arith, may.wanted_is)
+  wanted_is begin may = ap (λ found. size_of (wanted_by_begin found (begin_facts setup past caller key params))) may.answers ∙ omega (arith, may.wanted_is)
 
   -- a draw that failed
   pub without_entropy : (new : Tables) (begin : Begin) (drawn : List ℕ) → MayBegin begin (begin_facts setup past caller key params) → SameTables tables new → length drawn < begin.wanted
@@ -187,11 +148,11 @@ module _ (setup : Setup) (past : History) (tables : Tables) (caller : Caller) (k
       let first : number ≡ count_of is_begin past + 1 = next ∙ ap (λ n. n + 1) now.operations.given in
       let told : nonce ≡ drawn_nonce facts drawn = nonce_told ∙ ap (λ w. if w == 0 then None else Some drawn) may.wanted_is in
       let change : operation_change setup past ev drawn reply ≡ Opens o = opened found drawn number nonce is in
-      let plan : begin.plan ≡ o.plan = plan_is facts begin.plan may.plan_is in
+      let plan : begin.plan ≡ o.plan = may.plan_is in
       let same_nonce : nonce_used begin.nonce drawn ≡ o.nonce = nonce_is facts begin drawn may in
       record {
         follows = answered drawn reply (long ∙ sym (wanted_is begin may)) (rw (first, told)
-            (sym (ap (λ found. broken_or found (Done (record no_fields { op = Some (count_of is_begin past + 1); nonce = drawn_nonce facts drawn }))) may.plan_is)));
+            (sym (ap (λ found. broken_or found (Done (record no_fields { op = Some (count_of is_begin past + 1); nonce = drawn_nonce facts drawn }))) may.answers)));
         stands = record {
           clients = clients_stay setup past ev drawn reply middle.clients middle.clients now.clients (same_tables middle).clients refl refl;
           keys = keys_stay setup past ev drawn reply middle.keys middle.keys now.keys (same_tables middle).keys refl refl;

@@ -6,14 +6,13 @@ use Rattle.tags.specs.declared.code.Code.{Code}
 use Rattle.tags.specs.declared.code.Code.TheVariants.{EntropyFault}
 use Rattle.tags.specs.declared.descriptor.Descriptor.{Descriptor}
 use Rattle.tags.specs.declared.rule.Rule.{Rule}
+use Rattle.tags.specs.declared.rule.RuleTable.TheVariants.{K}
+use Rattle.tags.specs.Table.{Ruling, first_broken, where_all_hold}
 use Rattle.key_rules.specs.declared.facts.ImportFacts.{ImportFacts}
-use Rattle.key_rules.specs.declared.fault.NewFault.{NewFault}
-use Rattle.key_rules.specs.declared.fault.NewFault.TheVariants as new_faults
+use Rattle.key_rules.specs.declared.facts.NewFacts.{NewFacts}
 use Rattle.key_rules.specs.declared.plan.KeyPlan.{KeyPlan}
-use Rattle.key_rules.specs.Creation.{new_key, plan_of, where_all_hold}
-use Rattle.key_rules.specs.Facts.{Facts}
-use Rattle.key_rules.specs.TableK.{table}
-use Rattle.key_rules.specs.Verdicts.{Verdict, first_broken}
+use Rattle.key_rules.specs.Creation.{new_key, plan_of}
+use Rattle.key_rules.specs.Table.{rules_of}
 use Rattle.keymint_ops.specs.declared.creation.NewKey.{NewKey}
 use Rattle.keymint_ops.specs.Creation.{planned, spelled, where_planned}
 use Rattle.rule_model.specs.declared.entry.Entry.TheVariants.{Acted}
@@ -25,7 +24,7 @@ use Rattle.rule_model.specs.declared.reply.Reply.TheVariants.{Done, Broken, Stop
 use Rattle.rule_model.specs.declared.event.Event.{Event}
 use Rattle.rule_model.specs.declared.reply.Fields.{Fields}
 use Rattle.rule_model.specs.Acts.{is_begin, is_connect}
-use Rattle.rule_model.specs.Answer.{answer_by_rules, made_or, no_fields}
+use Rattle.rule_model.specs.Answer.{answer_by_rules, broken_or, no_fields}
 use Rattle.rule_model.specs.Clients.{caller_of}
 use Rattle.rule_model.specs.Drawn.{size_of, wanted_by_key, wanted_by_rules}
 use Rattle.rule_model.specs.Entries.{History}
@@ -49,11 +48,11 @@ use Rattle.keystore_core.specs.Tables.{AnswersAfter, IsCaller, SameTables, Table
 use Rattle.keystore_core.proofs.KeyTable.{any_with, named_with}
 use Rattle.keystore_core.proofs.Standing.{called, ciphers_stay, clients_stay, denied_tables, operations_stay, same_tables}
 
-abbrev facts_of : Caller → Descriptor → List ℕ → Option Import → Facts
+abbrev facts_of : Caller → Descriptor → List ℕ → Option Import → NewFacts
 facts_of caller key params import = new_facts caller key params (option_map facts_of_import import)
 
 making_answer : (setup : Setup) (past : History) (caller : Caller) (key : Descriptor) (params : List ℕ) (import : Option Import) (drawn : List ℕ)
-    → answer_by_rules (making key params import) setup past caller drawn ≡ made_or (new_key (facts_of caller key params import)) (record no_fields { key = Some (next_key setup past) })
+    → answer_by_rules (making key params import) setup past caller drawn ≡ broken_or (new_key (facts_of caller key params import)) (Done (record no_fields { key = Some (next_key setup past) }))
 making_answer setup past caller key params None drawn = refl
 making_answer setup past caller key params (Some import) drawn = refl
 
@@ -75,33 +74,33 @@ begins_none key params None = refl
 begins_none key params (Some import) = refl
 
 -- a broken rule of the plan is one of the table
-broken_rule : (import : Option ImportFacts) (found : Result KeyPlan NewFault) (rule : Rule) (code : Code) → where_planned import found ≡ Err (new_faults.Broken rule code) → found ≡ Err (new_faults.Broken rule code)
-broken_rule import (Ok plan) rule code e = cc
-broken_rule import (Err fault) rule code e = let same : fault ≡ new_faults.Broken rule code = cc in ap Err same
+broken_rule : (import : Option ImportFacts) (found : Result KeyPlan (Rule × Code)) (broken : Rule × Code) → where_planned import found ≡ Err broken → found ≡ Err broken
+broken_rule import (Ok plan) broken e = cc
+broken_rule import (Err own) broken e = let same : own ≡ broken = cc in ap Err same
 
-new_plan : (import : Option ImportFacts) (found : Result KeyPlan NewFault) (plan : NewKey) → where_planned import found ≡ Ok plan → (own : KeyPlan) × (found ≡ Ok own) × (plan ≡ spelled import own)
+new_plan : (import : Option ImportFacts) (found : Result KeyPlan (Rule × Code)) (plan : NewKey) → where_planned import found ≡ Ok plan → (own : KeyPlan) × (found ≡ Ok own) × (plan ≡ spelled import own)
 new_plan import (Ok own) plan e = let same : plan ≡ spelled import own = cc in (own, refl, same)
-new_plan import (Err fault) plan e = cc
+new_plan import (Err broken) plan e = cc
 
-held_plan : (verdict : Verdict) (facts : Facts) (own : KeyPlan) → where_all_hold verdict (plan_of facts) ≡ Ok own → own ≡ plan_of facts
+held_plan : (ruling : Ruling) (facts : NewFacts) (own : KeyPlan) → where_all_hold ruling (plan_of facts) ≡ Ok own → own ≡ plan_of facts
 held_plan (Ok done) facts own e = cc
-held_plan (Err fault) facts own e = cc
+held_plan (Err broken) facts own e = cc
 
 -- the plan of a call that the rules let through
-pub record IsPlanned (facts : Facts) (plan : NewKey) : Type 0 where
+pub record IsPlanned (facts : NewFacts) (plan : NewKey) : Type 0 where
   pub holds : new_key facts ≡ Ok (plan_of facts)
   pub plan_is : plan ≡ spelled facts.import (plan_of facts)
 
-pub is_planned : (facts : Facts) (plan : NewKey) → planned facts ≡ Ok plan → IsPlanned facts plan
+pub is_planned : (facts : NewFacts) (plan : NewKey) → planned facts ≡ Ok plan → IsPlanned facts plan
 unfolding planned
 is_planned facts plan e =
     let found = new_plan facts.import (new_key facts) plan e in
-    let own : found.0 ≡ plan_of facts = held_plan (first_broken (table facts)) facts found.0 found.1 in
+    let own : found.0 ≡ plan_of facts = held_plan (first_broken K (rules_of facts)) facts found.0 found.1 in
     record { holds = found.1 ∙ ap Ok own; plan_is = found.2 ∙ ap (spelled facts.import) own }
 
-pub is_broken : (facts : Facts) (rule : Rule) (code : Code) → planned facts ≡ Err (new_faults.Broken rule code) → new_key facts ≡ Err (new_faults.Broken rule code)
+pub is_broken : (facts : NewFacts) (rule : Rule) (code : Code) → planned facts ≡ Err (rule, code) → new_key facts ≡ Err (rule, code)
 unfolding planned
-is_broken facts rule code e = broken_rule facts.import (new_key facts) rule code e
+is_broken facts rule code e = broken_rule facts.import (new_key facts) (rule, code) e
 
 -- the pieces that are wanted for it
 pieces_wanted : (import : Option Import) (own : KeyPlan) → size_of (wanted_by_key (Ok own) (option_map facts_of_import import)) ≡ (spelled (option_map facts_of_import import) own).size + 12
@@ -148,14 +147,14 @@ module _ (setup : Setup) (past : History) (tables : Tables) (caller : Caller) (k
   })
 
   -- a broken rule
-  pub refused : (import : Option Import) (rule : Rule) (code : Code) → planned (facts_of caller key params import) ≡ Err (new_faults.Broken rule code)
+  pub refused : (import : Option Import) (rule : Rule) (code : Code) → planned (facts_of caller key params import) ≡ Err (rule, code)
       → AnswersAfter setup past tables (event_by caller (making key params import)) (record { reply = Broken rule code; drawn = [] })
   refused import rule code e =
       let broken = is_broken (facts_of caller key params import) rule code e in
       record {
         follows = answered import [] (Broken rule code)
             (sym (ap size_of (making_wanted setup past caller key params import ∙ ap (λ found. wanted_by_key found (option_map facts_of_import import)) broken)))
-            (sym (making_answer setup past caller key params import [] ∙ ap (λ found. made_or found (record no_fields { key = Some (next_key setup past) })) broken));
+            (sym (making_answer setup past caller key params import [] ∙ ap (λ found. broken_or found (Done (record no_fields { key = Some (next_key setup past) }))) broken));
         stands = denied_tables setup past (event_by caller (making key params import)) [] (Broken rule code) tables tables stands (same_tables tables) refl (none import [] (Broken rule code));
       }
 
@@ -192,7 +191,7 @@ module _ (setup : Setup) (past : History) (tables : Tables) (caller : Caller) (k
       → Done (record no_fields { key = Some number }) ≡ answer_by_rules (making key params import) setup past caller drawn
   made_answer import plan number drawn is next =
       ap (λ n. Done (record no_fields { key = Some n })) next
-      ∙ sym (making_answer setup past caller key params import drawn ∙ ap (λ found. made_or found (record no_fields { key = Some (next_key setup past) })) is.holds)
+      ∙ sym (making_answer setup past caller key params import drawn ∙ ap (λ found. broken_or found (Done (record no_fields { key = Some (next_key setup past) }))) is.holds)
 
   -- the keys after one that is made
   made_keys : (import : Option Import) (middle new : Keys) (made : KeyRecord) (drawn : List ℕ) (fields : Fields) → SameKeys tables.keys middle → PutsKey made middle new

@@ -2,27 +2,23 @@
 use Rattle.std.proofs.Common.{◌≡◌, ℕ, ◌+◌, ◌≤◌, ◌-◌, ◌^◌, ◌==◌, Bool, true, false, if◌then◌else◌, List, [], ◌∷◌, ◌++◌, length, Option, Some, None, Result, Ok, Err, inl, inr, ◌⊎◌, refl, sym, ap, ◌∙◌, subst, arith, append-nil, length-append}
 use Rattle.std.proofs.Math.Bridge.{le_prop}
 use Rattle.std.proofs.Props.{props}
-use Rattle.std.specs.Option.{ok_or}
 use mathlib.Core.Logic.{∥∥₁_prop}
 use Rattle.tags.specs.declared.code.Code.{Code}
-use Rattle.tags.specs.declared.code.Code.TheVariants.{VerificationFailed, InvalidKeyArgument, InvalidInputLength}
+use Rattle.tags.specs.declared.code.Code.TheVariants.{EntropyFault, MemoryAllocationFailed}
 use Rattle.tags.specs.declared.plan.Plan.{Plan}
-use Rattle.tags.specs.declared.plan.Plan.TheVariants.{Ecb, Cbc, Ctr, Gcm, HmacSign, HmacVerify}
 use Rattle.tags.specs.declared.rule.Rule.{Rule}
+use Rattle.tags.specs.Plan.{OPERATION_BYTES, may_end}
+use Rattle.std.specs.Prelude.{IfErr}
 use Rattle.step_rules.specs.declared.facts.StepFacts.{StepFacts}
 use Rattle.step_rules.specs.Rules as rules
 use Rattle.step_rules.specs.Rules.{Enters}
 use Rattle.step_rules.specs.Table as step_table
-use Rattle.block_modes.specs.declared.fault.ModeFault.{ModeFault}
-use Rattle.block_modes.specs.declared.fault.ModeFault.TheVariants.{Length, Padding}
 use Rattle.cipher_ops.specs.declared.job.Done.{Done as JobDone}
 use Rattle.cipher_ops.specs.declared.room.JobRoom.{JobRoom}
 use Rattle.cipher_ops.specs.declared.room.Work.{Work}
 use Rattle.cipher_ops.specs.declared.room.Work.TheVariants.{Aad, Text, Last}
 use Rattle.cipher_ops.specs.declared.state.CipherState.{CipherState}
-use Rattle.cipher_ops.specs.Jobs.{ComesTo}
-use Rattle.cipher_ops.specs.Output as outputs
-use Rattle.cipher_ops.specs.Output.{may_end, whole as whole_output}
+use Rattle.cipher_ops.specs.Jobs.{ComesTo, is_refusal}
 use Rattle.cipher_ops.specs.Running.{CanRun, GoesOn, IsRoom, MayCome}
 use Rattle.cipher_ops.specs.Standing.{StandsFor}
 use Rattle.rule_model.specs.declared.entry.Entry.TheVariants.{Acted}
@@ -59,41 +55,17 @@ use Rattle.keystore_core.proofs.Standing.{called, clients_stay, denied_tables, k
 abbrev pub facts_at : Option Operation → (ℕ → Bool) → List ℕ → List ℕ → Caller → Work → StepFacts
 facts_at o live aad text caller work = facts_of o live (length aad) (length text) caller (brought_by work)
 
--- a length that the rules let end is one that the cipher lets end
-ends_rightly : (plan : Plan) (n : ℕ) → rules.fits_plan plan n ≡ true → may_end plan n ≡ true
-ends_rightly (Ecb false false) n fits = fits
-ends_rightly (Ecb false true) n fits = fits
-ends_rightly (Ecb true false) n fits = fits
-ends_rightly (Ecb true true) n fits = fits
-ends_rightly (Cbc false false) n fits = fits
-ends_rightly (Cbc false true) n fits = fits
-ends_rightly (Cbc true false) n fits = fits
-ends_rightly (Cbc true true) n fits = fits
-ends_rightly Ctr n fits = refl
-ends_rightly (Gcm false tag) n fits = fits
-ends_rightly (Gcm true tag) n fits = refl
-ends_rightly (HmacSign digest size) n fits = refl
-ends_rightly (HmacVerify digest least) n fits = refl
-
 no_text : (text : List ℕ) → length text ≡ 0 → text ≡ []
 no_text [] e = refl
 no_text (x ∷ text) e = absurd (omega arith)
 
-takes_aad : (plan : Plan) → rules.is_gcm plan ≡ true → Rattle.cipher_ops.specs.Running.is_gcm plan ≡ true
-takes_aad (Gcm seal tag) e = refl
-takes_aad (Ecb seal padded) e = cc
-takes_aad (Cbc seal padded) e = cc
-takes_aad Ctr e = cc
-takes_aad (HmacSign digest size) e = cc
-takes_aad (HmacVerify digest least) e = cc
-
 module _ (live : ℕ → Bool) (caller : Caller) (aad text : List ℕ) where
   -- what the rules let through may come
   may_come : (o : Operation) (work : Work) → Enters (facts_at (Some o) live aad text caller work) → MayCome o.plan text work
-  may_come o (Aad input) enters = (takes_aad o.plan (enters.aad refl).0, no_text text (enters.aad refl).1)
+  may_come o (Aad input) enters = ((enters.aad refl).0, no_text text (enters.aad refl).1)
   may_come o (Text input) enters = tt
   may_come o (Last input signature) enters =
-      ends_rightly o.plan (length (text ++ input)) (ap (rules.fits_plan o.plan) (length-append text input) ∙ enters.whole refl)
+      ap (may_end o.plan) (length-append text input) ∙ enters.whole refl
 
   pub may_grow : (work : Work) (row : Option Row) (o : Option Operation) → SameOperation (length aad) (length text) row o
       → (facts_at o live aad text caller work).own ≡ true → Enters (facts_at o live aad text caller work) → MayGrow row work
@@ -141,67 +113,20 @@ MayGrow-prop (Some row) work = le_prop
 
 pub MayTake-prop : (row : Option Row) (brought : Brought) → IsProp (MayTake row brought)
 MayTake-prop None brought = hlevel props
-MayTake-prop (Some row) brought = le_prop {n = row.aad + (added_by brought).aad + (row.text + (added_by brought).text)} {m = 1048576}
+MayTake-prop (Some row) brought = le_prop {n = row.aad + (added_by brought).aad + (row.text + (added_by brought).text)} {m = OPERATION_BYTES}
 
 pub CanWork-prop : (state : Option CipherState) (room : JobRoom) → IsProp (CanWork state room)
 CanWork-prop None room = hlevel props
 CanWork-prop (Some state) room = ∥∥₁_prop
 
--- the codes with which an output is refused
-abbrev IsRefusal : Code → Type 0
-IsRefusal code = (code ≡ VerificationFailed) ⊎ (code ≡ InvalidKeyArgument) ⊎ (code ≡ InvalidInputLength)
+-- an output is refused with one of two codes
+wants_none : (code : Code) → is_refusal code ≡ true → is_want code ≡ false
+wants_none MemoryAllocationFailed e = cc
+wants_none _ e = refl
 
-abbrev code_of : Result (List ℕ) Code → Code
-code_of (Ok bytes) = VerificationFailed
-code_of (Err code) = code
-
-same_code : (code own : Code) → ◌≡◌ {A = Result (List ℕ) Code} (Err own) (Err code) → code ≡ own
-same_code code own e = sym (ap code_of e)
-
-coded_refusal : (whole : Result (List ℕ) ModeFault) (code : Code) → outputs.coded whole ≡ Err code → IsRefusal code
-coded_refusal (Ok bytes) code e = cc
-coded_refusal (Err Length) code e = inr (inr (same_code code _ e))
-coded_refusal (Err Padding) code e = inr (inl (same_code code _ e))
-
-opened_refusal : (opened : Option (List ℕ)) (code : Code) → ok_or opened VerificationFailed ≡ Err code → IsRefusal code
-opened_refusal (Some bytes) code e = cc
-opened_refusal None code e = inl (same_code code _ e)
-
-tested_refusal : (b : Bool) (code : Code) → ◌≡◌ {A = Result (List ℕ) Code} (if b then Ok [] else Err VerificationFailed) (Err code) → IsRefusal code
-tested_refusal true code e = cc
-tested_refusal false code e = inl (same_code code _ e)
-
-verified_refusal : (digest least : ℕ) (mac : List ℕ) (signature : Option (List ℕ)) (code : Code) → outputs.verified digest least mac signature ≡ Err code → IsRefusal code
-verified_refusal digest least mac None code e = inl (same_code code _ e)
-verified_refusal digest least mac (Some signature) code e = tested_refusal (outputs.is_signature digest least mac signature) code e
-
-whole_refusal : (plan : Plan) (key nonce aad text : List ℕ) (signature : Option (List ℕ)) (code : Code) → whole_output plan key nonce aad text signature ≡ Err code → IsRefusal code
-unfolding whole_output
-whole_refusal (Gcm true tag) key nonce aad text signature code e = cc
-whole_refusal (Gcm false tag) key nonce aad text signature code e = opened_refusal _ code e
-whole_refusal (HmacSign digest size) key nonce aad text signature code e = cc
-whole_refusal (HmacVerify digest least) key nonce aad text signature code e = verified_refusal digest least _ signature code e
-whole_refusal (Ecb seal padded) key nonce aad text signature code e = coded_refusal _ code e
-whole_refusal (Cbc seal padded) key nonce aad text signature code e = coded_refusal _ code e
-whole_refusal Ctr key nonce aad text signature code e = coded_refusal _ code e
-
-behind_refusal : (n : ℕ) (whole : Result (List ℕ) Code) (code : Code) → outputs.behind n whole ≡ Err code → whole ≡ Err code
-behind_refusal n (Ok bytes) code e = cc
-behind_refusal n (Err own) code e = e
-
-refusal : (o : Option Operation) (aad text input : List ℕ) (signature : Option (List ℕ)) (code : Code) → output_of o aad text (Last input signature) ≡ Err code → IsRefusal code
-refusal None aad text input signature code e = cc
-refusal (Some o) aad text input signature code e = whole_refusal o.plan _ _ _ _ signature code (behind_refusal _ _ code e)
-
-wants_none : (code : Code) → IsRefusal code → is_want code ≡ false
-wants_none code (inl e) = ap is_want e
-wants_none code (inr (inl e)) = ap is_want e
-wants_none code (inr (inr e)) = ap is_want e
-
-draws_none : (code : Code) → IsRefusal code → is_entropy_code code ≡ false
-draws_none code (inl e) = ap is_entropy_code e
-draws_none code (inr (inl e)) = ap is_entropy_code e
-draws_none code (inr (inr e)) = ap is_entropy_code e
+draws_none : (code : Code) → is_refusal code ≡ true → is_entropy_code code ≡ false
+draws_none EntropyFault e = cc
+draws_none _ e = refl
 
 -- what a work makes of its operation
 abbrev pub work_change : ℕ → Work → OperationChange
@@ -214,27 +139,27 @@ if_false true x y e = cc
 if_false false x y e = refl
 
 -- a work that came to a result: its reply changes the operation, and no draw is at fault for it
-pub changed : (setup : Setup) (past : History) (caller : Caller) (op : ℕ) (work : Work) (o : Option Operation) (aad text : List ℕ) (result : Result (List ℕ) Code) → result ≡ output_of o aad text work
+pub changed : (setup : Setup) (past : History) (caller : Caller) (op : ℕ) (work : Work) (o : Option Operation) (aad text : List ℕ) (result : Result (List ℕ) Code) → result ≡ output_of o aad text work → IfErr result (λ code. is_refusal code ≡ true)
     → operation_change setup past (event_by caller (entering op work)) [] (given_or work result) ≡ work_change op work
-changed setup past caller op (Aad input) o aad text (Ok out) e = refl
-changed setup past caller op (Text input) o aad text (Ok out) e = refl
-changed setup past caller op (Last input signature) o aad text (Ok out) e = refl
-changed setup past caller op (Aad input) None aad text (Err code) e = cc
-changed setup past caller op (Aad input) (Some o) aad text (Err code) e = cc
-changed setup past caller op (Text input) None aad text (Err code) e = cc
-changed setup past caller op (Text input) (Some o) aad text (Err code) e = cc
-changed setup past caller op (Last input signature) o aad text (Err code) e =
-    if_false (is_want code) SameOperations (Closes op) (wants_none code (refusal o aad text input signature code (sym e)))
+changed setup past caller op (Aad input) o aad text (Ok out) e codes = refl
+changed setup past caller op (Text input) o aad text (Ok out) e codes = refl
+changed setup past caller op (Last input signature) o aad text (Ok out) e codes = refl
+changed setup past caller op (Aad input) None aad text (Err code) e codes = cc
+changed setup past caller op (Aad input) (Some o) aad text (Err code) e codes = cc
+changed setup past caller op (Text input) None aad text (Err code) e codes = cc
+changed setup past caller op (Text input) (Some o) aad text (Err code) e codes = cc
+changed setup past caller op (Last input signature) o aad text (Err code) e codes =
+    if_false (is_want code) SameOperations (Closes op) (wants_none code codes)
 
-pub no_fault : (o : Option Operation) (work : Work) (aad text : List ℕ) (result : Result (List ℕ) Code) → result ≡ output_of o aad text work → is_entropy_fault (given_or work result) ≡ false
-no_fault o (Aad input) aad text (Ok out) e = refl
-no_fault o (Text input) aad text (Ok out) e = refl
-no_fault o (Last input signature) aad text (Ok out) e = refl
-no_fault None (Aad input) aad text (Err code) e = cc
-no_fault (Some o) (Aad input) aad text (Err code) e = cc
-no_fault None (Text input) aad text (Err code) e = cc
-no_fault (Some o) (Text input) aad text (Err code) e = cc
-no_fault o (Last input signature) aad text (Err code) e = draws_none code (refusal o aad text input signature code (sym e))
+pub no_fault : (o : Option Operation) (work : Work) (aad text : List ℕ) (result : Result (List ℕ) Code) → result ≡ output_of o aad text work → IfErr result (λ code. is_refusal code ≡ true) → is_entropy_fault (given_or work result) ≡ false
+no_fault o (Aad input) aad text (Ok out) e codes = refl
+no_fault o (Text input) aad text (Ok out) e codes = refl
+no_fault o (Last input signature) aad text (Ok out) e codes = refl
+no_fault None (Aad input) aad text (Err code) e codes = cc
+no_fault (Some o) (Aad input) aad text (Err code) e codes = cc
+no_fault None (Text input) aad text (Err code) e codes = cc
+no_fault (Some o) (Text input) aad text (Err code) e codes = cc
+no_fault o (Last input signature) aad text (Err code) e codes = draws_none code codes
 
 -- the reply of the code is that of the work
 pub replied : (work : Work) (result : Result (List ℕ) Code) → reply_of (brought_by work).kind result ≡ given_or work result
@@ -248,6 +173,7 @@ replied (Last input signature) (Err code) = refl
 -- what a work leaves of an operation: its result, its row and its state
 pub record CameTo (op : ℕ) (work : Work) (aad text : List ℕ) (o : Option Operation) (row : Option Row) (state : Option CipherState) (result : Result (List ℕ) Code) : Type 0 where
   pub result_is : result ≡ output_of o aad text work
+  pub codes : IfErr result (λ code. is_refusal code ≡ true)
   pub row_is : SameOperation (length (own_aad (work_change op work) aad)) (length (own_text (work_change op work) text)) row (own_found (work_change op work) o)
   pub state_is : IsCipher (own_aad (work_change op work) aad) (own_text (work_change op work) text) state (own_found (work_change op work) o)
 
@@ -259,17 +185,18 @@ module _ (live : ℕ → Bool) (caller : Caller) (op : ℕ) (aad text : List ℕ
 
   pub came : (work : Work) (row row' : Option Row) (o : Option Operation) (state state' : Option CipherState) → SameOperation (length aad) (length text) row o
       → IsCipher aad text state o → Enters (facts_at o live aad text caller work) → IsRoomAt row work room → TakesRow state' (added_by (brought_by work)) row row'
-      → Comes state state' → CameTo op work aad text o row' state' result
-  came work None row' o state state' same goes enters is_room takes comes = absurd is_room
-  came work (Some row) row' None state state' same goes enters is_room takes comes = absurd same
-  came work (Some row) row' (Some o) None state' same goes enters is_room takes comes = absurd goes
-  came (Aad input) (Some row) row' (Some o) (Some state) None same goes enters is_room takes comes =
+      → Comes state state' → IfErr result (λ code. is_refusal code ≡ true) → CameTo op work aad text o row' state' result
+  came work None row' o state state' same goes enters is_room takes comes codes = absurd is_room
+  came work (Some row) row' None state state' same goes enters is_room takes comes codes = absurd same
+  came work (Some row) row' (Some o) None state' same goes enters is_room takes comes codes = absurd goes
+  came (Aad input) (Some row) row' (Some o) (Some state) None same goes enters is_room takes comes codes =
       absurd (comes o.plan (is_limited o.limit) o.material o.nonce aad text (Aad input) goes (room_of live caller aad text row o (Aad input) room same is_room) (may_come live caller aad text o (Aad input) enters)).1
-  came (Aad input) (Some row) None (Some o) (Some state) (Some state') same goes enters is_room takes comes = absurd takes
-  came (Aad input) (Some row) (Some row') (Some o) (Some state) (Some state') same goes enters is_room takes comes =
+  came (Aad input) (Some row) None (Some o) (Some state) (Some state') same goes enters is_room takes comes codes = absurd takes
+  came (Aad input) (Some row) (Some row') (Some o) (Some state) (Some state') same goes enters is_room takes comes codes =
       let ran = comes o.plan (is_limited o.limit) o.material o.nonce aad text (Aad input) goes (room_of live caller aad text row o (Aad input) room same is_room) (may_come live caller aad text o (Aad input) enters) in
       record {
         result_is = ran.0;
+        codes = codes;
         row_is = record {
           client = takes.client ∙ same.client;
           key = takes.key ∙ same.key;
@@ -280,13 +207,14 @@ module _ (live : ℕ → Bool) (caller : Caller) (op : ℕ) (aad text : List ℕ
         };
         state_is = rw (append-nil text) ran.1;
       }
-  came (Text input) (Some row) row' (Some o) (Some state) None same goes enters is_room takes comes =
+  came (Text input) (Some row) row' (Some o) (Some state) None same goes enters is_room takes comes codes =
       absurd (comes o.plan (is_limited o.limit) o.material o.nonce aad text (Text input) goes (room_of live caller aad text row o (Text input) room same is_room) (may_come live caller aad text o (Text input) enters)).1
-  came (Text input) (Some row) None (Some o) (Some state) (Some state') same goes enters is_room takes comes = absurd takes
-  came (Text input) (Some row) (Some row') (Some o) (Some state) (Some state') same goes enters is_room takes comes =
+  came (Text input) (Some row) None (Some o) (Some state) (Some state') same goes enters is_room takes comes codes = absurd takes
+  came (Text input) (Some row) (Some row') (Some o) (Some state) (Some state') same goes enters is_room takes comes codes =
       let ran = comes o.plan (is_limited o.limit) o.material o.nonce aad text (Text input) goes (room_of live caller aad text row o (Text input) room same is_room) (may_come live caller aad text o (Text input) enters) in
       record {
         result_is = ran.0;
+        codes = codes;
         row_is = record {
           client = takes.client ∙ same.client;
           key = takes.key ∙ same.key;
@@ -297,10 +225,10 @@ module _ (live : ℕ → Bool) (caller : Caller) (op : ℕ) (aad text : List ℕ
         };
         state_is = rw (append-nil aad) ran.1;
       }
-  came (Last input signature) (Some row) row' (Some o) (Some state) None same goes enters is_room takes comes =
+  came (Last input signature) (Some row) row' (Some o) (Some state) None same goes enters is_room takes comes codes =
       let ran = comes o.plan (is_limited o.limit) o.material o.nonce aad text (Last input signature) goes (room_of live caller aad text row o (Last input signature) room same is_room) (may_come live caller aad text o (Last input signature) enters) in
-      record { result_is = ran.0; row_is = rw takes tt; state_is = tt }
-  came (Last input signature) (Some row) row' (Some o) (Some state) (Some state') same goes enters is_room takes comes =
+      record { result_is = ran.0; codes = codes; row_is = rw takes tt; state_is = tt }
+  came (Last input signature) (Some row) row' (Some o) (Some state) (Some state') same goes enters is_room takes comes codes =
       let ran = comes o.plan (is_limited o.limit) o.material o.nonce aad text (Last input signature) goes (room_of live caller aad text row o (Last input signature) room same is_room) (may_come live caller aad text o (Last input signature) enters) in
       cc ran.1
 
@@ -394,7 +322,7 @@ module _ (setup : Setup) (past : History) (tables : Tables) (caller : Caller) (o
     follows = follows (given_or work result)
         (ap (given_or work) came_to.result_is ∙ ap (λ found. broken_or found (given_or work (output_of (operation_at setup past op) (aad_of setup past op) (text_of setup past op) work))) e);
     stands = one_tables setup past tables new (event_by caller (entering op work)) (given_or work result) op (work_change op work) stands (steps op work) one
-        (changed setup past caller op work (operation_at setup past op) (aad_of setup past op) (text_of setup past op) result came_to.result_is) (concerns op work) came_to.row_is came_to.state_is;
+        (changed setup past caller op work (operation_at setup past op) (aad_of setup past op) (text_of setup past op) result came_to.result_is came_to.codes) (concerns op work) came_to.row_is came_to.state_is;
   }
 
 -- an abort

@@ -3,6 +3,7 @@ use Rattle.std.specs.Prelude.{◌≡◌, ℕ, ◌+◌, ◌≤◌, true, false, �
 use Rattle.std.specs.BTreeMap.{get}
 use Rattle.std.specs.Option.{option_flatten}
 use Rattle.std.specs.Ordering.{nat_cmp}
+use Rattle.tags.specs.Plan.{OPERATION_BYTES}
 use Rattle.rule_model.specs.Acts.{is_begin}
 use Rattle.rule_model.specs.Entries.{History, count_of}
 use Rattle.rule_model.specs.Operations as model
@@ -75,4 +76,4 @@ pub record OperationsStand (setup : Setup) (operations : Operations) (past : His
 -- the operation is there, and may take so many bytes more
 abbrev pub MayLengthen : Option Operation → Added → Type 0
 MayLengthen None added = ⊥
-MayLengthen (Some row) added = row.aad + added.aad + (row.text + added.text) ≤ 1048576
+MayLengthen (Some row) added = row.aad + added.aad + (row.text + added.text) ≤ OPERATION_BYTES

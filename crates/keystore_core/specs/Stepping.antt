@@ -1,8 +1,9 @@
 -- The steps of an open operation.
-use Rattle.std.specs.Prelude.{◌≡◌, ℕ, ◌+◌, ◌≤◌, Bool, true, false, List, length, Option, Some, None, Result, Ok, Err}
+use Rattle.std.specs.Prelude.{◌≡◌, ℕ, ◌+◌, ◌≤◌, Bool, true, false, List, length, Option, Some, None, Result, Ok, Err, IfErr}
 use Rattle.tags.specs.declared.code.Code.{Code}
 use Rattle.tags.specs.declared.plan.Plan.{Plan}
 use Rattle.tags.specs.declared.rule.Rule.{Rule}
+use Rattle.tags.specs.Plan.{OPERATION_BYTES}
 use Rattle.step_rules.specs.declared.facts.StepKind.{StepKind}
 use Rattle.step_rules.specs.declared.facts.StepKind.TheVariants as kinds
 use Rattle.step_rules.specs.Table.{ends_operation}
@@ -11,7 +12,7 @@ use Rattle.cipher_ops.specs.declared.room.JobRoom.{JobRoom}
 use Rattle.cipher_ops.specs.declared.room.Work.{Work}
 use Rattle.cipher_ops.specs.declared.room.Work.TheVariants.{Aad, Text, Last}
 use Rattle.cipher_ops.specs.declared.state.CipherState.{CipherState}
-use Rattle.cipher_ops.specs.Jobs.{ComesTo}
+use Rattle.cipher_ops.specs.Jobs.{ComesTo, is_refusal}
 use Rattle.cipher_ops.specs.Running.{CanRun, GoesOn, IsRoom, MayCome}
 use Rattle.cipher_ops.specs.Sizes.{own_text}
 use Rattle.rule_model.specs.declared.event.Act.{Act}
@@ -48,7 +49,7 @@ reply_of _ (Ok out) = done (record no_fields { out = Some out })
 -- the operation is there, and its text has room for the work's
 abbrev pub MayGrow : Option Operation → Work → Type 0
 MayGrow None work = ⊥
-MayGrow (Some row) work = row.text + own_text work ≤ 1048576
+MayGrow (Some row) work = row.text + own_text work ≤ OPERATION_BYTES
 
 -- the operation is there, and the room is that of the work on it
 abbrev pub IsRoomAt : Option Operation → Work → JobRoom → Type 0
@@ -94,3 +95,4 @@ pub record Runs (op : ℕ) (brought : Brought) (room : JobRoom) (old new : Table
   pub comes : (plan : Plan) (limited : Bool) (key nonce aad text : List ℕ) (work : Work) → GoesOn (state_at old op) plan limited key nonce aad text
       → IsRoom room plan limited (length text) work → MayCome plan text work
       → ComesTo (done_of (state_at new op) result) plan limited key nonce aad text work
+  pub codes : IfErr result (λ code. is_refusal code ≡ true)

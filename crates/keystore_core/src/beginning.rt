@@ -1,8 +1,10 @@
 //! The beginning of an operation.
 
-ghost use Rattle.std.specs.Prelude.{◌≡◌, ℕ, ◌+◌, ◌-◌, ◌^◌, ◌==◌, ◌<◌, List, [], false, Some, None, IfOk, length, if◌then◌else◌};
+ghost use Rattle.std.specs.Prelude.{◌≡◌, ℕ, ◌+◌, ◌-◌, ◌^◌, ◌==◌, ◌<◌, List, [], true, false, unwrap_or, Some, None, IfOk, length, if◌then◌else◌};
 ghost use Rattle.std.specs.Option.{option_copied, option_map_or};
-ghost use Rattle.cipher_ops.specs.Sizes.{Fits};
+ghost use Rattle.tags.specs.Plan.{Fits};
+ghost use Rattle.tag_lists.specs.Lookups.{IsKey};
+ghost use Rattle.use_rules.specs.Table.{key_of};
 ghost use Rattle.cipher_ops.specs.Standing.{StandsFor};
 ghost use Rattle.keymint_ops.specs.Begin.{nonce_used};
 ghost use Rattle.rule_model.specs.declared.event.Act.TheVariants as acts;
@@ -41,7 +43,8 @@ fn list_of(alloc: Global, key: &KeyRecord) -> Result<Option<AuthList>, NoMemory>
 
 /// Whether the key's material fits its list.
 fn is_usable(key: &KeyRecord, list: &Option<AuthList>) -> bool
-    ensures { result ≡ option_map_or (model.is_usable key.now.blob) list.now false }
+    ensures usable { result ≡ option_map_or (model.is_usable key.now.blob) list.now false }
+    ensures key { result ≡ true → IsKey (unwrap_or list.now []) (length key.now.blob) }
 {
     match list {
         Some(list) => usable(list, key.blob.len()),
@@ -57,7 +60,8 @@ fn begin_facts(
     key: Descriptor,
     params: &[u8],
 ) -> Result<BeginFacts, NoMemory>
-    ensures { IfOk result (λ facts. facts ≡ model.facts_on (option_copied found.entry) caller key params.now) }
+    ensures facts { IfOk result (λ facts. facts ≡ model.facts_on (option_copied found.entry) caller key params.now) }
+    ensures key { IfOk result (λ facts. facts.fits ≡ true → IsKey (key_of facts) (length (option_map_or (λ (key : KeyRecord). key.blob) (option_copied found.entry) []))) }
 {
     let asked = read_asked(alloc, params)?;
     let (opened, fits) = match found {

@@ -2,7 +2,6 @@
 
 ghost use Rattle.std.specs.Prelude.{◌≡◌, ◌+◌, ◌-◌, ◌^◌, ◌<◌, length, IfOk};
 ghost use Rattle.std.specs.Option.{option_map};
-ghost use Rattle.key_rules.specs.Facts.{lent};
 ghost use Rattle.rule_model.specs.NewFacts as model;
 ghost use Rattle.keystore_core.specs.Creating as spec;
 ghost use Rattle.keystore_core.specs.Drawn.{DrewForResult};
@@ -65,13 +64,13 @@ fn import_facts(import: &Option<Import>) -> Option<ImportFacts>
 }
 
 /// What the rules of a new key read.
-fn new_facts<'a>(
+fn new_facts(
     caller: Caller,
-    key: &'a Descriptor,
-    params: &'a [u8],
+    key: Descriptor,
+    params: Bytes,
     import: &Option<Import>,
-) -> NewFacts<'a>
-    ensures { lent result ≡ model.new_facts caller key.now params.now (option_map spec.facts_of_import import.now) }
+) -> NewFacts
+    ensures { result ≡ model.new_facts caller key params (option_map spec.facts_of_import import.now) }
 {
     NewFacts {
         connected: caller.uid.is_some(),
@@ -183,13 +182,13 @@ impl Tables {
         ensures serves { ServesAfter self.old self.new (event_by caller (spec.making key params import)) result }
         ensures drew { DrewForResult N.Entropy entropy.old entropy.new result }
     {
-        let facts = new_facts(caller, &key, params.as_slice(), &import);
+        let facts = new_facts(caller, key, params, &import);
         let plan = match plan_key(alloc, &facts) {
             Ok(plan) => plan,
             Err(NewFault::Broken(rule, code)) => return Ok(Answered::refused(alloc, rule, code)),
             Err(NewFault::Memory) => return Err(NoMemory),
         };
-        let room = KeyRoom::of(alloc, caller.uid.unwrap_or(0), key, plan, import)?;
+        let room = KeyRoom::of(alloc, caller.uid.unwrap_or(0), facts.descriptor, plan, import)?;
         let draws = DrawRoom::of(alloc, room.pieces())?;
         self.keys.reserve()?;
         let drawn = match draws.draw(entropy) {

@@ -1,12 +1,9 @@
 -- The answer to an event over a history.
 use Rattle.std.specs.Prelude.{ℕ, ◌+◌, ◌==◌, List, Option, Some, None, Result, Ok, Err, if◌then◌else◌}
 use Rattle.tags.specs.declared.code.Code.{Code}
-use Rattle.tags.specs.declared.code.Code.TheVariants.{InvalidArgument, MemoryAllocationFailed}
+use Rattle.tags.specs.declared.code.Code.TheVariants.{InvalidArgument}
 use Rattle.tags.specs.declared.rule.Rule.{Rule}
 use Rattle.tags.specs.declared.rule.RuleTable.TheVariants.{L}
-use Rattle.key_rules.specs.declared.fault.NewFault.{NewFault}
-use Rattle.key_rules.specs.declared.fault.NewFault.TheVariants as new_faults
-use Rattle.key_rules.specs.declared.plan.KeyPlan.{KeyPlan}
 use Rattle.key_rules.specs.Creation.{new_key}
 use Rattle.use_rules.specs.declared.facts.BeginFacts.{BeginFacts}
 use Rattle.use_rules.specs.Plans.{nonce_wanted}
@@ -18,7 +15,6 @@ use Rattle.cipher_ops.specs.declared.room.Work.TheVariants.{Aad, Text, Last}
 use Rattle.rule_model.specs.declared.event.Event.{Event}
 use Rattle.rule_model.specs.declared.event.Act.{Act}
 use Rattle.rule_model.specs.declared.event.Act.TheVariants.{Connect, GenerateKey, ImportKey, CreateOperation, EnterAad, EnterUpdate, EnterFinish, Abort}
-use Rattle.rule_model.specs.declared.facts.Brought.{Brought}
 use Rattle.rule_model.specs.declared.facts.Caller.{Caller}
 use Rattle.rule_model.specs.declared.reply.Fields.{Fields}
 use Rattle.rule_model.specs.declared.reply.Reply.{Reply}
@@ -54,12 +50,6 @@ no_fields = record {
   entries = None;
 }
 
--- a call that makes a key: the first broken rule of table K, or its fields; the table itself never wants memory
-abbrev pub made_or : Result KeyPlan NewFault → Fields → Reply
-made_or (Ok plan) fields = Done fields
-made_or (Err (new_faults.Broken rule code)) fields = Broken rule code
-made_or (Err new_faults.Memory) fields = Stopped MemoryAllocationFailed
-
 -- the first broken rule of a table, or else this reply
 abbrev pub broken_or : {T : Type 0} → Result T (Rule × Code) → Reply → Reply
 broken_or (Ok found) reply = reply
@@ -93,9 +83,9 @@ malformed = Broken (record { table = L; number = 1 }) InvalidArgument
 abbrev pub answer_by_rules : Act → Setup → History → Caller → List ℕ → Reply
 answer_by_rules (Connect uid) setup past caller drawn = Done (record no_fields { client = Some (count_of is_connect past + 1) })
 answer_by_rules (GenerateKey key params) setup past caller drawn =
-    made_or (new_key (new_facts caller key params None)) (record no_fields { key = Some (next_key setup past) })
+    broken_or (new_key (new_facts caller key params None)) (Done (record no_fields { key = Some (next_key setup past) }))
 answer_by_rules (ImportKey key params format material) setup past caller drawn =
-    made_or (new_key (new_facts caller key params (import_of format material))) (record no_fields { key = Some (next_key setup past) })
+    broken_or (new_key (new_facts caller key params (import_of format material))) (Done (record no_fields { key = Some (next_key setup past) }))
 answer_by_rules (CreateOperation key params forced) setup past caller drawn =
     broken_or (begin_table.answer (begin_facts setup past caller key params))
     (Done (record no_fields { op = Some (count_of is_begin past + 1); nonce = drawn_nonce (begin_facts setup past caller key params) drawn }))

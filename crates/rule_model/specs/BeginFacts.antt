@@ -4,10 +4,11 @@ use Rattle.std.specs.Result.{result_ok}
 use Rattle.std.specs.Option.{option_and_then, option_map_or}
 use Rattle.tags.specs.declared.descriptor.Descriptor.{Descriptor}
 use Rattle.tags.specs.declared.param.Param.{Param}
+use Rattle.tags.specs.declared.rule.RuleTable.TheVariants.{K}
+use Rattle.tags.specs.Table.{first_broken}
 use Rattle.tag_lists.specs.Reading.{listed}
 use Rattle.key_rules.specs.Asked.{asked}
-use Rattle.key_rules.specs.TableK.{key_rules}
-use Rattle.key_rules.specs.Verdicts.{first_broken}
+use Rattle.key_rules.specs.Table.{key_rules}
 use Rattle.use_rules.specs.declared.facts.BeginFacts.{BeginFacts}
 use Rattle.rule_model.specs.declared.entry.KeyRecord.{KeyRecord}
 use Rattle.rule_model.specs.declared.facts.Caller.{Caller}
@@ -21,7 +22,7 @@ list_of key = result_ok (listed key.list)
 
 -- the key's list and material are those of a key
 abbrev pub is_usable : List ℕ → List Param → Bool
-is_usable material list = is_ok (first_broken (key_rules (length material) list))
+is_usable material list = is_ok (first_broken K (key_rules (length material) list))
 
 -- the facts of a caller's call, by the key that is found
 abbrev pub facts_on : Option KeyRecord → Caller → Descriptor → List ℕ → BeginFacts

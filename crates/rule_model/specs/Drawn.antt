@@ -5,7 +5,6 @@ use Rattle.tags.specs.declared.code.Code.TheVariants.{EntropyFault}
 use Rattle.tags.specs.declared.plan.Plan.{Plan}
 use Rattle.tags.specs.declared.rule.Rule.{Rule}
 use Rattle.key_rules.specs.declared.facts.ImportFacts.{ImportFacts}
-use Rattle.key_rules.specs.declared.fault.NewFault.{NewFault}
 use Rattle.key_rules.specs.declared.plan.KeyPlan.{KeyPlan}
 use Rattle.key_rules.specs.Creation.{material_size, new_key}
 use Rattle.use_rules.specs.declared.facts.BeginFacts.{BeginFacts}
@@ -36,8 +35,8 @@ abbrev pub no_pieces : Pieces
 no_pieces = record { first = 0; second = 0 }
 
 -- what a new key draws: a generated material, and then the 12 bytes of a nonce
-abbrev pub wanted_by_key : Result KeyPlan NewFault → Option ImportFacts → Pieces
-wanted_by_key (Err fault) import = no_pieces
+abbrev pub wanted_by_key : Result KeyPlan (Rule × Code) → Option ImportFacts → Pieces
+wanted_by_key (Err broken) import = no_pieces
 wanted_by_key (Ok plan) None = record { first = material_size plan.list; second = 12 }
 wanted_by_key (Ok plan) (Some import) = record { first = 0; second = 12 }
 

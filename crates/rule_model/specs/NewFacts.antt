@@ -2,7 +2,7 @@
 use Rattle.std.specs.Prelude.{ℕ, List, Option, Some, is_some, length}
 use Rattle.tags.specs.declared.descriptor.Descriptor.{Descriptor}
 use Rattle.key_rules.specs.declared.facts.ImportFacts.{ImportFacts}
-use Rattle.key_rules.specs.Facts.{Facts}
+use Rattle.key_rules.specs.declared.facts.NewFacts.{NewFacts}
 use Rattle.rule_model.specs.declared.facts.Caller.{Caller}
 
 -- what is known of an imported material
@@ -10,7 +10,7 @@ abbrev pub import_of : ℕ → List ℕ → Option ImportFacts
 import_of format material = Some (record { format = format; length = length material })
 
 -- the facts of a caller's call
-abbrev pub new_facts : Caller → Descriptor → List ℕ → Option ImportFacts → Facts
+abbrev pub new_facts : Caller → Descriptor → List ℕ → Option ImportFacts → NewFacts
 new_facts caller key params import = record {
   connected = is_some caller.uid;
   descriptor = key;

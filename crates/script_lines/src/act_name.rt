@@ -2,7 +2,7 @@
 
 ghost use Rattle.std.specs.Prelude.{◌≡◌};
 ghost use Rattle.serde_json.specs.View.{view};
-ghost use Rattle.script_lines.specs.Reads.{Says};
+ghost use Rattle.script_lines.specs.Reads.{Gives};
 ghost use Rattle.script_lines.specs.Acts.{name_of as spec_name_of};
 
 use crate::LineFault;
@@ -11,7 +11,7 @@ use serde_json::Value;
 
 /// The kind of the act that a line names.
 pub fn name_of(object: &Value) -> Result<ActKind, LineFault>
-    ensures { Says result (spec_name_of (view object.now)) }
+    ensures { Gives result (spec_name_of (view object.now)) }
 {
     let Some(value) = object.get("do") else {
         return Err(LineFault::Malformed);

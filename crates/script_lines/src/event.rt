@@ -2,7 +2,7 @@
 
 ghost use Rattle.std.specs.Prelude.{◌≡◌};
 ghost use Rattle.serde_json.specs.View.{view};
-ghost use Rattle.script_lines.specs.Reads.{Says, SaysOf};
+ghost use Rattle.script_lines.specs.Reads.{Gives, GivesView};
 ghost use Rattle.script_lines.specs.Acts.{act_of as spec_act_of, client_of as spec_client_of, hold_of as spec_hold_of, reading_of as spec_reading_of};
 ghost use Rattle.script_lines.specs.Lines.{event_of as spec_event_of, line_in as spec_line_in, parsed as spec_parsed};
 
@@ -26,7 +26,7 @@ use std::str;
 ///
 /// A line is `Malformed` exactly where it is no JSON object of a script (RFC 8259), or its act is not built yet, or it is to wait for its leave.
 pub fn event_of(alloc: Global, line: &[u8]) -> Result<Line, LineFault>
-    ensures { Says result (spec_event_of line.now) }
+    ensures { Gives result (spec_event_of line.now) }
 {
     let object = parsed(alloc, line)?;
     line_in(alloc, &object)
@@ -34,7 +34,7 @@ pub fn event_of(alloc: Global, line: &[u8]) -> Result<Line, LineFault>
 
 /// The JSON value of a line.
 pub fn parsed(alloc: Global, line: &[u8]) -> Result<Value, LineFault>
-    ensures { SaysOf view result (spec_parsed line.now) }
+    ensures { GivesView view result (spec_parsed line.now) }
 {
     let Ok(text) = str::from_utf8(line) else {
         return Err(LineFault::Malformed);
@@ -47,7 +47,7 @@ pub fn parsed(alloc: Global, line: &[u8]) -> Result<Value, LineFault>
 }
 
 fn line_in(alloc: Global, object: &Value) -> Result<Line, LineFault>
-    ensures { Says result (spec_line_in (view object.now)) }
+    ensures { Gives result (spec_line_in (view object.now)) }
 {
     let reading = reading_of(object)?;
     let name = name_of(object)?;
@@ -68,7 +68,7 @@ fn line_in(alloc: Global, object: &Value) -> Result<Line, LineFault>
 }
 
 fn reading_of(object: &Value) -> Result<Reading, LineFault>
-    ensures { Says result (spec_reading_of (view object.now)) }
+    ensures { Gives result (spec_reading_of (view object.now)) }
 {
     let Some(value) = object.get("t") else {
         return Err(LineFault::Malformed);
@@ -82,7 +82,7 @@ fn reading_of(object: &Value) -> Result<Reading, LineFault>
 }
 
 fn client_of(name: ActKind, object: &Value) -> Result<u64, LineFault>
-    ensures { Says result (spec_client_of name (view object.now)) }
+    ensures { Gives result (spec_client_of name (view object.now)) }
 {
     if name.row().has_client {
         needed_u64(object, "c")
@@ -92,7 +92,7 @@ fn client_of(name: ActKind, object: &Value) -> Result<u64, LineFault>
 }
 
 fn hold_of(name: ActKind, object: &Value) -> Result<bool, LineFault>
-    ensures { Says result (spec_hold_of name (view object.now)) }
+    ensures { Gives result (spec_hold_of name (view object.now)) }
 {
     if name.row().enters {
         flag_or_false(object, "hold")
@@ -103,7 +103,7 @@ fn hold_of(name: ActKind, object: &Value) -> Result<bool, LineFault>
 
 /// The act of a name, with its fields from the members of the line.
 pub fn act_of(alloc: Global, name: ActKind, object: &Value) -> Result<Act, LineFault>
-    ensures { Says result (spec_act_of name (view object.now)) }
+    ensures { Gives result (spec_act_of name (view object.now)) }
 {
     match name {
         ActKind::Connect => connect(object),

@@ -1,3 +1,5 @@
+//! Why a line gave no event.
+
 use std::alloc::{AllocError, AllocFailed};
 use tags::NoMemory;
 

@@ -2,7 +2,7 @@
 
 ghost use Rattle.std.specs.Prelude.{◌≡◌};
 ghost use Rattle.serde_json.specs.View.{view};
-ghost use Rattle.script_lines.specs.Reads.{Says};
+ghost use Rattle.script_lines.specs.Reads.{Gives};
 ghost use Rattle.rule_model.specs.declared.act_kind.ActKind.TheVariants as names;
 ghost use Rattle.script_lines.specs.Acts.{act_of, descriptor_of as spec_descriptor_of, key_of as spec_key_of};
 
@@ -17,7 +17,7 @@ use std::alloc::Global;
 use tags::Descriptor;
 
 fn descriptor_of(alloc: Global, object: &Value) -> Result<Descriptor, LineFault>
-    ensures { Says result (spec_descriptor_of (view object.now)) }
+    ensures { Gives result (spec_descriptor_of (view object.now)) }
 {
     let domain = needed_u32(object, "domain")?;
     let nspace = u64_or_zero(object, "nspace")?;
@@ -32,7 +32,7 @@ fn descriptor_of(alloc: Global, object: &Value) -> Result<Descriptor, LineFault>
 }
 
 fn key_of(alloc: Global, object: &Value) -> Result<Descriptor, LineFault>
-    ensures { Says result (spec_key_of (view object.now)) }
+    ensures { Gives result (spec_key_of (view object.now)) }
 {
     let Some(value) = object.get("key") else {
         return Err(LineFault::Malformed);
@@ -41,7 +41,7 @@ fn key_of(alloc: Global, object: &Value) -> Result<Descriptor, LineFault>
 }
 
 pub fn generate_key(alloc: Global, object: &Value) -> Result<Act, LineFault>
-    ensures { Says result (act_of names.GenerateKey (view object.now)) }
+    ensures { Gives result (act_of names.GenerateKey (view object.now)) }
 {
     let key = key_of(alloc, object)?;
     let params = params_of(alloc, object)?;
@@ -49,7 +49,7 @@ pub fn generate_key(alloc: Global, object: &Value) -> Result<Act, LineFault>
 }
 
 pub fn import_key(alloc: Global, object: &Value) -> Result<Act, LineFault>
-    ensures { Says result (act_of names.ImportKey (view object.now)) }
+    ensures { Gives result (act_of names.ImportKey (view object.now)) }
 {
     let key = key_of(alloc, object)?;
     let params = params_of(alloc, object)?;
@@ -64,7 +64,7 @@ pub fn import_key(alloc: Global, object: &Value) -> Result<Act, LineFault>
 }
 
 pub fn create_operation(alloc: Global, object: &Value) -> Result<Act, LineFault>
-    ensures { Says result (act_of names.CreateOperation (view object.now)) }
+    ensures { Gives result (act_of names.CreateOperation (view object.now)) }
 {
     let key = key_of(alloc, object)?;
     let params = params_of(alloc, object)?;
@@ -77,21 +77,21 @@ pub fn create_operation(alloc: Global, object: &Value) -> Result<Act, LineFault>
 }
 
 pub fn get_key_entry(alloc: Global, object: &Value) -> Result<Act, LineFault>
-    ensures { Says result (act_of names.GetKeyEntry (view object.now)) }
+    ensures { Gives result (act_of names.GetKeyEntry (view object.now)) }
 {
     let key = key_of(alloc, object)?;
     Ok(Act::GetKeyEntry { key })
 }
 
 pub fn delete_key(alloc: Global, object: &Value) -> Result<Act, LineFault>
-    ensures { Says result (act_of names.DeleteKey (view object.now)) }
+    ensures { Gives result (act_of names.DeleteKey (view object.now)) }
 {
     let key = key_of(alloc, object)?;
     Ok(Act::DeleteKey { key })
 }
 
 pub fn grant(alloc: Global, object: &Value) -> Result<Act, LineFault>
-    ensures { Says result (act_of names.Grant (view object.now)) }
+    ensures { Gives result (act_of names.Grant (view object.now)) }
 {
     let key = key_of(alloc, object)?;
     let uid = needed_u32(object, "uid")?;
@@ -100,7 +100,7 @@ pub fn grant(alloc: Global, object: &Value) -> Result<Act, LineFault>
 }
 
 pub fn ungrant(alloc: Global, object: &Value) -> Result<Act, LineFault>
-    ensures { Says result (act_of names.Ungrant (view object.now)) }
+    ensures { Gives result (act_of names.Ungrant (view object.now)) }
 {
     let key = key_of(alloc, object)?;
     let uid = needed_u32(object, "uid")?;
@@ -108,7 +108,7 @@ pub fn ungrant(alloc: Global, object: &Value) -> Result<Act, LineFault>
 }
 
 pub fn get_number_of_entries(object: &Value) -> Result<Act, LineFault>
-    ensures { Says result (act_of names.GetNumberOfEntries (view object.now)) }
+    ensures { Gives result (act_of names.GetNumberOfEntries (view object.now)) }
 {
     let domain = needed_u32(object, "domain")?;
     let nspace = u64_or_zero(object, "nspace")?;
@@ -116,7 +116,7 @@ pub fn get_number_of_entries(object: &Value) -> Result<Act, LineFault>
 }
 
 pub fn list_entries_batched(alloc: Global, object: &Value) -> Result<Act, LineFault>
-    ensures { Says result (act_of names.ListEntriesBatched (view object.now)) }
+    ensures { Gives result (act_of names.ListEntriesBatched (view object.now)) }
 {
     let domain = needed_u32(object, "domain")?;
     let nspace = u64_or_zero(object, "nspace")?;
@@ -129,7 +129,7 @@ pub fn list_entries_batched(alloc: Global, object: &Value) -> Result<Act, LineFa
 }
 
 pub fn clear_namespace(object: &Value) -> Result<Act, LineFault>
-    ensures { Says result (act_of names.ClearNamespace (view object.now)) }
+    ensures { Gives result (act_of names.ClearNamespace (view object.now)) }
 {
     let domain = needed_u32(object, "domain")?;
     let nspace = u64_or_zero(object, "nspace")?;

@@ -3,7 +3,7 @@
 ghost use Rattle.std.specs.Prelude.{◌≡◌, [], false, option_map};
 ghost use Rattle.serde_json.specs.Find.{get, as_str, as_bool};
 ghost use Rattle.serde_json.specs.View.{view};
-ghost use Rattle.script_lines.specs.Reads.{Says};
+ghost use Rattle.script_lines.specs.Reads.{Gives};
 ghost use Rattle.script_lines.specs.Members.{u64_of as spec_u64_of, u32_of as spec_u32_of, bytes_of_hex as spec_bytes_of_hex, hex_of as spec_hex_of, hex_32_of as spec_hex_32_of, two_of as spec_two_of, needed, defaulted, optional};
 
 use crate::LineFault;
@@ -14,14 +14,14 @@ use tags::Bytes;
 
 /// A whole number of at most 64 bits.
 pub fn u64_of(value: &Value) -> Result<u64, LineFault>
-    ensures { Says result (spec_u64_of (view value.now)) }
+    ensures { Gives result (spec_u64_of (view value.now)) }
 {
     value.as_u64().ok_or(LineFault::Malformed)
 }
 
 /// A whole number of at most 32 bits.
 pub fn u32_of(value: &Value) -> Result<u32, LineFault>
-    ensures { Says result (spec_u32_of (view value.now)) }
+    ensures { Gives result (spec_u32_of (view value.now)) }
 {
     let number = u64_of(value)?;
     u32::try_from(number).map_err(|_| LineFault::Malformed)
@@ -29,7 +29,7 @@ pub fn u32_of(value: &Value) -> Result<u32, LineFault>
 
 /// The bytes that a hex text spells.
 pub fn bytes_of_hex(alloc: Global, text: &str) -> Result<Bytes, LineFault>
-    ensures { Says result (spec_bytes_of_hex text.now) }
+    ensures { Gives result (spec_bytes_of_hex text.now) }
 {
     match hex::decode(alloc, text.as_bytes()) {
         Ok(bytes) => Ok(Bytes::of(bytes)),
@@ -40,7 +40,7 @@ pub fn bytes_of_hex(alloc: Global, text: &str) -> Result<Bytes, LineFault>
 
 /// A text of hex.
 pub fn hex_of(alloc: Global, value: &Value) -> Result<Bytes, LineFault>
-    ensures { Says result (spec_hex_of (view value.now)) }
+    ensures { Gives result (spec_hex_of (view value.now)) }
 {
     let Some(text) = value.as_str() else {
         return Err(LineFault::Malformed);
@@ -50,7 +50,7 @@ pub fn hex_of(alloc: Global, value: &Value) -> Result<Bytes, LineFault>
 
 /// A text of hex of 32 bytes.
 pub fn hex_32_of(alloc: Global, value: &Value) -> Result<[u8; 32], LineFault>
-    ensures { Says result (spec_hex_32_of (view value.now)) }
+    ensures { Gives result (spec_hex_32_of (view value.now)) }
 {
     let bytes = hex_of(alloc, value)?;
     if bytes.len() != 32 {
@@ -63,7 +63,7 @@ pub fn hex_32_of(alloc: Global, value: &Value) -> Result<[u8; 32], LineFault>
 
 /// A text.
 pub fn text_of(alloc: Global, value: &Value) -> Result<Bytes, LineFault>
-    ensures { Says result (as_str (view value.now)) }
+    ensures { Gives result (as_str (view value.now)) }
 {
     let Some(text) = value.as_str() else {
         return Err(LineFault::Malformed);
@@ -85,7 +85,7 @@ pub fn two_of(value: &Value) -> Option<(&Value, &Value)>
 
 /// A member that has to be there, a number of 64 bits.
 pub fn needed_u64(object: &Value, name: &str) -> Result<u64, LineFault>
-    ensures { Says result (needed spec_u64_of name.now (view object.now)) }
+    ensures { Gives result (needed spec_u64_of name.now (view object.now)) }
 {
     let Some(value) = object.get(name) else {
         return Err(LineFault::Malformed);
@@ -95,7 +95,7 @@ pub fn needed_u64(object: &Value, name: &str) -> Result<u64, LineFault>
 
 /// A member that has to be there, a number of 32 bits.
 pub fn needed_u32(object: &Value, name: &str) -> Result<u32, LineFault>
-    ensures { Says result (needed spec_u32_of name.now (view object.now)) }
+    ensures { Gives result (needed spec_u32_of name.now (view object.now)) }
 {
     let Some(value) = object.get(name) else {
         return Err(LineFault::Malformed);
@@ -105,7 +105,7 @@ pub fn needed_u32(object: &Value, name: &str) -> Result<u32, LineFault>
 
 /// A member that has to be there, a text of hex.
 pub fn needed_hex(alloc: Global, object: &Value, name: &str) -> Result<Bytes, LineFault>
-    ensures { Says result (needed spec_hex_of name.now (view object.now)) }
+    ensures { Gives result (needed spec_hex_of name.now (view object.now)) }
 {
     let Some(value) = object.get(name) else {
         return Err(LineFault::Malformed);
@@ -115,7 +115,7 @@ pub fn needed_hex(alloc: Global, object: &Value, name: &str) -> Result<Bytes, Li
 
 /// A member that has to be there, a text of hex of 32 bytes.
 pub fn needed_hex_32(alloc: Global, object: &Value, name: &str) -> Result<[u8; 32], LineFault>
-    ensures { Says result (needed spec_hex_32_of name.now (view object.now)) }
+    ensures { Gives result (needed spec_hex_32_of name.now (view object.now)) }
 {
     let Some(value) = object.get(name) else {
         return Err(LineFault::Malformed);
@@ -125,7 +125,7 @@ pub fn needed_hex_32(alloc: Global, object: &Value, name: &str) -> Result<[u8; 3
 
 /// A number of 64 bits, 0 where the member is absent.
 pub fn u64_or_zero(object: &Value, name: &str) -> Result<u64, LineFault>
-    ensures { Says result (defaulted 0 spec_u64_of name.now (view object.now)) }
+    ensures { Gives result (defaulted 0 spec_u64_of name.now (view object.now)) }
 {
     match object.get(name) {
         None => Ok(0),
@@ -135,7 +135,7 @@ pub fn u64_or_zero(object: &Value, name: &str) -> Result<u64, LineFault>
 
 /// A truth value, false where the member is absent.
 pub fn flag_or_false(object: &Value, name: &str) -> Result<bool, LineFault>
-    ensures { Says result (defaulted false as_bool name.now (view object.now)) }
+    ensures { Gives result (defaulted false as_bool name.now (view object.now)) }
 {
     match object.get(name) {
         None => Ok(false),
@@ -145,7 +145,7 @@ pub fn flag_or_false(object: &Value, name: &str) -> Result<bool, LineFault>
 
 /// A text of hex, no bytes where the member is absent.
 pub fn hex_or_empty(alloc: Global, object: &Value, name: &str) -> Result<Bytes, LineFault>
-    ensures { Says result (defaulted [] spec_hex_of name.now (view object.now)) }
+    ensures { Gives result (defaulted [] spec_hex_of name.now (view object.now)) }
 {
     match object.get(name) {
         None => Ok(Bytes::empty(alloc)),
@@ -155,7 +155,7 @@ pub fn hex_or_empty(alloc: Global, object: &Value, name: &str) -> Result<Bytes, 
 
 /// A text of hex, where the member is there.
 pub fn optional_hex(alloc: Global, object: &Value, name: &str) -> Result<Option<Bytes>, LineFault>
-    ensures { Says result (optional spec_hex_of name.now (view object.now)) }
+    ensures { Gives result (optional spec_hex_of name.now (view object.now)) }
 {
     let Some(value) = object.get(name) else {
         return Ok(None);
@@ -169,7 +169,7 @@ pub fn optional_hex_32(
     object: &Value,
     name: &str,
 ) -> Result<Option<[u8; 32]>, LineFault>
-    ensures { Says result (optional spec_hex_32_of name.now (view object.now)) }
+    ensures { Gives result (optional spec_hex_32_of name.now (view object.now)) }
 {
     let Some(value) = object.get(name) else {
         return Ok(None);
@@ -179,7 +179,7 @@ pub fn optional_hex_32(
 
 /// A text, where the member is there.
 pub fn optional_text(alloc: Global, object: &Value, name: &str) -> Result<Option<Bytes>, LineFault>
-    ensures { Says result (optional as_str name.now (view object.now)) }
+    ensures { Gives result (optional as_str name.now (view object.now)) }
 {
     let Some(value) = object.get(name) else {
         return Ok(None);

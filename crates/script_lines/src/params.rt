@@ -1,22 +1,26 @@
 //! The member `params`: pairs by the tags' names, or hex text of an encoded authorization list.
 
-ghost use Rattle.std.specs.Prelude.{◌≡◌, ◌++◌, Some};
+ghost use Rattle.std.specs.Prelude.{◌≡◌, IfOk};
+ghost use Rattle.std.specs.List.{AllByRecursion};
 ghost use Rattle.serde_json.specs.View.{view, items_view};
-ghost use Rattle.script_lines.specs.Reads.{Says};
-ghost use Rattle.script_lines.specs.Params.{params_of as spec_params_of, list_of_pairs as spec_list_of_pairs, pairs_bytes as spec_pairs_bytes, pair_bytes as spec_pair_bytes, value_bytes as spec_value_bytes, short_bytes as spec_short_bytes};
+ghost use Rattle.tag_lists.specs.declared.shape.Shape.TheVariants as shapes;
+ghost use Rattle.tag_lists.specs.Order.{Fits, FitsShape, shape_of};
+ghost use Rattle.script_lines.specs.Reads.{Gives, GivesView};
+ghost use Rattle.script_lines.specs.Params as spec;
 
 use crate::LineFault;
 use crate::members::{bytes_of_hex, hex_of, two_of, u32_of, u64_of};
 use serde_json::Value;
 use std::alloc::Global;
-use tags::{Bytes, Tag, TagType};
+use tag_lists::spelled;
+use tags::{Bytes, Param, ParamValue, Tag, TagType};
 
 /// The encoded list of the member `params`; the empty list where it is absent.
 pub fn params_of(alloc: Global, object: &Value) -> Result<Bytes, LineFault>
-    ensures { Says result (spec_params_of (view object.now)) }
+    ensures { Gives result (spec.params_of (view object.now)) }
 {
     let Some(value) = object.get("params") else {
-        return Ok(Bytes::copy_of(alloc, &[0, 0])?);
+        return Ok(spelled(alloc, &[])?);
     };
     if let Some(text) = value.as_str() {
         return bytes_of_hex(alloc, text);
@@ -24,32 +28,39 @@ pub fn params_of(alloc: Global, object: &Value) -> Result<Bytes, LineFault>
     let Some(pairs) = value.as_array() else {
         return Err(LineFault::Malformed);
     };
-    list_of_pairs(alloc, pairs.as_slice())
+    let params = params_in(alloc, pairs.as_slice())?;
+    list_of_params(alloc, params.as_slice())
 }
 
-fn list_of_pairs(alloc: Global, pairs: &[Value]) -> Result<Bytes, LineFault>
-    ensures { Says result (spec_list_of_pairs (items_view pairs.now)) }
+/// The list that the parameters spell, in the order given.
+fn list_of_params(alloc: Global, params: &[Param]) -> Result<Bytes, LineFault>
+    requires { AllByRecursion Fits params.now }
+    ensures { Gives result (spec.list_of_params params.now) }
 {
-    let bytes = pairs_bytes(alloc, pairs)?;
-    let Ok(count) = u16::try_from(pairs.len()) else {
-        return Err(LineFault::Malformed);
-    };
-    joined(alloc, &count.to_be_bytes(), bytes.as_slice())
+    if params.len() < 65_536 {
+        Ok(spelled(alloc, params)?)
+    } else {
+        Err(LineFault::Malformed)
+    }
 }
 
-fn pairs_bytes(alloc: Global, pairs: &[Value]) -> Result<Bytes, LineFault>
-    ensures { Says result (spec_pairs_bytes (items_view pairs.now)) }
+/// The parameters of the pairs, in the order given.
+fn params_in(alloc: Global, pairs: &[Value]) -> Result<Vec<Param>, LineFault>
+    ensures params { GivesView (λ params. params.items) result (spec.params_in (items_view pairs.now)) }
+    ensures fit { IfOk result (λ params. AllByRecursion Fits params.items) }
 {
     let mut out = Vec::new(alloc);
     'pairs: for pair in pairs {
-        let bytes = pair_bytes(alloc, pair)?;
-        out.extend_from_slice(bytes.as_slice())?;
+        let param = param_of(alloc, pair)?;
+        out.push(param)?;
     }
-    Ok(Bytes::of(out))
+    Ok(out)
 }
 
-fn pair_bytes(alloc: Global, pair: &Value) -> Result<Bytes, LineFault>
-    ensures { Says result (spec_pair_bytes (view pair.now)) }
+/// The parameter of a pair of a tag's name and a value.
+fn param_of(alloc: Global, pair: &Value) -> Result<Param, LineFault>
+    ensures param { Gives result (spec.param_of (view pair.now)) }
+    ensures fits { IfOk result (λ param. Fits param) }
 {
     let Some((name, value)) = two_of(pair) else {
         return Err(LineFault::Malformed);
@@ -60,47 +71,44 @@ fn pair_bytes(alloc: Global, pair: &Value) -> Result<Bytes, LineFault>
     let Some(tag) = Tag::of_name(name) else {
         return Err(LineFault::Malformed);
     };
-    let bytes = value_bytes(alloc, tag.kind(), value)?;
-    joined(alloc, &tag.number().to_be_bytes(), bytes.as_slice())
+    let value = value_of(alloc, tag.kind(), value)?;
+    Ok(Param { tag, value })
 }
 
-fn value_bytes(alloc: Global, kind: TagType, value: &Value) -> Result<Bytes, LineFault>
-    ensures { Says result (spec_value_bytes kind (view value.now)) }
+/// The value of a tag of this type.
+fn value_of(alloc: Global, kind: TagType, value: &Value) -> Result<ParamValue, LineFault>
+    ensures value { Gives result (spec.value_of kind (view value.now)) }
+    ensures fits { IfOk result (λ value. FitsShape (shape_of kind) value) }
 {
     match kind {
         TagType::Enum | TagType::EnumRep | TagType::Uint | TagType::UintRep => {
             let number = u32_of(value)?;
-            Ok(Bytes::copy_of(alloc, &number.to_be_bytes())?)
+            Ok(ParamValue::Number(number as u64))
         }
         TagType::Ulong | TagType::UlongRep | TagType::Date => {
             let number = u64_of(value)?;
-            Ok(Bytes::copy_of(alloc, &number.to_be_bytes())?)
+            Ok(ParamValue::Number(number))
         }
         TagType::Bool => match value.as_bool() {
-            Some(true) => Ok(Bytes::copy_of(alloc, &[1])?),
+            Some(true) => Ok(ParamValue::Flag),
             _ => Err(LineFault::Malformed),
         },
         TagType::Bytes => {
             let bytes = hex_of(alloc, value)?;
-            short_bytes(alloc, bytes.as_slice())
+            short_bytes(bytes)
         }
         TagType::Bignum => Err(LineFault::Malformed),
     }
 }
 
-fn short_bytes(alloc: Global, bytes: &[u8]) -> Result<Bytes, LineFault>
-    ensures { Says result (spec_short_bytes bytes.now) }
+/// At most 65,535 bytes.
+fn short_bytes(bytes: Bytes) -> Result<ParamValue, LineFault>
+    ensures value { Gives result (spec.short_bytes bytes) }
+    ensures fits { IfOk result (λ value. FitsShape shapes.Sized value) }
 {
-    let Ok(count) = u16::try_from(bytes.len()) else {
-        return Err(LineFault::Malformed);
-    };
-    joined(alloc, &count.to_be_bytes(), bytes)
-}
-
-fn joined(alloc: Global, first: &[u8], second: &[u8]) -> Result<Bytes, LineFault>
-    ensures { Says result (Some (first.now ++ second.now)) }
-{
-    let mut out = Vec::from_slice(alloc, first)?;
-    out.extend_from_slice(second)?;
-    Ok(Bytes::of(out))
+    if bytes.len() < 65_536 {
+        Ok(ParamValue::Raw(bytes))
+    } else {
+        Err(LineFault::Malformed)
+    }
 }

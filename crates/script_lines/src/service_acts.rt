@@ -2,7 +2,7 @@
 
 ghost use Rattle.std.specs.Prelude.{◌≡◌};
 ghost use Rattle.serde_json.specs.View.{view};
-ghost use Rattle.script_lines.specs.Reads.{Says};
+ghost use Rattle.script_lines.specs.Reads.{Gives};
 ghost use Rattle.rule_model.specs.declared.act_kind.ActKind.TheVariants as names;
 ghost use Rattle.script_lines.specs.Acts.{act_of};
 
@@ -13,14 +13,14 @@ use serde_json::Value;
 use std::alloc::Global;
 
 pub fn connect(object: &Value) -> Result<Act, LineFault>
-    ensures { Says result (act_of names.Connect (view object.now)) }
+    ensures { Gives result (act_of names.Connect (view object.now)) }
 {
     let uid = needed_u32(object, "uid")?;
     Ok(Act::Connect { uid })
 }
 
 pub fn add_auth_token(alloc: Global, object: &Value) -> Result<Act, LineFault>
-    ensures { Says result (act_of names.AddAuthToken (view object.now)) }
+    ensures { Gives result (act_of names.AddAuthToken (view object.now)) }
 {
     let challenge = needed_u64(object, "challenge")?;
     let user = needed_u64(object, "user")?;
@@ -39,28 +39,28 @@ pub fn add_auth_token(alloc: Global, object: &Value) -> Result<Act, LineFault>
 }
 
 pub fn device_locked(object: &Value) -> Result<Act, LineFault>
-    ensures { Says result (act_of names.DeviceLocked (view object.now)) }
+    ensures { Gives result (act_of names.DeviceLocked (view object.now)) }
 {
     let user = needed_u32(object, "user")?;
     Ok(Act::DeviceLocked { user })
 }
 
 pub fn device_unlocked(object: &Value) -> Result<Act, LineFault>
-    ensures { Says result (act_of names.DeviceUnlocked (view object.now)) }
+    ensures { Gives result (act_of names.DeviceUnlocked (view object.now)) }
 {
     let user = needed_u32(object, "user")?;
     Ok(Act::DeviceUnlocked { user })
 }
 
 pub fn user_removed(object: &Value) -> Result<Act, LineFault>
-    ensures { Says result (act_of names.UserRemoved (view object.now)) }
+    ensures { Gives result (act_of names.UserRemoved (view object.now)) }
 {
     let user = needed_u32(object, "user")?;
     Ok(Act::UserRemoved { user })
 }
 
 pub fn restart(alloc: Global, object: &Value) -> Result<Act, LineFault>
-    ensures { Says result (act_of names.Restart (view object.now)) }
+    ensures { Gives result (act_of names.Restart (view object.now)) }
 {
     let root = optional_hex_32(alloc, object, "root")?;
     Ok(Act::Restart { root })

@@ -2,7 +2,7 @@
 
 ghost use Rattle.std.specs.Prelude.{◌≡◌};
 ghost use Rattle.serde_json.specs.View.{view};
-ghost use Rattle.script_lines.specs.Reads.{Says};
+ghost use Rattle.script_lines.specs.Reads.{Gives};
 ghost use Rattle.rule_model.specs.declared.act_kind.ActKind.TheVariants as names;
 ghost use Rattle.script_lines.specs.Acts.{act_of};
 
@@ -13,7 +13,7 @@ use serde_json::Value;
 use std::alloc::Global;
 
 pub fn update_aad(alloc: Global, object: &Value) -> Result<Act, LineFault>
-    ensures { Says result (act_of names.UpdateAad (view object.now)) }
+    ensures { Gives result (act_of names.UpdateAad (view object.now)) }
 {
     let op = needed_u64(object, "op")?;
     let input = hex_or_empty(alloc, object, "input")?;
@@ -21,7 +21,7 @@ pub fn update_aad(alloc: Global, object: &Value) -> Result<Act, LineFault>
 }
 
 pub fn update(alloc: Global, object: &Value) -> Result<Act, LineFault>
-    ensures { Says result (act_of names.Update (view object.now)) }
+    ensures { Gives result (act_of names.Update (view object.now)) }
 {
     let op = needed_u64(object, "op")?;
     let input = hex_or_empty(alloc, object, "input")?;
@@ -29,7 +29,7 @@ pub fn update(alloc: Global, object: &Value) -> Result<Act, LineFault>
 }
 
 pub fn finish(alloc: Global, object: &Value) -> Result<Act, LineFault>
-    ensures { Says result (act_of names.Finish (view object.now)) }
+    ensures { Gives result (act_of names.Finish (view object.now)) }
 {
     let op = needed_u64(object, "op")?;
     let input = hex_or_empty(alloc, object, "input")?;
@@ -42,14 +42,14 @@ pub fn finish(alloc: Global, object: &Value) -> Result<Act, LineFault>
 }
 
 pub fn abort(object: &Value) -> Result<Act, LineFault>
-    ensures { Says result (act_of names.Abort (view object.now)) }
+    ensures { Gives result (act_of names.Abort (view object.now)) }
 {
     let op = needed_u64(object, "op")?;
     Ok(Act::Abort { op })
 }
 
 pub fn leave(object: &Value) -> Result<Act, LineFault>
-    ensures { Says result (act_of names.Leave (view object.now)) }
+    ensures { Gives result (act_of names.Leave (view object.now)) }
 {
     let ticket = needed_u64(object, "ticket")?;
     Ok(Act::Leave { ticket })

@@ -1,26 +1,12 @@
 -- Table S, a step of an operation: a list of rules in its order, and the answer is the first that does not hold.
-use Rattle.std.specs.Prelude.{ℕ, Bool, true, false, ◌&&◌, ◌||◌, not, ◌==◌, List, [], ◌∷◌, ◌++◌, Result, Ok, Err, if◌then◌else◌}
-use Rattle.tags.specs.declared.code.Code.{Code}
+use Rattle.std.specs.Prelude.{Bool, true, false, ◌&&◌, ◌||◌, not, ◌==◌, List, [], ◌∷◌, ◌++◌, if◌then◌else◌}
 use Rattle.tags.specs.declared.code.Code.TheVariants.{InvalidOperationHandle, TooMuchData, InvalidKeyBlob, InvalidTag, InvalidInputLength}
 use Rattle.tags.specs.declared.rule.Rule.{Rule}
 use Rattle.tags.specs.declared.rule.RuleTable.{RuleTable}
 use Rattle.tags.specs.declared.rule.RuleTable.TheVariants.{S}
+use Rattle.tags.specs.Table.{Check, Ruling, check, first_broken}
 use Rattle.step_rules.specs.declared.facts.StepFacts.{StepFacts}
-use Rattle.step_rules.specs.Rules.{is_enter, are_pieces_short, may_take_aad, is_total_within, may_end}
-
--- a row of the table: the rule's number, its code, and whether it holds
-pub record Check : Type 0 where
-  pub number : ℕ
-  pub code : Code
-  pub holds : Bool
-
-abbrev pub check : ℕ → Code → Bool → Check
-check number code holds = record { number = number; code = code; holds = holds }
-
--- the first rule that does not hold, with its code
-abbrev pub first_broken : List Check → Result (Unit {0}) (Rule × Code)
-first_broken [] = Ok tt
-first_broken (row ∷ rows) = if row.holds then first_broken rows else Err (record { table = S; number = row.number }, row.code)
+use Rattle.step_rules.specs.Rules.{is_enter, are_pieces_short, may_take_aad, is_total_within, has_whole_text}
 
 -- the rules of every step
 abbrev pub call_rules : StepFacts → List Check
@@ -35,7 +21,7 @@ enter_rules facts =
     check 4 InvalidKeyBlob (not facts.ended) ∷  -- its key has not ended
     check 6 InvalidTag (may_take_aad facts) ∷  -- additional data comes for GCM, before any text
     check 7 InvalidInputLength (is_total_within facts) ∷  -- all input is not too long
-    check 8 InvalidInputLength (may_end facts) ∷  -- the whole text's length is one that the plan takes
+    check 8 InvalidInputLength (has_whole_text facts) ∷  -- the whole text's length is one that the plan takes
     []
 
 -- table S: an abort walks the rules of every step alone
@@ -43,8 +29,8 @@ abbrev pub rules_of : StepFacts → List Check
 rules_of facts = call_rules facts ++ (if is_enter facts.kind then enter_rules facts else [])
 
 -- the first rule of the table that does not hold
-unfoldable pub answer : StepFacts → Result (Unit {0}) (Rule × Code)
-answer facts = first_broken (rules_of facts)
+unfoldable pub answer : StepFacts → Ruling
+answer facts = first_broken S (rules_of facts)
 
 -- the rules whose denial ends the operation
 abbrev pub ends_operation : Rule → Bool

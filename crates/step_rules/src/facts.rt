@@ -1,3 +1,5 @@
+//! What the rules of a step read.
+
 use tags::Plan;
 
 /// What a step does.

@@ -12,5 +12,4 @@ mod table;
 mod tests;
 
 pub use facts::{StepFacts, StepKind};
-pub use rules::{OPERATION_BYTES, PIECE_BYTES};
 pub use table::{check_step, ends_operation};

@@ -1,47 +1,41 @@
-ghost use Rattle.std.specs.Prelude.{◌≡◌, ◌∷◌, [], true, OnOk};
+//! Table S, walked in its order.
+
+ghost use Rattle.std.specs.Prelude.{◌≡◌, true, OnOk};
+ghost use Rattle.tags.specs.declared.rule.RuleTable.TheVariants.{S};
+ghost use Rattle.tags.specs.Table.{first_broken, rule_of};
 ghost use Rattle.step_rules.specs.Rules.{is_enter as is_enter_kind, Enters};
 ghost use Rattle.step_rules.specs.Table as spec;
 
 use crate::StepFacts;
-use crate::rules::{are_pieces_short, is_enter, is_total_within, may_end, may_take_aad};
-use tags::{Code, Rule, RuleTable};
+use crate::rules::{are_pieces_short, has_whole_text, is_enter, is_total_within, may_take_aad};
+use tags::{Code, Rule, RuleTable, Ruling, check};
 
-// A rule of the table: `Err` where it does not hold.
-fn rule(number: u8, code: Code, holds: bool) -> Result<(), (Rule, Code)>
-    ensures { result ≡ spec.first_broken (spec.check number code holds ∷ []) }
+/// A rule of the table by its number.
+fn rule(number: u8) -> Rule
+    ensures { result ≡ rule_of S number }
 {
-    if holds {
-        Ok(())
-    } else {
-        Err((
-            Rule {
-                table: RuleTable::S,
-                number,
-            },
-            code,
-        ))
-    }
+    RuleTable::S.rule(number)
 }
 
-// The rules of every step.
-fn check_call(facts: &StepFacts) -> Result<(), (Rule, Code)>
-    ensures { result ≡ spec.first_broken (spec.call_rules facts.now) }
+/// The rules of every step.
+fn check_call(facts: &StepFacts) -> Ruling
+    ensures { result ≡ first_broken S (spec.call_rules facts.now) }
 {
-    rule(1, Code::InvalidOperationHandle, facts.own)?;
+    check(rule(1), Code::InvalidOperationHandle, facts.own)?;
     Ok(())
 }
 
-// The rules of a step that enters the operation.
+/// The rules of a step that enters the operation.
 #[tactic(auto, using(crate::proofs::Entering::enters))]
-fn check_enter(facts: &StepFacts) -> Result<(), (Rule, Code)>
-    ensures first { result ≡ spec.first_broken (spec.enter_rules facts.now) }
+fn check_enter(facts: &StepFacts) -> Ruling
+    ensures first { result ≡ first_broken S (spec.enter_rules facts.now) }
     ensures enters { OnOk result (Enters facts.now) }
 {
-    rule(3, Code::TooMuchData, are_pieces_short(facts))?;
-    rule(4, Code::InvalidKeyBlob, !facts.ended)?;
-    rule(6, Code::InvalidTag, may_take_aad(facts))?;
-    rule(7, Code::InvalidInputLength, is_total_within(facts))?;
-    rule(8, Code::InvalidInputLength, may_end(facts))?;
+    check(rule(3), Code::TooMuchData, are_pieces_short(facts))?;
+    check(rule(4), Code::InvalidKeyBlob, !facts.ended)?;
+    check(rule(6), Code::InvalidTag, may_take_aad(facts))?;
+    check(rule(7), Code::InvalidInputLength, is_total_within(facts))?;
+    check(rule(8), Code::InvalidInputLength, has_whole_text(facts))?;
     Ok(())
 }
 
@@ -49,7 +43,7 @@ fn check_enter(facts: &StepFacts) -> Result<(), (Rule, Code)>
 /// abort the first one alone. A step that breaks none is the client's own, and keeps to the lengths, the key and the plan.
 /// It takes no memory.
 #[tactic(auto, unfolding(crate::specs::Table::answer))]
-pub fn check_step(facts: &StepFacts) -> Result<(), (Rule, Code)>
+pub fn check_step(facts: &StepFacts) -> Ruling
     ensures first { result ≡ spec.answer facts.now }
     ensures own { OnOk result (facts.now.own ≡ true) }
     ensures enters { OnOk result (is_enter_kind facts.now.kind ≡ true → Enters facts.now) }

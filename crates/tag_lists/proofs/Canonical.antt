@@ -11,7 +11,7 @@ use Rattle.tags.specs.Tag.{type_of, low_of, repeats}
 use Rattle.tag_lists.specs.declared.shape.Shape.{Shape}
 use Rattle.tag_lists.specs.declared.shape.Shape.TheVariants.{Short, Long, Truth, Sized}
 use Rattle.tag_lists.specs.Order.{shape_of, FitsShape, Fits, number_in, rank, MayStandBeside, StandsBefore, IsInOrder, MayBeListed, with_param, with_params}
-use Rattle.tag_lists.specs.Reading.{stands}
+use Rattle.tag_lists.specs.Reading.{was_read}
 use Rattle.tag_lists.proofs.Tags.{tag_from_low}
 
 pub all_with : {X : Type 0} (P Q : X → Type 0) → ((x : X) → P x → Q x) → (xs : List X) → AllByRecursion P xs → AllByRecursion Q xs
@@ -75,25 +75,25 @@ both_false : (a b : Bool) → (a || b) ≡ false → (a ≡ false) × (b ≡ fal
 both_false true b e = absurd cc
 both_false false b e = (refl, e)
 
-follows_by : (r : Bool) (p : Param) (before : List Param) → repeats (type_of p.tag) ≡ r → (not r && stands p.tag before) ≡ false → AllByRecursion (MayStandBeside p) before
+follows_by : (r : Bool) (p : Param) (before : List Param) → repeats (type_of p.tag) ≡ r → (not r && was_read p.tag before) ≡ false → AllByRecursion (MayStandBeside p) before
 follows_by true p before is h = all_ever (MayStandBeside p) (λ q e. is) before
 follows_by false p [] is h = tt
 follows_by false p (q ∷ qs) is h =
-    let both = both_false (eqb (low_of q.tag) (low_of p.tag)) (stands p.tag qs) h in
+    let both = both_false (eqb (low_of q.tag) (low_of p.tag)) (was_read p.tag qs) h in
     ((λ e. absurd (eqb-false (low_of q.tag) (low_of p.tag) both.0 (ap low_of (sym e)))), follows_by false p qs is both.1)
 
 -- the test passes where the parameter may stand beside each one before it
-pub follows : (p : Param) (before : List Param) → (not (repeats (type_of p.tag)) && stands p.tag before) ≡ false → AllByRecursion (MayStandBeside p) before
+pub follows : (p : Param) (before : List Param) → (not (repeats (type_of p.tag)) && was_read p.tag before) ≡ false → AllByRecursion (MayStandBeside p) before
 follows p before h = follows_by (repeats (type_of p.tag)) p before refl h
 
-passes_by : (r : Bool) (p : Param) (before : List Param) → repeats (type_of p.tag) ≡ r → AllByRecursion (MayStandBeside p) before → (not r && stands p.tag before) ≡ false
+passes_by : (r : Bool) (p : Param) (before : List Param) → repeats (type_of p.tag) ≡ r → AllByRecursion (MayStandBeside p) before → (not r && was_read p.tag before) ≡ false
 passes_by true p before is h = refl
 passes_by false p [] is h = refl
 passes_by false p (q ∷ qs) is h =
     let other : eqb (low_of q.tag) (low_of p.tag) ≡ false = ne_eqb (low_of q.tag) (low_of p.tag) (λ e. let yes : repeats (type_of p.tag) ≡ true = h.0 (sym (tag_from_low q.tag p.tag e)) in absurd cc) in
     rw other (passes_by false p qs is h.1)
 
-pub passes : (p : Param) (before : List Param) → AllByRecursion (MayStandBeside p) before → (not (repeats (type_of p.tag)) && stands p.tag before) ≡ false
+pub passes : (p : Param) (before : List Param) → AllByRecursion (MayStandBeside p) before → (not (repeats (type_of p.tag)) && was_read p.tag before) ≡ false
 passes p before h = passes_by (repeats (type_of p.tag)) p before refl h
 
 -- ---- what stood before

@@ -18,8 +18,10 @@ use Rattle.tag_lists.specs.declared.shape.Shape.{Shape}
 use Rattle.tag_lists.specs.declared.shape.Shape.TheVariants as shapes
 use Rattle.tag_lists.specs.Order.{FitsShape, shape_of, Fits, MayStandBeside, MayBeListed, IsCanonical, with_param, with_params, canonical}
 use Rattle.tag_lists.specs.Spelling.{spelled_value, spelled, spelling, IsListOf}
-use Rattle.tag_lists.specs.Reading.{◌>>=◌, Gives, tag_numbered, tag_with_low, stands, is_wrong_flag, value_at, known_at, tagged_at, param_at, params_at, whole, listed}
-use Rattle.tag_lists.proofs.Tags.{numbered_is, number_from_tag, number_fits}
+use Rattle.tag_lists.specs.Reading.{◌>>=◌, Gives, was_read, is_wrong_flag, value_at, known_at, tagged_at, param_at, params_at, whole, listed}
+use Rattle.tags.specs.Tag.{tag_numbered, tag_with_low}
+use Rattle.tags.specs.TagLaws.{numbered_is}
+use Rattle.tag_lists.proofs.Tags.{number_from_tag, number_fits}
 use Rattle.tag_lists.proofs.Canonical.{follows, passes, all-with_param, back-with_param, AreApart, apart_more, apart_none, beside_sym, stays-with_params, canonical_is, may_from_order, all_two}
 use Rattle.tag_lists.proofs.Members.{same_members}
 use Rattle.tag_lists.proofs.Fields.{IsBytes, IsBytes-drop, bind_ok, guard_ok, ok_is, Takes, Takes-then, wide2, wide4, number_takes, number_again, value_takes, value_again}
@@ -42,8 +44,8 @@ known_takes : (at : ℕ) (before : List Param) (tag : Tag) (bytes : List ℕ) (x
 unfolding known_at
 known_takes at before tag bytes x fits e =
     let read : Result (Param × List ℕ) ListFault = value_at at (shape_of (type_of tag)) bytes >>= λ v. Ok (record { tag = tag; value = v.0 }, v.1) in
-    let a = guard_ok (is_wrong_flag (shape_of (type_of tag)) bytes) (WrongKind at) (cond (not (repeats (type_of tag)) && stands tag before) (Err (Repeated at)) read) x e in
-    let b = guard_ok (not (repeats (type_of tag)) && stands tag before) (Repeated at) read x a.1 in
+    let a = guard_ok (is_wrong_flag (shape_of (type_of tag)) bytes) (WrongKind at) (cond (not (repeats (type_of tag)) && was_read tag before) (Err (Repeated at)) read) x e in
+    let b = guard_ok (not (repeats (type_of tag)) && was_read tag before) (Repeated at) read x a.1 in
     let v = bind_ok (value_at at (shape_of (type_of tag)) bytes) (λ v. Ok (record { tag = tag; value = v.0 }, v.1)) x b.1 in
     let t = value_takes (shape_of (type_of tag)) at bytes v.0 fits a.0 v.1 in
     let made : Param × List ℕ = (record { tag = tag; value = v.0.0 }, v.0.1) in

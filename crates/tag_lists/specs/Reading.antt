@@ -1,14 +1,14 @@
 -- What bytes spell as an authorization list, or the fault of least offset. Of several faults of one parameter the first
 -- of UnknownTag, WrongKind, Repeated and Truncated is given.
 use Rattle.std.specs.Prelude.{◌≡◌, ℕ, zero, suc, ◌-◌, ◌^◌, ◌%◌, Bool, false, not, ◌&&◌, ◌==◌, List, [], ◌∷◌, length, take, drop, nat_lt, if◌then◌else◌}
-use Rattle.std.specs.Prelude.{Option, Some, None, is_some, find, Result, Ok, Err}
+use Rattle.std.specs.Prelude.{Option, Some, None, is_some, Result, Ok, Err}
 use Rattle.std.specs.List.{list_any}
 use Rattle.byteorder.specs.Endian.{big_number}
 use Rattle.tags.specs.declared.tag.Tag.{Tag}
 use Rattle.tags.specs.declared.param.Param.{Param}
 use Rattle.tags.specs.declared.param.ParamValue.{ParamValue}
 use Rattle.tags.specs.declared.param.ParamValue.TheVariants.{Number, Flag, Raw}
-use Rattle.tags.specs.Tag.{type_of, low_of, number_of, repeats, all_tags}
+use Rattle.tags.specs.Tag.{type_of, low_of, repeats, tag_numbered, tag_with_low}
 use Rattle.tag_lists.specs.declared.fault.ListFault.{ListFault}
 use Rattle.tag_lists.specs.declared.fault.ListFault.TheVariants.{UnknownTag, WrongKind, Repeated, Truncated, Trailing, Memory}
 use Rattle.tag_lists.specs.declared.shape.Shape.{Shape}
@@ -33,16 +33,9 @@ abbrev pub Gives : {X Y : Type 0} → (X → Y) → Result X ListFault → Resul
 Gives view (Ok x) read = read ≡ Ok (view x)
 Gives view (Err e) read = Fails e read
 
--- the tag of a number, and the tag of 28 low bits, whatever its type
-unfoldable pub tag_numbered : ℕ → Option Tag
-tag_numbered number = find (λ tag. number_of tag == number) all_tags
-
-unfoldable pub tag_with_low : ℕ → Option Tag
-tag_with_low low = find (λ tag. low_of tag == low) all_tags
-
--- a parameter of the tag stands in the list
-abbrev pub stands : Tag → List Param → Bool
-stands tag ps = list_any (λ p. low_of p.tag == low_of tag) ps
+-- a parameter of the tag was read
+abbrev pub was_read : Tag → List Param → Bool
+was_read tag ps = list_any (λ p. low_of p.tag == low_of tag) ps
 
 -- a flag is not the byte 01
 abbrev pub is_wrong_flag : Shape → List ℕ → Bool
@@ -64,7 +57,7 @@ value_at at shapes.Sized bytes = if nat_lt (length bytes) 2 then Err (Truncated 
 unfoldable pub known_at : ℕ → List Param → Tag → List ℕ → Result (Param × List ℕ) ListFault
 known_at at before tag bytes =
     if is_wrong_flag (shape_of (type_of tag)) bytes then Err (WrongKind at) else
-    if not (repeats (type_of tag)) && stands tag before then Err (Repeated at) else
+    if not (repeats (type_of tag)) && was_read tag before then Err (Repeated at) else
     (value_at at (shape_of (type_of tag)) bytes >>= λ v. Ok (record { tag = tag; value = v.0 }, v.1))
 
 -- the parameter of a tag's number, behind others

@@ -1,3 +1,5 @@
+//! Why bytes are no authorization list.
+
 ghost use Rattle.std.specs.Prelude.{◌≡◌};
 ghost use Rattle.tag_lists.specs.declared.fault.ListFault.TheVariants.{Memory};
 

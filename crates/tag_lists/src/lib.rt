@@ -15,3 +15,4 @@ mod writing;
 
 pub use fault::ListFault;
 pub use list::AuthList;
+pub use writing::spelled;

@@ -1,7 +1,12 @@
+//! An authorization list, and what it says of a tag.
+
 ghost use Rattle.std.specs.Prelude.{◌≡◌, ℕ, ◌+◌, ◌*◌, ◌<◌, ◌≤◌, List, [], length, drop, IfOk, Ok};
 ghost use Rattle.std.specs.Option.{option_copied};
-ghost use Rattle.std.specs.List.{list_any};
+ghost use Rattle.std.specs.List.{list_all, list_any};
 ghost use Rattle.tags.specs.declared.param.Param.{Param};
+ghost use Rattle.tags.specs.Param.{as_number};
+ghost use Rattle.tags.specs.Values as values;
+ghost use Rattle.tags.specs.Values.{passes};
 ghost use Rattle.tag_lists.specs.Order.{Fits, IsCanonical, MayBeListed, canonical, with_param};
 ghost use Rattle.tag_lists.specs.Spelling.{spelling, IsListOf};
 ghost use Rattle.tag_lists.specs.Reading.{Gives, listed};
@@ -12,6 +17,7 @@ use crate::shape::{is_tag, rank};
 use crate::{reading, writing};
 use std::alloc::Global;
 use std::marker::Model;
+use tags::values::{AES, HMAC, one_in};
 use tags::{Bytes, NoMemory, Param, ParamValue, Tag};
 
 /// An authorization list: at most 65,535 parameters of at most 65,535 bytes each, in canonical order, that is by the
@@ -33,7 +39,7 @@ impl Model for AuthList {
     ghost invariant = { λ list. IsCanonical list.params.items };
 }
 
-// Whether a value is this number.
+/// Whether a value is this number.
 fn is_number(number: u64, value: &ParamValue) -> bool
     ensures { result ≡ spec.is_number number value.now }
 {
@@ -44,7 +50,7 @@ fn is_number(number: u64, value: &ParamValue) -> bool
     }
 }
 
-// The parameters from a place on.
+/// The parameters from a place on.
 fn behind(params: &[Param], place: usize) -> &[Param]
     requires { place ≤ length params.now }
     ensures { result.now ≡ drop place params.now }
@@ -52,7 +58,7 @@ fn behind(params: &[Param], place: usize) -> &[Param]
     &params[place..]
 }
 
-// The parameters of a tag, which stand side by side.
+/// The parameters of a tag, which stand side by side.
 fn of_tag(params: &[Param], tag: Tag) -> &[Param]
     requires { IsCanonical params.now }
     ensures { result.now ≡ spec.all_of tag params.now }
@@ -64,14 +70,43 @@ fn of_tag(params: &[Param], tag: Tag) -> &[Param]
     &rest[..count]
 }
 
-// Whether a parameter has this number.
+/// Whether a parameter has this number.
 fn any_number(params: &[Param], number: u64) -> bool
     ensures { result ≡ list_any (λ p. spec.is_number number p.value) params.now }
 {
     params.iter().any(|param| is_number(number, &param.value))
 }
 
-// The list that the bytes spell.
+/// The number of the one parameter.
+fn number_alone(params: &[Param]) -> Option<u64>
+    ensures { result ≡ spec.number_alone params.now }
+{
+    match params {
+        [param] => param.value.as_number(),
+        _ => None,
+    }
+}
+
+/// Whether there is a number, and it is one of these.
+fn is_one_in(numbers: &[u64], number: Option<u64>) -> bool
+    ensures { result ≡ passes (values.one_in numbers.now) number }
+{
+    match number {
+        Some(number) => one_in(numbers, number),
+        None => false,
+    }
+}
+
+/// Whether each parameter has one of these numbers.
+fn all_in(params: &[Param], numbers: &[u64]) -> bool
+    ensures { result ≡ list_all (λ p. passes (values.one_in numbers.now) (as_number p.value)) params.now }
+{
+    params
+        .iter()
+        .all(|param| is_one_in(numbers, param.value.as_number()))
+}
+
+/// The list that the bytes spell.
 fn list_of(alloc: Global, bytes: &[u8]) -> Result<AuthList, ListFault>
     ensures { Gives (λ list. list) result (listed bytes.now) }
 {
@@ -172,5 +207,70 @@ impl AuthList {
         let place = params.partition_point(|other| rank(other) < own);
         params.insert(place, param)?;
         Ok(AuthList { params })
+    }
+
+    /// Whether a parameter of the tag stands in the list. It takes no memory.
+    pub fn stands(&self, tag: Tag) -> bool
+        ensures { result ≡ spec.stands tag self.now }
+    {
+        self.one(tag).is_some()
+    }
+
+    /// The number of the tag's first parameter. It takes no memory.
+    pub fn number(&self, tag: Tag) -> Option<u64>
+        ensures { result ≡ spec.number_of tag self.now }
+    {
+        match self.one(tag) {
+            Some(param) => param.value.as_number(),
+            None => None,
+        }
+    }
+
+    /// The bytes of the tag's first parameter. It takes no memory.
+    pub fn bytes(&self, tag: Tag) -> Option<&[u8]>
+        ensures { option_copied result ≡ spec.bytes_of tag self.now }
+    {
+        match self.one(tag) {
+            Some(param) => param.value.as_bytes(),
+            None => None,
+        }
+    }
+
+    /// The number of the tag's parameter, where there is exactly one. It takes no memory.
+    pub fn only_number(&self, tag: Tag) -> Option<u64>
+        ensures { result ≡ spec.only_number tag self.now }
+    {
+        number_alone(self.all(tag))
+    }
+
+    /// Whether the tag stands exactly once, with this number. It takes no memory.
+    pub fn is_only(&self, tag: Tag, number: u64) -> bool
+        ensures { result ≡ spec.is_only tag number self.now }
+    {
+        match self.only_number(tag) {
+            Some(own) => own == number,
+            None => false,
+        }
+    }
+
+    /// Whether each parameter of the tag has one of these numbers. It takes no memory.
+    pub fn each_in(&self, tag: Tag, numbers: &[u64]) -> bool
+        ensures { result ≡ spec.each tag (values.one_in numbers.now) self.now }
+    {
+        all_in(self.all(tag), numbers)
+    }
+
+    /// Whether it is the list of an AES key. It takes no memory.
+    pub fn is_aes(&self) -> bool
+        ensures { result ≡ spec.is_aes self.now }
+    {
+        self.has(Tag::Algorithm, AES)
+    }
+
+    /// Whether it is the list of an HMAC key. It takes no memory.
+    pub fn is_hmac(&self) -> bool
+        ensures { result ≡ spec.is_hmac self.now }
+    {
+        self.has(Tag::Algorithm, HMAC)
     }
 }

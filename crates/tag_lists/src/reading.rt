@@ -1,5 +1,8 @@
+//! Reading a list from its bytes, in any order of its parameters.
+
 ghost use Rattle.std.specs.Prelude.{◌≡◌, ℕ, ◌%◌, ◌^◌, ◌≤◌, List, [], is_some, length, IfOk};
 ghost use Rattle.std.specs.BTreeMap.{values};
+ghost use Rattle.tags.specs.Tag.{tag_with_low};
 ghost use Rattle.tag_lists.specs.Reading as spec;
 ghost use Rattle.tag_lists.specs.Reading.{Gives};
 
@@ -10,28 +13,21 @@ use std::alloc::Global;
 use std::collections::BTreeMap;
 use tags::{Bytes, Param, ParamValue, Tag};
 
-// The tag of a number.
-fn tag_numbered(number: u32) -> Option<Tag>
-    ensures { result ≡ spec.tag_numbered number }
-{
-    Tag::of_number(number)
-}
-
-// Whether a tag of any type has the number's 28 low bits.
+/// Whether a tag of any type has the number's 28 low bits.
 fn is_low_known(number: u32) -> bool
-    ensures { result ≡ is_some (spec.tag_with_low (number % 2 ^ 28)) }
+    ensures { result ≡ is_some (tag_with_low (number % 2 ^ 28)) }
 {
     Tag::of_low(number % (1 << 28)).is_some()
 }
 
-// Whether a parameter of the tag was read.
-fn stands(tag: Tag, before: &BTreeMap<u128, Param>) -> bool
-    ensures { result ≡ spec.stands tag (values before.now) }
+/// Whether a parameter of the tag was read.
+fn was_read(tag: Tag, before: &BTreeMap<u128, Param>) -> bool
+    ensures { result ≡ spec.was_read tag (values before.now) }
 {
     before.values().any(|param| is_tag(param.tag, tag))
 }
 
-// Whether a flag is not the byte 01.
+/// Whether a flag is not the byte 01.
 fn is_wrong_flag(shape: Shape, bytes: &[u8]) -> bool
     ensures { result ≡ spec.is_wrong_flag shape bytes.now }
 {
@@ -41,7 +37,7 @@ fn is_wrong_flag(shape: Shape, bytes: &[u8]) -> bool
     }
 }
 
-// So many bytes, and what stands behind them.
+/// So many bytes, and what stands behind them.
 fn raw_at(alloc: Global, at: u64, n: usize, bytes: &[u8]) -> Result<(ParamValue, &[u8]), ListFault>
     ensures gives { Gives (λ x. (x.0, x.1.now)) result (spec.raw_at at n bytes.now) }
     ensures shorter { IfOk result (λ x. length x.1.now ≤ length bytes.now) }
@@ -54,7 +50,7 @@ fn raw_at(alloc: Global, at: u64, n: usize, bytes: &[u8]) -> Result<(ParamValue,
     Ok((ParamValue::Raw(Bytes::of(raw)), rest))
 }
 
-// A value, and what stands behind it.
+/// A value, and what stands behind it.
 fn value_at(
     alloc: Global,
     at: u64,
@@ -95,7 +91,7 @@ fn value_at(
     }
 }
 
-// The parameter of a known tag, behind others.
+/// The parameter of a known tag, behind others.
 #[tactic(auto, unfolding(crate::specs::Reading::known_at))]
 fn known_at<'a>(
     alloc: Global,
@@ -111,14 +107,14 @@ fn known_at<'a>(
     if is_wrong_flag(shape, bytes) {
         return Err(ListFault::WrongKind { at });
     }
-    if !tag.kind().is_repeatable() && stands(tag, before) {
+    if !tag.kind().is_repeatable() && was_read(tag, before) {
         return Err(ListFault::Repeated { at });
     }
     let (value, rest) = value_at(alloc, at, shape, bytes)?;
     Ok((Param { tag, value }, rest))
 }
 
-// The parameter at an offset, behind others, and what stands behind it.
+/// The parameter at an offset, behind others, and what stands behind it.
 #[tactic(auto, unfolding(crate::specs::Reading::param_at))]
 fn param_at<'a>(
     alloc: Global,
@@ -133,7 +129,7 @@ fn param_at<'a>(
         return Err(ListFault::Truncated { at });
     }
     let number = BigEndian::read_u32(bytes);
-    match tag_numbered(number) {
+    match Tag::of_number(number) {
         Some(tag) => known_at(alloc, at, before, tag, &bytes[4..]),
         None => {
             if is_low_known(number) {
@@ -145,7 +141,7 @@ fn param_at<'a>(
     }
 }
 
-// So many parameters, in canonical order, and what stands behind them; `total` is the length of all bytes.
+/// So many parameters, in canonical order, and what stands behind them; `total` is the length of all bytes.
 fn params_at(
     alloc: Global,
     count: u16,
@@ -166,14 +162,14 @@ fn params_at(
     Ok((params, rest))
 }
 
-// The values of a map, in the order of its keys.
+/// The values of a map, in the order of its keys.
 fn values_of(alloc: Global, params: BTreeMap<u128, Param>) -> Result<Vec<Param>, ListFault>
     ensures { Gives (λ x. x.items) result (Ok (values params)) }
 {
     Ok(params.into_values().collect(alloc)?)
 }
 
-// The parameters that the bytes spell, in canonical order.
+/// The parameters that the bytes spell, in canonical order.
 #[tactic(auto, unfolding(crate::specs::Reading::listed))]
 pub(crate) fn listed(alloc: Global, bytes: &[u8]) -> Result<Vec<Param>, ListFault>
     ensures { Gives (λ x. x.items) result (spec.listed bytes.now) }

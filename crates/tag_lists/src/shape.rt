@@ -1,10 +1,12 @@
+//! How the value of each type is spelled, and where a parameter stands.
+
 ghost use Rattle.std.specs.Prelude.{◌≡◌, ◌==◌};
 ghost use Rattle.tags.specs.Tag.{low_of};
 ghost use Rattle.tag_lists.specs.Order as spec;
 
 use tags::{Param, ParamValue, Tag, TagType};
 
-// How a value is spelled: four bytes, eight bytes, the byte 01, or a length of two bytes and the bytes.
+/// How a value is spelled: four bytes, eight bytes, the byte 01, or a length of two bytes and the bytes.
 #[derive(Clone, Copy, Debug, PartialEq, Eq)]
 pub enum Shape {
     Short,
@@ -13,7 +15,7 @@ pub enum Shape {
     Sized,
 }
 
-// How a value of the type is spelled.
+/// How a value of the type is spelled.
 pub(crate) fn shape_of(kind: TagType) -> Shape
     ensures { result ≡ spec.shape_of kind }
 {
@@ -25,7 +27,7 @@ pub(crate) fn shape_of(kind: TagType) -> Shape
     }
 }
 
-// The place of a parameter in a list: by the tag's 28 low bits, then by value.
+/// The place of a parameter in a list: by the tag's 28 low bits, then by value.
 pub(crate) fn rank(param: &Param) -> u128
     ensures { result ≡ spec.rank param.now }
 {
@@ -37,7 +39,7 @@ pub(crate) fn rank(param: &Param) -> u128
     param.tag.low() as u128 * (1 << 64) + number as u128
 }
 
-// Whether both are one tag.
+/// Whether both are one tag.
 pub(crate) fn is_tag(tag: Tag, other: Tag) -> bool
     ensures { result ≡ (low_of tag == low_of other) }
 {

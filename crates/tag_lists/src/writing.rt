@@ -1,3 +1,5 @@
+//! Writing parameters as bytes.
+
 ghost use Rattle.std.specs.Prelude.{◌≡◌, ◌≤◌, ◌++◌, length, IfOk, OnOk};
 ghost use Rattle.std.specs.List.{AllByRecursion};
 ghost use Rattle.tag_lists.specs.Order.{Fits, FitsShape};
@@ -5,9 +7,9 @@ ghost use Rattle.tag_lists.specs.Spelling as spec;
 
 use crate::shape::{Shape, shape_of};
 use std::alloc::{AllocError, Global};
-use tags::{Param, ParamValue};
+use tags::{Bytes, NoMemory, Param, ParamValue};
 
-// Adds a value.
+/// Adds a value.
 fn put_value(out: &mut Vec<u8>, shape: Shape, value: &ParamValue) -> Result<(), AllocError>
     requires { FitsShape shape value.now }
     ensures { OnOk result (out.new.items ≡ out.old.items ++ spec.spelled_value shape value.now) }
@@ -26,7 +28,7 @@ fn put_value(out: &mut Vec<u8>, shape: Shape, value: &ParamValue) -> Result<(), 
     }
 }
 
-// Adds a parameter.
+/// Adds a parameter.
 fn put_param(out: &mut Vec<u8>, param: &Param) -> Result<(), AllocError>
     requires { Fits param.now }
     ensures { OnOk result (out.new.items ≡ out.old.items ++ spec.spelled param.now) }
@@ -35,7 +37,7 @@ fn put_param(out: &mut Vec<u8>, param: &Param) -> Result<(), AllocError>
     put_value(out, shape_of(param.tag.kind()), &param.value)
 }
 
-// The spelling of a list.
+/// The spelling of a list.
 pub(crate) fn spelling(alloc: Global, params: &[Param]) -> Result<Vec<u8>, AllocError>
     requires few { length params.now ≤ 65535 }
     requires fit { AllByRecursion Fits params.now }
@@ -47,4 +49,14 @@ pub(crate) fn spelling(alloc: Global, params: &[Param]) -> Result<Vec<u8>, Alloc
         put_param(&mut out, param)?;
     }
     Ok(out)
+}
+
+/// The bytes that spell these parameters in the order in which they are given, which need not be canonical: two bytes of
+/// count, and each as `AuthList::read` has it.
+pub fn spelled(alloc: Global, params: &[Param]) -> Result<Bytes, NoMemory>
+    requires few { length params.now ≤ 65535 }
+    requires fit { AllByRecursion Fits params.now }
+    ensures { IfOk result (λ bytes. bytes ≡ spec.spelling params.now) }
+{
+    Ok(Bytes::of(spelling(alloc, params)?))
 }

@@ -1,4 +1,10 @@
 pub mod Tag
+pub mod TagLaws
+pub mod Values
+pub mod Param
 pub mod Code
 pub mod Rule
+pub mod Table
+pub mod Plan
+pub mod Descriptor
 pub mod Policy

@@ -1,4 +1,4 @@
-use Rattle.std.specs.Prelude.{ℕ, Bool, ◌==◌, ◌&&◌, List, [], ◌∷◌, Option, find}
+use Rattle.std.specs.Prelude.{ℕ, Bool, ◌==◌, ◌&&◌, List, Option, find}
 use Rattle.std.specs.Option.{option_map}
 use Rattle.tags.specs.declared.policy.PolicyRow.{PolicyRow}
 

@@ -1,4 +1,4 @@
-use Rattle.std.specs.Prelude.{◌≡◌, ℕ, ◌+◌, ◌*◌, ◌^◌, Bool, true, false, ◌==◌, List, [], ◌∷◌, Option, codes, find}
+use Rattle.std.specs.Prelude.{ℕ, ◌+◌, ◌*◌, ◌^◌, Bool, true, false, ◌==◌, List, [], ◌∷◌, Option, codes, find}
 use Rattle.std.specs.Str.{bytes_eq}
 use Rattle.tags.specs.declared.tag.Tag.{Tag}
 use Rattle.tags.specs.declared.tag.Tag.TheVariants.{Purpose, Algorithm, KeySize, BlockMode, Digest, Padding, CallerNonce, MinMacLength, EarlyBootOnly, ActiveDatetime, OriginationExpireDatetime, UsageExpireDatetime, MaxUsesPerBoot, UsageCountLimit, UserId, UserSecureId, NoAuthRequired, UserAuthType, AuthTimeout, UnlockedDeviceRequired, ApplicationId, ApplicationData, CreationDatetime, Origin, OsVersion, OsPatchlevel, Nonce, MacLength}
@@ -129,3 +129,11 @@ repeats _ = false
 -- the tag of a name
 abbrev pub tag_named : List ℕ → Option Tag
 tag_named name = find (λ tag. bytes_eq (name_of tag) name) all_tags
+
+-- the tag of a whole number, and none for a number that no tag has
+unfoldable pub tag_numbered : ℕ → Option Tag
+tag_numbered number = find (λ tag. number_of tag == number) all_tags
+
+-- the tag with these 28 low bits, whatever its type, and none for bits that no tag has
+unfoldable pub tag_with_low : ℕ → Option Tag
+tag_with_low low = find (λ tag. low_of tag == low) all_tags

@@ -1,3 +1,5 @@
+//! Bytes that are owned, and want of memory.
+
 ghost use Rattle.std.specs.Prelude.{◌≡◌, List, ℕ, length};
 
 use std::alloc::{AllocError, AllocFailed, Global};

@@ -1,3 +1,5 @@
+//! The codes with which a call is refused.
+
 ghost use Rattle.std.specs.Prelude.{◌≡◌};
 ghost use Rattle.tags.specs.Code.{code_number};
 

@@ -1,3 +1,9 @@
+//! Which key a call means.
+
+ghost use Rattle.std.specs.Prelude.{◌≡◌};
+ghost use Rattle.std.specs.Str.{is_utf8};
+ghost use Rattle.tags.specs.Descriptor as spec;
+
 use crate::Bytes;
 
 /// The domain of an app's own keys; its owner is the app's uid.
@@ -11,6 +17,9 @@ pub const DOMAIN_BLOB: u32 = 3;
 /// The domain of keys named by their number.
 pub const DOMAIN_KEY_ID: u32 = 4;
 
+/// The most bytes of an alias.
+pub const ALIAS_BYTES: usize = 256;
+
 /// Which key a call means, after Keystore2's `KeyDescriptor`.
 #[derive(Debug, Drop)]
 pub struct Descriptor {
@@ -20,4 +29,34 @@ pub struct Descriptor {
     /// UTF-8 where the rules accept it
     pub alias: Option<Bytes>,
     pub blob: Option<Bytes>,
+}
+
+/// Whether the bytes are UTF-8. It takes no memory.
+#[tactic(auto, using(crate::proofs::Texts::is_text, crate::proofs::Texts::is_no_text))]
+pub fn is_text(bytes: &[u8]) -> bool
+    ensures { result ≡ is_utf8 bytes.now }
+{
+    match str::from_utf8(bytes) {
+        Ok(_) => true,
+        Err(_) => false,
+    }
+}
+
+/// Whether the bytes may be an alias: 1 to 256 bytes of UTF-8.
+fn is_alias(alias: &[u8]) -> bool
+    ensures { result ≡ spec.is_alias alias.now }
+{
+    1 <= alias.len() && alias.len() <= ALIAS_BYTES && is_text(alias)
+}
+
+impl Descriptor {
+    /// Whether there is an alias of 1 to 256 bytes of UTF-8. It takes no memory.
+    pub fn has_alias(&self) -> bool
+        ensures { result ≡ spec.has_alias self.now }
+    {
+        match &self.alias {
+            Some(alias) => is_alias(alias.as_slice()),
+            None => false,
+        }
+    }
 }

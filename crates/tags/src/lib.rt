@@ -14,17 +14,21 @@ mod policy;
 mod rule;
 mod secrets;
 mod settled;
+mod table;
 mod tag;
+pub mod values;
 
 pub use bytes::{Bytes, NoMemory};
 pub use code::Code;
 pub use descriptor::{
-    DOMAIN_APP, DOMAIN_BLOB, DOMAIN_GRANT, DOMAIN_KEY_ID, DOMAIN_SELINUX, Descriptor,
+    ALIAS_BYTES, DOMAIN_APP, DOMAIN_BLOB, DOMAIN_GRANT, DOMAIN_KEY_ID, DOMAIN_SELINUX, Descriptor,
+    is_text,
 };
 pub use param::{Param, ParamValue};
-pub use plan::Plan;
+pub use plan::{OPERATION_BYTES, PIECE_BYTES, Plan};
 pub use policy::{POLICY_ROWS, Policy, PolicyRow};
 pub use rule::{Rule, RuleTable};
 pub use secrets::DeviceSecrets;
 pub use settled::Settled;
+pub use table::{Ruling, check};
 pub use tag::{Tag, TagType};

@@ -1,3 +1,9 @@
+//! The parameters of an authorization list.
+
+ghost use Rattle.std.specs.Prelude.{◌≡◌};
+ghost use Rattle.std.specs.Option.{option_copied};
+ghost use Rattle.tags.specs.Param as spec;
+
 use crate::{Bytes, Tag};
 
 /// The value beside a tag.
@@ -16,4 +22,28 @@ pub enum ParamValue {
 pub struct Param {
     pub tag: Tag,
     pub value: ParamValue,
+}
+
+impl ParamValue {
+    /// The number, where the value is one. It takes no memory.
+    pub fn as_number(&self) -> Option<u64>
+        ensures { result ≡ spec.as_number self.now }
+    {
+        match self {
+            ParamValue::Number(number) => Some(*number),
+            ParamValue::Flag => None,
+            ParamValue::Raw(_) => None,
+        }
+    }
+
+    /// The bytes, where the value is bytes. It takes no memory.
+    pub fn as_bytes(&self) -> Option<&[u8]>
+        ensures { option_copied result ≡ spec.as_bytes self.now }
+    {
+        match self {
+            ParamValue::Number(_) => None,
+            ParamValue::Flag => None,
+            ParamValue::Raw(bytes) => Some(bytes.as_slice()),
+        }
+    }
 }

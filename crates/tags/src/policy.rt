@@ -1,3 +1,5 @@
+//! The permission table that stands in place of SELinux.
+
 ghost use Rattle.std.specs.Prelude.{◌≡◌, ◌≤◌, ◌<◌, ◌↔◌, List, ◌∷◌, [], length, IsSome, IfSome, IfOk};
 ghost use Rattle.tags.specs.declared.policy.PolicyRow.{PolicyRow};
 

@@ -1,3 +1,5 @@
+//! The rules by table and number.
+
 ghost use Rattle.std.specs.Prelude.{◌≡◌, Some};
 
 use std::fmt;
@@ -19,6 +21,17 @@ pub enum RuleTable {
 
 impl RuleTable {
     ghost use Rattle.tags.specs.Rule.{letter_of};
+    ghost use Rattle.tags.specs.Table.{rule_of};
+
+    /// The table's rule of a number.
+    pub fn rule(self, number: u8) -> Rule
+        ensures { result ≡ rule_of self number }
+    {
+        Rule {
+            table: self,
+            number,
+        }
+    }
 
     /// The table's letter.
     pub fn letter(self) -> &'static str

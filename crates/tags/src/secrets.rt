@@ -1,3 +1,5 @@
+//! The secrets of a device.
+
 ghost use Rattle.std.specs.Prelude.{◌≡◌, replicate};
 
 /// The three secrets of a device, 32 bytes each.

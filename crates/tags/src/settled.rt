@@ -1,3 +1,5 @@
+//! How a change whose device call failed was settled.
+
 /// How a change whose device call failed was settled.
 #[derive(Clone, Copy, Debug, PartialEq, Eq)]
 pub enum Settled {

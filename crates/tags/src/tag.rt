@@ -1,6 +1,8 @@
+//! The tags of authorization lists, by name and number.
+
 ghost use Rattle.std.specs.Prelude.{◌≡◌, ◌≢◌, ◌^◌, ◌<◌, ◌%◌, IfSome, IfNone};
 ghost use Rattle.tags.specs.declared.tag.Tag.{Tag};
-ghost use Rattle.tags.specs.Tag.{type_number, type_of, low_of, number_of, name_of, repeats, tag_named};
+ghost use Rattle.tags.specs.Tag.{type_number, type_of, low_of, number_of, name_of, repeats, tag_named, tag_numbered, tag_with_low};
 
 /// The type of a tag's value.
 #[derive(Clone, Copy, Debug, PartialEq, Eq)]
@@ -274,8 +276,8 @@ impl Tag {
         Tag::ALL.iter().copied().find(|tag| tag.name() == name)
     }
 
-    /// The tag with these 28 low bits, whatever its type.
-    pub fn of_low(low: u32) -> Option<Tag>
+    /// The tag with these 28 low bits, by the table's rows.
+    fn row_of_low(low: u32) -> Option<Tag>
         ensures found { IfSome result (λ tag. low_of tag ≡ low) }
         ensures none { IfNone result ((tag : Tag) → low_of tag ≢ low) }
     {
@@ -313,16 +315,30 @@ impl Tag {
         Some(tag)
     }
 
-    /// The tag of a whole number: `None` exactly for a number that no tag has.
-    pub fn of_number(number: u32) -> Option<Tag>
+    /// The tag with these 28 low bits, whatever its type: `None` exactly for bits that no tag has.
+    pub fn of_low(low: u32) -> Option<Tag>
+        ensures { result ≡ tag_with_low low }
+    {
+        Tag::row_of_low(low)
+    }
+
+    /// The tag with these low bits, where its type is that of the number.
+    fn row_of_number(number: u32) -> Option<Tag>
         ensures found { IfSome result (λ tag. number_of tag ≡ number) }
         ensures none { IfNone result ((tag : Tag) → number_of tag ≢ number) }
     {
-        let tag = Tag::of_low(number % (1 << 28))?;
+        let tag = Tag::row_of_low(number % (1 << 28))?;
         if tag.number() == number {
             Some(tag)
         } else {
             None
         }
+    }
+
+    /// The tag of a whole number: `None` exactly for a number that no tag has.
+    pub fn of_number(number: u32) -> Option<Tag>
+        ensures { result ≡ tag_numbered number }
+    {
+        Tag::row_of_number(number)
     }
 }

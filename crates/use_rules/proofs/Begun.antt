@@ -1,43 +1,42 @@
--- What holds of the lists where no rule is broken, and of the plan and the nonce then.
-use Rattle.std.proofs.Common.{◌≡◌, ℕ, ◌*◌, ◌/◌, ◌%◌, ◌≤◌, Bool, true, false, ◌&&◌, ◌||◌, not, ◌==◌, if◌then◌else◌, cond, List, [], ◌∷◌, length, Option, Some, None, Result, Ok, Err, refl, sym, subst, arith, inl, inr}
+-- What holds of the plan and of the nonce where the lists agree.
+use Rattle.std.proofs.Common.{◌≡◌, ℕ, ◌*◌, ◌/◌, ◌%◌, ◌≤◌, Bool, true, false, ◌&&◌, ◌||◌, not, ◌==◌, if◌then◌else◌, cond, List, [], ◌∷◌, length, Option, Some, None, refl, sym, subst, arith, inl, inr}
 use Rattle.std.specs.Prelude.{nat_le, find, slice_get, is_some, unwrap_or, MatchOption}
-use Rattle.std.specs.List.{AllByRecursion, filter}
-use Rattle.std.specs.Option.{option_or}
+use Rattle.std.specs.List.{filter}
+use Rattle.std.specs.Option.{option_and_then, option_or}
 use Rattle.std.proofs.lemmas.Bool.Decides.{nat_tests}
 use Rattle.std.proofs.lemmas.Bool.{or_cases, eqb-true, false≢true, true≢false}
 use Rattle.tags.specs.declared.param.Param.{Param}
-use Rattle.tags.specs.declared.code.Code.{Code}
-use Rattle.tags.specs.declared.rule.Rule.{Rule}
 use Rattle.tags.specs.declared.plan.Plan.{Plan}
 use Rattle.tags.specs.declared.plan.Plan.TheVariants.{Ecb, Cbc, Ctr, Gcm, HmacSign, HmacVerify}
 use Rattle.tags.specs.declared.tag.Tag.TheVariants.{Purpose, BlockMode, Digest, Padding, Nonce, MacLength}
-use Rattle.tag_lists.specs.Lookups.{is_of, all_of}
-use Rattle.use_rules.specs.Lists.{number_in, number_alone, number_of, bytes_of, only_number, is_only, passes, stands, value_of}
-use Rattle.use_rules.specs.Rules.{is_aes, is_hmac, is_sign, is_digest, is_mode, names_known_digest, digest_of, digest_bits, least_bits, has_size}
-use Rattle.use_rules.specs.Plans.{byte, plan_of, length_bytes, HasDigest, IsWorkable, NonceFits, nonce_bytes, nonce_given, nonce_wanted}
-use Rattle.use_rules.specs.Table.{Check, first_broken, list_rules, rule}
+use Rattle.tags.specs.Param.{as_number}
+use Rattle.tags.specs.Plan.{IsWorkable, is_aes_size, nonce_bytes, takes_key}
+use Rattle.tags.specs.Values.{AES_PURPOSES, CBC, CTR, DECRYPT, DIGESTS, ECB, ENCRYPT, GCM, HMAC_PURPOSES, MODES, PKCS7, digest_bits, implies, is_whole_bytes, one_in, passes}
+use Rattle.tag_lists.specs.Lookups.{IsKey, all_of, bytes_of, is_aes, is_hmac, is_of, is_only, number_alone, number_of, only_number, stands}
+use Rattle.use_rules.specs.Rules.{is_sign, names_known_digest, digest_of, least_bits, has_size}
+use Rattle.use_rules.specs.Plans.{byte, cipher_plan, mac_plan, plan_of, length_bytes, NonceFits, nonce_given, nonce_wanted}
+use Rattle.use_rules.specs.Table.{Agree}
 
-row_holds : (b : Bool) (rest : Result (Unit {0}) (Rule × Code)) (broken : Rule × Code) → (if b then rest else Err broken) ≡ Ok tt → (b ≡ true) × (rest ≡ Ok tt)
-row_holds true rest broken e = (refl, e)
-row_holds false rest broken e = grind arith
+abbrev is_mode : ℕ → Bool
+is_mode = one_in MODES
 
--- where a walk ends well each row holds
-all_hold : (rows : List Check) → first_broken rows ≡ Ok tt → AllByRecursion (λ row. row.holds ≡ true) rows
-all_hold [] e = tt
-all_hold (row ∷ rows) e =
-    let both = row_holds row.holds (first_broken rows) (rule row.number, row.code) e in
-    (both.0, all_hold rows both.1)
+abbrev is_digest : ℕ → Bool
+is_digest = one_in DIGESTS
+
+or_none : (b : Bool) → (b || false) ≡ true → b ≡ true
+or_none true e = refl
+or_none false e = absurd (false≢true e)
 
 -- a mode that the rules let through is one of four
 each_mode : (P : ℕ → Type 0) (mode : ℕ) → is_mode mode ≡ true → P 1 → P 2 → P 3 → P 32 → P mode
 each_mode P mode e p1 p2 p3 p32 =
-    elim (or_cases (mode == 1) ((mode == 2) || ((mode == 3) || (mode == 32))) e) [
+    elim (or_cases (mode == 1) ((mode == 2) || ((mode == 3) || ((mode == 32) || false))) e) [
       | inl one ↦ subst P (sym (eqb-true mode 1 one)) p1
-      | inr more ↦ elim (or_cases (mode == 2) ((mode == 3) || (mode == 32)) more) [
+      | inr more ↦ elim (or_cases (mode == 2) ((mode == 3) || ((mode == 32) || false)) more) [
         | inl two ↦ subst P (sym (eqb-true mode 2 two)) p2
-        | inr last ↦ elim (or_cases (mode == 3) (mode == 32) last) [
+        | inr last ↦ elim (or_cases (mode == 3) ((mode == 32) || false) last) [
           | inl three ↦ subst P (sym (eqb-true mode 3 three)) p3
-          | inr four ↦ subst P (sym (eqb-true mode 32 four)) p32
+          | inr four ↦ subst P (sym (eqb-true mode 32 (or_none (mode == 32) four))) p32
         ]
       ]
     ]
@@ -45,13 +44,13 @@ each_mode P mode e p1 p2 p3 p32 =
 -- and a digest is one of four
 each_digest : (P : ℕ → Type 0) (digest : ℕ) → is_digest digest ≡ true → P 3 → P 4 → P 5 → P 6 → P digest
 each_digest P digest e p3 p4 p5 p6 =
-    elim (or_cases (digest == 3) ((digest == 4) || ((digest == 5) || (digest == 6))) e) [
+    elim (or_cases (digest == 3) ((digest == 4) || ((digest == 5) || ((digest == 6) || false))) e) [
       | inl one ↦ subst P (sym (eqb-true digest 3 one)) p3
-      | inr more ↦ elim (or_cases (digest == 4) ((digest == 5) || (digest == 6)) more) [
+      | inr more ↦ elim (or_cases (digest == 4) ((digest == 5) || ((digest == 6) || false)) more) [
         | inl two ↦ subst P (sym (eqb-true digest 4 two)) p4
-        | inr last ↦ elim (or_cases (digest == 5) (digest == 6) last) [
+        | inr last ↦ elim (or_cases (digest == 5) ((digest == 6) || false) last) [
           | inl three ↦ subst P (sym (eqb-true digest 5 three)) p5
-          | inr four ↦ subst P (sym (eqb-true digest 6 four)) p6
+          | inr four ↦ subst P (sym (eqb-true digest 6 (or_none (digest == 6) four))) p6
         ]
       ]
     ]
@@ -68,18 +67,18 @@ digest_value : (asked own : Option ℕ) → passes is_digest asked ≡ true → 
 digest_value None own h = absurd (false≢true h)
 digest_value (Some n) own h = h
 
-digest_in : (ps : List Param) (own : Option ℕ) → (not (is_some (slice_get ps 0)) || passes is_digest (number_alone ps)) ≡ true → passes is_digest own ≡ true → is_digest (unwrap_or (option_or (value_of number_in (slice_get ps 0)) own) 0) ≡ true
+digest_in : (ps : List Param) (own : Option ℕ) → (not (is_some (slice_get ps 0)) || passes is_digest (number_alone ps)) ≡ true → passes is_digest own ≡ true → is_digest (unwrap_or (option_or (option_and_then (λ p. as_number p.value) (slice_get ps 0)) own) 0) ≡ true
 digest_in [] None h k = absurd (false≢true k)
 digest_in [] (Some n) h k = k
-digest_in (p ∷ []) own h k = digest_value (number_in p.value) own h
+digest_in (p ∷ []) own h k = digest_value (as_number p.value) own h
 digest_in (p ∷ q ∷ ps) own h k = absurd (false≢true h)
 
 digest_known : (asked key : List Param) → (not (stands Digest asked) || names_known_digest asked) ≡ true → passes is_digest (number_of Digest key) ≡ true → is_digest (digest_of asked key) ≡ true
 digest_known asked key h k =
-    subst (λ o. (not (is_some o) || passes is_digest (number_alone (all_of Digest asked))) ≡ true → is_digest (unwrap_or (option_or (value_of number_in o) (number_of Digest key)) 0) ≡ true)
+    subst (λ o. (not (is_some o) || passes is_digest (number_alone (all_of Digest asked))) ≡ true → is_digest (unwrap_or (option_or (option_and_then (λ p. as_number p.value) o) (number_of Digest key)) 0) ≡ true)
     (sym (first_of (is_of Digest) asked)) (λ e. digest_in (all_of Digest asked) (number_of Digest key) e k) h
 
-hmac_of : (aes hmac : Bool) (p : Option ℕ) → passes (λ q. if aes then (q == 0) || (q == 1) else hmac && ((q == 2) || (q == 3))) p ≡ true → aes ≡ false → hmac ≡ true
+hmac_of : (aes hmac : Bool) (p : Option ℕ) → passes (λ q. if aes then one_in AES_PURPOSES q else hmac && one_in HMAC_PURPOSES q) p ≡ true → aes ≡ false → hmac ≡ true
 hmac_of aes hmac None h e = absurd (false≢true h)
 hmac_of true hmac (Some q) h e = absurd (true≢false e)
 hmac_of false true (Some q) h e = refl
@@ -94,10 +93,10 @@ or_true true x h = h
 or_true false x h = h
 
 -- the bytes of so many bits
-size_within : (most bits : ℕ) → most ≤ 512 → ((bits % 8 == 0) && nat_le bits most) ≡ true → 8 * byte (bits / 8) ≤ most
+size_within : (most bits : ℕ) → most ≤ 512 → is_whole_bytes 0 most bits ≡ true → 8 * byte (bits / 8) ≤ most
 size_within most bits few h = grind (arith, nat_tests)
 
-gcm_tag : (l : Option ℕ) → passes (λ bits. (bits % 8 == 0) && (nat_le 96 bits && nat_le bits 128)) l ≡ true → (12 ≤ byte (unwrap_or l 0 / 8)) × (byte (unwrap_or l 0 / 8) ≤ 16)
+gcm_tag : (l : Option ℕ) → passes (is_whole_bytes 96 128) l ≡ true → (12 ≤ byte (unwrap_or l 0 / 8)) × (byte (unwrap_or l 0 / 8) ≤ 16)
 gcm_tag None h = absurd (false≢true h)
 gcm_tag (Some bits) h = grind (arith, nat_tests)
 
@@ -110,7 +109,7 @@ cipher_by m seal padded tag =
     Gcm seal tag
 
 abbrev fits_length : Bool → ℕ → ℕ → Bool
-fits_length gcm most bits = (bits % 8 == 0) && (if gcm then nat_le 96 bits && nat_le bits 128 else nat_le bits most)
+fits_length gcm most bits = if gcm then is_whole_bytes 96 128 bits else is_whole_bytes 0 most bits
 
 cipher_works : (sign : Bool) (m l : Option ℕ) (seal padded : Bool) (most : ℕ) → passes is_mode m ≡ true →
     (not (sign || passes (λ own. own == 32) m) || passes (fits_length (passes (λ own. own == 32) m) most) l) ≡ true →
@@ -144,16 +143,38 @@ works true sign m l seal padded digest least mode sized known = cipher_works sig
 works false sign m l seal padded digest least mode sized known = mac_works sign l digest least (known refl) sized
 
 -- the plan's numbers are those of the standards
-pub workable : (asked key : List Param) → first_broken (list_rules asked key) ≡ Ok tt → HasDigest key → IsWorkable (plan_of asked key)
-unfolding list_rules plan_of
-workable asked key e d =
-    let holds = all_hold (list_rules asked key) e in
-    works (is_aes key) (is_sign asked) (only_number BlockMode asked) (number_of MacLength asked) (is_only Purpose 0 asked) (is_only Padding 64 asked)
-    (digest_of asked key) (least_bits key) holds.1.1.0 holds.1.1.1.1.1.1.1.1.1.0
-    (λ other. let hmac = hmac_of (is_aes key) (is_hmac key) (only_number Purpose asked) holds.0 other in
-    digest_known asked key (then_holds (is_hmac key) (not (stands Digest asked) || names_known_digest asked) hmac holds.1.1.1.1.1.1.0) (d hmac))
+pub workable : (asked key : List Param) → Agree asked key → (size : ℕ) → IsKey key size → IsWorkable (plan_of asked key)
+unfolding plan_of
+workable asked key agree size is =
+    works (is_aes key) (is_sign asked) (only_number BlockMode asked) (number_of MacLength asked) (is_only Purpose ENCRYPT asked) (is_only Padding PKCS7 asked)
+    (digest_of asked key) (least_bits key) agree.mode agree.fit_length
+    (λ other. let hmac = hmac_of (is_aes key) (is_hmac key) (only_number Purpose asked) agree.purpose other in
+    digest_known asked key (then_holds (is_hmac key) (implies (stands Digest asked) (names_known_digest asked)) hmac agree.digest) (is.hmac hmac))
 
-drawn_by : (zero_is one_is : Bool) (size : ℕ) → (zero_is || one_is) ≡ true → (not one_is || false) ≡ true → (if zero_is && true then size else 0) ≡ size
+cipher_takes : (ecb cbc ctr seal padded : Bool) (tag size : ℕ) → is_aes_size size ≡ true →
+    takes_key (if ecb then Ecb seal padded else if cbc then Cbc seal padded else if ctr then Ctr else Gcm seal tag) size ≡ true
+cipher_takes true cbc ctr seal padded tag size h = h
+cipher_takes false true ctr seal padded tag size h = h
+cipher_takes false false true seal padded tag size h = h
+cipher_takes false false false seal padded tag size h = h
+
+mac_takes : (sign : Bool) (digest n least size : ℕ) → takes_key (if sign then HmacSign digest n else HmacVerify digest least) size ≡ true
+mac_takes true digest n least size = refl
+mac_takes false digest n least size = refl
+
+by_algorithm : (aes : Bool) (cipher mac : Plan) (size : ℕ) → (aes ≡ true → takes_key cipher size ≡ true) → takes_key mac size ≡ true → takes_key (if aes then cipher else mac) size ≡ true
+by_algorithm true cipher mac size h m = h refl
+by_algorithm false cipher mac size h m = m
+
+-- the plan takes the key's material
+pub takes : (asked key : List Param) (size : ℕ) → IsKey key size → takes_key (plan_of asked key) size ≡ true
+unfolding plan_of
+takes asked key size is =
+    by_algorithm (is_aes key) (cipher_plan asked) (mac_plan asked key) size
+    (λ aes. cipher_takes (is_only BlockMode ECB asked) (is_only BlockMode CBC asked) (is_only BlockMode CTR asked) (is_only Purpose ENCRYPT asked) (is_only Padding PKCS7 asked) (length_bytes asked) size (is.aes aes))
+    (mac_takes (is_sign asked) (byte (digest_of asked key)) (length_bytes asked) (byte (least_bits key / 8)) size)
+
+drawn_by : (zero_is one_is : Bool) (size : ℕ) → (zero_is || (one_is || false)) ≡ true → (not one_is || false) ≡ true → (if zero_is && true then size else 0) ≡ size
 drawn_by true one_is size e h = refl
 drawn_by false true size e h = absurd (false≢true h)
 drawn_by false false size e h = absurd (false≢true e)
@@ -165,7 +186,7 @@ none_drawn false size = refl
 abbrev drawn : ℕ → Option ℕ → Option (List ℕ) → ℕ
 drawn size p n = if passes (λ own. own == 0) p && not (is_some n) then size else 0
 
-sized : (size : ℕ) (p : Option ℕ) (n : Option (List ℕ)) → passes (λ q. (q == 0) || (q == 1)) p ≡ true →
+sized : (size : ℕ) (p : Option ℕ) (n : Option (List ℕ)) → passes (one_in AES_PURPOSES) p ≡ true →
     (not (passes (λ own. own == 1) p) || is_some n) ≡ true → has_size size n ≡ true →
     MatchOption n (drawn size p n ≡ size) (λ nonce. (length nonce ≡ size) × (drawn size p n ≡ 0))
 sized size None n e has fits = absurd (false≢true e)
@@ -185,7 +206,7 @@ Fitting aes m p n plan =
     (λ nonce. (length nonce ≡ nonce_bytes plan) × ((if starts aes m && (passes (λ own. own == 0) p && not (is_some n)) then size_by aes m else 0) ≡ 0))
 
 fitting_cipher : (m p : Option ℕ) (n : Option (List ℕ)) (seal padded : Bool) (tag : ℕ) → passes is_mode m ≡ true →
-    passes (λ q. (q == 0) || (q == 1)) p ≡ true →
+    passes (one_in AES_PURPOSES) p ≡ true →
     (not (starts true m) || (not (passes (λ own. own == 1) p) || is_some n)) ≡ true →
     (not (starts true m) || has_size (size_by true m) n) ≡ true →
     Fitting true m p n (cipher_by m seal padded tag)
@@ -200,7 +221,7 @@ mac_none true digest size least = refl
 mac_none false digest size least = refl
 
 fitting : (aes hmac sign : Bool) (m p : Option ℕ) (n : Option (List ℕ)) (seal padded : Bool) (tag digest size least : ℕ) →
-    passes (λ q. if aes then (q == 0) || (q == 1) else hmac && ((q == 2) || (q == 3))) p ≡ true →
+    passes (λ q. if aes then one_in AES_PURPOSES q else hmac && one_in HMAC_PURPOSES q) p ≡ true →
     (not aes || passes is_mode m) ≡ true →
     (not (starts aes m) || (not (passes (λ own. own == 1) p) || is_some n)) ≡ true →
     (not (starts aes m) || has_size (size_by aes m) n) ≡ true →
@@ -209,10 +230,9 @@ fitting true hmac sign m p n seal padded tag digest size least purpose mode has 
 fitting false hmac sign m p n seal padded tag digest size least purpose mode has fits = mac_none sign digest size least
 
 -- the nonce has the plan's bytes
-pub nonce_fits : (asked key : List Param) → first_broken (list_rules asked key) ≡ Ok tt → NonceFits asked key (plan_of asked key)
-unfolding list_rules plan_of nonce_given nonce_wanted
-nonce_fits asked key e =
-    let holds = all_hold (list_rules asked key) e in
+pub nonce_fits : (asked key : List Param) → Agree asked key → NonceFits asked key (plan_of asked key)
+unfolding plan_of nonce_given nonce_wanted
+nonce_fits asked key agree =
     fitting (is_aes key) (is_hmac key) (is_sign asked) (only_number BlockMode asked) (only_number Purpose asked) (bytes_of Nonce asked)
-    (is_only Purpose 0 asked) (is_only Padding 64 asked) (length_bytes asked) (byte (digest_of asked key)) (length_bytes asked) (byte (least_bits key / 8))
-    holds.0 holds.1.1.0 holds.1.1.1.1.1.1.1.1.1.1.1.1.0 holds.1.1.1.1.1.1.1.1.1.1.1.1.1.0
+    (is_only Purpose ENCRYPT asked) (is_only Padding PKCS7 asked) (length_bytes asked) (byte (digest_of asked key)) (length_bytes asked) (byte (least_bits key / 8))
+    agree.purpose agree.mode agree.nonce agree.fit_nonce

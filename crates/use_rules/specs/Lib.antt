@@ -1,4 +1,3 @@
-pub mod Lists
 pub mod Rules
 pub mod Plans
 pub mod Table

@@ -1,37 +1,22 @@
 -- The rules of a begin: each part says whether it holds over the facts, over the operation's list (`asked`) and over the
 -- key's list (`key`). Where a part names AES or HMAC, it holds for the other.
-use Rattle.std.specs.Prelude.{ℕ, ◌%◌, Bool, true, false, ◌&&◌, ◌||◌, not, ◌==◌, nat_le, List, Option, Some, None, if◌then◌else◌, is_some, unwrap_or, length}
+use Rattle.std.specs.Prelude.{◌≡◌, ℕ, Bool, true, ◌&&◌, ◌||◌, not, ◌==◌, nat_le, List, Option, Some, None, if◌then◌else◌, is_some, unwrap_or, length}
 use Rattle.std.specs.Option.{option_or}
-use Rattle.std.specs.Str.{is_utf8}
 use Rattle.tags.specs.declared.descriptor.Descriptor.{Descriptor}
 use Rattle.tags.specs.declared.param.Param.{Param}
 use Rattle.tags.specs.declared.tag.Tag.{Tag}
-use Rattle.tags.specs.declared.tag.Tag.TheVariants.{Purpose, Algorithm, BlockMode, Digest, Padding, CallerNonce, MinMacLength, Nonce, MacLength}
-use Rattle.tag_lists.specs.Lookups.{has_number}
-use Rattle.use_rules.specs.Lists.{stands, number_of, bytes_of, only_number, passes, is_only}
+use Rattle.tags.specs.declared.tag.Tag.TheVariants.{Purpose, BlockMode, Digest, Padding, CallerNonce, MinMacLength, Nonce, MacLength}
+use Rattle.tags.specs.Descriptor.{has_alias}
+use Rattle.tags.specs.Values.{AES_PURPOSES, CBC, CTR, DECRYPT, DIGESTS, ENCRYPT, GCM, HMAC_PURPOSES, MODES, PADDINGS, SIGN, UNPADDED, digest_bits, implies, is_whole_bytes, one_in, passes}
+use Rattle.tag_lists.specs.Lookups.{bytes_of, has_number, is_aes, is_hmac, is_only, number_of, only_number, stands}
 
--- 1 to 256 bytes of UTF-8
-abbrev pub is_alias_text : List ℕ → Bool
-is_alias_text alias = nat_le 1 (length alias) && (nat_le (length alias) 256 && is_utf8 alias)
-
--- an alias, which has 1 to 256 bytes of UTF-8
-abbrev pub is_alias : Option (List ℕ) → Bool
-is_alias None = false
-is_alias (Some alias) = is_alias_text alias
-
--- the domain is APP, with an alias
+-- the domain is APP, with an alias of 1 to 256 bytes of UTF-8
 abbrev pub names_key : Descriptor → Bool
-names_key descriptor = (descriptor.domain == 0) && is_alias descriptor.alias
-
-abbrev pub is_aes : List Param → Bool
-is_aes key = has_number Algorithm 32 key
-
-abbrev pub is_hmac : List Param → Bool
-is_hmac key = has_number Algorithm 128 key
+names_key descriptor = (descriptor.domain == 0) && has_alias descriptor
 
 -- ENCRYPT or DECRYPT for AES, SIGN or VERIFY for HMAC
 abbrev pub serves : List Param → ℕ → Bool
-serves key purpose = if is_aes key then (purpose == 0) || (purpose == 1) else is_hmac key && ((purpose == 2) || (purpose == 3))
+serves key purpose = if is_aes key then one_in AES_PURPOSES purpose else is_hmac key && one_in HMAC_PURPOSES purpose
 
 -- the operation's one value of the tag is the key's too
 abbrev pub key_has : Tag → List Param → List Param → Bool
@@ -45,63 +30,51 @@ names_purpose asked key = passes (serves key) (only_number Purpose asked)
 abbrev pub key_has_purpose : List Param → List Param → Bool
 key_has_purpose asked key = key_has Purpose asked key
 
--- ECB, CBC, CTR or GCM
-abbrev pub is_mode : ℕ → Bool
-is_mode mode = (mode == 1) || ((mode == 2) || ((mode == 3) || (mode == 32)))
-
--- there is exactly one BLOCK_MODE, of these
+-- there is exactly one BLOCK_MODE, of ECB, CBC, CTR and GCM
 abbrev pub names_known_mode : List Param → Bool
-names_known_mode asked = passes is_mode (only_number BlockMode asked)
+names_known_mode asked = passes (one_in MODES) (only_number BlockMode asked)
 
 -- AES: there is exactly one BLOCK_MODE, of ECB, CBC, CTR and GCM
 abbrev pub names_mode : List Param → List Param → Bool
-names_mode asked key = not (is_aes key) || names_known_mode asked
+names_mode asked key = implies (is_aes key) (names_known_mode asked)
 
 -- AES: the key has it
 abbrev pub key_has_mode : List Param → List Param → Bool
-key_has_mode asked key = not (is_aes key) || key_has BlockMode asked key
+key_has_mode asked key = implies (is_aes key) (key_has BlockMode asked key)
 
--- NONE or PKCS7
-abbrev pub is_padding : ℕ → Bool
-is_padding padding = (padding == 1) || (padding == 64)
-
--- there is exactly one PADDING, of these
+-- there is exactly one PADDING, of none and PKCS7
 abbrev pub names_known_padding : List Param → Bool
-names_known_padding asked = passes is_padding (only_number Padding asked)
+names_known_padding asked = passes (one_in PADDINGS) (only_number Padding asked)
 
--- AES: there is exactly one PADDING, NONE or PKCS7
+-- AES: there is exactly one PADDING, none or PKCS7
 abbrev pub names_padding : List Param → List Param → Bool
-names_padding asked key = not (is_aes key) || names_known_padding asked
+names_padding asked key = implies (is_aes key) (names_known_padding asked)
 
 -- CTR and GCM
 abbrev pub is_stream : List Param → Bool
-is_stream asked = is_only BlockMode 3 asked || is_only BlockMode 32 asked
+is_stream asked = is_only BlockMode CTR asked || is_only BlockMode GCM asked
 
--- AES: the key has it, and with CTR and GCM it is NONE
+-- AES: the key has it, and with CTR and GCM it is none
 abbrev pub takes_padding : List Param → List Param → Bool
-takes_padding asked key = not (is_aes key) || (key_has Padding asked key && (not (is_stream asked) || is_only Padding 1 asked))
+takes_padding asked key = implies (is_aes key) (key_has Padding asked key && implies (is_stream asked) (is_only Padding UNPADDED asked))
 
--- SHA-224, SHA-256, SHA-384 or SHA-512
-abbrev pub is_digest : ℕ → Bool
-is_digest digest = (digest == 3) || ((digest == 4) || ((digest == 5) || (digest == 6)))
-
--- there is exactly one DIGEST, of these
+-- there is exactly one DIGEST, of SHA-224, SHA-256, SHA-384 and SHA-512
 abbrev pub names_known_digest : List Param → Bool
-names_known_digest asked = passes is_digest (only_number Digest asked)
+names_known_digest asked = passes (one_in DIGESTS) (only_number Digest asked)
 
 -- HMAC: no DIGEST, or exactly one, of the SHA-2 digests
 abbrev pub names_digest : List Param → List Param → Bool
-names_digest asked key = not (is_hmac key) || (not (stands Digest asked) || names_known_digest asked)
+names_digest asked key = implies (is_hmac key) (implies (stands Digest asked) (names_known_digest asked))
 
 -- HMAC: and it is the key's
 abbrev pub key_has_digest : List Param → List Param → Bool
-key_has_digest asked key = not (is_hmac key) || (not (stands Digest asked) || key_has Digest asked key)
+key_has_digest asked key = implies (is_hmac key) (implies (stands Digest asked) (key_has Digest asked key))
 
 abbrev pub is_sign : List Param → Bool
-is_sign asked = is_only Purpose 2 asked
+is_sign asked = is_only Purpose SIGN asked
 
 abbrev pub is_gcm : List Param → List Param → Bool
-is_gcm asked key = is_aes key && is_only BlockMode 32 asked
+is_gcm asked key = is_aes key && is_only BlockMode GCM asked
 
 -- for SIGN and for GCM a length is asked for
 abbrev pub needs_length : List Param → List Param → Bool
@@ -109,23 +82,15 @@ needs_length asked key = is_sign asked || is_gcm asked key
 
 -- SIGN and GCM: MAC_LENGTH is there
 abbrev pub gives_length : List Param → List Param → Bool
-gives_length asked key = not (needs_length asked key) || is_some (number_of MacLength asked)
+gives_length asked key = implies (needs_length asked key) (is_some (number_of MacLength asked))
 
 -- the digest of a mac: the operation's, or the key's where it names none
 abbrev pub digest_of : List Param → List Param → ℕ
 digest_of asked key = unwrap_or (option_or (number_of Digest asked) (number_of Digest key)) 0
 
--- the bits of a digest of SHA-2 (FIPS 180-4 section 1)
-abbrev pub digest_bits : ℕ → ℕ
-digest_bits digest =
-    if digest == 3 then 224 else
-    if digest == 4 then 256 else
-    if digest == 5 then 384 else
-    if digest == 6 then 512 else 0
-
--- a multiple of 8, for SIGN at most the digest's bits, for GCM from 96 to 128
+-- whole bytes, for SIGN at most the digest's bits, for GCM from 96 to 128
 abbrev pub is_length : List Param → List Param → ℕ → Bool
-is_length asked key bits = (bits % 8 == 0) && (if is_gcm asked key then nat_le 96 bits && nat_le bits 128 else nat_le bits (digest_bits (digest_of asked key)))
+is_length asked key bits = if is_gcm asked key then is_whole_bytes 96 128 bits else is_whole_bytes 0 (digest_bits (digest_of asked key)) bits
 
 -- MAC_LENGTH is such a length
 abbrev pub gives_such_length : List Param → List Param → Bool
@@ -133,7 +98,7 @@ gives_such_length asked key = passes (is_length asked key) (number_of MacLength 
 
 -- SIGN and GCM: MAC_LENGTH is such a length
 abbrev pub takes_length : List Param → List Param → Bool
-takes_length asked key = not (needs_length asked key) || gives_such_length asked key
+takes_length asked key = implies (needs_length asked key) (gives_such_length asked key)
 
 -- the least bits of a mac or tag that the key allows
 abbrev pub least_bits : List Param → ℕ
@@ -145,11 +110,11 @@ gives_least_length asked key = passes (λ bits. nat_le (least_bits key) bits) (n
 
 -- SIGN and GCM: MAC_LENGTH is at least the key's MIN_MAC_LENGTH
 abbrev pub reaches_least : List Param → List Param → Bool
-reaches_least asked key = not (needs_length asked key) || gives_least_length asked key
+reaches_least asked key = implies (needs_length asked key) (gives_least_length asked key)
 
 -- CBC, CTR and GCM start from a nonce
 abbrev pub takes_nonce : List Param → List Param → Bool
-takes_nonce asked key = is_aes key && (is_only BlockMode 2 asked || is_stream asked)
+takes_nonce asked key = is_aes key && (is_only BlockMode CBC asked || is_stream asked)
 
 -- a NONCE is given
 abbrev pub gives_nonce : List Param → Bool
@@ -157,11 +122,11 @@ gives_nonce asked = is_some (bytes_of Nonce asked)
 
 -- on ENCRYPT a given NONCE needs CALLER_NONCE in the key
 abbrev pub may_give_nonce : List Param → List Param → Bool
-may_give_nonce asked key = not (takes_nonce asked key) || (not (is_only Purpose 0 asked) || (not (gives_nonce asked) || stands CallerNonce key))
+may_give_nonce asked key = implies (takes_nonce asked key) (implies (is_only Purpose ENCRYPT asked) (implies (gives_nonce asked) (stands CallerNonce key)))
 
 -- on DECRYPT NONCE is there
 abbrev pub has_nonce : List Param → List Param → Bool
-has_nonce asked key = not (takes_nonce asked key) || (not (is_only Purpose 1 asked) || gives_nonce asked)
+has_nonce asked key = implies (takes_nonce asked key) (implies (is_only Purpose DECRYPT asked) (gives_nonce asked))
 
 -- the bytes of a nonce: 12 for GCM, and 16 for CBC and CTR
 abbrev pub nonce_size : List Param → List Param → ℕ
@@ -177,4 +142,4 @@ gives_sized_nonce size asked = has_size size (bytes_of Nonce asked)
 
 -- a given NONCE has the mode's bytes
 abbrev pub fits_nonce : List Param → List Param → Bool
-fits_nonce asked key = not (takes_nonce asked key) || gives_sized_nonce (nonce_size asked key) asked
+fits_nonce asked key = implies (takes_nonce asked key) (gives_sized_nonce (nonce_size asked key) asked)

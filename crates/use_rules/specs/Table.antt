@@ -1,31 +1,15 @@
 -- Table B, the beginning of an operation: a list of rules in its order, and the answer is the first that does not hold.
-use Rattle.std.specs.Prelude.{ℕ, Bool, List, [], ◌∷◌, ◌++◌, Result, Ok, Err, if◌then◌else◌, is_some, is_ok, unwrap_or}
+use Rattle.std.specs.Prelude.{◌≡◌, true, List, [], ◌∷◌, ◌++◌, Result, Ok, Err, is_some, is_ok, unwrap_or}
 use Rattle.tags.specs.declared.code.Code.{Code}
 use Rattle.tags.specs.declared.code.Code.TheVariants.{InvalidArgument, KeyNotFound, InvalidTag, InvalidKeyBlob, UnsupportedPurpose, IncompatiblePurpose, UnsupportedBlockMode, IncompatibleBlockMode, UnsupportedPaddingMode, IncompatiblePaddingMode, UnsupportedDigest, IncompatibleDigest, MissingMacLength, UnsupportedMacLength, InvalidMacLength, CallerNonceProhibited, MissingNonce, InvalidNonce}
 use Rattle.tags.specs.declared.param.Param.{Param}
 use Rattle.tags.specs.declared.plan.Plan.{Plan}
 use Rattle.tags.specs.declared.rule.Rule.{Rule}
 use Rattle.tags.specs.declared.rule.RuleTable.TheVariants.{B}
+use Rattle.tags.specs.Table.{Check, check, first_broken, where_all_hold}
 use Rattle.use_rules.specs.declared.facts.BeginFacts.{BeginFacts}
 use Rattle.use_rules.specs.Rules.{names_key, names_purpose, key_has_purpose, names_mode, key_has_mode, names_padding, takes_padding, names_digest, key_has_digest, gives_length, takes_length, reaches_least, may_give_nonce, has_nonce, fits_nonce}
 use Rattle.use_rules.specs.Plans.{plan_of}
-
--- a row of the table: the rule's number, the code of this part of it, and whether the part holds
-pub record Check : Type 0 where
-  pub number : ℕ
-  pub code : Code
-  pub holds : Bool
-
-abbrev pub check : ℕ → Code → Bool → Check
-check number code holds = record { number = number; code = code; holds = holds }
-
-abbrev pub rule : ℕ → Rule
-rule number = record { table = B; number = number }
-
--- the first rule that does not hold, with its code
-abbrev pub first_broken : List Check → Result (Unit {0}) (Rule × Code)
-first_broken [] = Ok tt
-first_broken (row ∷ rows) = if row.holds then first_broken rows else Err (rule row.number, row.code)
 
 -- the operation's list, where it was read
 abbrev pub list_or_none : Result (List Param) Code → List Param
@@ -74,14 +58,27 @@ list_rules asked key =
     check 21 InvalidNonce (fits_nonce asked key) ∷  -- and has the mode's length
     []
 
+-- what the two lists keep to where no rule of theirs is broken
+pub record Agree (asked key : List Param) : Type 0 where
+  pub purpose : names_purpose asked key ≡ true
+  pub own_purpose : key_has_purpose asked key ≡ true
+  pub mode : names_mode asked key ≡ true
+  pub own_mode : key_has_mode asked key ≡ true
+  pub padding : names_padding asked key ≡ true
+  pub own_padding : takes_padding asked key ≡ true
+  pub digest : names_digest asked key ≡ true
+  pub own_digest : key_has_digest asked key ≡ true
+  pub length : gives_length asked key ≡ true
+  pub fit_length : takes_length asked key ≡ true
+  pub least_length : reaches_least asked key ≡ true
+  pub may_give : may_give_nonce asked key ≡ true
+  pub nonce : has_nonce asked key ≡ true
+  pub fit_nonce : fits_nonce asked key ≡ true
+
 -- table B
 abbrev pub rules_of : BeginFacts → List Check
 rules_of facts = call_rules facts ++ list_rules (asked_of facts) (key_of facts)
 
-abbrev pub or_plan : Result (Unit {0}) (Rule × Code) → Plan → Result Plan (Rule × Code)
-or_plan (Ok none) plan = Ok plan
-or_plan (Err broken) plan = Err broken
-
 -- the first rule that does not hold, with its code, or else the plan
 unfoldable pub answer : BeginFacts → Result Plan (Rule × Code)
-answer facts = or_plan (first_broken (rules_of facts)) (plan_of (asked_of facts) (key_of facts))
+answer facts = where_all_hold (first_broken B (rules_of facts)) (plan_of (asked_of facts) (key_of facts))

@@ -1,3 +1,5 @@
+//! What the rules of a begin read.
+
 use tag_lists::AuthList;
 use tags::{Code, Descriptor};
 

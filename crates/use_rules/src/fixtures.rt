@@ -1,3 +1,5 @@
+//! The keys and facts of the tests.
+
 use crate::{BeginFacts, check_begin};
 use std::alloc::Global;
 use std::test::Fail;

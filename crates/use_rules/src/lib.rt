@@ -9,7 +9,6 @@
 mod facts;
 #[cfg(test)]
 mod fixtures;
-mod lists;
 mod plans;
 mod rules;
 mod table;

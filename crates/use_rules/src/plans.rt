@@ -1,18 +1,17 @@
+//! What the work of an operation is, and its nonce.
+
 ghost use Rattle.std.specs.Prelude.{◌≡◌};
 ghost use Rattle.std.specs.Option.{option_copied};
 ghost use Rattle.use_rules.specs.Plans as spec;
 ghost use Rattle.use_rules.specs.Table.{asked_of, key_of};
 
 use crate::BeginFacts;
-use crate::lists::{bytes_of, is_only, number_of};
-use crate::rules::{
-    CBC, CTR, ECB, ENCRYPT, PKCS7, digest_of, gives_nonce, is_aes, is_sign, least_bits, nonce_size,
-    takes_nonce,
-};
+use crate::rules::{digest_of, gives_nonce, is_sign, least_bits, nonce_size, takes_nonce};
 use tag_lists::AuthList;
+use tags::values::{CBC, CTR, ECB, ENCRYPT, PKCS7};
 use tags::{Plan, Tag};
 
-// A number of a plan has one byte; a list that the rules let through has no greater one.
+/// A number of a plan has one byte; a list that the rules let through has no greater one.
 fn byte(n: u64) -> u8
     ensures { result ≡ spec.byte n }
 {
@@ -22,19 +21,19 @@ fn byte(n: u64) -> u8
 fn length_bytes(asked: &AuthList) -> u8
     ensures { result ≡ spec.length_bytes asked.now }
 {
-    byte(number_of(Tag::MacLength, asked).unwrap_or(0) / 8)
+    byte(asked.number(Tag::MacLength).unwrap_or(0) / 8)
 }
 
 fn cipher_plan(asked: &AuthList) -> Plan
     ensures { result ≡ spec.cipher_plan asked.now }
 {
-    let seal = is_only(Tag::Purpose, ENCRYPT, asked);
-    let padded = is_only(Tag::Padding, PKCS7, asked);
-    if is_only(Tag::BlockMode, ECB, asked) {
+    let seal = asked.is_only(Tag::Purpose, ENCRYPT);
+    let padded = asked.is_only(Tag::Padding, PKCS7);
+    if asked.is_only(Tag::BlockMode, ECB) {
         Plan::Ecb { seal, padded }
-    } else if is_only(Tag::BlockMode, CBC, asked) {
+    } else if asked.is_only(Tag::BlockMode, CBC) {
         Plan::Cbc { seal, padded }
-    } else if is_only(Tag::BlockMode, CTR, asked) {
+    } else if asked.is_only(Tag::BlockMode, CTR) {
         Plan::Ctr
     } else {
         Plan::Gcm {
@@ -66,7 +65,7 @@ fn mac_plan(asked: &AuthList, key: &AuthList) -> Plan
 pub fn plan_of(asked: &AuthList, key: &AuthList) -> Plan
     ensures { result ≡ spec.plan_of asked.now key.now }
 {
-    if is_aes(key) {
+    if key.is_aes() {
         cipher_plan(asked)
     } else {
         mac_plan(asked, key)
@@ -78,7 +77,7 @@ fn given<'a>(asked: &'a AuthList, key: &AuthList) -> Option<&'a [u8]>
     ensures { option_copied result ≡ spec.nonce_given asked.now key.now }
 {
     if takes_nonce(asked, key) {
-        bytes_of(Tag::Nonce, asked)
+        asked.bytes(Tag::Nonce)
     } else {
         None
     }
@@ -88,7 +87,7 @@ fn given<'a>(asked: &'a AuthList, key: &AuthList) -> Option<&'a [u8]>
 fn wanted(asked: &AuthList, key: &AuthList) -> usize
     ensures { result ≡ spec.nonce_wanted asked.now key.now }
 {
-    if takes_nonce(asked, key) && is_only(Tag::Purpose, ENCRYPT, asked) && !gives_nonce(asked) {
+    if takes_nonce(asked, key) && asked.is_only(Tag::Purpose, ENCRYPT) && !gives_nonce(asked) {
         nonce_size(asked, key)
     } else {
         0

@@ -1,5 +1,11 @@
-ghost use Rattle.std.specs.Prelude.{◌≡◌, ◌∷◌, [], IfOk, OnOk, Ok, is_ok, is_some, true};
-ghost use Rattle.use_rules.specs.Plans.{HasDigest, IsWorkable, NonceFits, plan_of as plan_by};
+//! Table B, walked in its order.
+
+ghost use Rattle.std.specs.Prelude.{◌≡◌, ℕ, IfOk, OnOk, is_ok, is_some, true};
+ghost use Rattle.tags.specs.declared.rule.RuleTable.TheVariants.{B};
+ghost use Rattle.tags.specs.Plan.{IsWorkable, takes_key};
+ghost use Rattle.tags.specs.Table.{first_broken, rule_of, where_all_hold};
+ghost use Rattle.tag_lists.specs.Lookups.{IsKey};
+ghost use Rattle.use_rules.specs.Plans.{NonceFits, plan_of as plan_by};
 ghost use Rattle.use_rules.specs.Table as spec;
 
 use crate::BeginFacts;
@@ -10,77 +16,100 @@ use crate::rules::{
     reaches_least, takes_length, takes_padding,
 };
 use tag_lists::AuthList;
-use tags::{Code, Plan, Rule, RuleTable};
+use tags::{Code, Plan, Rule, RuleTable, Ruling, check};
 
-// A rule of the table by its number.
+/// A rule of the table by its number.
 fn rule(number: u8) -> Rule
-    ensures { result ≡ spec.rule number }
+    ensures { result ≡ rule_of B number }
 {
-    Rule {
-        table: RuleTable::B,
-        number,
-    }
+    RuleTable::B.rule(number)
 }
 
-// A part of a rule: `Err` where it does not hold.
-fn check(number: u8, code: Code, holds: bool) -> Result<(), (Rule, Code)>
-    ensures { result ≡ spec.first_broken (spec.check number code holds ∷ []) }
-{
-    if holds {
-        Ok(())
-    } else {
-        Err((rule(number), code))
-    }
-}
-
-// The rules of the operation's list and the key's.
+/// The rules of the operation's list and the key's.
 #[tactic(auto, unfolding(crate::specs::Table::list_rules))]
-fn check_lists(asked: &AuthList, key: &AuthList) -> Result<(), (Rule, Code)>
-    ensures first { result ≡ spec.first_broken (spec.list_rules asked.now key.now) }
-    ensures hold { OnOk result (spec.first_broken (spec.list_rules asked.now key.now) ≡ Ok tt) }
+fn check_lists(asked: &AuthList, key: &AuthList) -> Ruling
+    ensures first { result ≡ first_broken B (spec.list_rules asked.now key.now) }
+    ensures agree { OnOk result (spec.Agree asked.now key.now) }
 {
-    check(9, Code::UnsupportedPurpose, names_purpose(asked, key))?;
-    check(9, Code::IncompatiblePurpose, key_has_purpose(asked, key))?;
-    check(17, Code::UnsupportedBlockMode, names_mode(asked, key))?;
-    check(17, Code::IncompatibleBlockMode, key_has_mode(asked, key))?;
-    check(18, Code::UnsupportedPaddingMode, names_padding(asked, key))?;
-    check(18, Code::IncompatiblePaddingMode, takes_padding(asked, key))?;
-    check(19, Code::UnsupportedDigest, names_digest(asked, key))?;
-    check(19, Code::IncompatibleDigest, key_has_digest(asked, key))?;
-    check(20, Code::MissingMacLength, gives_length(asked, key))?;
-    check(20, Code::UnsupportedMacLength, takes_length(asked, key))?;
-    check(20, Code::InvalidMacLength, reaches_least(asked, key))?;
-    check(21, Code::CallerNonceProhibited, may_give_nonce(asked, key))?;
-    check(21, Code::MissingNonce, has_nonce(asked, key))?;
-    check(21, Code::InvalidNonce, fits_nonce(asked, key))?;
+    check(rule(9), Code::UnsupportedPurpose, names_purpose(asked, key))?;
+    check(
+        rule(9),
+        Code::IncompatiblePurpose,
+        key_has_purpose(asked, key),
+    )?;
+    check(rule(17), Code::UnsupportedBlockMode, names_mode(asked, key))?;
+    check(
+        rule(17),
+        Code::IncompatibleBlockMode,
+        key_has_mode(asked, key),
+    )?;
+    check(
+        rule(18),
+        Code::UnsupportedPaddingMode,
+        names_padding(asked, key),
+    )?;
+    check(
+        rule(18),
+        Code::IncompatiblePaddingMode,
+        takes_padding(asked, key),
+    )?;
+    check(rule(19), Code::UnsupportedDigest, names_digest(asked, key))?;
+    check(
+        rule(19),
+        Code::IncompatibleDigest,
+        key_has_digest(asked, key),
+    )?;
+    check(rule(20), Code::MissingMacLength, gives_length(asked, key))?;
+    check(
+        rule(20),
+        Code::UnsupportedMacLength,
+        takes_length(asked, key),
+    )?;
+    check(rule(20), Code::InvalidMacLength, reaches_least(asked, key))?;
+    check(
+        rule(21),
+        Code::CallerNonceProhibited,
+        may_give_nonce(asked, key),
+    )?;
+    check(rule(21), Code::MissingNonce, has_nonce(asked, key))?;
+    check(rule(21), Code::InvalidNonce, fits_nonce(asked, key))?;
     Ok(())
 }
 
-// The plan, where no rule of the lists is broken.
+/// The plan, where no rule of the lists is broken.
+#[tactic(auto, using(crate::proofs::Begun::workable, crate::proofs::Begun::takes, crate::proofs::Begun::nonce_fits))]
 fn begun(asked: &AuthList, key: &AuthList) -> Result<Plan, (Rule, Code)>
-    ensures first { result ≡ spec.or_plan (spec.first_broken (spec.list_rules asked.now key.now)) (plan_by asked.now key.now) }
-    ensures workable { IfOk result (λ plan. HasDigest key.now → IsWorkable plan) }
+    ensures first { result ≡ where_all_hold (first_broken B (spec.list_rules asked.now key.now)) (plan_by asked.now key.now) }
+    ensures plan { IfOk result (λ plan. plan ≡ plan_by asked.now key.now) }
+    ensures agree { OnOk result (spec.Agree asked.now key.now) }
+    ensures workable { IfOk result (λ plan. (size : ℕ) → IsKey key.now size → IsWorkable plan) }
+    ensures takes { IfOk result (λ plan. (size : ℕ) → IsKey key.now size → takes_key plan size ≡ true) }
     ensures nonce { IfOk result (λ plan. NonceFits asked.now key.now plan) }
 {
     check_lists(asked, key)?;
     Ok(plan_of(asked, key))
 }
 
-/// The first rule of the table that the begin breaks, with its code, or else the operation's plan. Then both lists are
-/// there and the key is usable, the nonce that is given or drawn has the plan's bytes, and the plan's numbers are those of
-/// the standards, where an HMAC key has a digest of SHA-2. It takes no memory.
+/// The first rule of the table that the begin breaks, with its code, or else the operation's plan, which is that of the two
+/// lists. Then the key was found, both lists are there and agree, and the key is usable; the nonce that is given or drawn
+/// has the plan's bytes; and where list and material make a key of their cipher, the plan's numbers are those of the
+/// standards and it takes the material. It takes no memory.
 #[tactic(auto, unfolding(crate::specs::Table::answer))]
 pub fn check_begin(facts: &BeginFacts) -> Result<Plan, (Rule, Code)>
     ensures first { result ≡ spec.answer facts.now }
+    ensures found { OnOk result (facts.now.found ≡ true) }
     ensures asked { OnOk result (is_ok facts.now.asked ≡ true) }
     ensures opened { OnOk result (is_some facts.now.opened ≡ true) }
     ensures fits { OnOk result (facts.now.fits ≡ true) }
-    ensures workable { IfOk result (λ plan. HasDigest (spec.key_of facts.now) → IsWorkable plan) }
+    ensures agree { OnOk result (spec.Agree (spec.asked_of facts.now) (spec.key_of facts.now)) }
+    ensures plan { IfOk result (λ plan. plan ≡ plan_by (spec.asked_of facts.now) (spec.key_of facts.now)) }
+    ensures workable { IfOk result (λ plan. (size : ℕ) → IsKey (spec.key_of facts.now) size → IsWorkable plan) }
+    ensures takes { IfOk result (λ plan. (size : ℕ) → IsKey (spec.key_of facts.now) size → takes_key plan size ≡ true) }
     ensures nonce { IfOk result (λ plan. NonceFits (spec.asked_of facts.now) (spec.key_of facts.now) plan) }
 {
-    check(1, Code::InvalidArgument, facts.connected)?;
-    check(2, Code::InvalidArgument, names_key(&facts.descriptor))?;
-    check(4, Code::KeyNotFound, facts.found)?;
+    check(rule(1), Code::InvalidArgument, facts.connected)?;
+    check(rule(2), Code::InvalidArgument, names_key(&facts.descriptor))?;
+    check(rule(4), Code::KeyNotFound, facts.found)?;
     let asked = match &facts.asked {
         Ok(list) => list,
         Err(code) => return Err((rule(6), *code)),
@@ -88,6 +117,6 @@ pub fn check_begin(facts: &BeginFacts) -> Result<Plan, (Rule, Code)>
     let Some(key) = &facts.opened else {
         return Err((rule(7), Code::InvalidKeyBlob));
     };
-    check(8, Code::InvalidKeyBlob, facts.fits)?;
+    check(rule(8), Code::InvalidKeyBlob, facts.fits)?;
     begun(asked, key)
 }

@@ -70,8 +70,8 @@ fn the_first_broken_rule_before_the_list_is_answered(rt: HostRuntime) -> Result<
         let key = descriptor(domain, alias, blob);
         let facts = NewFacts {
             connected,
-            descriptor: &key,
-            params,
+            descriptor: key,
+            params: Bytes::of(Vec::from_slice(alloc, params)?),
             import: import_of(Some((3, 20))),
             wall: 1000,
         };
@@ -88,7 +88,7 @@ fn the_first_broken_rule_before_the_list_is_answered(rt: HostRuntime) -> Result<
 }
 
 // What is added to a list, and the code.
-const ASKED: [(Pairs, i32); 6] = [
+static ASKED: [(Pairs, i32); 6] = [
     (&[], 0),
     (
         &[(Tag::ApplicationId, 1024), (Tag::ApplicationData, 1024)],
@@ -103,10 +103,10 @@ const ASKED: [(Pairs, i32); 6] = [
 #[test]
 fn the_list_of_an_operation_reads_as_a_keys(rt: HostRuntime) -> Result<(), Fail> {
     let alloc = rt.alloc();
-    for (row, (added, expected)) in ASKED.into_iter().enumerate() {
+    for (row, (added, expected)) in ASKED.iter().enumerate() {
         let params = encoded(alloc, M, &[], added)?;
         let asked = read_asked(alloc, &params);
-        assert_eq!(rt; code_of(&asked), expected, "in row {row}");
+        assert_eq!(rt; code_of(&asked), *expected, "in row {row}");
         if let Ok(Ok(list)) = asked {
             assert!(rt;
                 list.has(Tag::Algorithm, 128) && list.has(Tag::Purpose, 3),

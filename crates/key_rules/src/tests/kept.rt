@@ -1,6 +1,6 @@
 //! What is kept with a key, and whether a list and a length are those of a key.
 
-use super::{E, G, M, Material, Pairs, descriptor, encoded, import_of};
+use super::{E, G, M, Material, Pairs, app_key, encoded, import_of};
 use crate::{NewFacts, check_new, material_size, usable};
 use std::test::Fail;
 use tag_lists::AuthList;
@@ -9,7 +9,7 @@ use tags::{Bytes, Tag};
 // A list, the import, what is added, the wall reading, the kept list's bytes, and those of the material.
 type Kept = (Pairs, Material, Pairs, u64, &'static [u8], usize);
 
-const KEPT: [Kept; 4] = [
+static KEPT: [Kept; 4] = [
     (
         G,
         None,
@@ -53,27 +53,25 @@ const KEPT: [Kept; 4] = [
 #[test]
 fn the_kept_list_has_what_is_set_and_not_what_is_dropped(rt: HostRuntime) -> Result<(), Fail> {
     let alloc = rt.alloc();
-    let name = descriptor(0, Some(Bytes::of(vec![in alloc; 107u8]?)), None);
-    for (row, (list, import, added, wall, expected, size)) in KEPT.into_iter().enumerate() {
-        let params = encoded(alloc, list, &[], added)?;
+    for (row, (list, import, added, wall, expected, size)) in KEPT.iter().enumerate() {
         let facts = NewFacts {
             connected: true,
-            descriptor: &name,
-            params: &params,
-            import: import_of(import),
-            wall,
+            descriptor: app_key(alloc)?,
+            params: Bytes::of(encoded(alloc, list, &[], added)?),
+            import: import_of(*import),
+            wall: *wall,
         };
         let Ok(plan) = check_new(alloc, &facts) else {
             assert!(rt; false, "no key in row {row}");
             continue;
         };
         assert_eq!(rt; plan.limit, 0);
-        assert_eq!(rt; material_size(&plan.list), size, "in row {row}");
+        assert_eq!(rt; material_size(&plan.list), *size, "in row {row}");
         let Ok(written) = plan.list.write(alloc) else {
             assert!(rt; false, "no memory in row {row}");
             continue;
         };
-        assert_eq!(rt; written.as_slice(), expected, "in row {row}");
+        assert_eq!(rt; written.as_slice(), *expected, "in row {row}");
     }
     assert_eq!(rt; material_size(&AuthList::empty(alloc)), 0);
     Ok(())
@@ -82,7 +80,7 @@ fn the_kept_list_has_what_is_set_and_not_what_is_dropped(rt: HostRuntime) -> Res
 // A list, what is taken out, what is added, the material's length, and whether that is a key's.
 type Use = (Pairs, &'static [Tag], Pairs, usize, bool);
 
-const USED: [Use; 9] = [
+static USED: [Use; 9] = [
     (M, &[], &[], 20, true),
     (M, &[], &[], 7, false),
     (M, &[], &[(Tag::KeySize, 160)], 20, true),
@@ -103,13 +101,13 @@ const USED: [Use; 9] = [
 #[test]
 fn a_list_and_a_length_are_a_keys_or_not(rt: HostRuntime) -> Result<(), Fail> {
     let alloc = rt.alloc();
-    for (row, (list, dropped, added, length, expected)) in USED.into_iter().enumerate() {
+    for (row, (list, dropped, added, length, expected)) in USED.iter().enumerate() {
         let params = encoded(alloc, list, dropped, added)?;
         let Ok(list) = AuthList::read(alloc, &params) else {
             assert!(rt; false, "no list in row {row}");
             continue;
         };
-        assert_eq!(rt; usable(&list, length), expected, "in row {row}");
+        assert_eq!(rt; usable(&list, *length), *expected, "in row {row}");
     }
     Ok(())
 }

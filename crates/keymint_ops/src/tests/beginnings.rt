@@ -1,8 +1,7 @@
 //! What begins: the plan, its nonce, and its start.
 
-ghost use Rattle.std.specs.Prelude.{◌≡◌, length, IfOk, is_ok, true};
-ghost use Rattle.key_rules.specs.TableK.{key_rules};
-ghost use Rattle.key_rules.specs.Verdicts.{first_broken};
+ghost use Rattle.std.specs.Prelude.{◌≡◌, length, IfOk, true};
+ghost use Rattle.tag_lists.specs.Lookups.{IsKey};
 ghost use Rattle.use_rules.specs.Table.{key_of};
 
 use super::{AES_KEY, GCM_KEY, MAC_KEY, Pairs, app_key, encoded};
@@ -23,7 +22,7 @@ fn facts_of(
     key: Pairs,
     size: usize,
 ) -> Result<BeginFacts, Fail>
-    ensures { IfOk result (λ facts. facts.fits ≡ true → is_ok (first_broken (key_rules size (key_of facts))) ≡ true) }
+    ensures { IfOk result (λ facts. facts.fits ≡ true → IsKey (key_of facts) size) }
 {
     let params = encoded(alloc, asked, nonce)?;
     let asked = read_asked(alloc, &params).map_err(|_| "memory")?;
@@ -45,7 +44,7 @@ fn started(
     facts: &BeginFacts,
     material: &[u8],
 ) -> Result<Result<Begin, BeginFault>, Fail>
-    requires { facts.now.fits ≡ true → is_ok (first_broken (key_rules (length material.now) (key_of facts.now))) ≡ true }
+    requires { facts.now.fits ≡ true → IsKey (key_of facts.now) (length material.now) }
 {
     match plan_begin(alloc, facts, material) {
         Err(fault) => Ok(Err(fault)),
@@ -75,7 +74,7 @@ const BLOCK: Option<&[u8]> = Some(
 
 const TWELVE: Option<&[u8]> = Some(b"\x00\x01\x02\x03\x04\x05\x06\x07\x08\x09\x0a\x0b");
 
-const ROWS: [Row; 14] = [
+static ROWS: [Row; 14] = [
     (
         &[(Purpose, 0), (BlockMode, 1), (Padding, 64)],
         BLOCK,
@@ -255,11 +254,11 @@ fn is_begun(begin: &Begin, plan: Plan, wanted: usize, nonce: Option<&[u8]>) -> b
 #[test]
 fn an_operation_begins_with_the_nonce_of_its_mode(rt: HostRuntime) -> Result<(), Fail> {
     let alloc = rt.alloc();
-    for (row, (asked, nonce, key, size, expected)) in ROWS.into_iter().enumerate() {
-        let facts = facts_of(alloc, asked, nonce, key, size)?;
-        let material = vec![in alloc; 1u8; size]?;
-        let right = match (started(alloc, &facts, &material)?, expected) {
-            (Ok(begin), Ok((plan, wanted))) => is_begun(&begin, plan, wanted, nonce),
+    for (row, (asked, nonce, key, size, expected)) in ROWS.iter().enumerate() {
+        let facts = facts_of(alloc, asked, *nonce, key, *size)?;
+        let material = vec![in alloc; 1u8; *size]?;
+        let right = match (started(alloc, &facts, &material)?, *expected) {
+            (Ok(begin), Ok((plan, wanted))) => is_begun(&begin, plan, wanted, *nonce),
             (Err(BeginFault::Broken(rule, own)), Err((number, code))) => {
                 rule.table == RuleTable::B && rule.number == number && own == code
             }

@@ -5,7 +5,7 @@ use crate::{NewKey, plan_key};
 use key_rules::{ImportFacts, NewFacts, NewFault};
 use std::alloc::{AllocError, Global};
 use std::test::Fail;
-use tags::{Code, RuleTable};
+use tags::{Bytes, Code, RuleTable};
 
 // The kept lists of a generated AES-GCM key and of an imported HMAC key of 20 bytes, by the format of lists.
 const GENERATED: &[u8] =
@@ -20,16 +20,14 @@ fn planned(
     list: Pairs,
     length: Option<u64>,
 ) -> Result<Result<NewKey, NewFault>, AllocError> {
-    let name = app_key(alloc)?;
-    let params = encoded(alloc, list, None)?;
     let import = match length {
         None => None,
         Some(length) => Some(ImportFacts { format: 3, length }),
     };
     let facts = NewFacts {
         connected: true,
-        descriptor: &name,
-        params: &params,
+        descriptor: app_key(alloc)?,
+        params: Bytes::of(encoded(alloc, list, None)?),
         import,
         wall: 1000,
     };

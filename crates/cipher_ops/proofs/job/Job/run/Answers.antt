@@ -2,12 +2,13 @@ use Rattle.std.proofs.Common.{length, sym, ap, ◌∙◌}
 use mathlib.Core.Logic.{∥∥₁_elim, ∥∥₁_map}
 use Rattle.cipher_ops.proofs.Pieces.{done}
 use Rattle.cipher_ops.proofs.Rooms.{TakesAad-prop, CanTake-prop, nothing-prop}
+use Rattle.cipher_ops.proofs.Refusals.{Refuses-prop, last_refuses}
 use Rattle.cipher_ops.proofs.RunLemmas.{run_aad, run_text, run_last, run_end}
 use Rattle.cipher_ops.proofs.job.Job.run.Goals as goal
 
 pub aad-requires : goal.aad-requires
 aad-requires c =
-    ∥∥₁_elim c.args.self.can_run (TakesAad-prop c.args.self.state.engine) (λ can. run_aad c.args.self.state c.args.self.room c.in-Aad.input c.in-Aad.is can)
+    ∥∥₁_elim c.args.self.can_run (TakesAad-prop c.args.self.state.transform) (λ can. run_aad c.args.self.state c.args.self.room c.in-Aad.input c.in-Aad.is can)
 
 pub text-bytes-requires-clause-room : goal.text-bytes-requires-clause-room
 text-bytes-requires-clause-room c =
@@ -33,3 +34,8 @@ returns-in-Aad-clause-comes c = λ plan limited key nonce aad text work job.
     let stands = rw may.1 at job.stands in
     let later = c.aad.ensures plan limited key nonce aad stands in
     rw (← e) (ap done job.room.nothing_is, rw (may.1, ← c.as_slice.ensures) later)
+
+pub returns-in-Last-clause-codes : goal.returns-in-Last-clause-codes
+returns-in-Last-clause-codes c =
+    ∥∥₁_elim c.args.self.can_run (Refuses-prop c.last.result)
+    (λ can. last_refuses c.args.self.state c.args.self.room c.in-Last.input c.as_slice-in-Last.result.now c.in-Last.signature c.last.result c.in-Last.is c.as_slice-in-Last.ensures c.last.ensures can)

@@ -44,7 +44,7 @@ returns-clause-serves c = λ setup past stands.
     let ran = rw c.brought_by-brought.ensures at c.run-given.ensures in
     let came_to = came (is_live setup past) c.args.caller c.args.op (aad_of setup past c.args.op) (text_of setup past c.args.op) c.in_ok-room.room c.run-given.result c.args.work
     (row_at c.args.self.now c.args.op) (row_at c.run-given.new.self c.args.op) (operation_at setup past c.args.op) (state_at c.args.self.now c.args.op) (state_at c.run-given.new.self c.args.op)
-    (stands.operations.rows c.args.op) (stands.ciphers.states c.args.op) enters c.in_ok-room.ensures ran.row ran.comes in
+    (stands.operations.rows c.args.op) (stands.ciphers.states c.args.op) enters c.in_ok-room.ensures ran.row ran.comes ran.codes in
     let reply : c.undrawn.result.reply ≡ given_or c.args.work c.run-given.result =
     c.undrawn.ensures.reply ∙ c.reply_of.ensures ∙ ap (λ b. reply_of b.kind c.run-given.result) c.brought_by-brought.ensures ∙ replied c.args.work c.run-given.result in
     rw (reply, c.undrawn.ensures.drawn)
@@ -59,8 +59,8 @@ returns-clause-drew c = record {
       let ran = rw c.brought_by-brought.ensures at c.run-given.ensures in
       let came_to = came (is_live t.setup t.past) c.args.caller c.args.op (aad_of t.setup t.past c.args.op) (text_of t.setup t.past c.args.op) c.in_ok-room.room c.run-given.result c.args.work
       (row_at c.args.self.now c.args.op) (row_at c.run-given.new.self c.args.op) (operation_at t.setup t.past c.args.op) (state_at c.args.self.now c.args.op) (state_at c.run-given.new.self c.args.op)
-      (t.stands.operations.rows c.args.op) (t.stands.ciphers.states c.args.op) enters c.in_ok-room.ensures ran.row ran.comes in
+      (t.stands.operations.rows c.args.op) (t.stands.ciphers.states c.args.op) enters c.in_ok-room.ensures ran.row ran.comes ran.codes in
       let reply : c.undrawn.result.reply ≡ given_or c.args.work c.run-given.result =
       c.undrawn.ensures.reply ∙ c.reply_of.ensures ∙ ap (λ b. reply_of b.kind c.run-given.result) c.brought_by-brought.ensures ∙ replied c.args.work c.run-given.result in
-      rw reply (no_fault _ c.args.work _ _ c.run-given.result came_to.result_is));
+      rw reply (no_fault _ c.args.work _ _ c.run-given.result came_to.result_is came_to.codes));
 }

@@ -6,14 +6,14 @@ use Rattle.keystore_core.proofs.tables.Tables.make_key.Goals as goal
 
 pub returns-in-Err-Broken-clause-serves : goal.returns-in-Err-Broken-clause-serves
 returns-in-Err-Broken-clause-serves g c = λ setup past stands.
-    let facts = rw c.as_slice.ensures at c.new_facts-facts.ensures in
+    let facts = c.new_facts-facts.ensures in
     let broken = sym (ap planned facts) ∙ rw c.in-Err-Broken.field-0-is at c.in-Err-Broken.ensures.key in
     rw (c.refused.ensures.reply, c.refused.ensures.drawn, c.in-Err-Broken.rule-is, c.in-Err-Broken.code-is)
     (refused setup past c.args.self.now c.args.caller c.args.key c.args.params stands c.requires.caller c.args.import _ _ broken)
 
 pub returns-in-Err-clause-serves : goal.returns-in-Err-clause-serves
 returns-in-Err-clause-serves g c = λ setup past stands.
-    let facts = rw c.as_slice.ensures at c.new_facts-facts.ensures in
+    let facts = c.new_facts-facts.ensures in
     let is = sym (ap planned facts) ∙ c.in-Ok.ensures.key in
     let few : length c.in-Err.drawn < c.in-Ok.plan.size + 12 =
     omega (arith, c.in-Err.ensures.part, c.in_ok-draws.ensures, ap (λ p. p.first + p.second) c.pieces.ensures, c.in_ok-room.ensures.size_is) in
@@ -25,14 +25,14 @@ pub into_record-requires : goal.into_record-requires
 into_record-requires g c =
     let long : length c.in-Ok-draw.drawn ≡ c.in-Ok.plan.size + 12 =
     omega (arith, c.in-Ok-draw.ensures.whole, c.in_ok-draws.ensures, ap (λ p. p.first + p.second) c.pieces.ensures, c.in_ok-room.ensures.size_is) in
-    rw c.as_slice-2.ensures (fills c.in_ok-room.room _ _ c.in-Ok.plan _ c.in-Ok-draw.drawn c.in_ok-room.ensures long)
+    rw c.as_slice.ensures (fills c.in_ok-room.room _ _ c.in-Ok.plan _ c.in-Ok-draw.drawn c.in_ok-room.ensures long)
 
 pub put-requires-clause-few : goal.put-requires-clause-few
 put-requires-clause-few g c = omega (arith, c.in_ok-reserve.ensures.same.next, few_keys c.args.self.now c.requires.tables)
 
 pub returns-clause-serves : goal.returns-clause-serves
 returns-clause-serves g c = λ setup past stands.
-    let facts = rw c.as_slice.ensures at c.new_facts-facts.ensures in
+    let facts = c.new_facts-facts.ensures in
     let is = sym (ap planned facts) ∙ c.in-Ok.ensures.key in
     let long : length c.in-Ok-draw.drawn ≡ c.in-Ok.plan.size + 12 =
     omega (arith, c.in-Ok-draw.ensures.whole, c.in_ok-draws.ensures, ap (λ p. p.first + p.second) c.pieces.ensures, c.in_ok-room.ensures.size_is) in
@@ -40,4 +40,4 @@ returns-clause-serves g c = λ setup past stands.
     (record c.args.self.now { keys = c.reserve.new.self }) c.put.new.self c.in-Ok.plan c.in_ok-room.room c.in-Ok-draw.drawn c.next-id.result is
     (rw c.unwrap_or.ensures at c.in_ok-room.ensures) long c.next-id.ensures
     (same_but_keys c.args.self.now c.reserve.new.self c.in_ok-reserve.ensures.same)
-    (rw (c.into_record.ensures, c.as_slice-2.ensures) at c.put.ensures)
+    (rw (c.into_record.ensures, c.as_slice.ensures) at c.put.ensures)

@@ -18,6 +18,7 @@ returns-in-Some-state c = record {
       comes_same c.run-state.result (done_of _ c.run-state.result.result) plan limited key nonce aad text work refl (c.put.ensures.here ∙ sym c.in-Some-state.is)
       (c.run-state.ensures.comes plan limited key nonce aad text work (c.new.ensures.job plan limited key nonce aad text work
       (goes_with _ _ plan limited key nonce aad text (sym c.take.ensures.state ∙ c.in-Some.is) goes) is_room may));
+  codes = c.run-state.ensures.codes;
 }
 
 pub returns-in-None : goal.returns-in-None
@@ -28,4 +29,5 @@ returns-in-None c = record {
       comes_same c.run-state.result (done_of _ c.run-state.result.result) plan limited key nonce aad text work refl (c.close.ensures.state ∙ sym c.in-None.is)
       (c.run-state.ensures.comes plan limited key nonce aad text work (c.new.ensures.job plan limited key nonce aad text work
       (goes_with _ _ plan limited key nonce aad text (sym c.take.ensures.state ∙ c.in-Some.is) goes) is_room may));
+  codes = c.run-state.ensures.codes;
 }

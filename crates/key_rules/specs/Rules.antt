@@ -1,0 +1,140 @@
+-- The rules of a new key: each part says whether it holds over the facts of the call and over the list. Where a part names
+-- AES or HMAC, it holds for the other.
+use Rattle.std.specs.Prelude.{ℕ, ◌*◌, Bool, true, false, ◌&&◌, ◌||◌, not, ◌==◌, nat_le, List, [], ◌∷◌, length, Option, Some, None, Result, Ok, Err, if◌then◌else◌, is_none, unwrap_or}
+use Rattle.std.specs.List.{list_all, list_any}
+use Rattle.tags.specs.declared.code.Code.{Code}
+use Rattle.tags.specs.declared.code.Code.TheVariants.{InvalidKeyArgument, InvalidTag}
+use Rattle.tags.specs.declared.descriptor.Descriptor.{Descriptor}
+use Rattle.tags.specs.declared.param.Param.{Param}
+use Rattle.tags.specs.declared.param.ParamValue.{ParamValue}
+use Rattle.tags.specs.declared.param.ParamValue.TheVariants.{Number, Flag, Raw}
+use Rattle.tags.specs.declared.tag.Tag.{Tag}
+use Rattle.tags.specs.declared.tag.Tag.TheVariants as tags
+use Rattle.tags.specs.Descriptor.{has_alias}
+use Rattle.tags.specs.Values.{AES_PURPOSES, DIGESTS, GCM, HMAC_PURPOSES, MODES, PADDINGS, RAW, digest_bits, implies, is_whole_bytes, one_in}
+use Rattle.tag_lists.specs.declared.fault.ListFault.{ListFault}
+use Rattle.tag_lists.specs.declared.fault.ListFault.TheVariants as faults
+use Rattle.tag_lists.specs.Lookups.{all_of, each, has_number, is_aes, is_hmac, number_of, stands}
+use Rattle.tag_lists.specs.Reading.{listed}
+use Rattle.key_rules.specs.declared.facts.ImportFacts.{ImportFacts}
+
+-- the domain is APP with an alias of 1 to 256 bytes of UTF-8; no blob is given
+abbrev pub names_new_key : Descriptor → Bool
+names_new_key descriptor = (descriptor.domain == 0) && (has_alias descriptor && is_none descriptor.blob)
+
+-- the code of a list that does not read
+abbrev pub list_code : ListFault → Code
+list_code (faults.Repeated at) = InvalidKeyArgument
+list_code _ = InvalidTag
+
+abbrev pub reading_code : Result (List Param) ListFault → Code
+reading_code (Ok list) = InvalidTag
+reading_code (Err fault) = list_code fault
+
+-- the list that the bytes spell; where they spell none, no parameters
+abbrev pub read_or_empty : Result (List Param) ListFault → List Param
+read_or_empty (Ok list) = list
+read_or_empty (Err fault) = []
+
+unfoldable pub list_in : List ℕ → List Param
+list_in params = read_or_empty (listed params)
+
+-- each parameter of the tag has at most 1,024 bytes
+abbrev pub is_short : ParamValue → Bool
+is_short (Number n) = false
+is_short Flag = false
+is_short (Raw bytes) = nat_le (length bytes) 1024
+
+abbrev pub each_short : Tag → List Param → Bool
+each_short tag list = list_all (λ p. is_short p.value) (all_of tag list)
+
+-- APPLICATION_ID and APPLICATION_DATA have at most 1,024 bytes each
+abbrev pub has_short_ids : List Param → Bool
+has_short_ids list = each_short tags.ApplicationId list && each_short tags.ApplicationData list
+
+-- ALGORITHM is there and is AES or HMAC
+abbrev pub names_algorithm : List Param → Bool
+names_algorithm list = is_aes list || is_hmac list
+
+-- import: the format is RAW
+abbrev pub takes_format : Option ImportFacts → Bool
+takes_format None = true
+takes_format (Some import) = import.format == RAW
+
+-- the sizes that are allowed: AES 128, 192, 256; HMAC 64 to 512 in steps of 8
+abbrev pub is_allowed_size : List Param → ℕ → Bool
+is_allowed_size list bits = if is_aes list then one_in (128 ∷ 192 ∷ 256 ∷ []) bits else (is_hmac list && is_whole_bytes 64 512 bits)
+
+-- generate: KEY_SIZE is there and allowed; import: eight times the material's length is allowed
+abbrev pub has_allowed_size : Option ImportFacts → List Param → Bool
+has_allowed_size None list = stands tags.KeySize list && each tags.KeySize (is_allowed_size list) list
+has_allowed_size (Some import) list = is_allowed_size list (8 * import.length)
+
+-- import: it equals KEY_SIZE where that is there
+abbrev pub has_own_size : Option ImportFacts → List Param → Bool
+has_own_size None list = true
+has_own_size (Some import) list = each tags.KeySize (one_in (8 * import.length ∷ [])) list
+
+-- each PURPOSE is ENCRYPT or DECRYPT for AES, SIGN or VERIFY for HMAC
+abbrev pub has_own_purposes : List Param → Bool
+has_own_purposes list =
+    implies (is_aes list) (each tags.Purpose (one_in AES_PURPOSES) list) &&
+    implies (is_hmac list) (each tags.Purpose (one_in HMAC_PURPOSES) list)
+
+-- AES: each BLOCK_MODE is ECB, CBC, CTR or GCM
+abbrev pub has_known_modes : List Param → Bool
+has_known_modes list = implies (is_aes list) (each tags.BlockMode (one_in MODES) list)
+
+-- AES: each PADDING is none or PKCS7
+abbrev pub has_known_paddings : List Param → Bool
+has_known_paddings list = implies (is_aes list) (each tags.Padding (one_in PADDINGS) list)
+
+-- there is exactly one DIGEST, of SHA-224, SHA-256, SHA-384 and SHA-512
+abbrev pub has_known_digest : List Param → Bool
+has_known_digest list = (length (all_of tags.Digest list) == 1) && each tags.Digest (one_in DIGESTS) list
+
+-- HMAC: there is one such DIGEST
+abbrev pub has_one_digest : List Param → Bool
+has_one_digest list = implies (is_hmac list) (has_known_digest list)
+
+-- AES with GCM among its modes
+abbrev pub is_gcm : List Param → Bool
+is_gcm list = is_aes list && has_number tags.BlockMode GCM list
+
+-- HMAC and GCM: MIN_MAC_LENGTH is there
+abbrev pub has_least_length : List Param → Bool
+has_least_length list = implies (is_hmac list || is_gcm list) (stands tags.MinMacLength list)
+
+-- the bits of the list's digest
+abbrev pub own_digest_bits : List Param → ℕ
+own_digest_bits list = digest_bits (unwrap_or (number_of tags.Digest list) 0)
+
+-- HMAC: and is of whole bytes, from 64 bits to the digest's
+abbrev pub has_fit_mac : List Param → Bool
+has_fit_mac list = implies (is_hmac list) (each tags.MinMacLength (is_whole_bytes 64 (own_digest_bits list)) list)
+
+-- GCM: and is of whole bytes, from 96 bits to 128
+abbrev pub has_fit_tag : List Param → Bool
+has_fit_tag list = implies (is_gcm list) (each tags.MinMacLength (is_whole_bytes 96 128) list)
+
+abbrev pub has_fit_length : List Param → Bool
+has_fit_length list = has_fit_mac list && has_fit_tag list
+
+-- NO_AUTH_REQUIRED and USER_SECURE_ID are not both there
+abbrev pub has_one_authority : List Param → Bool
+has_one_authority list = not (stands tags.NoAuthRequired list && stands tags.UserSecureId list)
+
+-- USAGE_COUNT_LIMIT is not 0
+abbrev pub has_some_uses : List Param → Bool
+has_some_uses list = not (has_number tags.UsageCountLimit 0 list)
+
+-- the tags whose rules are not built yet
+abbrev pub unbuilt : List Tag
+unbuilt =
+    tags.EarlyBootOnly ∷ tags.ActiveDatetime ∷ tags.OriginationExpireDatetime ∷ tags.UsageExpireDatetime ∷
+    tags.MaxUsesPerBoot ∷ tags.UserId ∷ tags.UserSecureId ∷ tags.UserAuthType ∷ tags.AuthTimeout ∷
+    tags.UnlockedDeviceRequired ∷ tags.ApplicationId ∷ tags.ApplicationData ∷ tags.UsageCountLimit ∷ []
+
+-- the list has no such tag
+abbrev pub has_no_unbuilt : List Param → Bool
+has_no_unbuilt list = not (list_any (λ tag. stands tag list) unbuilt)

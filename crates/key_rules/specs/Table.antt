@@ -1,0 +1,56 @@
+-- Table K, a new key: a list of rules in its order, and the answer is the first that does not hold.
+use Rattle.std.specs.Prelude.{ℕ, List, [], ◌∷◌, ◌++◌, Option, Some, length, nat_le, is_ok}
+use Rattle.tags.specs.declared.code.Code.TheVariants.{ImportParameterMismatch, InvalidArgument, InvalidInputLength, InvalidKeyArgument, MissingMinMacLength, UnsupportedAlgorithm, UnsupportedBlockMode, UnsupportedDigest, UnsupportedKeyFormat, UnsupportedKeySize, UnsupportedMinMacLength, UnsupportedPaddingMode, UnsupportedPurpose, UnsupportedTag}
+use Rattle.tags.specs.declared.param.Param.{Param}
+use Rattle.tags.specs.Table.{Check, check}
+use Rattle.tags.specs.Values.{RAW}
+use Rattle.tag_lists.specs.Reading.{listed}
+use Rattle.key_rules.specs.declared.facts.ImportFacts.{ImportFacts}
+use Rattle.key_rules.specs.declared.facts.NewFacts.{NewFacts}
+use Rattle.key_rules.specs.Rules.{has_allowed_size, has_fit_length, has_known_modes, has_known_paddings, has_least_length, has_no_unbuilt, has_one_authority, has_one_digest, has_own_purposes, has_own_size, has_short_ids, has_some_uses, list_in, names_algorithm, names_new_key, reading_code, takes_format}
+
+-- the rule of an encoded list
+abbrev pub bytes_rules : List ℕ → List Check
+bytes_rules params =
+    check 4 InvalidInputLength (nat_le (length params) 4096) ∷  -- the encoded list is not too long
+    check 4 (reading_code (listed params)) (is_ok (listed params)) ∷  -- it reads
+    check 4 InvalidInputLength (has_short_ids (list_in params)) ∷  -- its ids are not too long
+    []
+
+-- the rules that make a list and a material a key of their cipher, of an import or of a key that is generated
+abbrev pub cipher_rules : Option ImportFacts → List Param → List Check
+cipher_rules import list =
+    check 7 UnsupportedKeySize (has_allowed_size import list) ∷  -- the size is one of the algorithm's
+    check 7 ImportParameterMismatch (has_own_size import list) ∷  -- import: and the one that the list names
+    check 8 UnsupportedPurpose (has_own_purposes list) ∷  -- the purposes are the algorithm's
+    check 9 UnsupportedBlockMode (has_known_modes list) ∷  -- AES: the modes are known
+    check 10 UnsupportedPaddingMode (has_known_paddings list) ∷  -- AES: the paddings are known
+    check 11 UnsupportedDigest (has_one_digest list) ∷  -- HMAC: there is one digest
+    check 12 MissingMinMacLength (has_least_length list) ∷  -- HMAC and GCM: a least length of the mac or tag
+    check 12 UnsupportedMinMacLength (has_fit_length list) ∷  -- of whole bytes, that the digest or GCM has
+    []
+
+-- the rules that read the list
+unfoldable pub list_rules : Option ImportFacts → List Param → List Check
+list_rules import list =
+    check 5 UnsupportedAlgorithm (names_algorithm list) ∷  -- the algorithm is known
+    check 6 UnsupportedKeyFormat (takes_format import) ∷  -- import: the format is RAW
+    cipher_rules import list ++
+    check 13 InvalidKeyArgument (has_one_authority list) ∷  -- no authentication is not asked for beside one
+    check 14 InvalidKeyArgument (has_some_uses list) ∷  -- a use limit allows a use
+    check 16 UnsupportedTag (has_no_unbuilt list) ∷  -- no tag whose rules are not built yet
+    []
+
+-- table K
+abbrev pub rules_of : NewFacts → List Check
+rules_of facts =
+    check 1 InvalidArgument facts.connected ∷  -- the client is connected
+    check 2 InvalidArgument (names_new_key facts.descriptor) ∷  -- the descriptor may name a new key
+    bytes_rules facts.params ++
+    list_rules facts.import (list_in facts.params)
+
+-- the rules of a key that was made: the algorithm's and the cipher's, as an import of a material of so many bytes
+unfoldable pub key_rules : ℕ → List Param → List Check
+key_rules size list =
+    check 5 UnsupportedAlgorithm (names_algorithm list) ∷  -- the algorithm is known
+    cipher_rules (Some (record { format = RAW; length = size })) list
