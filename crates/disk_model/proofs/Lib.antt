@@ -1,0 +1,4 @@
+-- Lemmas of the crate.
+pub mod Elapsing
+pub mod Overlays
+pub mod Writing

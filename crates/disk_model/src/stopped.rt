@@ -1,0 +1,109 @@
+//! A disk that stops.
+
+ghost use Rattle.std.specs.Prelude.{◌≡◌, ◌+◌, ◌-◌, ◌^◌, ◌<◌, ◌≤◌, ℕ, List, min, length, is_some, IfOk, IsOk, IsErr, OnOk, OnErr, pred};
+ghost use Rattle.ks_outside.specs.Faults.{HasCause};
+ghost use Rattle.ks_outside.specs.Ranges.{Holds, Torn, Gives, Becomes};
+ghost use Rattle.ks_outside.specs.Moments.{Follows, Elapses};
+
+use ks_outside::{Disk, Failed, FaultCount};
+
+/// Passes a number of calls on to a disk, and fails every later one, without a call of that disk.
+#[derive(Drop)]
+pub struct StoppedDisk<D: Disk> {
+    inner: D,
+    left: u64,
+    refused: FaultCount,
+}
+
+impl<D: Disk> StoppedDisk<D> {
+    /// The disk, which passes `calls` calls on.
+    pub fn new(inner: D, calls: u64) -> StoppedDisk<D>
+        ensures inner { result.inner ≡ inner }
+        ensures left { result.left ≡ calls }
+        ensures refused { result.refused.count ≡ 0 }
+    {
+        StoppedDisk {
+            inner,
+            left: calls,
+            refused: FaultCount::new(),
+        }
+    }
+
+    /// The disk that it passes calls on to.
+    pub fn into_inner(self) -> D
+        ensures { result ≡ self.inner }
+    {
+        let StoppedDisk {
+            inner,
+            left: _,
+            refused: _,
+        } = self;
+        inner
+    }
+
+    /// Whether one more call is passed on. One that is not is counted as a fault.
+    fn passes(&mut self) -> Result<(), Failed>
+        ensures stopped { self.old.left ≡ 0 → IsErr result }
+        ensures goes_on { 0 < self.old.left → IsOk result }
+        ensures left { self.new.left ≡ self.old.left - 1 }
+        ensures inner { self.new.inner ≡ self.old.inner }
+        ensures cause { HasCause self.old.refused.count self.new.refused.count result }
+    {
+        if self.left == 0 {
+            self.refused.rise();
+            return Err(Failed);
+        }
+        self.left -= 1;
+        Ok(())
+    }
+}
+
+impl<D: Disk> Disk for StoppedDisk<D> {
+    ghost content = { λ d. D.Disk.content d.inner };
+
+    ghost images = { λ d. D.Disk.images d.inner };
+
+    ghost moment = { λ d. D.Disk.moment d.inner };
+
+    ghost images_since = { λ d. D.Disk.images_since d.inner };
+
+    ghost fault_count = { λ d. min (D.Disk.fault_count d.inner + d.refused.count) (2 ^ 64 - 1) };
+
+    ghost content_is_image = { λ d. D.Disk.content_is_image d.inner };
+
+    ghost counts_now = { λ d. D.Disk.counts_now d.inner };
+
+    ghost only_now = { λ d. D.Disk.only_now d.inner };
+
+    fn read(&mut self, at: u64, out: &mut [u8]) -> Result<usize, Failed> {
+        let Ok(()) = self.passes() else {
+            return Err(Failed);
+        };
+        self.inner.read(at, out)
+    }
+
+    fn write_at(&mut self, at: u64, piece: &[u8]) -> Result<(), Failed> {
+        let Ok(()) = self.passes() else {
+            return Err(Failed);
+        };
+        self.inner.write_at(at, piece)
+    }
+
+    fn len(&mut self) -> Result<u64, Failed> {
+        let Ok(()) = self.passes() else {
+            return Err(Failed);
+        };
+        self.inner.len()
+    }
+
+    fn sync(&mut self) -> Result<(), Failed> {
+        let Ok(()) = self.passes() else {
+            return Err(Failed);
+        };
+        self.inner.sync()
+    }
+
+    fn faults(&self) -> u64 {
+        self.inner.faults().saturating_add(self.refused.count())
+    }
+}
