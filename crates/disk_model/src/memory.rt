@@ -1,6 +1,6 @@
 //! A disk in memory.
 
-ghost use Rattle.std.specs.Prelude.{◌≡◌, ◌↔◌, [], ◌∷◌, ◌++◌, ℕ, ◌+◌, ◌-◌, ◌^◌, ◌<◌, ◌≤◌, Contains, IsOk, IsErr, length, take, drop, reverse, Some, IfOk, OnOk, OnErr, min, vec_capacity};
+ghost use Rattle.std.specs.Prelude.{◌≡◌, ◌↔◌, [], ◌∷◌, ◌++◌, ◌+◌, ◌-◌, ◌^◌, ◌<◌, ◌≤◌, ℕ, List, Contains, IsOk, IsErr, length, take, drop, reverse, Some, IfOk, OnOk, OnErr, min, vec_capacity};
 ghost use Rattle.ks_outside.specs.Faults.{HasCause, one_more};
 ghost use Rattle.ks_outside.specs.Ranges.{Holds, Torn, Gives, Becomes};
 ghost use Rattle.ks_outside.specs.Moments.{Follows, Elapses};
@@ -100,6 +100,7 @@ impl<'a> MemoryDisk<'a> {
     /// Keeps a sync as a call.
     fn make_sync(&mut self) -> Result<(), AllocError>
         ensures calls { OnOk result (reverse self.new.calls.items ≡ Synced ∷ reverse self.old.calls.items) }
+        ensures succeeds { length self.old.calls.items < vec_capacity self.old.calls → IsOk result }
         ensures count { OnOk result (length self.new.calls.items ≡ length self.old.calls.items + 1) }
         ensures same { OnErr result (self.new.calls.items ≡ self.old.calls.items) }
         ensures room { vec_capacity self.old.calls ≤ vec_capacity self.new.calls }
@@ -151,14 +152,39 @@ impl Disk for MemoryDisk<'_> {
 
     ghost only_now = { λ d c was. only_now d.calls.items c was };
 
-    fn read(&mut self, at: u64, out: &mut [u8]) -> Result<usize, Failed> {
+    fn read(&mut self, at: u64, out: &mut [u8]) -> Result<usize, Failed>
+        ensures within { IfOk result (λ n. n ≤ length out.new) }
+        ensures bytes { IfOk result (λ n. Gives (Some (content_of (reverse self.old.calls.items))) at n (length out.old) out.new) }
+        ensures content { Some (content_of (reverse self.new.calls.items)) ≡ Some (content_of (reverse self.old.calls.items)) }
+        ensures images { (c : List ℕ) → IsImage (reverse self.new.calls.items) c → IsImage (reverse self.old.calls.items) c }
+        ensures time { Elapses (length self.old.calls.items) (length self.new.calls.items) (WasImage (reverse self.old.calls.items)) (WasImage (reverse self.new.calls.items)) (IsImage (reverse self.new.calls.items)) }
+        ensures cause { HasCause self.old.faults.count self.new.faults.count result }
+        ensures planned { IsErr result ↔ Contains self.old.plan.numbers.now self.new.plan.calls }
+        ensures whole { IfOk result (λ n. n ≡ min (length out.old) (length (content_of (reverse self.old.calls.items)) - at)) }
+        ensures same { self.new.calls.items ≡ self.old.calls.items }
+        ensures numbers { self.new.plan.numbers.now ≡ self.old.plan.numbers.now }
+        ensures counted { self.new.plan.calls ≡ one_more self.old.plan.calls }
+    {
         let Ok(()) = self.goes_on() else {
             return Err(Failed);
         };
         Ok(self.copy_to(at, out))
     }
 
-    fn write_at(&mut self, at: u64, piece: &[u8]) -> Result<(), Failed> {
+    fn write_at(&mut self, at: u64, piece: &[u8]) -> Result<(), Failed>
+        ensures written { OnOk result (Becomes (Holds at piece.now) (Some (content_of (reverse self.old.calls.items))) (Some (content_of (reverse self.new.calls.items)))) }
+        ensures torn { OnErr result (Becomes (Torn at (length piece.now)) (Some (content_of (reverse self.old.calls.items))) (Some (content_of (reverse self.new.calls.items)))) }
+        ensures images { Follows (Torn at (length piece.now)) (IsImage (reverse self.old.calls.items)) (IsImage (reverse self.new.calls.items)) }
+        ensures nothing { OnErr result ((Some (content_of (reverse self.new.calls.items)) ≡ Some (content_of (reverse self.old.calls.items)))
+            × ((c : List ℕ) → IsImage (reverse self.new.calls.items) c → IsImage (reverse self.old.calls.items) c)) }
+        ensures time { Elapses (length self.old.calls.items) (length self.new.calls.items) (WasImage (reverse self.old.calls.items)) (WasImage (reverse self.new.calls.items)) (IsImage (reverse self.new.calls.items)) }
+        ensures cause { HasCause self.old.faults.count self.new.faults.count result }
+        ensures planned { Contains self.old.plan.numbers.now self.new.plan.calls → IsErr result }
+        ensures made { OnOk result ((copy : _) × (copy.items ≡ piece.now) × (reverse self.new.calls.items ≡ Wrote at copy ∷ reverse self.old.calls.items)) }
+        ensures same { OnErr result (self.new.calls.items ≡ self.old.calls.items) }
+        ensures numbers { self.new.plan.numbers.now ≡ self.old.plan.numbers.now }
+        ensures counted { self.new.plan.calls ≡ one_more self.old.plan.calls }
+    {
         let Ok(()) = self.goes_on() else {
             return Err(Failed);
         };
@@ -169,14 +195,37 @@ impl Disk for MemoryDisk<'_> {
         Ok(())
     }
 
-    fn len(&mut self) -> Result<u64, Failed> {
+    fn len(&mut self) -> Result<u64, Failed>
+        ensures bytes { IfOk result (λ n. (c : List ℕ) → Some (content_of (reverse self.old.calls.items)) ≡ Some c → n ≡ length c) }
+        ensures content { Some (content_of (reverse self.new.calls.items)) ≡ Some (content_of (reverse self.old.calls.items)) }
+        ensures images { (c : List ℕ) → IsImage (reverse self.new.calls.items) c → IsImage (reverse self.old.calls.items) c }
+        ensures time { Elapses (length self.old.calls.items) (length self.new.calls.items) (WasImage (reverse self.old.calls.items)) (WasImage (reverse self.new.calls.items)) (IsImage (reverse self.new.calls.items)) }
+        ensures cause { HasCause self.old.faults.count self.new.faults.count result }
+        ensures planned { IsErr result ↔ Contains self.old.plan.numbers.now self.new.plan.calls }
+        ensures same { self.new.calls.items ≡ self.old.calls.items }
+        ensures numbers { self.new.plan.numbers.now ≡ self.old.plan.numbers.now }
+        ensures counted { self.new.plan.calls ≡ one_more self.old.plan.calls }
+    {
         let Ok(()) = self.goes_on() else {
             return Err(Failed);
         };
         Ok(self.size)
     }
 
-    fn sync(&mut self) -> Result<(), Failed> {
+    fn sync(&mut self) -> Result<(), Failed>
+        ensures synced { OnOk result ((c : List ℕ) → IsImage (reverse self.new.calls.items) c → Some (content_of (reverse self.new.calls.items)) ≡ Some c) }
+        ensures content { Some (content_of (reverse self.new.calls.items)) ≡ Some (content_of (reverse self.old.calls.items)) }
+        ensures images { (c : List ℕ) → IsImage (reverse self.new.calls.items) c → IsImage (reverse self.old.calls.items) c }
+        ensures never { ⊥ → IsOk result }
+        ensures time { Elapses (length self.old.calls.items) (length self.new.calls.items) (WasImage (reverse self.old.calls.items)) (WasImage (reverse self.new.calls.items)) (IsImage (reverse self.new.calls.items)) }
+        ensures cause { HasCause self.old.faults.count self.new.faults.count result }
+        ensures planned { Contains self.old.plan.numbers.now self.new.plan.calls → IsErr result }
+        ensures made { OnOk result (reverse self.new.calls.items ≡ Synced ∷ reverse self.old.calls.items) }
+        ensures same { OnErr result (self.new.calls.items ≡ self.old.calls.items) }
+        ensures room { ¬ Contains self.old.plan.numbers.now self.new.plan.calls → length self.old.calls.items < vec_capacity self.old.calls → IsOk result }
+        ensures numbers { self.new.plan.numbers.now ≡ self.old.plan.numbers.now }
+        ensures counted { self.new.plan.calls ≡ one_more self.old.plan.calls }
+    {
         let Ok(()) = self.goes_on() else {
             return Err(Failed);
         };

@@ -75,28 +75,66 @@ impl<D: Disk> Disk for StoppedDisk<D> {
 
     ghost only_now = { λ d. D.Disk.only_now d.inner };
 
-    fn read(&mut self, at: u64, out: &mut [u8]) -> Result<usize, Failed> {
+    fn read(&mut self, at: u64, out: &mut [u8]) -> Result<usize, Failed>
+        ensures within { IfOk result (λ n. n ≤ length out.new) }
+        ensures bytes { IfOk result (λ n. Gives (D.Disk.content self.old.inner) at n (length out.old) out.new) }
+        ensures content { (D.Disk.content self.new.inner) ≡ (D.Disk.content self.old.inner) }
+        ensures images { (c : List ℕ) → D.Disk.images self.new.inner c → D.Disk.images self.old.inner c }
+        ensures time { Elapses (D.Disk.moment self.old.inner) (D.Disk.moment self.new.inner) (D.Disk.images_since self.old.inner) (D.Disk.images_since self.new.inner) (D.Disk.images self.new.inner) }
+        ensures cause { HasCause (min (D.Disk.fault_count self.old.inner + self.old.refused.count) (2 ^ 64 - 1)) (min (D.Disk.fault_count self.new.inner + self.new.refused.count) (2 ^ 64 - 1)) result }
+        ensures stopped { self.old.left ≡ 0 → IsErr result × (self.new.inner ≡ self.old.inner) }
+        ensures passed { 0 < self.old.left → self.new.refused.count ≡ self.old.refused.count }
+        ensures left { self.new.left ≡ self.old.left - 1 }
+    {
         let Ok(()) = self.passes() else {
             return Err(Failed);
         };
         self.inner.read(at, out)
     }
 
-    fn write_at(&mut self, at: u64, piece: &[u8]) -> Result<(), Failed> {
+    fn write_at(&mut self, at: u64, piece: &[u8]) -> Result<(), Failed>
+        ensures written { OnOk result (Becomes (Holds at piece.now) (D.Disk.content self.old.inner) (D.Disk.content self.new.inner)) }
+        ensures torn { OnErr result (Becomes (Torn at (length piece.now)) (D.Disk.content self.old.inner) (D.Disk.content self.new.inner)) }
+        ensures telling { is_some (D.Disk.content self.new.inner) ≡ is_some (D.Disk.content self.old.inner) }
+        ensures images { Follows (Torn at (length piece.now)) (D.Disk.images self.old.inner) (D.Disk.images self.new.inner) }
+        ensures time { Elapses (D.Disk.moment self.old.inner) (D.Disk.moment self.new.inner) (D.Disk.images_since self.old.inner) (D.Disk.images_since self.new.inner) (D.Disk.images self.new.inner) }
+        ensures cause { HasCause (min (D.Disk.fault_count self.old.inner + self.old.refused.count) (2 ^ 64 - 1)) (min (D.Disk.fault_count self.new.inner + self.new.refused.count) (2 ^ 64 - 1)) result }
+        ensures stopped { self.old.left ≡ 0 → IsErr result × (self.new.inner ≡ self.old.inner) }
+        ensures passed { 0 < self.old.left → self.new.refused.count ≡ self.old.refused.count }
+        ensures left { self.new.left ≡ self.old.left - 1 }
+    {
         let Ok(()) = self.passes() else {
             return Err(Failed);
         };
         self.inner.write_at(at, piece)
     }
 
-    fn len(&mut self) -> Result<u64, Failed> {
+    fn len(&mut self) -> Result<u64, Failed>
+        ensures bytes { IfOk result (λ n. (c : List ℕ) → (D.Disk.content self.old.inner) ≡ Some c → n ≡ length c) }
+        ensures content { (D.Disk.content self.new.inner) ≡ (D.Disk.content self.old.inner) }
+        ensures images { (c : List ℕ) → D.Disk.images self.new.inner c → D.Disk.images self.old.inner c }
+        ensures time { Elapses (D.Disk.moment self.old.inner) (D.Disk.moment self.new.inner) (D.Disk.images_since self.old.inner) (D.Disk.images_since self.new.inner) (D.Disk.images self.new.inner) }
+        ensures cause { HasCause (min (D.Disk.fault_count self.old.inner + self.old.refused.count) (2 ^ 64 - 1)) (min (D.Disk.fault_count self.new.inner + self.new.refused.count) (2 ^ 64 - 1)) result }
+        ensures stopped { self.old.left ≡ 0 → IsErr result × (self.new.inner ≡ self.old.inner) }
+        ensures passed { 0 < self.old.left → self.new.refused.count ≡ self.old.refused.count }
+        ensures left { self.new.left ≡ self.old.left - 1 }
+    {
         let Ok(()) = self.passes() else {
             return Err(Failed);
         };
         self.inner.len()
     }
 
-    fn sync(&mut self) -> Result<(), Failed> {
+    fn sync(&mut self) -> Result<(), Failed>
+        ensures synced { OnOk result ((c : List ℕ) → D.Disk.images self.new.inner c → (D.Disk.content self.new.inner) ≡ Some c) }
+        ensures content { (D.Disk.content self.new.inner) ≡ (D.Disk.content self.old.inner) }
+        ensures images { (c : List ℕ) → D.Disk.images self.new.inner c → D.Disk.images self.old.inner c }
+        ensures time { Elapses (D.Disk.moment self.old.inner) (D.Disk.moment self.new.inner) (D.Disk.images_since self.old.inner) (D.Disk.images_since self.new.inner) (D.Disk.images self.new.inner) }
+        ensures cause { HasCause (min (D.Disk.fault_count self.old.inner + self.old.refused.count) (2 ^ 64 - 1)) (min (D.Disk.fault_count self.new.inner + self.new.refused.count) (2 ^ 64 - 1)) result }
+        ensures stopped { self.old.left ≡ 0 → IsErr result × (self.new.inner ≡ self.old.inner) }
+        ensures passed { 0 < self.old.left → self.new.refused.count ≡ self.old.refused.count }
+        ensures left { self.new.left ≡ self.old.left - 1 }
+    {
         let Ok(()) = self.passes() else {
             return Err(Failed);
         };
