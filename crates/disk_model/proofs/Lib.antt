@@ -1,4 +1,5 @@
 -- Lemmas of the crate.
 pub mod Elapsing
 pub mod Overlays
+pub mod Replays
 pub mod Writing

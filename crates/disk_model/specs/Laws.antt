@@ -7,7 +7,7 @@ use Rattle.disk_model.specs.declared.call.Call.{Call}
 use Rattle.disk_model.specs.declared.call.Call.TheVariants.{Wrote, Synced}
 use Rattle.disk_model.specs.Kept.{overwritten, content_of, IsImage, WasImage}
 
-torn_as_held : (at : ℕ) (piece old new : List ℕ) → Holds at piece old new → Torn at (length piece) old new
+pub torn_as_held : (at : ℕ) (piece old new : List ℕ) → Holds at piece old new → Torn at (length piece) old new
 torn_as_held at piece old new h = record { front = h.front; after = h.after; no_shorter = omega (arith, h.size); no_longer = omega (arith, h.size) }
 
 module _ (at : ℕ) (piece old : List ℕ) where

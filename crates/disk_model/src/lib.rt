@@ -5,10 +5,12 @@
 #![tactic(auto)]
 
 mod call;
+mod image;
 mod memory;
 mod pages;
 mod stopped;
 
 pub use call::Call;
+pub use image::Choice;
 pub use memory::MemoryDisk;
 pub use stopped::StoppedDisk;

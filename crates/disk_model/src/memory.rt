@@ -6,10 +6,12 @@ ghost use Rattle.ks_outside.specs.Ranges.{Holds, Torn, Gives, Becomes};
 ghost use Rattle.ks_outside.specs.Moments.{Follows, Elapses};
 ghost use Rattle.disk_model.specs.Kept.{overwritten, content_of, IsImage, WasImage};
 ghost use Rattle.disk_model.specs.Laws.{content_is_image, counts_now, only_now};
+ghost use Rattle.disk_model.specs.Chosen.{laid, image_of, IsSettled};
 ghost use Rattle.disk_model.specs.Pages.{AreBytes};
 ghost use Rattle.disk_model.specs.declared.call.Call.TheVariants.{Wrote, Synced};
 
 use crate::call::Call;
+use crate::image::{Choice, replayed};
 use crate::pages::Pages;
 use ks_outside::{Disk, Failed, FailingCalls, FaultCount};
 use std::alloc::{AllocError, Global};
@@ -59,6 +61,23 @@ impl<'a> MemoryDisk<'a> {
         self.calls.as_slice()
     }
 
+    /// The disk as a crash after the first `calls` of its writes and syncs may leave it, opened again. The choice with a write's number among
+    /// them, counted from 0, says what its range holds, where no sync came behind it; where there is no such choice it holds what was written.
+    /// No call of the new disk is to fail.
+    pub fn image_after(
+        &self,
+        calls: usize,
+        choices: &[Choice],
+    ) -> Result<MemoryDisk<'static>, AllocError>
+        requires { calls ≤ length self.now.calls.items }
+        ensures image { IfOk result (λ d. content_of (reverse d.calls.items) ≡ image_of choices.now (reverse (take calls self.now.calls.items))) }
+        ensures possible { IfOk result (λ d. IsImage (reverse (take calls self.now.calls.items)) (content_of (reverse d.calls.items))) }
+        ensures settled { IfOk result (λ d. (c : List ℕ) → IsImage (reverse d.calls.items) c → c ≡ content_of (reverse d.calls.items)) }
+    {
+        let disk = replayed(self.alloc, &self.calls[..calls], choices)?;
+        Ok(disk)
+    }
+
     /// Whether the next call goes on. One that is to fail is counted as a fault.
     fn goes_on(&mut self) -> Result<(), Failed>
         ensures planned { IsErr result ↔ Contains self.old.plan.numbers.now self.new.plan.calls }
@@ -79,6 +98,7 @@ impl<'a> MemoryDisk<'a> {
     /// Makes a write, and keeps it as a call.
     fn make_write(&mut self, at: u64, piece: &[u8]) -> Result<(), AllocError>
         ensures calls { OnOk result ((copy : _) × (copy.items ≡ piece.now) × (reverse self.new.calls.items ≡ Wrote at copy ∷ reverse self.old.calls.items)) }
+        ensures content { OnOk result (content_of (reverse self.new.calls.items) ≡ overwritten at piece.now (content_of (reverse self.old.calls.items))) }
         ensures count { OnOk result (length self.new.calls.items ≡ length self.old.calls.items + 1) }
         ensures same { OnErr result (self.new.calls.items ≡ self.old.calls.items) }
         ensures room { vec_capacity self.old.calls ≤ vec_capacity self.new.calls }
@@ -97,8 +117,25 @@ impl<'a> MemoryDisk<'a> {
         Ok(())
     }
 
+    /// Makes the change of a call, as it is chosen.
+    pub fn replay(&mut self, call: &Call, choice: Choice) -> Result<(), AllocError>
+        ensures { OnOk result (content_of (reverse self.new.calls.items) ≡ laid choice call.now (content_of (reverse self.old.calls.items))) }
+    {
+        let Call::Wrote { at, piece } = call else {
+            return Ok(());
+        };
+        match choice {
+            Choice::New => self.make_write(*at, piece.as_slice()),
+            Choice::Old => Ok(()),
+            Choice::Filled(byte) => {
+                let bytes = vec![in self.alloc; byte; piece.len()]?;
+                self.make_write(*at, bytes.as_slice())
+            }
+        }
+    }
+
     /// Keeps a sync as a call.
-    fn make_sync(&mut self) -> Result<(), AllocError>
+    pub fn make_sync(&mut self) -> Result<(), AllocError>
         ensures calls { OnOk result (reverse self.new.calls.items ≡ Synced ∷ reverse self.old.calls.items) }
         ensures succeeds { length self.old.calls.items < vec_capacity self.old.calls → IsOk result }
         ensures count { OnOk result (length self.new.calls.items ≡ length self.old.calls.items + 1) }

@@ -1,5 +1,5 @@
 -- The write is the newest call, and the pages have its piece.
-use Rattle.std.proofs.Common.{ℕ, List, ◌∷◌, length, reverse, sym, ap, ◌∙◌, subst, arith}
+use Rattle.std.proofs.Common.{refl, ℕ, List, ◌∷◌, length, reverse, sym, ap, ◌∙◌, subst, arith}
 use Rattle.disk_model.specs.declared.call.Call.{Call}
 use Rattle.disk_model.specs.declared.call.Call.TheVariants.{Wrote}
 use Rattle.disk_model.specs.Kept.{content_of}
@@ -23,3 +23,8 @@ invariant_of-self-2 c =
 pub returns-clause-calls : goal.returns-clause-calls
 returns-clause-calls c =
     (c.in_ok-copy.copy, c.in_ok-copy.ensures.items, c.keep.ensures.calls ∙ ap (λ (l : List Call). Wrote c.args.at c.in_ok-copy.copy ∷ reverse l) c.in_ok-reserve.ensures.items)
+
+pub returns-clause-content : goal.returns-clause-content
+returns-clause-content c =
+    let is = c.keep.ensures.calls ∙ ap (λ (l : List Call). Wrote c.args.at c.in_ok-copy.copy ∷ reverse l) c.in_ok-reserve.ensures.items in
+    rw (is, c.in_ok-copy.ensures.items) refl
