@@ -9,6 +9,8 @@ mod image;
 mod memory;
 mod pages;
 mod stopped;
+#[cfg(test)]
+mod tests;
 
 pub use call::Call;
 pub use image::Choice;
