@@ -7,6 +7,7 @@ ghost use Rattle.ks_outside.specs.Moments.{Follows, Elapses};
 ghost use Rattle.disk_model.specs.Kept.{overwritten, content_of, IsImage, WasImage};
 ghost use Rattle.disk_model.specs.Laws.{content_is_image, counts_now, only_now};
 ghost use Rattle.disk_model.specs.Chosen.{laid, image_of, IsSettled};
+ghost use Rattle.disk_model.specs.Limits.{IsWithin};
 ghost use Rattle.disk_model.specs.Pages.{AreBytes};
 ghost use Rattle.disk_model.specs.declared.call.Call.TheVariants.{Wrote, Synced};
 
@@ -60,6 +61,12 @@ impl<'a> MemoryDisk<'a> {
     {
         self.calls.as_slice()
     }
+
+    /// What no crash can do: each image of each moment has every byte that no write since the newest sync before it touched, and ends
+    /// where that sync ended, or at most where those writes end.
+    pub fn images_keep(&self)
+        ensures { (calls : ℕ) (c : List ℕ) → IsImage (reverse (take calls self.now.calls.items)) c → IsWithin (reverse (take calls self.now.calls.items)) c }
+    {}
 
     /// The disk as a crash after the first `calls` of its writes and syncs may leave it, opened again. The choice with a write's number among
     /// them, counted from 0, says what its range holds, where no sync came behind it; where there is no such choice it holds what was written.
