@@ -1,4 +1,6 @@
 -- Lemmas of the crate.
 pub mod DrawLaws
+pub mod Joins
+pub mod Pairs
 pub mod Shown
 pub mod WordLemmas

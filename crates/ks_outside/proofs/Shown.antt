@@ -1,8 +1,9 @@
 -- What is shown between two moments, in turn: two parts join into one, and nothing was shown where nothing was called.
-use Rattle.std.proofs.Common.{◌≡◌, inl, inr, ℕ, ◌≤◌, List, [], ◌++◌, Bool, true, false, ◌||◌, Result, Ok, Err, refl, ◌∙◌, arith}
+use Rattle.std.proofs.Common.{◌≡◌, inl, inr, ℕ, ◌≤◌, List, [], ◌++◌, Bool, true, false, ◌||◌, Result, Ok, Err, refl, ◌∙◌, arith, take}
 use Rattle.std.specs.Prelude.{is_err}
 use Rattle.std.proofs.lemmas.Bool.{cases_lt}
-use Rattle.std.proofs.KnownBytes.{Appends-nil, Appends-trans, Consumes-nil, Consumes-trans}
+use Rattle.std.specs.Io.KnownBytes.{ReadConsumes, WriteAppends}
+use Rattle.std.proofs.KnownBytes.{Appends-nil, Appends-trans, Appends-kept, Consumes-nil, Consumes-trans, Consumes-kept}
 use Rattle.ks_outside.specs.Draws.{DrawGives}
 use Rattle.ks_outside.specs.Faults.{Rises, HasCause, CountsFaults}
 use Rattle.ks_outside.specs.Shown.{Took, Put, Drew}
@@ -49,6 +50,18 @@ module _ {S : Type 0} (g : SourceGhosts S) where
   pub took_none : (source : S) → Took g source source [] false
   took_none source = record { bytes = Consumes-nil (g.content source); faults = counts_none (g.fault_count source) }
 
+  -- one read
+  pub took_ok : {E : Type 0} (old new : S) (n : ℕ) (out : List ℕ) → ReadConsumes {E = E} (g.content old) (g.content new) (Ok n) out
+      → HasCause {T = ℕ} {E = E} (g.fault_count old) (g.fault_count new) (Ok n) → Took g old new (take n out) false
+  took_ok old new n out bytes cause = record { bytes = bytes.0; faults = counts_call _ _ (Ok n) cause }
+
+  pub took_err : {E : Type 0} (old new : S) (out : List ℕ) (e : E) → ReadConsumes {E = E} (g.content old) (g.content new) (Err e) out
+      → HasCause {T = ℕ} {E = E} (g.fault_count old) (g.fault_count new) (Err e) → Took g old new [] true
+  took_err old new out e kept cause = record {
+    bytes = Consumes-kept (g.content old) (g.content old) (g.content new) [] (Consumes-nil (g.content old)) kept;
+    faults = counts_call _ _ (Err e) cause;
+  }
+
   pub took_on : (a b c : S) (first second : List ℕ) (failed then : Bool) → Took g a b first failed → Took g b c second then
       → Took g a c (first ++ second) (failed || then)
   took_on a b c first second failed then p q = record {
@@ -59,6 +72,18 @@ module _ {S : Type 0} (g : SourceGhosts S) where
 module _ {K : Type 0} (g : SinkGhosts K) where
   pub put_none : (sink : K) → Put g sink sink [] false
   put_none sink = record { bytes = Appends-nil (g.content sink); faults = counts_none (g.fault_count sink) }
+
+  -- one write
+  pub put_ok : {E : Type 0} (old new : K) (n : ℕ) (piece : List ℕ) → WriteAppends {E = E} (g.content old) (g.content new) (Ok n) piece
+      → HasCause {T = ℕ} {E = E} (g.fault_count old) (g.fault_count new) (Ok n) → Put g old new (take n piece) false
+  put_ok old new n piece bytes cause = record { bytes = bytes; faults = counts_call _ _ (Ok n) cause }
+
+  pub put_err : {E : Type 0} (old new : K) (piece : List ℕ) (e : E) → WriteAppends {E = E} (g.content old) (g.content new) (Err e) piece
+      → HasCause {T = ℕ} {E = E} (g.fault_count old) (g.fault_count new) (Err e) → Put g old new [] true
+  put_err old new piece e kept cause = record {
+    bytes = Appends-kept (g.content old) (g.content old) (g.content new) [] (Appends-nil (g.content old)) kept;
+    faults = counts_call _ _ (Err e) cause;
+  }
 
   pub put_on : (a b c : K) (first second : List ℕ) (failed then : Bool) → Put g a b first failed → Put g b c second then
       → Put g a c (first ++ second) (failed || then)
@@ -71,6 +96,7 @@ module _ {N : Type 0} (g : EntropyGhosts N) where
   pub drew_none : (entropy : N) → Drew g entropy entropy [] false
   drew_none entropy = record { bytes = Draws-nil (g.content entropy); faults = counts_none (g.fault_count entropy) }
 
+  -- one draw
   pub drew_ok : {T E : Type 0} (old new : N) (out : List ℕ) (x : T) → DrawGives {T = T} {E = E} (g.content old) (g.content new) (Ok x) out
       → HasCause {T = T} {E = E} (g.fault_count old) (g.fault_count new) (Ok x) → Drew g old new out false
   drew_ok old new out x bytes cause = record { bytes = bytes; faults = counts_call _ _ (Ok x) cause }

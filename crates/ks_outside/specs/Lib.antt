@@ -1,6 +1,11 @@
 pub mod Adapters
 pub mod Draws
 pub mod Faults
+pub mod Images
+pub mod Moments
 pub mod Places
+pub mod Ranges
 pub mod Seeded
 pub mod Shown
+pub mod Telling
+pub mod WholeReads

@@ -3,7 +3,9 @@
 //! and output and the system's random device, and a cursor over bytes for the codecs.
 //!
 //! The one contract: the content (bytes left, bytes written, bytes to come), where an object tells it, moves exactly as a call
-//! answers and stays where it fails; and the object's count of faults rises in a call that fails, and stays as it was in a call that answers Ok.
+//! answers and stays where it fails; and the object's count of faults rises in a call that fails, and stays as it was in a call that answers Ok. Of
+//! a disk it says besides what a crash may leave now, and might have left since an earlier moment; `write_synced`, `read_synced_byte` and
+//! `read_synced` are said in images alone.
 #![tactic(auto)]
 
 mod adapters;
@@ -16,11 +18,14 @@ mod edge;
 mod endless;
 mod entropy;
 mod faults;
+mod file;
 mod seeded;
 mod sink;
 mod source;
+mod synced;
 #[cfg(test)]
 mod tests;
+mod whole;
 
 pub use adapters::{ReaderSource, WriterSink};
 pub use calls::FailingCalls;
@@ -31,6 +36,9 @@ pub use disk::{Disk, EmptyDisk};
 pub use edge::{RealReader, RealWriter};
 pub use entropy::Entropy;
 pub use faults::{Failed, FaultCount};
+pub use file::{FileDisk, RealFile, StoreFile, open_store};
 pub use seeded::SeededEntropy;
 pub use sink::{MemorySink, Sink};
 pub use source::{MemorySource, Source, SteadySource};
+pub use synced::{read_synced_byte, write_synced};
+pub use whole::{ReadFault, read_synced};

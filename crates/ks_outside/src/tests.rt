@@ -2,11 +2,12 @@ use crate::device::open_file;
 use crate::{
     Cursor, DeviceEntropy, Disk, EmptyDisk, Entropy, Failed, MemoryEntropy, MemorySink,
     MemorySource, ReaderSource, SeededEntropy, Sink, Source, SteadyEntropy, SteadySource,
-    WriterSink, open_device,
+    WriterSink, open_device, open_store,
 };
-use std::io;
 use std::io::{Error, ErrorKind, Read, Write};
+use std::os::unix::fs::PermissionsExt;
 use std::test::Fail;
+use std::{fs, io};
 
 /// A reader and writer that fails at each call, or takes nothing.
 #[derive(Drop)]
@@ -208,4 +209,54 @@ fn a_cursor_over_bytes(rt: HostRuntime) {
     assert_eq!(rt; (cursor.offset(), cursor.is_at_end()), (18, true));
     assert_eq!(rt; cursor.left().len(), 0);
     assert_eq!(rt; cursor.u8(), None);
+}
+
+/// The permissions of a file.
+fn mode_of(rt: &HostRuntime, path: &str) -> io::Result<u32> {
+    Ok(fs::metadata(rt, path)?.permissions().mode() % 0o1000)
+}
+
+#[test]
+fn a_store_in_a_file(rt: HostRuntime) -> Result<(), Fail> {
+    let path = "a_store_in_a_file.ks";
+    let mut out = [9; 4];
+    let mut disk = open_store(&rt, path);
+    assert!(rt; fs::metadata(&rt, path).is_err());
+    assert_eq!(rt; disk.len(), Ok(0));
+    assert_eq!(rt; mode_of(&rt, path)?, 0o600);
+    assert_eq!(rt; disk.write_at(2, b"abc"), Ok(()));
+    assert_eq!(rt; disk.sync(), Ok(()));
+    assert_eq!(rt; (disk.read(1, &mut out), disk.len()), (Ok(4), Ok(5)));
+    assert_eq!(rt; out, [0, b'a', b'b', b'c']);
+    assert_eq!(rt; disk.read(5, &mut out), Ok(0));
+    assert_eq!(rt; disk.faults(), 0);
+    assert_eq!(rt; disk.write_at(1 << 63, b"a"), Err(Failed));
+    assert_eq!(rt; disk.read(1 << 63, &mut out), Err(Failed));
+    assert_eq!(rt; disk.faults(), 2);
+    fs::remove_file(&rt, path)?;
+
+    let mut missing = open_store(&rt, "no_such_folder/store.ks");
+    assert_eq!(rt; (missing.len(), missing.sync()), (Err(Failed), Err(Failed)));
+    assert_eq!(rt; missing.faults(), 2);
+    Ok(())
+}
+
+// As long as one handle has the store, each call of another fails, and harms nothing.
+#[test]
+fn two_handles_of_one_store(rt: HostRuntime) -> Result<(), Fail> {
+    let path = "two_handles_of_one_store.ks";
+    let mut out = [9; 3];
+    let mut first = open_store(&rt, path);
+    let mut second = open_store(&rt, path);
+    assert_eq!(rt; first.write_at(0, b"abc"), Ok(()));
+    assert_eq!(rt; second.write_at(0, b"xyz"), Err(Failed));
+    assert_eq!(rt; (second.len(), second.sync()), (Err(Failed), Err(Failed)));
+    assert_eq!(rt; second.read(0, &mut out), Err(Failed));
+    assert_eq!(rt; (second.faults(), out), (4, [9; 3]));
+    assert_eq!(rt; (first.read(0, &mut out), first.faults()), (Ok(3), 0));
+    assert_eq!(rt; out, [b'a', b'b', b'c']);
+    drop(first);
+    assert_eq!(rt; (second.len(), second.faults()), (Ok(3), 4));
+    fs::remove_file(&rt, path)?;
+    Ok(())
 }

@@ -1,0 +1,53 @@
+-- How time goes on in a disk in memory, and what a read of its pages is.
+use Rattle.std.proofs.Common.{◌≡◌, inl, inr, ⊎_elim, ℕ, ◌+◌, ◌<◌, ◌≤◌, List, ◌∷◌, length, take, drop, get_or, reverse, length-take, length-drop, subst, sym, ap, ◌∙◌, arith, Vec, Global}
+use Rattle.std.proofs.lemmas.Bool.{cases_lt}
+use Rattle.std.proofs.lemmas.List.{ext_get_or, get_or-take, get_or-drop}
+use Rattle.ks_outside.specs.Moments.{Elapses}
+use Rattle.ks_outside.specs.Ranges.{Holds}
+use Rattle.disk_model.specs.declared.call.Call.{Call}
+use Rattle.disk_model.specs.declared.call.Call.TheVariants.{Wrote, Synced}
+use Rattle.disk_model.specs.Kept.{content_of, IsImage, WasImage}
+use Rattle.disk_model.specs.Laws.{held, content_may_stay}
+
+pub elapses_same : (calls : List Call) (n : ℕ) → Elapses n n (WasImage calls) (WasImage calls) (IsImage calls)
+elapses_same calls n = record { later = omega arith; nothing_else = λ t c was. inl was; keeps = λ t c was. was }
+
+elapses_more : (call : Call) (earlier : List Call) (n m : ℕ) → n ≤ m → Elapses n m (WasImage earlier) (WasImage (call ∷ earlier)) (IsImage (call ∷ earlier))
+elapses_more call earlier n m le = record {
+  later = le;
+  nothing_else = λ t c was. ⊎_elim (λ now. inr now.1) (λ past. inl past) was;
+  keeps = λ t c past. inr past;
+}
+
+-- one call more
+pub elapses_to : (call : Call) (old new : List Call) → reverse new ≡ call ∷ reverse old → length new ≡ length old + 1
+    → Elapses (length old) (length new) (WasImage (reverse old)) (WasImage (reverse new)) (IsImage (reverse new))
+elapses_to call old new is size =
+    subst (λ (l : List Call). Elapses (length old) (length new) (WasImage (reverse old)) (WasImage l) (IsImage l)) (sym is) (elapses_more call (reverse old) (length old) (length new) (omega (arith, size)))
+
+-- bytes that are those of a list from a place on
+pub read_is : (out bytes : List ℕ) (at count : ℕ) (source : ℕ → ℕ) → length out ≡ count → (0 < count → at + count ≤ length bytes)
+    → ((place : ℕ) → source place ≡ get_or bytes place 0) → ((i : ℕ) → i < length out → get_or out i 0 ≡ source (at + i)) → out ≡ take count (drop at bytes)
+read_is out bytes at count source size within kept is =
+    ext_get_or 0 out (take count (drop at bytes)) size_is (λ i below.
+    is i below ∙ kept (at + i) ∙ sym (get_or-take count (drop at bytes) i 0 (omega (arith, below, size)) ∙ get_or-drop at bytes i 0))
+  where
+    size_is : length out ≡ length (take count (drop at bytes))
+    size_is = elim (cases_lt 0 count) [
+      | inl some ↦ let room = within some in omega (arith, size, room, length-take count (drop at bytes), length-drop at bytes)
+      | inr none ↦ omega (arith, size, none, length-take count (drop at bytes))
+    ]
+
+-- a sync leaves what a read gives, and a crash before it might have left that
+pub synced_image : (old mid new : List Call) → mid ≡ old → reverse new ≡ Synced ∷ reverse mid → (c : List ℕ) → IsImage (reverse new) c → IsImage (reverse old) c
+synced_image old mid new same is c now =
+    let left : c ≡ content_of (reverse mid) = subst (λ (l : List Call). IsImage l c) is now in
+    rw (left, same) (content_may_stay (reverse old))
+
+pub write_holds : (old mid new : List Call) (at : ℕ) (piece : List ℕ) (copy : Vec ℕ Global) → mid ≡ old → copy.items ≡ piece → reverse new ≡ Wrote at copy ∷ reverse mid
+    → Holds at piece (content_of (reverse old)) (content_of (reverse new))
+write_holds old mid new at piece copy same items is = rw (is, same, ← items) (held at copy.items (content_of (reverse old)))
+
+pub write_elapses : (old mid new : List Call) (at : ℕ) (piece : List ℕ) (copy : Vec ℕ Global) → mid ≡ old → copy.items ≡ piece → reverse new ≡ Wrote at copy ∷ reverse mid → length new ≡ length mid + 1
+    → Elapses (length old) (length new) (WasImage (reverse old)) (WasImage (reverse new)) (IsImage (reverse new))
+write_elapses old mid new at piece copy same items is size = elapses_to (Wrote at copy) old new (is ∙ ap (λ (l : List Call). Wrote at copy ∷ reverse l) same) (size ∙ ap (λ (l : List Call). length l + 1) same)

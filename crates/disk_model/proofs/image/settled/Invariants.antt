@@ -1,0 +1,6 @@
+-- The newest sync so far.
+use Rattle.disk_model.proofs.Replays.{IsLast}
+use Rattle.disk_model.proofs.image.settled.Given as goal
+
+abbrev pub invariant-calls : goal.invariant-calls
+invariant-calls l = IsLast l.calls l.count l.i

@@ -1,0 +1,12 @@
+-- No byte changed, and the pages so far are held.
+use Rattle.std.proofs.Common.{◌≡◌, ℕ, ◌<◌, ◌≤◌, true}
+use Rattle.std.specs.Prelude.{is_some}
+use Rattle.std.specs.Ordering.{nat_cmp}
+use Rattle.std.specs.BTreeMap.{get}
+use Rattle.disk_model.specs.Pages.{byte_in}
+use Rattle.disk_model.proofs.pages.Pages.add_all.Given as goal
+
+abbrev pub invariant-numbers : goal.invariant-numbers
+invariant-numbers l =
+    ((place : ℕ) → byte_in l.self.rows place ≡ byte_in l.fn.self.rows place)
+    × ((number : ℕ) → l.fn.first ≤ number → number < l.number → is_some (get nat_cmp l.self.rows number) ≡ true)

@@ -1,0 +1,12 @@
+-- A front of the piece stands, and the same pages are held.
+use Rattle.std.proofs.Common.{◌≡◌, ℕ}
+use Rattle.std.specs.Prelude.{is_some}
+use Rattle.std.specs.Ordering.{nat_cmp}
+use Rattle.std.specs.BTreeMap.{get}
+use Rattle.disk_model.specs.Pages.{byte_in, Overlaid}
+use Rattle.disk_model.proofs.pages.Pages.write.Given as goal
+
+abbrev pub invariant-bytes : goal.invariant-bytes
+invariant-bytes l =
+    Overlaid (byte_in l.fn.self.rows) (byte_in l.self.rows) l.at l.i l.piece
+    × ((other : ℕ) → is_some (get nat_cmp l.self.rows other) ≡ is_some (get nat_cmp l.fn.self.rows other))

@@ -1,0 +1,5 @@
+pub mod Chosen
+pub mod Kept
+pub mod Laws
+pub mod Limits
+pub mod Pages

@@ -1,0 +1,50 @@
+//! Calls that end a change with a sync, and that read what was synced. Their contracts speak of images alone.
+
+ghost use Rattle.std.specs.Prelude.{◌≡◌, ℕ, ◌<◌, List, Option, slice_get, length, IfOk, OnOk, OnErr};
+ghost use Rattle.ks_outside.specs.Faults.{HasCause};
+ghost use Rattle.ks_outside.specs.Ranges.{Holds, Torn};
+ghost use Rattle.ks_outside.specs.Moments.{Follows};
+ghost use Rattle.ks_outside.specs.Images.{AllImages, Passes, TornFrom, tells};
+
+use crate::disk::Disk;
+use crate::faults::Failed;
+
+/// Writes a piece, and syncs. After Ok each image is an old one with the piece in its range. Whatever it answers, at each moment each
+/// image that came is an old one with at most that range, and the part past the old end, torn.
+pub fn write_synced<D: Disk>(disk: &mut D, at: u64, piece: &[u8]) -> Result<(), Failed>
+    ensures written { OnOk result (Follows (Holds at piece.now) (D.images disk.old) (D.images disk.new)) }
+    ensures torn { AllImages D.Disk disk.new (TornFrom D.Disk disk.old at (length piece.now)) }
+    ensures passes { Passes D.Disk disk.old disk.new (TornFrom D.Disk disk.old at (length piece.now)) }
+    ensures nothing { D.is_sure disk.old → OnErr result (AllImages D.Disk disk.new (D.images disk.old)) }
+    ensures sure { D.is_sure disk.old → D.is_sure disk.new }
+    ensures telling { tells D.Disk disk.new ≡ tells D.Disk disk.old }
+    ensures cause { HasCause (D.fault_count disk.old) (D.fault_count disk.new) result }
+{
+    let Ok(()) = disk.write_at(at, piece) else {
+        return Err(Failed);
+    };
+    disk.sync()
+}
+
+/// Syncs, and reads the byte at a place; None where no byte stands there. Each image then has that byte there. A disk that fails here, or
+/// not, has no image that it did not have.
+pub fn read_synced_byte<D: Disk>(disk: &mut D, at: u64) -> Result<Option<u8>, Failed>
+    ensures byte { IfOk result (λ byte. AllImages D.Disk disk.new (λ c. slice_get c at ≡ byte)) }
+    ensures images { AllImages D.Disk disk.new (D.images disk.old) }
+    ensures passes { Passes D.Disk disk.old disk.new (D.images disk.old) }
+    ensures sure { D.is_sure disk.old → D.is_sure disk.new }
+    ensures telling { tells D.Disk disk.new ≡ tells D.Disk disk.old }
+    ensures cause { HasCause (D.fault_count disk.old) (D.fault_count disk.new) result }
+{
+    let Ok(()) = disk.sync() else {
+        return Err(Failed);
+    };
+    let mut byte = [0];
+    let Ok(count) = disk.read(at, &mut byte) else {
+        return Err(Failed);
+    };
+    if count == 0 {
+        return Ok(None);
+    }
+    Ok(Some(byte[0]))
+}

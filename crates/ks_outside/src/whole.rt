@@ -1,0 +1,50 @@
+//! All bytes of a disk.
+
+ghost use Rattle.std.specs.Prelude.{◌≡◌, List, ℕ, Some, IfOk};
+ghost use Rattle.ks_outside.specs.Images.{AllImages, Passes, tells};
+ghost use Rattle.ks_outside.specs.WholeReads.{ReadCause};
+
+use crate::disk::Disk;
+use std::alloc::Global;
+
+/// Why the bytes of a disk were not read.
+#[derive(Clone, Copy, Debug, PartialEq, Eq)]
+pub enum ReadFault {
+    /// A call of the disk failed.
+    Device,
+    /// Memory was wanting.
+    Memory,
+}
+
+/// Syncs, and reads all bytes. Each image then is these bytes; and where the disk tells what a read gives, it is these bytes.
+pub fn read_synced<D: Disk>(alloc: Global, disk: &mut D) -> Result<Vec<u8>, ReadFault>
+    ensures bytes { IfOk result (λ bytes. AllImages D.Disk disk.new (λ c. c ≡ bytes.items)) }
+    ensures told { (c : List ℕ) → D.content disk.old ≡ Some c → IfOk result (λ bytes. bytes.items ≡ c) }
+    ensures content { D.content disk.new ≡ D.content disk.old }
+    ensures images { AllImages D.Disk disk.new (D.images disk.old) }
+    ensures passes { Passes D.Disk disk.old disk.new (D.images disk.old) }
+    ensures sure { D.is_sure disk.old → D.is_sure disk.new }
+    ensures telling { tells D.Disk disk.new ≡ tells D.Disk disk.old }
+    ensures cause { ReadCause (D.fault_count disk.old) (D.fault_count disk.new) result }
+{
+    let Ok(()) = disk.sync() else {
+        return Err(ReadFault::Device);
+    };
+    let Ok(length) = disk.len() else {
+        return Err(ReadFault::Device);
+    };
+    let mut bytes: Vec<u8> = Vec::new(alloc);
+    let mut buffer = [0u8; 512];
+    'pieces: while (bytes.len() as u64) < length {
+        let Ok(count) = disk.read(bytes.len() as u64, &mut buffer) else {
+            return Err(ReadFault::Device);
+        };
+        if count == 0 {
+            return Ok(bytes);
+        }
+        let Ok(()) = bytes.extend_from_slice(&buffer[..count]) else {
+            return Err(ReadFault::Memory);
+        };
+    }
+    Ok(bytes)
+}
