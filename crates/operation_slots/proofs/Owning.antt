@@ -1,0 +1,29 @@
+-- One operation more in the walk over the owners, and what the list of owners says.
+use Rattle.std.proofs.Common.{◌≡◌, ◌<◌, ◌≤◌, ◌+◌, ℕ, zero, suc, Bool, true, false, not, ◌&&◌, ◌||◌, cond, if◌then◌else◌, List, [], ◌∷◌, ◌++◌, length, get_or, take, drop, count_by, slice_get, Option, Some, None, refl, sym, ap, ◌∙◌, inl, inr, arith, add-one, drop-cons}
+use Rattle.std.specs.List.{list_any}
+use Rattle.std.proofs.lemmas.List.{take_more}
+use Rattle.std.proofs.lemmas.List.Folds.{list_any-append}
+use Rattle.std.proofs.lemmas.Bool.{cases_Bool, eqb-true, ne_eqb, eq-eqb}
+use Rattle.operation_slots.specs.declared.operation.Operation.{Operation}
+use Rattle.operation_slots.specs.Table.{is_idle, is_idle_of, is_of}
+use Rattle.operation_slots.specs.Owners.{is_first_of_owner, owners_after, listed_owners}
+
+module _ {T : Type 0} where
+  -- the walk's step
+  pub owners_step : (xs : List (Operation T)) (i : ℕ) (d : Operation T) → i < length xs →
+    owners_after (take i xs) (drop i xs) ≡ (if is_first_of_owner (take i xs) (get_or xs i d) then (get_or xs i d).uid ∷ [] else []) ++ owners_after (take (i + 1) xs) (drop (i + 1) xs)
+  owners_step xs i d l = rw (take_more xs i d l, add-one, drop-cons xs i d l) refl
+
+  -- at an operation that is the first of its owner, and at another
+  pub first_step : (xs : List (Operation T)) (i : ℕ) (d : Operation T) → i < length xs → is_first_of_owner (take i xs) (get_or xs i d) ≡ true →
+    owners_after (take i xs) (drop i xs) ≡ (get_or xs i d).uid ∷ owners_after (take (i + 1) xs) (drop (i + 1) xs)
+  first_step xs i d l e = rw e at (owners_step xs i d l)
+
+  pub other_step : (xs : List (Operation T)) (i : ℕ) (d : Operation T) → i < length xs → is_first_of_owner (take i xs) (get_or xs i d) ≡ false →
+    owners_after (take i xs) (drop i xs) ≡ owners_after (take (i + 1) xs) (drop (i + 1) xs)
+  other_step xs i d l e = rw e at (owners_step xs i d l)
+
+  -- those counted and those behind are all
+  pub record Counted (xs : List (Operation T)) (i count : ℕ) : Type 0 where
+    pub all : count + length (owners_after (take i xs) (drop i xs)) ≡ length (listed_owners xs)
+    pub few : count ≤ i

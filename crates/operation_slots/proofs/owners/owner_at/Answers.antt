@@ -1,0 +1,2 @@
+use Rattle.operation_slots.proofs.Owning.{first_step, other_step}
+use Rattle.operation_slots.proofs.owners.owner_at.Goals as goal
