@@ -73,6 +73,7 @@ module _ {T : Type 0} where
     numbers = rw (key_more (λ o. o.number) xs x) (differ_more x.number (numbers_of xs) kept.numbers (not_found x.number xs fresh));
     stamps = rw (key_more (λ o. o.stamp) xs x) (differ_more x.stamp (stamps_of xs) kept.stamps (none_later x.stamp xs newest));
     some = kept.some;
+    few = kept.few;
     within = simp length-append (omega arith);
     memory = omega (arith, kept.memory);
   }
@@ -82,6 +83,7 @@ module _ {T : Type 0} where
     numbers = rw (key_same (λ o. o.number) n made_busy (λ o. refl) xs) kept.numbers;
     stamps = rw (key_same (λ o. o.stamp) n made_busy (λ o. refl) xs) kept.stamps;
     some = kept.some;
+    few = kept.few;
     within = rw (length_change n made_busy xs) kept.within;
     memory = kept.memory;
   }
@@ -91,6 +93,7 @@ module _ {T : Type 0} where
     numbers = rw (key_same (λ o. o.number) n (given_back s v) (λ o. refl) xs) kept.numbers;
     stamps = stamps_given n s v xs kept.numbers kept.stamps newest;
     some = kept.some;
+    few = kept.few;
     within = rw (length_change n (given_back s v) xs) kept.within;
     memory = kept.memory;
   }
@@ -100,6 +103,7 @@ module _ {T : Type 0} where
     numbers = differ_fewer (λ o. o.number) (λ o. not (has_number n o)) xs kept.numbers;
     stamps = differ_fewer (λ o. o.stamp) (λ o. not (has_number n o)) xs kept.stamps;
     some = kept.some;
+    few = kept.few;
     within = omega (arith, length-filter (λ o. not (has_number n o)) xs, count_by-le-length (λ o. not (has_number n o)) xs, kept.within);
     memory = omega (arith, kept.memory);
   }

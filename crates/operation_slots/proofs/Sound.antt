@@ -57,6 +57,7 @@ module _ {T : Type 0} where
     numbers = kept.numbers;
     stamps = kept.stamps;
     some = kept.some;
+    few = kept.few;
     within = kept.within;
     owners = λ u. counted [] xs u ∙ all_before (list_any (is_idle_of u) xs);
   } where

@@ -1,5 +1,5 @@
 -- What contracts see of the slots: the operations that are held, what a look-up finds among them, and what each call makes of them.
-use Rattle.std.specs.Prelude.{◌≡◌, ◌≢◌, ◌<◌, ◌≤◌, ℕ, Bool, true, false, ◌&&◌, not, ◌==◌, nat_lt, is_some, List, [], ◌∷◌, ◌++◌, Option, Some, None, length, map, filter, find, count_by, All, if◌then◌else◌}
+use Rattle.std.specs.Prelude.{◌≡◌, ◌≢◌, ◌<◌, ◌≤◌, ◌^◌, ℕ, Bool, true, false, ◌&&◌, not, ◌==◌, nat_lt, is_some, List, [], ◌∷◌, ◌++◌, Option, Some, None, length, map, filter, find, count_by, All, if◌then◌else◌}
 use Rattle.std.specs.List.{list_any}
 use Rattle.operation_slots.specs.declared.operation.Operation.{Operation}
 use Rattle.operation_slots.specs.declared.operation.Taken.{Taken}
@@ -26,6 +26,15 @@ AllDiffer (k ∷ ks) = NoneIs k ks × AllDiffer ks
 
 module _ {T : Type 0} where
   -- ---- one operation
+
+  abbrev pub number_of : Operation T → ℕ
+  number_of o = o.number
+
+  abbrev pub uid_of : Operation T → ℕ
+  uid_of o = o.uid
+
+  abbrev pub stamp_of : Operation T → ℕ
+  stamp_of o = o.stamp
 
   abbrev pub has_number : ℕ → Operation T → Bool
   has_number number o = o.number == number
@@ -116,6 +125,7 @@ module _ {T : Type 0} where
     pub stamps : AllDiffer (stamps_of slots.operations)
     -- there are slots, and no more operations than slots
     pub some : 0 < slots.capacity
+    pub few : slots.capacity < 2 ^ 32
     pub within : open_count slots ≤ slots.capacity
     -- a uid stands once among the owners where it has an idle operation, and else not
     pub owners : (uid : ℕ) → count_by (λ owner. owner == uid) slots.owners ≡ (if has_idle slots uid then 1 else 0)

@@ -65,7 +65,8 @@ impl<T> Slots<T> {
 
     /// How many operations of a uid are held, idle and busy.
     pub fn open_of(&self, uid: u32) -> usize
-        ensures { result ≡ held_of self.now uid }
+        ensures count { result ≡ held_of self.now uid }
+        ensures within { result ≤ held_count self.now }
     {
         self.operations.iter().filter(|operation| operation.uid == uid).count()
     }
