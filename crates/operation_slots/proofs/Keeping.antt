@@ -1,6 +1,6 @@
 -- What is kept of the list stays so after each call.
-use Rattle.std.proofs.Common.{◌≡◌, ◌≢◌, ◌<◌, ◌≤◌, ◌+◌, ℕ, zero, suc, Bool, true, false, not, cond, List, [], ◌∷◌, ◌++◌, length, get_or, map, filter, find, count_by, Option, Some, None, All, refl, sym, ap, ◌∙◌, inl, inr, arith, subst, length-append}
-use Rattle.std.proofs.lemmas.List.Elements.{All-head, All-tail}
+use Rattle.std.proofs.Common.{◌≡◌, ◌≢◌, ◌<◌, ◌≤◌, ◌+◌, ℕ, zero, suc, Bool, true, false, not, cond, List, [], ◌∷◌, ◌++◌, length, get_or, map, filter, find, count_by, Option, Some, None, All, if◌then◌else◌, refl, sym, ap, ◌∙◌, inl, inr, arith, subst, length-append}
+use Rattle.std.proofs.lemmas.List.Elements.{All-head, All-tail, All-push, All-map, All-weaker, All-filter}
 use Rattle.std.proofs.lemmas.List.Sums.{length-filter, count_by-le-length}
 use Rattle.std.proofs.lemmas.Bool.{cases_Bool, eqb-true, ne_eqb, eq-eqb}
 use Rattle.operation_slots.specs.declared.operation.Operation.{Operation}
@@ -107,3 +107,17 @@ module _ {T : Type 0} where
     within = omega (arith, length-filter (λ o. not (has_number n o)) xs, count_by-le-length (λ o. not (has_number n o)) xs, kept.within);
     memory = omega (arith, kept.memory);
   }
+
+  -- ---- stamps that are less than the next one stay so
+
+  pub later_begun : (xs : List (Operation T)) (x : Operation T) (next : ℕ) → All (λ o. o.stamp < next) xs → x.stamp < next → All (λ o. o.stamp < next) (xs ++ x ∷ [])
+  later_begun xs x next h l = All-push (λ o. o.stamp < next) xs x h l
+
+  pub later_change : (n : ℕ) (f : Operation T → Operation T) (xs : List (Operation T)) (next : ℕ) → All (λ o. o.stamp < next) xs → ((o : Operation T) → o.stamp < next → (f o).stamp < next) → All (λ o. o.stamp < next) (with_change n f xs)
+  later_change n f xs next h l = All-map (λ o. o.stamp < next) (λ o. if has_number n o then f o else o) xs
+      (All-weaker (λ o. o.stamp < next) (λ o. (if has_number n o then f o else o).stamp < next) (λ o k. changed o k) xs h) where
+    changed : (o : Operation T) → o.stamp < next → (if has_number n o then f o else o).stamp < next
+    changed o k = elim (cases_Bool (has_number n o)) [ inl e ↦ rw e (l o k) | inr e ↦ rw e k ]
+
+  pub later_without : (n : ℕ) (xs : List (Operation T)) (next : ℕ) → All (λ o. o.stamp < next) xs → All (λ o. o.stamp < next) (without n xs)
+  later_without n xs next h = All-filter (λ o. not (has_number n o)) (λ o. o.stamp < next) xs h

@@ -103,6 +103,12 @@ module _ {T : Type 0} where
     value_taken (Some value) = Found value
     value_taken None = Busy
 
+  -- a fact for each answer of `take`
+  abbrev pub MatchTaken : Taken T → (T → Type 0) → Type 0 → Type 0 → Type 0
+  MatchTaken (Found value) P Q R = P value
+  MatchTaken Busy P Q R = Q
+  MatchTaken Absent P Q R = R
+
   abbrev pub is_taken : Taken T → Bool
   is_taken (Found value) = true
   is_taken _ = false

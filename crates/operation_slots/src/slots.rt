@@ -1,5 +1,5 @@
 ghost use Rattle.std.specs.Prelude.{◌≡◌, ◌==◌, ℕ, ◌+◌, ◌<◌, ◌≤◌, true, false, length, slice_get, Some, None, IfSome, IfNone, OnSome, IfOk, if◌then◌else◌, option_map};
-ghost use Rattle.operation_slots.specs.Table.{IsSound, IsEmpty, IsLater, Same, Begins, Takes, Gives, TakesOut, idle_operation, held, open_count as held_count, open_of as held_of, has_room as room_in, has_idle, owners_of, capacity_of, taken, idle_value, is_busy, is_taken, made_busy, given_back, IsOldestIdle};
+ghost use Rattle.operation_slots.specs.Table.{IsSound, IsEmpty, IsLater, Same, Begins, Takes, Gives, TakesOut, idle_operation, held, open_count as held_count, open_of as held_of, has_room as room_in, has_idle, owners_of, capacity_of, taken, idle_value, is_busy, is_taken, MatchTaken, made_busy, given_back, IsOldestIdle};
 
 use crate::edits::{give_value, take_out_busy, take_out_idle, take_value};
 use crate::owners;
@@ -41,6 +41,7 @@ impl<T> Slots<T> {
         requires some { 0 < count }
         requires few { count ≤ MOST_SLOTS }
         ensures empty { IfOk result (λ slots. IsEmpty slots count) }
+        ensures later { IfOk result (λ slots. (next : ℕ) → IsLater slots next) }
     {
         Ok(Slots {
             operations: Vec::with_capacity(alloc, count)?,
@@ -106,6 +107,7 @@ impl<T> Slots<T> {
         requires later { IsLater self.old stamp }
         ensures begins { Begins self.old self.new (idle_operation op uid client stamp value) }
         ensures found { (number : ℕ) → held self.new number ≡ (if number == op then Some (idle_operation op uid client stamp value) else held self.old number) }
+        ensures later { (next : ℕ) → IsLater self.old next → stamp < next → IsLater self.new next }
     {
         let operation = Operation {
             number: op,
@@ -124,9 +126,12 @@ impl<T> Slots<T> {
     /// Absent come exactly where it is busy or not held, and change nothing.
     pub fn take(&mut self, op: OpId) -> Taken<T>
         ensures answer { result ≡ taken (held self.old op) }
+        ensures cases { MatchTaken result (λ value. (idle_value (held self.old op) ≡ Some value) × (is_busy (held self.new op) ≡ true))
+            (is_busy (held self.old op) ≡ true) (held self.old op ≡ None) }
         ensures takes { Takes self.old self.new op }
         ensures same { is_taken result ≡ false → Same self.old self.new }
         ensures found { (number : ℕ) → held self.new number ≡ (if number == op then option_map made_busy (held self.old number) else held self.old number) }
+        ensures later { (next : ℕ) → IsLater self.old next → IsLater self.new next }
     {
         take_value(&mut self.operations, op)
     }
@@ -138,6 +143,7 @@ impl<T> Slots<T> {
         requires later { IsLater self.old stamp }
         ensures gives { Gives self.old self.new op stamp value }
         ensures found { (number : ℕ) → held self.new number ≡ (if number == op then option_map (given_back stamp value) (held self.old number) else held self.old number) }
+        ensures later { (next : ℕ) → IsLater self.old next → stamp < next → IsLater self.new next }
     {
         give_value(&mut self.operations, op, stamp, value)
     }
@@ -148,6 +154,7 @@ impl<T> Slots<T> {
         ensures some { OnSome result (TakesOut self.old self.new op) }
         ensures none { IfNone result (Same self.old self.new) }
         ensures found { OnSome result ((number : ℕ) → held self.new number ≡ (if number == op then None else held self.old number)) }
+        ensures later { (next : ℕ) → IsLater self.old next → IsLater self.new next }
     {
         take_out_idle(&mut self.operations, op)
     }
@@ -157,6 +164,7 @@ impl<T> Slots<T> {
         requires { is_busy (held self.old op) ≡ true }
         ensures takes_out { TakesOut self.old self.new op }
         ensures found { (number : ℕ) → held self.new number ≡ (if number == op then None else held self.old number) }
+        ensures later { (next : ℕ) → IsLater self.old next → IsLater self.new next }
     {
         take_out_busy(&mut self.operations, op)
     }

@@ -1,11 +1,11 @@
 -- Comparing the oldest idle operation of each owner is enough: of the idle operations of one uid the oldest goes first.
-use Rattle.std.proofs.Common.{◌≡◌, ◌<◌, ◌≤◌, ◌+◌, ◌*◌, ◌-◌, ◌⊎◌, ◌==◌, ◌&&◌, ◌||◌, nat_lt, nat_le, ℕ, zero, suc, Bool, true, false, cond, List, [], ◌∷◌, length, slice_get, map, find, count_by, All, Option, Some, None, is_some, refl, sym, ap, ◌∙◌, inl, inr, arith, subst}
+use Rattle.std.proofs.Common.{◌≡◌, ◌<◌, ◌≤◌, ◌+◌, ◌*◌, ◌-◌, ◌⊎◌, ◌==◌, ◌&&◌, ◌||◌, nat_lt, nat_le, ℕ, zero, suc, Bool, true, false, cond, List, [], ◌∷◌, length, slice_get, map, find, count_by, All, Option, Some, None, is_some, IsSome, IfSome, refl, sym, ap, ◌∙◌, inl, inr, arith, subst}
 use Rattle.std.specs.List.{filter_map, list_all, list_any}
 use Rattle.std.proofs.lemmas.List.Folds.{fold-map}
-use Rattle.std.proofs.lemmas.Bool.{cases_Bool, cases_lt, eqb-true, eq-eqb, and_parts}
+use Rattle.std.proofs.lemmas.Bool.{cases_Bool, cases_lt, eqb-true, eq-eqb, ne_eqb, and_parts}
 use Rattle.std.proofs.lemmas.Bool.Decides.{nat_tests}
 use Rattle.operation_slots.specs.declared.operation.Operation.{Operation}
-use Rattle.operation_slots.specs.Table.{SlotTable, operations_of, owners_of, is_idle, is_idle_of, is_of, has_number, has_idle, IsLater, IsSound, IsOldestIdle, NoneIs, AllDiffer, stamps_of}
+use Rattle.operation_slots.specs.Table.{SlotTable, operations_of, owners_of, is_idle, is_idle_of, is_of, has_number, has_idle, IsLater, IsSound, IsOldestIdle, NoneIs, AllDiffer, stamps_of, numbers_of, held, idle_value}
 use Rattle.operation_slots.specs.Table as slots
 use Rattle.pruning.specs.declared.choice.Candidate.{Candidate}
 use Rattle.pruning.specs.Victim.{OpenFacts, binary_digits, candidate, candidates, goes_before, first_to_go, open_of}
@@ -223,3 +223,26 @@ module _ {T : Type 0} where
       let among : In c all = rw (← so.is) (is_candidate table now (operations_of table) so.operation so.within so.idle) in
       let each : (x : Candidate) → In x all → goes_before c x ≡ true = λ x i. goes_before_each table now c count sound e so x i in
       sym (only_found (λ a. list_all (goes_before a) all) all c among (all_pass (goes_before c) all each) (λ y i t. only_one table now c count sound.stamps so y i (each_passes (goes_before y) all c t among) (each y i)))
+
+  -- ---- what goes first is idle
+
+  no_number : (q : Operation T) (qs : List (Operation T)) (p : Operation T) → NoneIs q.number (numbers_of qs) → In p qs → q.number ≡ p.number → ⊥
+  no_number q [] p h i e = i
+  no_number q (r ∷ rs) p h (inl s) e = h.0 (ap (λ o. o.number) s ∙ sym e)
+  no_number q (r ∷ rs) p h (inr i) e = no_number q rs p h.1 i e
+
+  found_at : (os : List (Operation T)) (o : Operation T) → AllDiffer (numbers_of os) → In o os → find (has_number o.number) os ≡ Some o
+  found_at [] o h i = absurd i
+  found_at (q ∷ qs) o h (inl s) = rw (ap (λ r. r.number == o.number) s ∙ eq-eqb o.number o.number refl) (ap Some s)
+  found_at (q ∷ qs) o h (inr i) = rw (ne_eqb q.number o.number (no_number q qs o h.0 i)) (found_at qs o h.1 i)
+
+  value_there : (o : Option T) → is_some o ≡ true → IsSome o
+  value_there None e = cc
+  value_there (Some v) e = e
+
+  pub first_is_idle : (table : SlotTable T) (now count : ℕ) (first : Option Candidate) → IsSound table → FirstSoFar table now count first → IfSome first (λ c. IsSome (idle_value (held table c.number)))
+  first_is_idle table now count None sound so = tt
+  first_is_idle table now count (Some c) sound so =
+      let number : so.operation.number ≡ c.number = ap (λ (x : Candidate). x.number) so.is in
+      let found = found_at (operations_of table) so.operation sound.numbers so.within in
+      rw (← number, found) (value_there so.operation.value so.idle)

@@ -1,7 +1,7 @@
 //! The first idle operation to go: the oldest ones of the owners are compared, since each goes before the other idle
 //! operations of its owner.
-ghost use Rattle.std.specs.Prelude.{◌≡◌, ◌+◌, ◌*◌, ◌<◌, ◌≤◌, length};
-ghost use Rattle.operation_slots.specs.Table.{IsLater, IsSound, owners_of, capacity_of};
+ghost use Rattle.std.specs.Prelude.{◌≡◌, IfSome, IsSome, ◌+◌, ◌*◌, ◌<◌, ◌≤◌, length};
+ghost use Rattle.operation_slots.specs.Table.{IsLater, held, idle_value, IsSound, owners_of, capacity_of};
 ghost use Rattle.pruning.specs.Victim as spec;
 ghost use Rattle.pruning.specs.Choice.{IsFirst, IsOldestOfOwner, earlier as earlier_of};
 
@@ -27,6 +27,7 @@ pub fn first_to_go<T, L: Ledger>(
 ) -> Option<Candidate>
     requires { IsLater slots.now now }
     ensures first { IsFirst slots.now now result }
+    ensures idle { IfSome result (λ c. IsSome (idle_value (held slots.now c.number))) }
     ensures sound { IsSound slots.now }
     ensures later { steps.old ≤ steps.new }
     ensures steps { steps.new ≤ steps.old + length (owners_of slots.now) * capacity_of slots.now }

@@ -1,5 +1,5 @@
-ghost use Rattle.std.specs.Prelude.{◌≡◌, ◌+◌, ◌*◌, ◌≤◌, length};
-ghost use Rattle.operation_slots.specs.Table.{IsLater, owners_of, capacity_of};
+ghost use Rattle.std.specs.Prelude.{◌≡◌, IfSome, IsSome, ◌+◌, ◌*◌, ◌≤◌, length};
+ghost use Rattle.operation_slots.specs.Table.{IsLater, held, idle_value, owners_of, capacity_of};
 ghost use Rattle.pruning.specs.Victim as spec;
 ghost use Rattle.pruning.specs.Facts.{open_facts};
 
@@ -21,6 +21,7 @@ pub fn victim<T, L: Ledger>(
 ) -> Option<OpId>
     requires { IsLater slots.now now }
     ensures victim { result ≡ spec.victim (open_facts slots.now) now uid forced }
+    ensures idle { IfSome result (λ op. IsSome (idle_value (held slots.now op))) }
     ensures later { steps.old ≤ steps.new }
     ensures steps { steps.new ≤ steps.old + length (owners_of slots.now) * capacity_of slots.now }
 {

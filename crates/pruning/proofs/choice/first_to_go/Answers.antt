@@ -1,5 +1,5 @@
 use Rattle.std.proofs.Common.{arith, ◌≡◌, ◌+◌, ◌*◌, length, ◌≤◌, ℕ, add-mul}
-use Rattle.pruning.proofs.Going.{one_more, first_of_all}
+use Rattle.pruning.proofs.Going.{one_more, first_of_all, first_is_idle}
 use Rattle.pruning.proofs.choice.first_to_go.Goals as goal
 
 -- one owner more takes at most one step more for each slot
@@ -16,3 +16,7 @@ loop-place-preserved g c = record {
   later = omega (arith, c.loop-place.invariant.later, c.oldest_of.ensures.later);
   few = steps_more c.args.steps.now c.loop-place.steps c.oldest_of.new.steps c.loop-place.place _ c.loop-place.invariant.few c.oldest_of.ensures.steps;
 }
+
+pub returns-clause-idle : goal.returns-clause-idle
+returns-clause-idle g c =
+    first_is_idle c.args.slots.now c.args.now c.loop-place.place c.loop-place.first c.idle_owners-place-end.ensures.sound c.loop-place.invariant.first_is

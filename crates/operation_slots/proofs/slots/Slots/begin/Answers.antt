@@ -2,7 +2,7 @@ use Rattle.std.proofs.Common.{arith, ◌≡◌, find, None, All, ◌<◌, subst,
 use Rattle.std.proofs.lemmas.Bool.{ltb-true}
 use Rattle.std.proofs.lemmas.Grind.{common_steps}
 use Rattle.operation_slots.specs.Table.{has_number, idle_operation, held, IsLater, has_room}
-use Rattle.operation_slots.proofs.Keeping.{kept_begun}
+use Rattle.operation_slots.proofs.Keeping.{kept_begun, later_begun}
 use Rattle.operation_slots.proofs.Lists.{found_begun}
 use Rattle.operation_slots.proofs.slots.Slots.begin.Goals as goal
 
@@ -19,3 +19,9 @@ returns-clause-found g c = λ number.
     let operation = idle_operation c.args.op c.args.uid c.args.client c.args.stamp c.args.value in
     let fresh : find (has_number c.args.op) c.self.inside.operations.items ≡ None = rw (← c.self.view_is) at c.requires.fresh in
     rw (c.in-Ok.ensures.items, ← c.self.view_is) (found_begun c.self.inside.operations.items operation number fresh)
+
+pub returns-clause-later : goal.returns-clause-later
+returns-clause-later g c = λ next h l.
+    let before : All (λ o. o.stamp < next) c.self.inside.operations.items = rw (← c.self.view_is) at h in
+    let operation = idle_operation c.args.op c.args.uid c.args.client c.args.stamp c.args.value in
+    rw c.in-Ok.ensures.items (later_begun c.self.inside.operations.items operation next before l)

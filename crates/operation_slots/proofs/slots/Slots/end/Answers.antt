@@ -1,4 +1,5 @@
-use Rattle.operation_slots.proofs.Keeping.{kept_without}
+use Rattle.std.proofs.Common.{All, ◌<◌}
+use Rattle.operation_slots.proofs.Keeping.{kept_without, later_without}
 use Rattle.operation_slots.proofs.Lists.{found_without}
 use Rattle.operation_slots.proofs.slots.Slots.end.Goals as goal
 
@@ -9,3 +10,8 @@ invariant_of-self g c =
 pub returns-clause-found : goal.returns-clause-found
 returns-clause-found g c = λ number.
     rw (c.take_out_busy.ensures.items, ← c.self.view_is) (found_without c.args.op c.self.inside.operations.items number)
+
+pub returns-clause-later : goal.returns-clause-later
+returns-clause-later g c = λ next h.
+    let before : All (λ o. o.stamp < next) c.self.inside.operations.items = rw (← c.self.view_is) at h in
+    rw c.take_out_busy.ensures.items (later_without c.args.op c.self.inside.operations.items next before)
