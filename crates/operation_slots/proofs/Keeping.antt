@@ -25,8 +25,9 @@ module _ {T : Type 0} where
   key_same : (key : Operation T → ℕ) (n : ℕ) (f : Operation T → Operation T) → ((o : Operation T) → key (f o) ≡ key o) → (xs : List (Operation T)) → map key (with_change n f xs) ≡ map key xs
   key_same key n f same [] = refl
   key_same key n f same (x ∷ xs) = elim (cases_Bool (has_number n x)) [
-      inl e ↦ rw (e, same x, key_same key n f same xs) refl
-    | inr e ↦ rw (e, key_same key n f same xs) refl ]
+    | inl e ↦ rw (e, same x, key_same key n f same xs) refl
+    | inr e ↦ rw (e, key_same key n f same xs) refl
+  ]
 
   length_change : (n : ℕ) (f : Operation T → Operation T) (xs : List (Operation T)) → length (with_change n f xs) ≡ length xs
   length_change n f [] = refl
@@ -40,8 +41,9 @@ module _ {T : Type 0} where
   none_given : (k n s : ℕ) (v : T) (xs : List (Operation T)) → NoneIs k (stamps_of xs) → s ≢ k → NoneIs k (stamps_of (with_change n (given_back s v) xs))
   none_given k n s v [] h ne = tt
   none_given k n s v (x ∷ xs) h ne = elim (cases_Bool (has_number n x)) [
-      inl e ↦ rw e (ne, none_given k n s v xs h.1 ne)
-    | inr e ↦ rw e (h.0, none_given k n s v xs h.1 ne) ]
+    | inl e ↦ rw e (ne, none_given k n s v xs h.1 ne)
+    | inr e ↦ rw e (h.0, none_given k n s v xs h.1 ne)
+  ]
 
   stamps_given : (n s : ℕ) (v : T) (xs : List (Operation T)) → AllDiffer (numbers_of xs) → AllDiffer (stamps_of xs) → All (λ o. o.stamp < s) xs → AllDiffer (stamps_of (with_change n (given_back s v) xs))
   stamps_given n s v [] numbers stamps later = tt
@@ -49,22 +51,25 @@ module _ {T : Type 0} where
       let rest = All-tail (λ o. o.stamp < s) x xs later in
       let first : x.stamp < s = All-head (λ o. o.stamp < s) x xs later in
       elim (cases_Bool (has_number n x)) [
-        inl e ↦ (let none : NoneIs n (numbers_of xs) = subst (λ (k : ℕ). NoneIs k (numbers_of xs)) (eqb-true x.number n e) numbers.0 in
+        | inl e ↦ (let none : NoneIs n (numbers_of xs) = subst (λ (k : ℕ). NoneIs k (numbers_of xs)) (eqb-true x.number n e) numbers.0 in
             rw (e, unchanged n (given_back s v) xs none) (none_later s xs rest, stamps.1))
-      | inr e ↦ rw e (none_given x.stamp n s v xs stamps.0 (λ (q : s ≡ x.stamp). omega arith), stamps_given n s v xs numbers.1 stamps.1 rest) ]
+        | inr e ↦ rw e (none_given x.stamp n s v xs stamps.0 (λ (q : s ≡ x.stamp). omega arith), stamps_given n s v xs numbers.1 stamps.1 rest)
+      ]
 
   -- of fewer operations what holds of all holds
   none_fewer : (key : Operation T → ℕ) (p : Operation T → Bool) (k : ℕ) (xs : List (Operation T)) → NoneIs k (map key xs) → NoneIs k (map key (filter p xs))
   none_fewer key p k [] h = tt
   none_fewer key p k (x ∷ xs) h = elim (cases_Bool (p x)) [
-      inl e ↦ rw e (h.0, none_fewer key p k xs h.1)
-    | inr e ↦ rw e (none_fewer key p k xs h.1) ]
+    | inl e ↦ rw e (h.0, none_fewer key p k xs h.1)
+    | inr e ↦ rw e (none_fewer key p k xs h.1)
+  ]
 
   differ_fewer : (key : Operation T → ℕ) (p : Operation T → Bool) (xs : List (Operation T)) → AllDiffer (map key xs) → AllDiffer (map key (filter p xs))
   differ_fewer key p [] h = tt
   differ_fewer key p (x ∷ xs) h = elim (cases_Bool (p x)) [
-      inl e ↦ rw e (none_fewer key p (key x) xs h.0, differ_fewer key p xs h.1)
-    | inr e ↦ rw e (differ_fewer key p xs h.1) ]
+    | inl e ↦ rw e (none_fewer key p (key x) xs h.0, differ_fewer key p xs h.1)
+    | inr e ↦ rw e (differ_fewer key p xs h.1)
+  ]
 
   -- ---- the calls
 
@@ -116,8 +121,8 @@ module _ {T : Type 0} where
   pub later_change : (n : ℕ) (f : Operation T → Operation T) (xs : List (Operation T)) (next : ℕ) → All (λ o. o.stamp < next) xs → ((o : Operation T) → o.stamp < next → (f o).stamp < next) → All (λ o. o.stamp < next) (with_change n f xs)
   later_change n f xs next h l = All-map (λ o. o.stamp < next) (λ o. if has_number n o then f o else o) xs
       (All-weaker (λ o. o.stamp < next) (λ o. (if has_number n o then f o else o).stamp < next) (λ o k. changed o k) xs h) where
-    changed : (o : Operation T) → o.stamp < next → (if has_number n o then f o else o).stamp < next
-    changed o k = elim (cases_Bool (has_number n o)) [ inl e ↦ rw e (l o k) | inr e ↦ rw e k ]
+        changed : (o : Operation T) → o.stamp < next → (if has_number n o then f o else o).stamp < next
+        changed o k = elim (cases_Bool (has_number n o)) [ inl e ↦ rw e (l o k) | inr e ↦ rw e k ]
 
   pub later_without : (n : ℕ) (xs : List (Operation T)) (next : ℕ) → All (λ o. o.stamp < next) xs → All (λ o. o.stamp < next) (without n xs)
   later_without n xs next h = All-filter (λ o. not (has_number n o)) (λ o. o.stamp < next) xs h

@@ -27,8 +27,9 @@ module _ {T : Type 0} where
   pub not_found : (n : ℕ) (xs : List (Operation T)) → find (has_number n) xs ≡ None → NoneIs n (numbers_of xs)
   not_found n [] h = tt
   not_found n (x ∷ xs) h = elim (cases_Bool (has_number n x)) [
-      inl e ↦ absurd (let h' : Some x ≡ None = rw e at h in cc)
-    | inr e ↦ ((λ (s : x.number ≡ n). absurd (let t = eq-eqb x.number n s in cc)), not_found n xs (rw e at h)) ]
+    | inl e ↦ absurd (let h' : Some x ≡ None = rw e at h in cc)
+    | inr e ↦ ((λ (s : x.number ≡ n). absurd (let t = eq-eqb x.number n s in cc)), not_found n xs (rw e at h))
+  ]
 
   -- one whose number is none of the others' has not the number of one of them
   pub apart : (x : Operation T) (xs : List (Operation T)) (i : ℕ) (d : Operation T) → NoneIs x.number (numbers_of xs) → i < length xs → (n : ℕ) → has_number n (get_or xs i d) ≡ true → x.number ≡ n → ⊥
@@ -61,30 +62,36 @@ module _ {T : Type 0} where
   -- ---- what a look-up finds afterwards
 
   pub found_change : (n : ℕ) (f : Operation T → Operation T) → ((o : Operation T) → (f o).number ≡ o.number) → (xs : List (Operation T)) (m : ℕ) →
-    find (has_number m) (with_change n f xs) ≡ cond (m == n) (option_map f (find (has_number m) xs)) (find (has_number m) xs)
+      find (has_number m) (with_change n f xs) ≡ cond (m == n) (option_map f (find (has_number m) xs)) (find (has_number m) xs)
   found_change n f same [] m = elim (cases_Bool (m == n)) [ inl e ↦ rw e refl | inr e ↦ rw e refl ]
   found_change n f same (x ∷ xs) m =
       let later = found_change n f same xs m in
       elim (cases_Bool (has_number n x)) [
-        inl a ↦ rw a (elim (cases_Bool (has_number m x)) [
-            inl b ↦ (let after : has_number m (f x) ≡ true = eq-eqb (f x).number m (same x ∙ eqb-true x.number m b) in
-                rw (after, b, eq-eqb m n (sym (eqb-true x.number m b) ∙ eqb-true x.number n a)) refl)
-          | inr b ↦ (let after : has_number m (f x) ≡ false = ap (λ k. k == m) (same x) ∙ b in rw (after, b) later) ])
-      | inr a ↦ rw a (elim (cases_Bool (has_number m x)) [
-            inl b ↦ rw (b, ne_eqb m n (λ (q : m ≡ n). absurd (let t = eq-eqb x.number n (eqb-true x.number m b ∙ q) in cc))) refl
-          | inr b ↦ rw b later ]) ]
+        | inl a ↦ rw a (elim (cases_Bool (has_number m x)) [
+          | inl b ↦ (let after : has_number m (f x) ≡ true = eq-eqb (f x).number m (same x ∙ eqb-true x.number m b) in
+              rw (after, b, eq-eqb m n (sym (eqb-true x.number m b) ∙ eqb-true x.number n a)) refl)
+          | inr b ↦ (let after : has_number m (f x) ≡ false = ap (λ k. k == m) (same x) ∙ b in rw (after, b) later)
+        ])
+        | inr a ↦ rw a (elim (cases_Bool (has_number m x)) [
+          | inl b ↦ rw (b, ne_eqb m n (λ (q : m ≡ n). absurd (let t = eq-eqb x.number n (eqb-true x.number m b ∙ q) in cc))) refl
+          | inr b ↦ rw b later
+        ])
+      ]
 
   pub found_without : (n : ℕ) (xs : List (Operation T)) (m : ℕ) → find (has_number m) (without n xs) ≡ cond (m == n) None (find (has_number m) xs)
   found_without n [] m = elim (cases_Bool (m == n)) [ inl e ↦ rw e refl | inr e ↦ rw e refl ]
   found_without n (x ∷ xs) m =
       let later = found_without n xs m in
       elim (cases_Bool (has_number n x)) [
-        inl a ↦ rw a (elim (cases_Bool (has_number m x)) [
-            inl b ↦ (let same : (m == n) ≡ true = eq-eqb m n (sym (eqb-true x.number m b) ∙ eqb-true x.number n a) in rw (b, same) (rw same at later))
-          | inr b ↦ rw b later ])
-      | inr a ↦ rw a (elim (cases_Bool (has_number m x)) [
-            inl b ↦ rw (b, ne_eqb m n (λ (q : m ≡ n). absurd (let t = eq-eqb x.number n (eqb-true x.number m b ∙ q) in cc))) refl
-          | inr b ↦ rw b later ]) ]
+        | inl a ↦ rw a (elim (cases_Bool (has_number m x)) [
+          | inl b ↦ (let same : (m == n) ≡ true = eq-eqb m n (sym (eqb-true x.number m b) ∙ eqb-true x.number n a) in rw (b, same) (rw same at later))
+          | inr b ↦ rw b later
+        ])
+        | inr a ↦ rw a (elim (cases_Bool (has_number m x)) [
+          | inl b ↦ rw (b, ne_eqb m n (λ (q : m ≡ n). absurd (let t = eq-eqb x.number n (eqb-true x.number m b ∙ q) in cc))) refl
+          | inr b ↦ rw b later
+        ])
+      ]
 
   or_none : (o : Option (Operation T)) → option_or o None ≡ o
   or_none None = refl
@@ -92,6 +99,7 @@ module _ {T : Type 0} where
 
   pub found_begun : (xs : List (Operation T)) (x : Operation T) (m : ℕ) → find (has_number x.number) xs ≡ None → find (has_number m) (xs ++ x ∷ []) ≡ cond (m == x.number) (Some x) (find (has_number m) xs)
   found_begun xs x m fresh = find-append (has_number m) xs (x ∷ []) ∙ elim (cases_Bool (m == x.number)) [
-        inl a ↦ (let none : find (has_number m) xs ≡ None = subst (λ (k : ℕ). find (has_number k) xs ≡ None) (sym (eqb-true m x.number a)) fresh in
-            rw (none, a, eq-eqb x.number m (sym (eqb-true m x.number a))) refl)
-      | inr a ↦ rw (a, ne_eqb x.number m (λ (q : x.number ≡ m). absurd (let t = eq-eqb m x.number (sym q) in cc))) (or_none (find (has_number m) xs)) ]
+    | inl a ↦ (let none : find (has_number m) xs ≡ None = subst (λ (k : ℕ). find (has_number k) xs ≡ None) (sym (eqb-true m x.number a)) fresh in
+        rw (none, a, eq-eqb x.number m (sym (eqb-true m x.number a))) refl)
+    | inr a ↦ rw (a, ne_eqb x.number m (λ (q : x.number ≡ m). absurd (let t = eq-eqb m x.number (sym q) in cc))) (or_none (find (has_number m) xs))
+  ]

@@ -89,7 +89,7 @@ module _ {T : Type 0} where
   oldest_of_all xs uid (Some found) i e h so = record {
     operation = so.operation;
     found = let here : get_or xs so.place so.operation ≡ so.operation = so.is so.operation in
-      found_at found.0 xs so.place so.operation h (omega (arith, so.within.0, so.within.1)) (rw here (eq-eqb so.operation.number found.0 so.number_is)) ∙ ap Some here;
+        found_at found.0 xs so.place so.operation h (omega (arith, so.within.0, so.within.1)) (rw here (eq-eqb so.operation.number found.0 so.number_is)) ∙ ap Some here;
     idle = so.idle;
     stamp_is = so.stamp_is;
     oldest = λ k d l idle. so.least k d (omega arith) idle;

@@ -18,7 +18,7 @@ passed_by u v rest n e h = sum_by-append (λ w. cond (w == u) 1 0) (v ∷ []) re
 
 -- the first of an owner is counted for that uid where none came before
 own_first : (idle before after : Bool) (u : ℕ) (rest : List ℕ) → count_by (λ w. w == u) rest ≡ cond (after && not (before || (idle || false))) 1 0 →
-  count_by (λ w. w == u) ((if idle && not before then u ∷ [] else []) ++ rest) ≡ cond ((idle || after) && not before) 1 0
+    count_by (λ w. w == u) ((if idle && not before then u ∷ [] else []) ++ rest) ≡ cond ((idle || after) && not before) 1 0
 own_first true true true u rest h = h
 own_first true true false u rest h = h
 own_first true false true u rest h = one_more u rest h
@@ -30,7 +30,7 @@ own_first false false false u rest h = h
 
 -- and for no other uid
 other_first : (first before after : Bool) (u v : ℕ) (rest : List ℕ) → (v == u) ≡ false → count_by (λ w. w == u) rest ≡ cond (after && not (before || (false || false))) 1 0 →
-  count_by (λ w. w == u) ((if first then v ∷ [] else []) ++ rest) ≡ cond ((false || after) && not before) 1 0
+    count_by (λ w. w == u) ((if first then v ∷ [] else []) ++ rest) ≡ cond ((false || after) && not before) 1 0
 other_first true true true u v rest e h = passed_by u v rest _ e h
 other_first true true false u v rest e h = passed_by u v rest _ e h
 other_first true false true u v rest e h = passed_by u v rest _ e h
@@ -45,12 +45,13 @@ module _ {T : Type 0} where
   counted : (before rest : List (Operation T)) (u : ℕ) → count_by (λ w. w == u) (owners_after before rest) ≡ cond (list_any (is_idle_of u) rest && not (list_any (is_idle_of u) before)) 1 0
   counted before [] u = refl
   counted before (o ∷ os) u = elim (cases_Bool (is_of u o)) [
-      inl e ↦ (let P : ℕ → Type 0 = λ n. count_by (λ w. w == n) (owners_after before (o ∷ os)) ≡ cond (list_any (is_idle_of n) (o ∷ os) && not (list_any (is_idle_of n) before)) 1 0 in
-          subst P (eqb-true o.uid u e)
-            (let ih = rw (list_any-append (is_idle_of o.uid) before (o ∷ []), eq-eqb o.uid o.uid refl) at (counted (before ++ o ∷ []) os o.uid) in
-             rw (eq-eqb o.uid o.uid refl) (own_first (is_idle o) (list_any (is_idle_of o.uid) before) (list_any (is_idle_of o.uid) os) o.uid _ ih)))
+    | inl e ↦ (let P : ℕ → Type 0 = λ n. count_by (λ w. w == n) (owners_after before (o ∷ os)) ≡ cond (list_any (is_idle_of n) (o ∷ os) && not (list_any (is_idle_of n) before)) 1 0 in
+        subst P (eqb-true o.uid u e)
+        (let ih = rw (list_any-append (is_idle_of o.uid) before (o ∷ []), eq-eqb o.uid o.uid refl) at (counted (before ++ o ∷ []) os o.uid) in
+        rw (eq-eqb o.uid o.uid refl) (own_first (is_idle o) (list_any (is_idle_of o.uid) before) (list_any (is_idle_of o.uid) os) o.uid _ ih)))
     | inr e ↦ (let ih = rw (list_any-append (is_idle_of u) before (o ∷ []), e) at (counted (before ++ o ∷ []) os u) in
-        rw e (other_first (is_first_of_owner before o) (list_any (is_idle_of u) before) (list_any (is_idle_of u) os) u o.uid _ e ih)) ]
+        rw e (other_first (is_first_of_owner before o) (list_any (is_idle_of u) before) (list_any (is_idle_of u) os) u o.uid _ e ih))
+  ]
 
   pub sound : (xs : List (Operation T)) (capacity room : ℕ) → IsKept xs capacity room → IsSound (seen xs capacity)
   sound xs capacity room kept = record {

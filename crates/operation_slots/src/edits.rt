@@ -8,7 +8,9 @@ use crate::{OpId, Operation, Taken};
 fn place_of<T>(operations: &[Operation<T>], op: OpId) -> Option<usize>
     ensures { result ≡ position (has_number op) operations.now }
 {
-    operations.iter().position(|operation| operation.number == op)
+    operations
+        .iter()
+        .position(|operation| operation.number == op)
 }
 
 /// Takes the value of an idle operation out, and leaves its place behind as busy.

@@ -11,6 +11,8 @@ mod operation;
 mod owners;
 mod slots;
 mod steps;
+#[cfg(test)]
+mod tests;
 
 pub use operation::{OpId, Operation, Taken};
 pub use slots::{MOST_SLOTS, Slots};

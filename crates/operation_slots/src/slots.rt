@@ -2,8 +2,7 @@ ghost use Rattle.std.specs.Prelude.{◌≡◌, ◌==◌, ℕ, ◌+◌, ◌<◌, 
 ghost use Rattle.operation_slots.specs.Table.{IsSound, IsEmpty, IsLater, Same, Begins, Takes, Gives, TakesOut, idle_operation, held, open_count as held_count, open_of as held_of, has_room as room_in, has_idle, owners_of, capacity_of, taken, idle_value, is_busy, is_taken, MatchTaken, made_busy, given_back, IsOldestIdle};
 
 use crate::edits::{give_value, take_out_busy, take_out_idle, take_value};
-use crate::owners;
-use crate::{OpId, Operation, Steps, Taken};
+use crate::{OpId, Operation, Steps, Taken, owners};
 use std::alloc::Global;
 use std::marker::Model;
 use std::sync::ledger::Ledger;
@@ -69,7 +68,10 @@ impl<T> Slots<T> {
         ensures count { result ≡ held_of self.now uid }
         ensures within { result ≤ held_count self.now }
     {
-        self.operations.iter().filter(|operation| operation.uid == uid).count()
+        self.operations
+            .iter()
+            .filter(|operation| operation.uid == uid)
+            .count()
     }
 
     /// How many uids have an idle operation.

@@ -16,8 +16,9 @@ pub record HasDigits (n d : ℕ) : Type 0 where
 pub digits_grow : (m n d e : ℕ) → m ≤ n → HasDigits m d → HasDigits n e → d ≤ e
 digits_grow m n zero e le hm hn = omega arith
 digits_grow m n (suc j) e le hm hn = elim (cases_lt e (suc j)) [
-    inl lt ↦ absurd (omega (arith, pow-le-pow_right {n = 2} (omega arith) {i = e} {j = j} (omega arith), hm.below j refl, hn.above))
-  | inr more ↦ more ]
+  | inl lt ↦ absurd (omega (arith, pow-le-pow_right {n = 2} (omega arith) {i = e} {j = j} (omega arith), hm.below j refl, hn.above))
+  | inr more ↦ more
+]
 
 pub same_digits : (n d e : ℕ) → HasDigits n d → HasDigits n e → d ≡ e
 same_digits n d e hd he = omega (arith, digits_grow n n d e (omega arith) hd he, digits_grow n n e d (omega arith) he hd)

@@ -57,8 +57,9 @@ module _ {T : Type 0} where
   is_candidate table now [] o i e = absurd i
   is_candidate table now (p ∷ ps) o (inl s) e = rw (candidate_is table now p (rw s e)) (inl (ap (compared table now) s))
   is_candidate table now (p ∷ ps) o (inr i) e = elim (cases_Bool (is_idle p)) [
-      inl t ↦ rw (candidate_is table now p t) (inr (is_candidate table now ps o i e))
-    | inr f ↦ rw (no_candidate table now p f) (is_candidate table now ps o i e) ]
+    | inl t ↦ rw (candidate_is table now p t) (inr (is_candidate table now ps o i e))
+    | inr f ↦ rw (no_candidate table now p f) (is_candidate table now ps o i e)
+  ]
 
   -- a candidate and the operation that it is
   record Compared (table : SlotTable T) (now : ℕ) (os : List (Operation T)) (c : Candidate) : Type 0 where
@@ -73,9 +74,10 @@ module _ {T : Type 0} where
   is_compared : (table : SlotTable T) (now : ℕ) (os : List (Operation T)) (c : Candidate) → In c (filter_map (candidate (open_facts table) now) (map facts os)) → Compared table now os c
   is_compared table now [] c i = absurd i
   is_compared table now (p ∷ ps) c i = elim (cases_Bool (is_idle p)) [
-      inl t ↦ (let j : (compared table now p ≡ c) ⊎ In c (filter_map (candidate (open_facts table) now) (map facts ps)) = rw (candidate_is table now p t) at i in
+    | inl t ↦ (let j : (compared table now p ≡ c) ⊎ In c (filter_map (candidate (open_facts table) now) (map facts ps)) = rw (candidate_is table now p t) at i in
         elim j [ inl s ↦ record { operation = p; within = inl refl; idle = t; is = s } | inr k ↦ further table now p ps c (is_compared table now ps c k) ])
-    | inr f ↦ further table now p ps c (is_compared table now ps c (rw (no_candidate table now p f) at i)) ]
+    | inr f ↦ further table now p ps c (is_compared table now ps c (rw (no_candidate table now p f) at i))
+  ]
 
   -- ---- one owner
 
@@ -146,24 +148,27 @@ module _ {T : Type 0} where
         before_all = λ k o l i e owner. this_owner table now count c oldest k o (omega arith) i e owner;
       }
   one_more table now count (Some f) c so oldest = elim (cases_Bool (goes_before f c)) [
-      inl t ↦ rw t (record {
-        operation = so.operation;
-        within = so.within;
-        idle = so.idle;
-        is = so.is;
-        before_all = λ k o l i e owner. elim (cases_lt k count) [
-            inl less ↦ so.before_all k o less i e owner
-          | inr more ↦ before_trans f.malus f.touched c.malus c.touched (compared table now o).malus (compared table now o).touched t (this_owner table now count c oldest k o (omega arith) i e owner) ];
-      })
+    | inl t ↦ rw t (record {
+      operation = so.operation;
+      within = so.within;
+      idle = so.idle;
+      is = so.is;
+      before_all = λ k o l i e owner. elim (cases_lt k count) [
+        | inl less ↦ so.before_all k o less i e owner
+        | inr more ↦ before_trans f.malus f.touched c.malus c.touched (compared table now o).malus (compared table now o).touched t (this_owner table now count c oldest k o (omega arith) i e owner)
+      ];
+    })
     | inr n ↦ (let found = found_oldest table now count c oldest in rw n (record {
-        operation = found.operation;
-        within = found.within;
-        idle = found.idle;
-        is = found.is;
-        before_all = λ k o l i e owner. elim (cases_lt k count) [
-            inl less ↦ before_trans c.malus c.touched f.malus f.touched (compared table now o).malus (compared table now o).touched (before_total f.malus f.touched c.malus c.touched n) (so.before_all k o less i e owner)
-          | inr more ↦ this_owner table now count c oldest k o (omega arith) i e owner ];
-      })) ]
+      operation = found.operation;
+      within = found.within;
+      idle = found.idle;
+      is = found.is;
+      before_all = λ k o l i e owner. elim (cases_lt k count) [
+        | inl less ↦ before_trans c.malus c.touched f.malus f.touched (compared table now o).malus (compared table now o).touched (before_total f.malus f.touched c.malus c.touched n) (so.before_all k o less i e owner)
+        | inr more ↦ this_owner table now count c oldest k o (omega arith) i e owner
+      ];
+    }))
+  ]
 
   no_stamp : (q : Operation T) (qs : List (Operation T)) (p : Operation T) → NoneIs q.stamp (stamps_of qs) → In p qs → q.stamp ≡ p.stamp → ⊥
   no_stamp q [] p h i e = i
@@ -183,8 +188,9 @@ module _ {T : Type 0} where
   -- each owner has an idle operation, and the uid of an idle operation is an owner
   pub owner_has_idle : (table : SlotTable T) (k u : ℕ) → IsSound table → slice_get (owners_of table) k ≡ Some u → has_idle table u ≡ true
   owner_has_idle table k u sound at = elim (cases_Bool (has_idle table u)) [
-      inl t ↦ t
-    | inr f ↦ absurd (let none = rw f at (sound.owners u) in omega (arith, none, is_counted u (owners_of table) k at)) ]
+    | inl t ↦ t
+    | inr f ↦ absurd (let none = rw f at (sound.owners u) in omega (arith, none, is_counted u (owners_of table) k at))
+  ]
 
   covered : (table : SlotTable T) (o : Operation T) → IsSound table → In o (operations_of table) → is_idle o ≡ true → (k : ℕ) × (k < length (owners_of table)) × (slice_get (owners_of table) k ≡ Some o.uid)
   covered table o sound i e =
@@ -215,9 +221,9 @@ module _ {T : Type 0} where
   pub first_of_all : (table : SlotTable T) (now : ℕ) (first : Option Candidate) (count : ℕ) → IsSound table → count ≡ length (owners_of table) → FirstSoFar table now count first → IsFirst table now first
   first_of_all table now None count sound e so =
       sym (none_found (λ a. list_all (goes_before a) (candidates (open_facts table) now)) (candidates (open_facts table) now) (λ x i.
-        let r = is_compared table now (operations_of table) x i in
-        let at = covered table r.operation sound r.within r.idle in
-        omega (arith, at.1)))
+      let r = is_compared table now (operations_of table) x i in
+      let at = covered table r.operation sound r.within r.idle in
+      omega (arith, at.1)))
   first_of_all table now (Some c) count sound e so =
       let all = candidates (open_facts table) now in
       let among : In c all = rw (← so.is) (is_candidate table now (operations_of table) so.operation so.within so.idle) in

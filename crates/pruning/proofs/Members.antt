@@ -18,15 +18,17 @@ module _ {A : Type 0} where
   pub found_in : (p : A → Bool) (xs : List A) (x : A) → find p xs ≡ Some x → In x xs × (p x ≡ true)
   found_in p [] x h = absurd cc
   found_in p (y ∷ ys) x h = elim (cases_Bool (p y)) [
-      inl e ↦ (let s : Some y ≡ Some x = rw e at h in let t : y ≡ x = cc in (inl t, rw (← t) e))
-    | inr e ↦ (let rest = found_in p ys x (rw e at h) in (inr rest.0, rest.1)) ]
+    | inl e ↦ (let s : Some y ≡ Some x = rw e at h in let t : y ≡ x = cc in (inl t, rw (← t) e))
+    | inr e ↦ (let rest = found_in p ys x (rw e at h) in (inr rest.0, rest.1))
+  ]
 
   -- the only one that passes is found
   pub only_found : (p : A → Bool) (xs : List A) (x : A) → In x xs → p x ≡ true → ((y : A) → In y xs → p y ≡ true → y ≡ x) → find p xs ≡ Some x
   only_found p [] x i e only = absurd i
   only_found p (y ∷ ys) x i e only = elim (cases_Bool (p y)) [
-      inl t ↦ rw t (ap Some (only y (inl refl) t))
-    | inr f ↦ rw f (only_found p ys x (behind y i f) e (λ z j. only z (inr j))) ] where
+    | inl t ↦ rw t (ap Some (only y (inl refl) t))
+    | inr f ↦ rw f (only_found p ys x (behind y i f) e (λ z j. only z (inr j)))
+  ] where
     behind : (y : A) → In x (y ∷ ys) → p y ≡ false → In x ys
     behind y (inl s) f = absurd (let t : p y ≡ true = rw s e in cc)
     behind y (inr j) f = j
@@ -56,10 +58,11 @@ module _ {A : Type 0} where
 pub at_place : (u : ℕ) (xs : List ℕ) → 0 < count_by (λ w. w == u) xs → (k : ℕ) × (k < length xs) × (slice_get xs k ≡ Some u)
 at_place u [] h = absurd (omega arith)
 at_place u (x ∷ xs) h = elim (cases_Bool (x == u)) [
-    inl e ↦ (zero, (omega arith), ap Some (eqb-true x u e))
+  | inl e ↦ (zero, (omega arith), ap Some (eqb-true x u e))
   | inr e ↦ (let count = sum_by-append (λ w. cond (w == u) 1 0) (x ∷ []) xs in
       let less : 0 < count_by (λ w. w == u) xs = (let n = rw e at count in omega arith) in
-      let rest = at_place u xs less in (suc rest.0, omega (arith, rest.1), rest.2)) ]
+      let rest = at_place u xs less in (suc rest.0, omega (arith, rest.1), rest.2))
+]
 
 pub is_counted : (u : ℕ) (xs : List ℕ) (k : ℕ) → slice_get xs k ≡ Some u → 0 < count_by (λ w. w == u) xs
 is_counted u [] k h = absurd cc

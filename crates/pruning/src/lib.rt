@@ -10,5 +10,7 @@
 mod choice;
 mod digits;
 mod prune;
+#[cfg(test)]
+mod tests;
 
 pub use prune::victim;

@@ -8,8 +8,9 @@ loop-operation-preserved g c =
     let so = c.loop-operation.invariant.oldest_is in
     record {
       oldest_is = elim c.if-takes_over.branch [
-          then-takes_over w ↦ rw w.oldest-is (taken_up c.args.operations.now c.args.uid c.loop-operation.operation-index c.loop-operation.oldest c.operation-item.result c.loop-operation-test.true c.operation-item.is (sym c.takes_over.ensures ∙ w.if-takes_over.true) so)
-        | else-takes_over w ↦ rw w.oldest-is (passed c.args.operations.now c.args.uid c.loop-operation.operation-index c.loop-operation.oldest c.operation-item.result c.loop-operation-test.true c.operation-item.is (sym c.takes_over.ensures ∙ w.if-takes_over.false) so) ];
+        | then-takes_over w ↦ rw w.oldest-is (taken_up c.args.operations.now c.args.uid c.loop-operation.operation-index c.loop-operation.oldest c.operation-item.result c.loop-operation-test.true c.operation-item.is (sym c.takes_over.ensures ∙ w.if-takes_over.true) so)
+        | else-takes_over w ↦ rw w.oldest-is (passed c.args.operations.now c.args.uid c.loop-operation.operation-index c.loop-operation.oldest c.operation-item.result c.loop-operation-test.true c.operation-item.is (sym c.takes_over.ensures ∙ w.if-takes_over.false) so)
+      ];
       steps = omega (arith, c.tick.ensures, c.loop-operation.invariant.steps);
     }
 

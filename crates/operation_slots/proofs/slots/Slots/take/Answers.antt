@@ -42,4 +42,4 @@ pub returns-clause-cases : goal.returns-clause-cases
 returns-clause-cases g c =
     let items : take c.self.inside.operations.len (c.take_value.new.operations ++ drop (length c.take_value.new.operations) c.self.inside.operations.items) ≡ with_change c.args.op made_busy c.self.inside.operations.items = grind (arith, common_steps) in
     rw (← c.self.view_is) (cases_of (find (has_number c.args.op) c.self.inside.operations.items) _ c.take_value.result (rw c.deref_mut.ensures.value at c.take_value.ensures.answer)
-      (rw items (found_change c.args.op made_busy (λ o. refl) c.self.inside.operations.items c.args.op ∙ rw (eq-eqb c.args.op c.args.op refl) refl)))
+    (rw items (found_change c.args.op made_busy (λ o. refl) c.self.inside.operations.items c.args.op ∙ rw (eq-eqb c.args.op c.args.op refl) refl)))
