@@ -1,8 +1,8 @@
 -- What is kept of the list stays so after each call.
-use Rattle.std.proofs.Common.{◌≡◌, ◌≢◌, ◌<◌, ◌≤◌, ◌+◌, ℕ, zero, suc, Bool, true, false, not, cond, List, [], ◌∷◌, ◌++◌, length, get_or, map, filter, find, count_by, Option, Some, None, All, if◌then◌else◌, refl, sym, ap, ◌∙◌, inl, inr, arith, subst, length-append}
+use Rattle.std.proofs.Common.{◌≡◌, ◌≢◌, ◌<◌, ◌≤◌, ℕ, suc, Bool, not, List, [], ◌∷◌, ◌++◌, length, map, filter, find, None, All, if◌then◌else◌, refl, sym, ap, inl, inr, arith, subst, length-append}
 use Rattle.std.proofs.lemmas.List.Elements.{All-head, All-tail, All-push, All-map, All-weaker, All-filter}
 use Rattle.std.proofs.lemmas.List.Sums.{length-filter, count_by-le-length}
-use Rattle.std.proofs.lemmas.Bool.{cases_Bool, eqb-true, ne_eqb, eq-eqb}
+use Rattle.std.proofs.lemmas.Bool.{cases_Bool, eqb-true}
 use Rattle.operation_slots.specs.declared.operation.Operation.{Operation}
 use Rattle.operation_slots.specs.Table.{has_number, with_change, made_busy, given_back, without, numbers_of, stamps_of, NoneIs, AllDiffer}
 use Rattle.operation_slots.specs.Kept.{IsKept}

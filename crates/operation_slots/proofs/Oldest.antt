@@ -1,11 +1,11 @@
 -- The oldest idle operation of a uid among those that were looked at.
-use Rattle.std.proofs.Common.{◌≡◌, ◌<◌, ◌≤◌, ◌+◌, ℕ, zero, suc, Bool, true, false, not, ◌&&◌, List, [], ◌∷◌, length, get_or, find, nat_lt, Option, Some, None, IfSome, IfNone, All, refl, sym, ap, ◌∙◌, inl, inr, arith, subst, ◌⊎◌}
+use Rattle.std.proofs.Common.{◌≡◌, ◌<◌, ◌≤◌, ◌+◌, ℕ, zero, suc, Bool, true, false, ◌&&◌, List, [], ◌∷◌, length, get_or, find, Option, Some, None, IfSome, IfNone, refl, sym, ap, ◌∙◌, inl, inr, arith, ◌⊎◌}
 use Rattle.std.specs.List.{list_any}
 use Rattle.std.proofs.lemmas.List.Folds.{list_any_none}
 use Rattle.std.proofs.lemmas.List.{get_or_default}
-use Rattle.std.proofs.lemmas.Bool.{cases_Bool, cases_lt, eqb-true, ne_eqb, eq-eqb, ltb-true, ltb-false, and_parts}
+use Rattle.std.proofs.lemmas.Bool.{cases_lt, ne_eqb, eq-eqb, ltb-true, ltb-false, and_parts}
 use Rattle.operation_slots.specs.declared.operation.Operation.{Operation}
-use Rattle.operation_slots.specs.Table.{has_number, is_idle_of, numbers_of, AllDiffer, NoneIs, IsOldestAmong}
+use Rattle.operation_slots.specs.Table.{has_number, is_idle_of, numbers_of, AllDiffer, IsOldestAmong}
 use Rattle.operation_slots.specs.Owners.{is_older}
 use Rattle.operation_slots.proofs.Lists.{apart}
 

@@ -1,12 +1,12 @@
 -- The list of owners has each uid that has an idle operation once, and no other; so the slots are sound.
-use Rattle.std.proofs.Common.{◌≡◌, ◌+◌, ℕ, Bool, true, false, not, ◌&&◌, ◌||◌, ◌==◌, cond, if◌then◌else◌, List, [], ◌∷◌, ◌++◌, count_by, refl, sym, ap, ◌∙◌, inl, inr, arith, subst}
+use Rattle.std.proofs.Common.{◌≡◌, ℕ, Bool, true, false, not, ◌&&◌, ◌||◌, ◌==◌, cond, if◌then◌else◌, List, [], ◌∷◌, ◌++◌, count_by, refl, ◌∙◌, inl, inr, arith, subst}
 use Rattle.std.specs.List.{list_any}
 use Rattle.std.proofs.lemmas.List.Folds.{list_any-append}
 use Rattle.std.proofs.lemmas.List.Sums.{sum_by-append}
 use Rattle.std.proofs.lemmas.Bool.{cases_Bool, eqb-true, eq-eqb}
 use Rattle.operation_slots.specs.declared.operation.Operation.{Operation}
 use Rattle.operation_slots.specs.Table.{is_idle, is_idle_of, is_of, IsSound}
-use Rattle.operation_slots.specs.Owners.{is_first_of_owner, owners_after, listed_owners}
+use Rattle.operation_slots.specs.Owners.{is_first_of_owner, owners_after}
 use Rattle.operation_slots.specs.Kept.{seen, IsKept}
 
 -- one more of the uid is counted, and one of another is not

@@ -14,6 +14,7 @@ mod steps;
 #[cfg(test)]
 mod tests;
 
-pub use operation::{OpId, Operation, Taken};
+use operation::Operation;
+pub use operation::{OpId, Taken};
 pub use slots::{MOST_SLOTS, Slots};
 pub use steps::Steps;

@@ -1,4 +1,4 @@
-ghost use Rattle.std.specs.Prelude.{◌≡◌, ◌==◌, ◌&&◌, is_some};
+ghost use Rattle.std.specs.Prelude.{◌≡◌, Some};
 
 /// The number of an operation.
 pub type OpId = u64;
@@ -30,25 +30,25 @@ pub enum Taken<T> {
 }
 
 impl<T> Operation<T> {
-    ghost use Rattle.operation_slots.specs.Table.{is_idle, is_idle_of};
+    ghost use Rattle.operation_slots.specs.Table.{is_idle, is_idle_of, idle_value};
 
     /// Whether its value is there.
-    pub fn is_idle(&self) -> bool
+    pub(crate) fn is_idle(&self) -> bool
         ensures { result ≡ is_idle self.now }
     {
         self.value.is_some()
     }
 
     /// Whether it is idle and this uid's.
-    pub fn is_idle_of(&self, uid: u32) -> bool
+    pub(crate) fn is_idle_of(&self, uid: u32) -> bool
         ensures { result ≡ is_idle_of uid self.now }
     {
         self.uid == uid && self.is_idle()
     }
 
     /// Its value, where it is idle.
-    pub fn into_value(self) -> Option<T>
-        ensures { result ≡ self.value }
+    pub(crate) fn into_value(self) -> Option<T>
+        ensures { result ≡ idle_value (Some self) }
     {
         let Operation {
             number: _,

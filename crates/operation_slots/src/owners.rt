@@ -1,7 +1,7 @@
 //! The owners and the oldest idle operation of each, over a plain list.
 ghost use Rattle.std.specs.Prelude.{◌≡◌, ◌&&◌, ◌+◌, false, slice_get, length, IfSome, IfNone};
 ghost use Rattle.std.specs.List.{list_any};
-ghost use Rattle.operation_slots.specs.Table.{is_idle_of, IsOldestAmong, AllDiffer, numbers_of};
+ghost use Rattle.operation_slots.specs.Table.{is_idle_of, stamp_of, IsOldestAmong, AllDiffer, numbers_of};
 ghost use Rattle.operation_slots.specs.Owners.{is_first_of_owner, listed_owners, is_older};
 
 use crate::{OpId, Operation, Steps};
@@ -73,7 +73,7 @@ pub fn oldest_idle<T, L: Ledger>(
 
 // Whether it is idle, this uid's, and older than the one found so far.
 fn takes_over<T>(operation: &Operation<T>, uid: u32, oldest: Option<(OpId, u64)>) -> bool
-    ensures { result ≡ (is_idle_of uid operation.now && is_older operation.now.stamp oldest) }
+    ensures { result ≡ (is_idle_of uid operation.now && is_older (stamp_of operation.now) oldest) }
 {
     operation.is_idle_of(uid) && is_older(operation.stamp, oldest)
 }

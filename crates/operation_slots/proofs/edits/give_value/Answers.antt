@@ -1,5 +1,4 @@
-use Rattle.std.proofs.Common.{◌≡◌, refl, sym, ap, ◌∙◌}
-use Rattle.operation_slots.specs.Table.{given_back, is_busy}
+use Rattle.operation_slots.specs.Table.{given_back}
 use Rattle.operation_slots.proofs.Lists.{changed_at}
 use Rattle.operation_slots.proofs.Finding.{absent, present}
 use Rattle.operation_slots.proofs.edits.give_value.Goals as goal

@@ -1,5 +1,5 @@
-use Rattle.std.proofs.Common.{◌≡◌, refl, sym, ap, ◌∙◌}
-use Rattle.operation_slots.specs.Table.{is_busy, has_number}
+use Rattle.std.proofs.Common.{◌≡◌, ◌∙◌}
+use Rattle.operation_slots.specs.Table.{has_number}
 use Rattle.std.specs.List.{position}
 use Rattle.std.proofs.Common.{Some, None}
 use Rattle.operation_slots.proofs.Lists.{removed_at}

@@ -1,5 +1,5 @@
-use Rattle.std.proofs.Common.{◌≡◌, refl, sym, ap, ◌∙◌}
-use Rattle.operation_slots.specs.Table.{idle_value, has_number}
+use Rattle.std.proofs.Common.{◌≡◌, refl, sym, ◌∙◌}
+use Rattle.operation_slots.specs.Table.{has_number}
 use Rattle.std.specs.List.{position}
 use Rattle.std.proofs.Common.{Some, None, Option, OnSome, false, is_some}
 use Rattle.operation_slots.proofs.Lists.{removed_at}

@@ -1,6 +1,6 @@
-use Rattle.std.proofs.Common.{◌≡◌, refl, sym, ap, ◌∙◌}
+use Rattle.std.proofs.Common.{refl, sym}
 use Rattle.std.proofs.lemmas.List.{set-get_or}
-use Rattle.operation_slots.specs.Table.{made_busy, taken}
+use Rattle.operation_slots.specs.Table.{made_busy}
 use Rattle.operation_slots.proofs.Lists.{changed_at, unchanged, not_found}
 use Rattle.operation_slots.proofs.Finding.{absent, present}
 use Rattle.operation_slots.proofs.edits.take_value.Goals as goal

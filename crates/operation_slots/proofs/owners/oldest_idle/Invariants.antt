@@ -1,5 +1,4 @@
-use Rattle.std.proofs.Common.{◌≡◌, ◌+◌}
-use Rattle.operation_slots.proofs.Oldest.{OldestSoFar, Looked}
+use Rattle.operation_slots.proofs.Oldest.{Looked}
 use Rattle.operation_slots.proofs.owners.oldest_idle.Given as goal
 
 abbrev pub invariant-loop-operation : goal.invariant-loop-operation

@@ -1,2 +1,0 @@
-use Rattle.operation_slots.proofs.Owning.{first_step, other_step}
-use Rattle.operation_slots.proofs.owners.owner_at.Goals as goal

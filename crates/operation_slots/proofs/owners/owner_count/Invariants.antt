@@ -1,5 +1,3 @@
-use Rattle.std.proofs.Common.{◌≡◌, ◌≤◌, ◌+◌, length, take, drop}
-use Rattle.operation_slots.specs.Owners.{owners_after, listed_owners}
 use Rattle.operation_slots.proofs.Owning.{Counted}
 use Rattle.operation_slots.proofs.owners.owner_count.Given as goal
 

@@ -1,7 +1,6 @@
-use Rattle.std.proofs.Common.{arith, ◌≡◌, find, None, All, ◌<◌, subst, rules, ap, sym, length}
+use Rattle.std.proofs.Common.{◌≡◌, find, None, All, ◌<◌, length}
 use Rattle.std.proofs.lemmas.Bool.{ltb-true}
-use Rattle.std.proofs.lemmas.Grind.{common_steps}
-use Rattle.operation_slots.specs.Table.{has_number, idle_operation, held, IsLater, has_room}
+use Rattle.operation_slots.specs.Table.{has_number, idle_operation}
 use Rattle.operation_slots.proofs.Keeping.{kept_begun, later_begun}
 use Rattle.operation_slots.proofs.Lists.{found_begun}
 use Rattle.operation_slots.proofs.slots.Slots.begin.Goals as goal
