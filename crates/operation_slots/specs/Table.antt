@@ -1,5 +1,5 @@
 -- What contracts see of the slots: the operations that are held, what a look-up finds among them, and what each call makes of them.
-use Rattle.std.specs.Prelude.{◌≡◌, ◌≢◌, ◌<◌, ◌≤◌, ◌^◌, ℕ, Bool, true, false, ◌&&◌, not, ◌==◌, nat_lt, is_some, List, [], ◌∷◌, ◌++◌, Option, Some, None, length, map, filter, find, count_by, All, if◌then◌else◌}
+use Rattle.std.specs.Prelude.{◌≡◌, option_map, ◌≢◌, ◌<◌, ◌≤◌, ◌^◌, ℕ, Bool, true, false, ◌&&◌, not, ◌==◌, nat_lt, is_some, List, [], ◌∷◌, ◌++◌, Option, Some, None, length, map, filter, find, count_by, All, if◌then◌else◌}
 use Rattle.std.specs.List.{list_any}
 use Rattle.operation_slots.specs.declared.operation.Operation.{Operation}
 use Rattle.operation_slots.specs.declared.operation.Taken.{Taken}
@@ -183,6 +183,30 @@ module _ {T : Type 0} where
   pub record TakesOut (old new : SlotTable T) (number : ℕ) : Type 0 where
     pub operations : new.operations ≡ without number old.operations
     pub capacity : new.capacity ≡ old.capacity
+
+  -- ---- what a look-up finds after a call
+
+  -- the operation that began, and else what it found before
+  abbrev pub FindsNew : SlotTable T → SlotTable T → Operation T → Type 0
+  FindsNew old new operation =
+      (number : ℕ) → held new number ≡ (if number == operation.number then Some operation else held old number)
+
+  -- at this number the operation with this change, and else what it found before
+  abbrev pub FindsChanged : SlotTable T → SlotTable T → ℕ → (Operation T → Operation T) → Type 0
+  FindsChanged old new at change =
+      (number : ℕ) → held new number ≡ (if number == at then option_map change (held old number) else held old number)
+
+  -- at this number nothing, and else what it found before
+  abbrev pub FindsWithout : SlotTable T → SlotTable T → ℕ → Type 0
+  FindsWithout old new at = (number : ℕ) → held new number ≡ (if number == at then None else held old number)
+
+  -- a stamp that was greater than every stamp held still is
+  abbrev pub KeepsLater : SlotTable T → SlotTable T → Type 0
+  KeepsLater old new = (next : ℕ) → IsLater old next → IsLater new next
+
+  -- and so where it is greater than this one too
+  abbrev pub KeepsLaterThan : SlotTable T → SlotTable T → ℕ → Type 0
+  KeepsLaterThan old new stamp = (next : ℕ) → IsLater old next → stamp < next → IsLater new next
 
   -- ---- the oldest idle operation of a uid
 

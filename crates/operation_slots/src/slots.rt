@@ -1,5 +1,5 @@
-ghost use Rattle.std.specs.Prelude.{◌≡◌, ◌==◌, ℕ, ◌+◌, ◌<◌, ◌≤◌, true, false, length, slice_get, Some, None, IfSome, IfNone, OnSome, IfOk, if◌then◌else◌, option_map};
-ghost use Rattle.operation_slots.specs.Table.{IsSound, IsEmpty, IsLater, Same, Begins, Takes, Gives, TakesOut, idle_operation, held, open_count as held_count, open_of as held_of, has_room as room_in, has_idle, owners_of, capacity_of, taken, idle_value, is_busy, is_taken, MatchTaken, made_busy, given_back, IsOldestIdle};
+ghost use Rattle.std.specs.Prelude.{◌≡◌, ℕ, ◌+◌, ◌<◌, ◌≤◌, true, false, length, slice_get, Some, None, IfSome, IfNone, OnSome, IfOk};
+ghost use Rattle.operation_slots.specs.Table.{IsSound, IsEmpty, IsLater, Same, Begins, Takes, Gives, TakesOut, idle_operation, held, open_count as held_count, open_of as held_of, has_room as room_in, has_idle, owners_of, capacity_of, taken, idle_value, is_busy, is_taken, MatchTaken, FindsNew, FindsChanged, FindsWithout, KeepsLater, KeepsLaterThan, made_busy, given_back, IsOldestIdle};
 
 use crate::edits::{give_value, take_out_busy, take_out_idle, take_value};
 use crate::{OpId, Operation, Steps, Taken, owners};
@@ -108,8 +108,8 @@ impl<T> Slots<T> {
         requires fresh { held self.old op ≡ None }
         requires later { IsLater self.old stamp }
         ensures begins { Begins self.old self.new (idle_operation op uid client stamp value) }
-        ensures found { (number : ℕ) → held self.new number ≡ (if number == op then Some (idle_operation op uid client stamp value) else held self.old number) }
-        ensures later { (next : ℕ) → IsLater self.old next → stamp < next → IsLater self.new next }
+        ensures found { FindsNew self.old self.new (idle_operation op uid client stamp value) }
+        ensures later { KeepsLaterThan self.old self.new stamp }
     {
         let operation = Operation {
             number: op,
@@ -128,12 +128,14 @@ impl<T> Slots<T> {
     /// Absent come exactly where it is busy or not held, and change nothing.
     pub fn take(&mut self, op: OpId) -> Taken<T>
         ensures answer { result ≡ taken (held self.old op) }
-        ensures cases { MatchTaken result (λ value. (idle_value (held self.old op) ≡ Some value) × (is_busy (held self.new op) ≡ true))
-            (is_busy (held self.old op) ≡ true) (held self.old op ≡ None) }
+        ensures cases { MatchTaken result
+            (λ value. (idle_value (held self.old op) ≡ Some value) × (is_busy (held self.new op) ≡ true))
+            (is_busy (held self.old op) ≡ true)
+            (held self.old op ≡ None) }
         ensures takes { Takes self.old self.new op }
         ensures same { is_taken result ≡ false → Same self.old self.new }
-        ensures found { (number : ℕ) → held self.new number ≡ (if number == op then option_map made_busy (held self.old number) else held self.old number) }
-        ensures later { (next : ℕ) → IsLater self.old next → IsLater self.new next }
+        ensures found { FindsChanged self.old self.new op made_busy }
+        ensures later { KeepsLater self.old self.new }
     {
         take_value(&mut self.operations, op)
     }
@@ -144,8 +146,8 @@ impl<T> Slots<T> {
         requires busy { is_busy (held self.old op) ≡ true }
         requires later { IsLater self.old stamp }
         ensures gives { Gives self.old self.new op stamp value }
-        ensures found { (number : ℕ) → held self.new number ≡ (if number == op then option_map (given_back stamp value) (held self.old number) else held self.old number) }
-        ensures later { (next : ℕ) → IsLater self.old next → stamp < next → IsLater self.new next }
+        ensures found { FindsChanged self.old self.new op (given_back stamp value) }
+        ensures later { KeepsLaterThan self.old self.new stamp }
     {
         give_value(&mut self.operations, op, stamp, value)
     }
@@ -155,8 +157,8 @@ impl<T> Slots<T> {
         ensures value { result ≡ idle_value (held self.old op) }
         ensures some { OnSome result (TakesOut self.old self.new op) }
         ensures none { IfNone result (Same self.old self.new) }
-        ensures found { OnSome result ((number : ℕ) → held self.new number ≡ (if number == op then None else held self.old number)) }
-        ensures later { (next : ℕ) → IsLater self.old next → IsLater self.new next }
+        ensures found { OnSome result (FindsWithout self.old self.new op) }
+        ensures later { KeepsLater self.old self.new }
     {
         take_out_idle(&mut self.operations, op)
     }
@@ -165,8 +167,8 @@ impl<T> Slots<T> {
     pub fn end(&mut self, op: OpId)
         requires { is_busy (held self.old op) ≡ true }
         ensures takes_out { TakesOut self.old self.new op }
-        ensures found { (number : ℕ) → held self.new number ≡ (if number == op then None else held self.old number) }
-        ensures later { (next : ℕ) → IsLater self.old next → IsLater self.new next }
+        ensures found { FindsWithout self.old self.new op }
+        ensures later { KeepsLater self.old self.new }
     {
         take_out_busy(&mut self.operations, op)
     }

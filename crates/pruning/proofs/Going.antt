@@ -1,6 +1,6 @@
 -- Comparing the oldest idle operation of each owner is enough: of the idle operations of one uid the oldest goes first.
-use Rattle.std.proofs.Common.{◌≡◌, ◌<◌, ◌≤◌, ◌+◌, ◌*◌, ◌-◌, ◌⊎◌, ◌==◌, ◌&&◌, ◌||◌, nat_lt, nat_le, ℕ, zero, suc, Bool, true, false, cond, List, [], ◌∷◌, length, slice_get, map, find, count_by, All, Option, Some, None, is_some, IsSome, IfSome, refl, sym, ap, ◌∙◌, inl, inr, arith, subst}
-use Rattle.std.specs.List.{filter_map, list_all, list_any}
+use Rattle.std.proofs.Common.{◌≡◌, ◌<◌, ◌≤◌, ◌+◌, ◌*◌, ◌-◌, ◌⊎◌, ◌==◌, ◌&&◌, ◌||◌, nat_lt, nat_le, ℕ, Bool, true, false, cond, List, [], ◌∷◌, length, slice_get, map, find, Option, Some, None, is_some, IsSome, IfSome, refl, sym, ap, ◌∙◌, inl, inr, arith, subst}
+use Rattle.std.specs.List.{filter_map, list_all}
 use Rattle.std.proofs.lemmas.List.Folds.{fold-map}
 use Rattle.std.proofs.lemmas.Bool.{cases_Bool, cases_lt, eqb-true, eq-eqb, ne_eqb, and_parts}
 use Rattle.std.proofs.lemmas.Bool.Decides.{nat_tests}
@@ -8,7 +8,7 @@ use Rattle.operation_slots.specs.declared.operation.Operation.{Operation}
 use Rattle.operation_slots.specs.Table.{SlotTable, operations_of, owners_of, is_idle, is_idle_of, is_of, has_number, has_idle, IsLater, IsSound, IsOldestIdle, NoneIs, AllDiffer, stamps_of, numbers_of, held, idle_value}
 use Rattle.operation_slots.specs.Table as slots
 use Rattle.pruning.specs.declared.choice.Candidate.{Candidate}
-use Rattle.pruning.specs.Victim.{OpenFacts, binary_digits, candidate, candidates, goes_before, first_to_go, open_of}
+use Rattle.pruning.specs.Victim.{binary_digits, candidate, candidates, goes_before, open_of}
 use Rattle.pruning.specs.Facts.{facts, open_facts}
 use Rattle.pruning.specs.Choice.{earlier, IsFirst, IsOldestOfOwner}
 use Rattle.pruning.proofs.DigitCount.{digits_of_older}

@@ -1,5 +1,5 @@
 -- What the walk over the owners finds.
-use Rattle.std.specs.Prelude.{◌≡◌, ℕ, ◌+◌, ◌-◌, true, Option, Some, None, slice_get, if◌then◌else◌}
+use Rattle.std.specs.Prelude.{◌≡◌, ℕ, ◌+◌, ◌-◌, Option, Some, None, slice_get, if◌then◌else◌}
 use Rattle.operation_slots.specs.Table.{SlotTable, owners_of, open_of, IsOldestIdle}
 use Rattle.pruning.specs.declared.choice.Candidate.{Candidate}
 use Rattle.pruning.specs.Victim.{binary_digits, candidates, first_to_go, goes_before}

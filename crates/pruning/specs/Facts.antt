@@ -1,5 +1,5 @@
 -- The plain facts of the operations in their slots.
-use Rattle.std.specs.Prelude.{ℕ, List, Option, Some, None, map, if◌then◌else◌}
+use Rattle.std.specs.Prelude.{List, Some, None, map, if◌then◌else◌}
 use Rattle.operation_slots.specs.declared.operation.Operation.{Operation}
 use Rattle.operation_slots.specs.Table.{SlotTable, operations_of, number_of, uid_of, stamp_of, is_idle}
 use Rattle.pruning.specs.Victim.{OpenFacts}

@@ -1,4 +1,4 @@
-use Rattle.std.proofs.Common.{arith, ◌≡◌, ◌+◌, ◌*◌, length, ◌≤◌, ℕ, add-mul}
+use Rattle.std.proofs.Common.{arith, ◌+◌, ◌*◌, ◌≤◌, ℕ, add-mul}
 use Rattle.pruning.proofs.Going.{one_more, first_of_all, first_is_idle}
 use Rattle.pruning.proofs.choice.first_to_go.Goals as goal
 
