@@ -1,0 +1,3 @@
+pub mod DigitCount
+pub mod Members
+pub mod Going

@@ -1,0 +1,5 @@
+use Rattle.pruning.proofs.tests.agree.Given as goal
+
+-- the ledger that the blank opens
+abbrev pub ghosts-pruned : goal.ghosts-pruned
+ghosts-pruned a = record { name = a.blank.name; parts = a.blank.parts }

@@ -1,0 +1,3 @@
+pub mod Victim
+pub mod Facts
+pub mod Choice

@@ -1,0 +1,479 @@
+//! A table of sixteen operations, and random slot lists against the definition computed by filters over a whole list.
+ghost use Rattle.std.specs.Prelude.{◌≡◌, ◌<◌, ◌≤◌};
+ghost use Rattle.operation_slots.specs.Table.{IsLater};
+
+use crate::victim;
+use operation_slots::{OpId, Slots, Steps, Taken};
+use std::alloc::Global;
+use std::marker::Brand;
+use std::sync::ledger::{Blank, Ledger};
+use std::test::Fail;
+
+// Slots with the stamp that comes next, which is greater than every stamp held.
+#[derive(Drop)]
+struct Desk {
+    slots: Slots<u8>,
+    next: u64,
+    ghost later: { IsLater slots next },
+}
+
+impl Desk {
+    // Lets time pass.
+    fn wait_until(&mut self, time: u64) {
+        if self.next < time {
+            self.next = time;
+        }
+    }
+
+    // Begins an operation where a slot is free and its number is; the stamp is this moment's.
+    fn begin(&mut self, op: OpId, uid: u32) -> bool {
+        let stamp = self.next;
+        if stamp == u64::MAX || !self.slots.has_room() {
+            return false;
+        }
+        match self.slots.take(op) {
+            Taken::Absent => {
+                self.slots.begin(op, uid, 1, stamp, 0);
+                self.next = stamp + 1;
+                true
+            }
+            _ => false,
+        }
+    }
+
+    // Takes an idle operation and gives it back at this moment.
+    fn touch(&mut self, op: OpId) -> bool {
+        let stamp = self.next;
+        if stamp == u64::MAX {
+            return false;
+        }
+        match self.slots.take(op) {
+            Taken::Found(value) => {
+                self.slots.give(op, stamp, value);
+                self.next = stamp + 1;
+                true
+            }
+            _ => false,
+        }
+    }
+
+    // Takes an idle operation, which stays busy.
+    fn hold(&mut self, op: OpId) -> bool {
+        matches!(self.slots.take(op), Taken::Found(_))
+    }
+
+    // Takes an idle operation out, at once or by way of being busy.
+    fn finish(&mut self, op: OpId, at_once: bool) -> bool {
+        if at_once {
+            return self.slots.close(op).is_some();
+        }
+        match self.slots.take(op) {
+            Taken::Found(_) => {
+                self.slots.end(op);
+                true
+            }
+            _ => false,
+        }
+    }
+}
+
+// The victim, with a counter of its own.
+fn pruned<L: Ledger>(desk: &Desk, uid: u32, forced: bool, blank: Blank) -> Option<OpId>
+    requires name { blank.name ≡ L.name }
+    requires parts { blank.parts ≡ L.parts }
+    requires some { 0 < L.parts }
+{
+    let mut steps = Steps::<L>::new(blank);
+    victim(&desk.slots, uid, forced, desk.next, &mut steps)
+}
+
+// Sixteen operations, the one of place i with the number (7 i + 3) mod 16 + 1.
+struct Case {
+    uids: [u32; 16],
+    // by how much this moment is later than the last touch, descending
+    ages: [u64; 16],
+    // bit i for place i
+    busy: u16,
+    uid: u32,
+    forced: bool,
+    want: Option<OpId>,
+}
+
+const NOW: u64 = 1 << 40;
+
+// Expected values by another program, from the rule as it is written.
+static CASES: [Case; 18] = [
+    // a uid with all slots: the oldest has 16 and five digits, and the bar is 17
+    Case {
+        uids: [1, 1, 1, 1, 1, 1, 1, 1, 1, 1, 1, 1, 1, 1, 1, 1],
+        ages: [16, 15, 14, 13, 12, 11, 10, 9, 8, 7, 6, 5, 4, 3, 2, 1],
+        busy: 0x0000,
+        uid: 1,
+        forced: false,
+        want: Some(4),
+    },
+    // all busy
+    Case {
+        uids: [1, 1, 1, 1, 1, 1, 1, 1, 1, 1, 1, 1, 1, 1, 1, 1],
+        ages: [16, 15, 14, 13, 12, 11, 10, 9, 8, 7, 6, 5, 4, 3, 2, 1],
+        busy: 0xffff,
+        uid: 1,
+        forced: false,
+        want: None,
+    },
+    // all busy, and the caller forces
+    Case {
+        uids: [1, 1, 1, 1, 1, 1, 1, 1, 1, 1, 1, 1, 1, 1, 1, 1],
+        ages: [16, 15, 14, 13, 12, 11, 10, 9, 8, 7, 6, 5, 4, 3, 2, 1],
+        busy: 0xffff,
+        uid: 2,
+        forced: true,
+        want: None,
+    },
+    // the youngest alone is idle: 16 and one digit are not over 17
+    Case {
+        uids: [1, 1, 1, 1, 1, 1, 1, 1, 1, 1, 1, 1, 1, 1, 1, 1],
+        ages: [16, 15, 14, 13, 12, 11, 10, 9, 8, 7, 6, 5, 4, 3, 2, 1],
+        busy: 0x7fff,
+        uid: 1,
+        forced: false,
+        want: None,
+    },
+    // the same, and the caller forces
+    Case {
+        uids: [1, 1, 1, 1, 1, 1, 1, 1, 1, 1, 1, 1, 1, 1, 1, 1],
+        ages: [16, 15, 14, 13, 12, 11, 10, 9, 8, 7, 6, 5, 4, 3, 2, 1],
+        busy: 0x7fff,
+        uid: 1,
+        forced: true,
+        want: Some(13),
+    },
+    // the same for a uid that has none: the bar is 1
+    Case {
+        uids: [1, 1, 1, 1, 1, 1, 1, 1, 1, 1, 1, 1, 1, 1, 1, 1],
+        ages: [16, 15, 14, 13, 12, 11, 10, 9, 8, 7, 6, 5, 4, 3, 2, 1],
+        busy: 0x7fff,
+        uid: 2,
+        forced: false,
+        want: Some(13),
+    },
+    // equal malus: the one touched longest ago, which is not the first number
+    Case {
+        uids: [1, 1, 1, 1, 1, 1, 1, 1, 1, 1, 1, 1, 1, 1, 1, 1],
+        ages: [
+            127, 126, 125, 124, 123, 122, 121, 120, 119, 118, 117, 116, 115, 114, 113, 112,
+        ],
+        busy: 0x0000,
+        uid: 9,
+        forced: false,
+        want: Some(4),
+    },
+    // the oldest ones are busy
+    Case {
+        uids: [1, 1, 1, 1, 1, 1, 1, 1, 1, 1, 1, 1, 1, 1, 1, 1],
+        ages: [
+            127, 126, 125, 124, 123, 122, 121, 120, 119, 118, 117, 116, 115, 114, 113, 112,
+        ],
+        busy: 0x00ff,
+        uid: 9,
+        forced: false,
+        want: Some(12),
+    },
+    // two uids of eight
+    Case {
+        uids: [1, 1, 1, 1, 1, 1, 1, 1, 2, 2, 2, 2, 2, 2, 2, 2],
+        ages: [65, 64, 63, 33, 32, 31, 17, 16, 15, 9, 8, 7, 4, 3, 2, 1],
+        busy: 0x0000,
+        uid: 2,
+        forced: false,
+        want: Some(4),
+    },
+    // two uids, the first one busy
+    Case {
+        uids: [1, 1, 1, 1, 1, 1, 1, 1, 2, 2, 2, 2, 2, 2, 2, 2],
+        ages: [65, 64, 63, 33, 32, 31, 17, 16, 15, 9, 8, 7, 4, 3, 2, 1],
+        busy: 0x00ff,
+        uid: 2,
+        forced: false,
+        want: Some(12),
+    },
+    // four uids, each fourth busy
+    Case {
+        uids: [1, 2, 3, 4, 1, 2, 3, 4, 1, 2, 3, 4, 1, 2, 3, 4],
+        ages: [65, 64, 63, 33, 32, 31, 17, 16, 15, 9, 8, 7, 4, 3, 2, 1],
+        busy: 0x1111,
+        uid: 1,
+        forced: false,
+        want: Some(11),
+    },
+    // a uid each: the bar is two, and one digit is not over it
+    Case {
+        uids: [1, 2, 3, 4, 5, 6, 7, 8, 9, 10, 11, 12, 13, 14, 15, 16],
+        ages: [16, 15, 14, 13, 12, 11, 10, 9, 8, 7, 6, 5, 4, 3, 2, 1],
+        busy: 0x7fff,
+        uid: 16,
+        forced: false,
+        want: None,
+    },
+    // a uid each: two digits are over it
+    Case {
+        uids: [1, 2, 3, 4, 5, 6, 7, 8, 9, 10, 11, 12, 13, 14, 15, 16],
+        ages: [16, 15, 14, 13, 12, 11, 10, 9, 8, 7, 6, 5, 4, 3, 2, 1],
+        busy: 0xbfff,
+        uid: 16,
+        forced: false,
+        want: Some(6),
+    },
+    // a uid each, at powers of two
+    Case {
+        uids: [1, 2, 3, 4, 5, 6, 7, 8, 9, 10, 11, 12, 13, 14, 15, 16],
+        ages: [65, 64, 63, 33, 32, 31, 17, 16, 15, 9, 8, 7, 4, 3, 2, 1],
+        busy: 0x0000,
+        uid: 3,
+        forced: false,
+        want: Some(4),
+    },
+    // twelve of one uid, of up to four digits, against four old ones of eleven
+    Case {
+        uids: [2, 2, 2, 2, 1, 1, 1, 1, 1, 1, 1, 1, 1, 1, 1, 1],
+        ages: [
+            2047, 1500, 1300, 1100, 12, 11, 10, 9, 8, 7, 6, 5, 4, 3, 2, 1,
+        ],
+        busy: 0x0000,
+        uid: 1,
+        forced: false,
+        want: Some(16),
+    },
+    // the same with an old one of twelve digits: as much malus, and touched longer ago
+    Case {
+        uids: [2, 2, 2, 2, 1, 1, 1, 1, 1, 1, 1, 1, 1, 1, 1, 1],
+        ages: [
+            2048, 1500, 1300, 1100, 12, 11, 10, 9, 8, 7, 6, 5, 4, 3, 2, 1,
+        ],
+        busy: 0x0000,
+        uid: 1,
+        forced: false,
+        want: Some(4),
+    },
+    // that one is busy
+    Case {
+        uids: [2, 2, 2, 2, 1, 1, 1, 1, 1, 1, 1, 1, 1, 1, 1, 1],
+        ages: [
+            2048, 1500, 1300, 1100, 12, 11, 10, 9, 8, 7, 6, 5, 4, 3, 2, 1,
+        ],
+        busy: 0x0001,
+        uid: 1,
+        forced: false,
+        want: Some(16),
+    },
+    // long ages of four uids, the oldest busy
+    Case {
+        uids: [1, 2, 3, 4, 1, 2, 3, 4, 1, 2, 3, 4, 1, 2, 3, 4],
+        ages: [
+            549755813888,
+            137438953472,
+            34359738368,
+            8589934592,
+            2147483648,
+            536870912,
+            134217728,
+            33554432,
+            8388608,
+            2097152,
+            524288,
+            131072,
+            32768,
+            8192,
+            2048,
+            512,
+        ],
+        busy: 0x0001,
+        uid: 2,
+        forced: false,
+        want: Some(11),
+    },
+];
+
+fn fill(alloc: Global, case: &Case) -> Result<Desk, Fail> {
+    let mut desk = Desk {
+        slots: Slots::with_capacity(alloc, 16)?,
+        next: 1,
+    };
+    for place in 0..16u64 {
+        desk.wait_until(NOW.saturating_sub(case.ages[place as usize]));
+        let op = (7 * place + 3) % 16 + 1;
+        desk.begin(op, case.uids[place as usize]);
+        if case.busy >> place & 1 == 1 {
+            desk.hold(op);
+        }
+    }
+    desk.wait_until(NOW);
+    Ok(desk)
+}
+
+#[test]
+fn the_first_to_go_of_sixteen(rt: HostRuntime) -> Result<(), Fail> {
+    for case in &CASES {
+        let desk = fill(rt.alloc(), case)?;
+        assert_eq!(rt; desk.slots.open_count(), 16);
+        assert_eq!(rt; desk.next, NOW);
+        assert_eq!(rt;
+            pruned::<Brand>(&desk, case.uid, case.forced, Blank::new(1)),
+            case.want
+        );
+    }
+    Ok(())
+}
+
+// The same operations in a plain list of the test's own.
+#[derive(Clone, Copy)]
+struct Row {
+    op: OpId,
+    uid: u32,
+    stamp: u64,
+    busy: bool,
+}
+
+fn open_of(rows: &[Row], uid: u32) -> usize {
+    rows.iter().filter(|row| row.uid == uid).count()
+}
+
+// How often a number is halved before nothing is left.
+fn digits(number: u64) -> usize {
+    let mut left = number;
+    let mut count: usize = 0;
+    for _ in 0..64 {
+        if left > 0 {
+            count = count.saturating_add(1);
+        }
+        left /= 2;
+    }
+    count
+}
+
+fn malus(rows: &[Row], row: &Row, now: u64) -> usize {
+    open_of(rows, row.uid).saturating_add(digits(now.saturating_sub(row.stamp)))
+}
+
+fn greatest_malus(rows: &[Row], now: u64) -> usize {
+    let mut greatest = 0;
+    for row in rows {
+        if !row.busy {
+            greatest = malus(rows, row, now).max(greatest);
+        }
+    }
+    greatest
+}
+
+// Of the idle rows of greatest malus the one touched longest ago, over the bar or forced.
+fn by_definition(rows: &[Row], uid: u32, forced: bool, now: u64) -> Option<OpId> {
+    let greatest = greatest_malus(rows, now);
+    let mut first: Option<Row> = None;
+    for row in rows {
+        let worst = !row.busy && malus(rows, row, now) == greatest;
+        if worst && first.is_none_or(|other| row.stamp < other.stamp) {
+            first = Some(*row);
+        }
+    }
+    let row = first?;
+    if forced || greatest > open_of(rows, uid).saturating_add(1) {
+        Some(row.op)
+    } else {
+        None
+    }
+}
+
+// Draws of the test's own: a linear congruence, of which the upper bits count.
+#[derive(Drop)]
+struct Draws {
+    state: u64,
+}
+
+impl Draws {
+    fn below(&mut self, bound: u32) -> u32 {
+        self.state = self
+            .state
+            .wrapping_mul(6364136223846793005)
+            .wrapping_add(1442695040888963407);
+        let drawn = (self.state >> 33) as u32;
+        drawn.checked_rem(bound).unwrap_or(0)
+    }
+}
+
+// One event on the slots and on the plain list.
+fn act(desk: &mut Desk, rows: &mut Vec<Row>, draws: &mut Draws, uids: u32) -> Result<(), Fail> {
+    let pause = draws.below(3).wrapping_mul(draws.below(40)) as u64;
+    desk.wait_until(desk.next.saturating_add(pause));
+    let stamp = desk.next;
+    let op = draws.below(40) as u64;
+    match draws.below(8) {
+        0..=3 => {
+            let uid = draws.below(uids);
+            let fresh = rows.iter().all(|row| row.op != op);
+            if fresh && desk.begin(op, uid) {
+                rows.push(Row {
+                    op,
+                    uid,
+                    stamp,
+                    busy: false,
+                })?;
+            }
+        }
+        4 | 5 => {
+            if desk.touch(op) {
+                change(rows, op, |row| Row { stamp, ..*row });
+            }
+        }
+        6 => {
+            if desk.hold(op) {
+                change(rows, op, |row| Row { busy: true, ..*row });
+            }
+        }
+        _ => {
+            if desk.finish(op, draws.below(2) == 0) {
+                rows.retain(|row| row.op != op);
+            }
+        }
+    }
+    Ok(())
+}
+
+fn change<F: Fn(&Row) -> Row>(rows: &mut [Row], op: OpId, to: F)
+    requires { F.IsAlwaysCallable to }
+{
+    for row in rows {
+        if row.op == op {
+            *row = to(row);
+        }
+    }
+}
+
+// The slots answer as the definition does, for a caller of each uid and one that has none.
+fn agree(desk: &Desk, rows: &[Row]) -> bool {
+    let mut same = desk.slots.open_count() == rows.len();
+    for uid in 0..6u32 {
+        for forced in [false, true] {
+            let answer = pruned::<Brand>(desk, uid, forced, Blank::new(1));
+            same = same && answer == by_definition(rows, uid, forced, desk.next);
+        }
+    }
+    same
+}
+
+#[test]
+fn random_slot_lists_agree_with_the_definition(rt: HostRuntime) -> Result<(), Fail> {
+    let mut draws = Draws { state: 22 };
+    for _ in 0..10_000 {
+        let uids = draws.below(5).max(1);
+        let mut desk = Desk {
+            slots: Slots::with_capacity(rt.alloc(), 16)?,
+            next: 1,
+        };
+        let mut rows = Vec::new(rt.alloc());
+        for _ in 0..60 {
+            act(&mut desk, &mut rows, &mut draws, uids)?;
+        }
+        assert!(rt; agree(&desk, rows.as_slice()));
+    }
+    Ok(())
+}
