@@ -3,14 +3,14 @@ use Rattle.std.proofs.Common.{◌≡◌, ℕ, ◌<◌, ◌≤◌, Bool, true, fa
 use Rattle.std.specs.Prelude.{find, map, length, is_some, IsSome, IsSomeAnd}
 use Rattle.std.specs.Option.{option_or}
 use Rattle.std.specs.List.{AllByRecursion, filter}
-use Rattle.std.proofs.lemmas.Bool.{both_ways, cases_Bool, eq-eqb, ne_eqb, not_from_false}
+use Rattle.std.proofs.lemmas.Bool.{both_ways, cases_Bool, and_parts, eqb-true, eq-eqb, ne_eqb, not_from_false}
 use Rattle.std.proofs.lemmas.Option.{none-some}
 use Rattle.grants.specs.declared.row.GrantRow.{GrantRow}
 use Rattle.grants.specs.Rows.{IsTable, IsBefore, is_numbered, is_for, is_of, with_bits}
-use Rattle.grants.specs.Table.{Table, numbered, shared, IsOrderly, IsNew, IsHeld, IsNext, AddsGrant, SetsBits, DropsGrant, HasNone, granted, granted_of, unless}
+use Rattle.grants.specs.Table.{Table, numbered, shared, IsOrderly, IsNew, IsHeld, IsNext, AreBelow, IsAddedBelow, IsHolderRow, AddsGrant, SetsBits, DropsGrant, HasNone, granted, granted_of, unless}
 use Rattle.grants.specs.Newest.{listed}
-use Rattle.grants.proofs.Finding.{all_more, keeps_all, all_from_none, found_has, found_passes}
-use Rattle.grants.proofs.Ordered.{later_number, before_last, find_push, bits_keep_all, ends_after, table_filter}
+use Rattle.grants.proofs.Finding.{all_more, all_push, all_filter, keeps_all, all_from_none, found_has, found_passes}
+use Rattle.grants.proofs.Ordered.{later_number, before_last, find_push, bits_keep_all, bits_keep_number, numbered_from_held, ends_after, table_filter}
 use Rattle.grants.proofs.Whole.{once_by_number, once_by_key, find_left, find_whole, before_new, number_push, number_rebit, key_rebit, bits_in_maps, bits_of_newest}
 
 -- ---- a grant
@@ -157,3 +157,31 @@ orderly_after number old new t out = rw out (table_filter (λ row. not (is_numbe
 
 pub none_left : (key : ℕ) (table : Table) → HasNone table key → table.rows ≡ filter (λ row. not (is_of key row)) table.rows
 none_left key table h = sym (keeps_all (λ row. not (is_of key row)) table.rows (all_more (λ row. is_of key row ≡ false) (λ row. not (is_of key row) ≡ true) (λ row e. not_from_false (is_of key row) e) table.rows h))
+
+-- ---- the numbers that are held stay below
+
+pub left_below : (out : GrantRow → Bool) (old new : Table) → new.rows ≡ filter (λ row. not (out row)) old.rows → (number : ℕ) → AreBelow old number → AreBelow new number
+left_below out old new e number below = rw e (all_filter (λ row. row.grant < number) (λ row. not (out row)) old.rows below)
+
+bits_below_at : (key uid bits number : ℕ) (rows : List GrantRow) → AllByRecursion (λ row. row.grant < number) rows → AllByRecursion (λ row. row.grant < number) (map (with_bits key uid bits) rows)
+bits_below_at key uid bits number [] a = tt
+bits_below_at key uid bits number (row ∷ rows) a = (rw (bits_keep_number key uid bits row) a.0, bits_below_at key uid bits number rows a.1)
+
+pub bits_below : (old new : Table) (row : GrantRow) → SetsBits old new row → (number : ℕ) → AreBelow old number → IsAddedBelow old row number → AreBelow new number
+bits_below old new row set number below added = rw set (bits_below_at row.key row.uid row.bits number old.rows below)
+
+pub added_below : (old new : Table) (row : GrantRow) → IsNew old row → AddsGrant old new row → (number : ℕ) → AreBelow old number → IsAddedBelow old row number → AreBelow new number
+added_below old new row is_new set number below added = rw set (all_push (λ held. held.grant < number) old.rows row below (added is_new))
+
+-- ---- what is found
+
+pub number_found : (number : ℕ) (rows : List GrantRow) (row : GrantRow) → find (is_numbered number) rows ≡ Some row → row.grant ≡ number
+number_found number rows row e = eqb-true row.grant number (found_passes (is_numbered number) rows row e)
+
+pub holder_found : (key uid : ℕ) (table : Table) (row : GrantRow) → IsOrderly table → shared table key uid ≡ Some row → IsHolderRow table key uid row
+holder_found key uid table row t e =
+    let parts = and_parts (row.key == key) (row.uid == uid) (found_passes (is_for key uid) table.rows row e) in
+    record { of_key = eqb-true row.key key parts.0; to_uid = eqb-true row.uid uid parts.1; same = numbered_from_held key uid table.rows row t e }
+
+pub held_in_whole : (key uid : ℕ) (rows : List GrantRow) (newest : Option GrantRow) (row : GrantRow) → find (is_for key uid) rows ≡ Some row → find (is_for key uid) (rows ++ listed newest) ≡ Some row
+held_in_whole key uid rows newest row e = find_whole (is_for key uid) rows newest ∙ rw e refl

@@ -1,5 +1,5 @@
 -- The table of grants as its callers see it: what a look-up finds, and what a change is.
-use Rattle.std.specs.Prelude.{◌≡◌, ◌<◌, ◌≤◌, ℕ, Bool, not, List, [], ◌∷◌, ◌++◌, map, find, filter, length, Option, None, Some, IsSome, if◌then◌else◌}
+use Rattle.std.specs.Prelude.{◌≡◌, ◌<◌, ◌≤◌, ℕ, Bool, not, List, [], ◌∷◌, ◌++◌, map, find, filter, length, Option, None, Some, IsSome, IsSomeAnd, if◌then◌else◌}
 use Rattle.std.specs.List.{AllByRecursion}
 use Rattle.grants.specs.declared.row.GrantRow.{GrantRow}
 use Rattle.grants.specs.Rows.{IsTable, is_numbered, is_for, is_of, with_bits, NoneOf}
@@ -40,9 +40,27 @@ IsNew table row = shared table row.key row.uid ≡ None
 abbrev pub IsHeld : Table → GrantRow → Type 0
 IsHeld table row = IsSome (shared table row.key row.uid)
 
+-- each number held is less than this one
+abbrev pub AreBelow : Table → ℕ → Type 0
+AreBelow table number = AllByRecursion (λ row. row.grant < number) table.rows
+
 -- the row's number is greater than each number held
 abbrev pub IsNext : Table → GrantRow → Type 0
-IsNext table row = AllByRecursion (λ held. held.grant < row.grant) table.rows
+IsNext table row = AreBelow table row.grant
+
+-- a row that would be added has a number less than this one
+abbrev pub IsAddedBelow : Table → GrantRow → ℕ → Type 0
+IsAddedBelow table row number = IsNew table row → row.grant < number
+
+-- a row shares this key with this uid, and is the one that its number finds
+pub record IsHolderRow (table : Table) (key uid : ℕ) (row : GrantRow) : Type 0 where
+  pub of_key : row.key ≡ key
+  pub to_uid : row.uid ≡ uid
+  pub same : numbered table row.grant ≡ Some row
+
+-- the look-up found a grant of this key
+abbrev pub FindsOf : ℕ → Option GrantRow → Type 0
+FindsOf key found = IsSomeAnd found (λ row. row.key ≡ key)
 
 -- the same grants
 abbrev pub SameGrants : Table → Table → Type 0

@@ -1,9 +1,10 @@
 //! Rows in two ordered maps, by number and by the key and uid that they join.
 
-ghost use Rattle.std.specs.Prelude.{◌≡◌, List, [], ◌∷◌, ◌++◌, ◌<◌, ◌^◌, length, map, find, filter, not, is_some, IsNone, IfSome, IfNone, OnOk, OnErr, IsSomeAnd};
+ghost use Rattle.std.specs.Prelude.{◌≡◌, List, [], ◌∷◌, ◌++◌, ◌<◌, ◌^◌, length, map, find, filter, not, is_some, IsNone, IfSome, IfNone, OnOk, OnErr};
 ghost use Rattle.std.specs.Option.{option_copied};
 ghost use Rattle.std.specs.Ordering.{nat_cmp};
 ghost use Rattle.std.specs.BTreeMap.{insert_entry};
+ghost use Rattle.grants.specs.Table.{FindsOf};
 ghost use Rattle.grants.specs.Rows.{IsTable, is_numbered, is_for, is_of, with_bits, NoneOf};
 
 use crate::GrantRow;
@@ -74,7 +75,7 @@ impl GrantMaps {
 
     /// The number of a row of a key, of the least uid.
     pub(crate) fn first_of(&self, key: u64) -> Option<u64>
-        ensures found { IfSome result (λ number. IsSomeAnd (find (is_numbered number) self.now) (λ row. row.key ≡ key)) }
+        ensures found { IfSome result (λ number. FindsOf key (find (is_numbered number) self.now)) }
         ensures none { IfNone result (NoneOf key self.now) }
     {
         match self.by_holder.range((key, 0)..).next() {

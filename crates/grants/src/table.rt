@@ -1,9 +1,9 @@
 //! The table of grants: two ordered maps, and beside them the newest row.
 
-ghost use Rattle.std.specs.Prelude.{◌≡◌, ◌<◌, ◌==◌, ℕ, IfSome, IfNone, OnOk, IsSomeAnd, if◌then◌else◌};
+ghost use Rattle.std.specs.Prelude.{◌≡◌, ◌<◌, ◌==◌, ℕ, IfSome, IfNone, OnOk, if◌then◌else◌};
 ghost use Rattle.std.specs.Option.{option_copied};
 ghost use Rattle.grants.specs.Rows.{is_numbered, is_for, is_of};
-ghost use Rattle.grants.specs.Table.{numbered, shared, grant_count, IsOrderly, IsEmpty, HasRoom, IsNew, IsHeld, IsNext, SameGrants, KeepsRoom, AddsGrant, SetsBits, DropsGrant, DropsKey, granted, unless, HasNone};
+ghost use Rattle.grants.specs.Table.{numbered, shared, grant_count, IsOrderly, IsEmpty, HasRoom, IsNew, IsHeld, IsNext, AreBelow, IsAddedBelow, IsHolderRow, FindsOf, SameGrants, KeepsRoom, AddsGrant, SetsBits, DropsGrant, DropsKey, granted, unless, HasNone};
 
 use crate::GrantRow;
 use crate::maps::GrantMaps;
@@ -36,7 +36,10 @@ impl Model for Grants {
 impl Grants {
     /// No grants. It takes no memory.
     pub fn new(alloc: Global) -> Grants
-        ensures { IsEmpty result }
+        ensures empty { IsEmpty result }
+        ensures by_number { (number : ℕ) → numbered result number ≡ None }
+        ensures by_key { (key uid : ℕ) → shared result key uid ≡ None }
+        ensures below { (number : ℕ) → AreBelow result number }
     {
         Grants {
             maps: GrantMaps::new(alloc),
@@ -51,6 +54,7 @@ impl Grants {
         ensures same { SameGrants self.old self.new }
         ensures by_number { (number : ℕ) → numbered self.new number ≡ numbered self.old number }
         ensures by_key { (key uid : ℕ) → shared self.new key uid ≡ shared self.old key uid }
+        ensures below { (number : ℕ) → AreBelow self.old number → AreBelow self.new number }
     {
         if let Some(newest) = self.newest {
             self.maps.insert(&newest)?;
@@ -71,6 +75,7 @@ impl Grants {
             ≡ (if is_numbered number (granted self.old row) then Some (granted self.old row) else numbered self.old number) }
         ensures by_key { (key uid : ℕ) → shared self.new key uid
             ≡ (if is_for key uid row then Some (granted self.old row) else shared self.old key uid) }
+        ensures below { (number : ℕ) → AreBelow self.old number → IsAddedBelow self.old row number → AreBelow self.new number }
     {
         if self.maps.set_bits(row.key, row.uid, row.bits) {
             return;
@@ -92,6 +97,7 @@ impl Grants {
         ensures kept { KeepsRoom self.old self.new }
         ensures by_number { (number : ℕ) → numbered self.new number ≡ unless (is_numbered grant) (numbered self.old number) }
         ensures by_key { (key uid : ℕ) → shared self.new key uid ≡ unless (is_numbered grant) (shared self.old key uid) }
+        ensures below { (number : ℕ) → AreBelow self.old number → AreBelow self.new number }
     {
         if let Some(row) = self.maps.remove(grant) {
             return Some(row);
@@ -112,6 +118,7 @@ impl Grants {
         ensures kept { KeepsRoom self.old self.new }
         ensures by_number { (number : ℕ) → numbered self.new number ≡ unless (is_of key) (numbered self.old number) }
         ensures by_key { (other uid : ℕ) → shared self.new other uid ≡ unless (is_of key) (shared self.old other uid) }
+        ensures below { (number : ℕ) → AreBelow self.old number → AreBelow self.new number }
     {
         let mut next = self.first_of(key);
         'rows: while let Some(number) = next {
@@ -123,7 +130,8 @@ impl Grants {
     /// The grant of a number; `None` exactly where there is none.
     #[tactic(auto, using(crate::proofs::Whole::find_whole))]
     pub fn find(&self, grant: u64) -> Option<&GrantRow>
-        ensures { option_copied result ≡ numbered self.now grant }
+        ensures row { option_copied result ≡ numbered self.now grant }
+        ensures number { IfSome result (λ row. row.now.grant ≡ grant) }
     {
         if let Some(row) = self.maps.find(grant) {
             return Some(row);
@@ -137,7 +145,8 @@ impl Grants {
     /// The grant of a key to a uid; `None` exactly where there is none.
     #[tactic(auto, using(crate::proofs::Whole::find_whole))]
     pub fn of_key(&self, key: u64, uid: u32) -> Option<&GrantRow>
-        ensures { option_copied result ≡ shared self.now key uid }
+        ensures row { option_copied result ≡ shared self.now key uid }
+        ensures holder { IfSome result (λ row. IsHolderRow self.now key uid row.now) }
     {
         if let Some(row) = self.maps.of_key(key, uid) {
             return Some(row);
@@ -166,7 +175,7 @@ impl Grants {
     /// The number of some grant of a key.
     #[tactic(auto, using(crate::proofs::Whole::find_whole))]
     fn first_of(&self, key: u64) -> Option<u64>
-        ensures found { IfSome result (λ number. IsSomeAnd (numbered self.now number) (λ row. row.key ≡ key)) }
+        ensures found { IfSome result (λ number. FindsOf key (numbered self.now number)) }
         ensures none { IfNone result (HasNone self.now key) }
         ensures orderly { IsOrderly self.now }
     {

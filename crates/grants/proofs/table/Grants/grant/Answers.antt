@@ -5,7 +5,7 @@ use Rattle.grants.specs.Rows.{IsTable, is_for, with_bits}
 use Rattle.grants.specs.Table.{Table, IsNew, IsHeld, IsNext, AddsGrant, SetsBits}
 use Rattle.grants.specs.Newest.{listed, places}
 use Rattle.grants.proofs.Ordered.{table_bits, table_more}
-use Rattle.grants.proofs.Granting.{rows_in_maps, held_in_maps, is_newest, rows_at_newest, held_at_newest, rows_unchanged, new_in_maps, before_added, added_by_number, added_by_key, bits_by_number, bits_by_key}
+use Rattle.grants.proofs.Granting.{rows_in_maps, held_in_maps, is_newest, rows_at_newest, held_at_newest, rows_unchanged, new_in_maps, before_added, added_by_number, added_by_key, bits_by_number, bits_by_key, bits_below, added_below}
 use Rattle.grants.proofs.table.Grants.grant.Goals as goal
 
 abbrev table_of : List GrantRow → Option GrantRow → Table
@@ -95,3 +95,17 @@ returns-clause-by_number c =
 pub returns-clause-by_key : goal.returns-clause-by_key
 returns-clause-by_key c =
     rw (← c.self.view_is, c.in_default.is) (added_by_key (table_of c.self.inside.maps None) (table_of c.set_bits.new.self (Some c.args.row)) c.args.row (is_new c) (is_next c) (ap (λ rows. rows ++ c.args.row ∷ []) (rows_same c)))
+
+-- ---- the numbers stay below
+
+pub returns-then-set_bits-clause-below : goal.returns-then-set_bits-clause-below
+returns-then-set_bits-clause-below c =
+    rw (← c.self.view_is) (bits_below (table_of c.self.inside.maps c.self.inside.newest) (table_of c.set_bits.new.self c.self.inside.newest) c.args.row (rows_in c))
+
+pub returns-in-Some-clause-below : goal.returns-in-Some-clause-below
+returns-in-Some-clause-below c =
+    rw (← c.self.view_is, c.in-Some.is) (bits_below (table_of c.self.inside.maps (Some c.in-Some.newest)) (table_of c.set_bits.new.self (Some (record (c.in-Some.newest) { bits = c.args.row.bits }))) c.args.row (rows_at c))
+
+pub returns-clause-below : goal.returns-clause-below
+returns-clause-below c =
+    rw (← c.self.view_is, c.in_default.is) (added_below (table_of c.self.inside.maps None) (table_of c.set_bits.new.self (Some c.args.row)) c.args.row (is_new c) (ap (λ rows. rows ++ c.args.row ∷ []) (rows_same c)))
