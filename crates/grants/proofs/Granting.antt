@@ -3,13 +3,13 @@ use Rattle.std.proofs.Common.{◌≡◌, ℕ, ◌<◌, ◌≤◌, Bool, true, fa
 use Rattle.std.specs.Prelude.{find, map, length, is_some, IsSome, IsSomeAnd}
 use Rattle.std.specs.Option.{option_or}
 use Rattle.std.specs.List.{AllByRecursion, filter}
-use Rattle.std.proofs.lemmas.Bool.{both_ways, cases_Bool, and_parts, eqb-true, eq-eqb, ne_eqb, not_from_false}
+use Rattle.std.proofs.lemmas.Bool.{both_ways, cases_Bool, cases_lt, and_parts, eqb-true, eq-eqb, ne_eqb, not_from_false}
 use Rattle.std.proofs.lemmas.Option.{none-some}
 use Rattle.grants.specs.declared.row.GrantRow.{GrantRow}
 use Rattle.grants.specs.Rows.{IsTable, IsBefore, is_numbered, is_for, is_of, with_bits}
 use Rattle.grants.specs.Table.{Table, numbered, shared, IsOrderly, IsNew, IsHeld, IsNext, AreBelow, IsAddedBelow, IsHolderRow, AddsGrant, SetsBits, DropsGrant, HasNone, granted, granted_of, unless}
 use Rattle.grants.specs.Newest.{listed}
-use Rattle.grants.proofs.Finding.{all_more, all_push, all_filter, keeps_all, all_from_none, found_has, found_passes}
+use Rattle.grants.proofs.Finding.{all_more, all_push, find_none, keeps_all, all_from_none, found_has, found_passes}
 use Rattle.grants.proofs.Ordered.{later_number, before_last, find_push, bits_keep_all, bits_keep_number, numbered_from_held, ends_after, table_filter}
 use Rattle.grants.proofs.Whole.{once_by_number, once_by_key, find_left, find_whole, before_new, number_push, number_rebit, key_rebit, bits_in_maps, bits_of_newest}
 
@@ -55,9 +55,24 @@ rows_unchanged row rows new e absent =
 pub new_in_maps : (row : GrantRow) (rows : List GrantRow) → is_some (find (is_for row.key row.uid) rows) ≡ false → find (is_for row.key row.uid) (rows ++ []) ≡ None
 new_in_maps row rows absent = ap (find (is_for row.key row.uid)) (append_none rows) ∙ none_from (find (is_for row.key row.uid) rows) absent
 
+abbrev AllBelow : ℕ → List GrantRow → Type 0
+AllBelow number rows = AllByRecursion (λ row. row.grant < number) rows
+
+all_below : (number : ℕ) (rows : List GrantRow) → ((other : ℕ) → number ≤ other → find (is_numbered other) rows ≡ None) → AllBelow number rows
+all_below number [] h = tt
+all_below number (row ∷ rows) h =
+    (elim (cases_lt row.grant number) [
+      | inl below ↦ below
+      | inr above ↦ absurd (both_ways (is_numbered row.grant row) (all_from_none (is_numbered row.grant) (row ∷ rows) (h row.grant above)).0 (eq-eqb row.grant row.grant refl))
+    ], all_below number rows (λ other le. find_none (is_numbered other) rows (all_from_none (is_numbered other) (row ∷ rows) (h other le)).1))
+
+none_above : (number : ℕ) (rows : List GrantRow) → AllBelow number rows → (other : ℕ) → number ≤ other → find (is_numbered other) rows ≡ None
+none_above number rows a other le =
+    find_none (is_numbered other) rows (all_more (λ row. row.grant < number) (λ row. is_numbered other row ≡ false) (λ row below. ne_eqb row.grant other (λ e. omega (arith, e, below, le))) rows a)
+
 -- each row held goes before one that is added
 pub before_added : (table : Table) (row : GrantRow) → IsNew table row → IsNext table row → AllByRecursion (λ held. IsBefore held row) table.rows
-before_added table row new next = before_new table.rows row next (all_from_none (is_for row.key row.uid) table.rows new)
+before_added table row new next = before_new table.rows row (all_below row.grant table.rows next) (all_from_none (is_for row.key row.uid) table.rows new)
 
 -- what the look-ups find then
 pub added_by_number : (old new : Table) (row : GrantRow) → IsNew old row → IsNext old row → AddsGrant old new row → (number : ℕ) → numbered new number ≡ (if is_numbered number (granted old row) then Some (granted old row) else numbered old number)
@@ -160,18 +175,15 @@ none_left key table h = sym (keeps_all (λ row. not (is_of key row)) table.rows 
 
 -- ---- the numbers that are held stay below
 
-pub left_below : (out : GrantRow → Bool) (old new : Table) → new.rows ≡ filter (λ row. not (out row)) old.rows → (number : ℕ) → AreBelow old number → AreBelow new number
-left_below out old new e number below = rw e (all_filter (λ row. row.grant < number) (λ row. not (out row)) old.rows below)
-
 bits_below_at : (key uid bits number : ℕ) (rows : List GrantRow) → AllByRecursion (λ row. row.grant < number) rows → AllByRecursion (λ row. row.grant < number) (map (with_bits key uid bits) rows)
 bits_below_at key uid bits number [] a = tt
 bits_below_at key uid bits number (row ∷ rows) a = (rw (bits_keep_number key uid bits row) a.0, bits_below_at key uid bits number rows a.1)
 
 pub bits_below : (old new : Table) (row : GrantRow) → SetsBits old new row → (number : ℕ) → AreBelow old number → IsAddedBelow old row number → AreBelow new number
-bits_below old new row set number below added = rw set (bits_below_at row.key row.uid row.bits number old.rows below)
+bits_below old new row set number below added = λ other le. rw set (none_above number (map (with_bits row.key row.uid row.bits) old.rows) (bits_below_at row.key row.uid row.bits number old.rows (all_below number old.rows below)) other le)
 
 pub added_below : (old new : Table) (row : GrantRow) → IsNew old row → AddsGrant old new row → (number : ℕ) → AreBelow old number → IsAddedBelow old row number → AreBelow new number
-added_below old new row is_new set number below added = rw set (all_push (λ held. held.grant < number) old.rows row below (added is_new))
+added_below old new row is_new set number below added = λ other le. rw set (none_above number (old.rows ++ row ∷ []) (all_push (λ held. held.grant < number) old.rows row (all_below number old.rows below) (added is_new)) other le)
 
 -- ---- what is found
 

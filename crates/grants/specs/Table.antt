@@ -1,6 +1,5 @@
 -- The table of grants as its callers see it: what a look-up finds, and what a change is.
 use Rattle.std.specs.Prelude.{◌≡◌, ◌<◌, ◌≤◌, ℕ, Bool, not, List, [], ◌∷◌, ◌++◌, map, find, filter, length, Option, None, Some, IsSome, IsSomeAnd, if◌then◌else◌}
-use Rattle.std.specs.List.{AllByRecursion}
 use Rattle.grants.specs.declared.row.GrantRow.{GrantRow}
 use Rattle.grants.specs.Rows.{IsTable, is_numbered, is_for, is_of, with_bits, NoneOf}
 
@@ -40,9 +39,9 @@ IsNew table row = shared table row.key row.uid ≡ None
 abbrev pub IsHeld : Table → GrantRow → Type 0
 IsHeld table row = IsSome (shared table row.key row.uid)
 
--- each number held is less than this one
+-- no grant has this number, or a greater one
 abbrev pub AreBelow : Table → ℕ → Type 0
-AreBelow table number = AllByRecursion (λ row. row.grant < number) table.rows
+AreBelow table number = (other : ℕ) → number ≤ other → numbered table other ≡ None
 
 -- the row's number is greater than each number held
 abbrev pub IsNext : Table → GrantRow → Type 0

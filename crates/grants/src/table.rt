@@ -39,7 +39,6 @@ impl Grants {
         ensures empty { IsEmpty result }
         ensures by_number { (number : ℕ) → numbered result number ≡ None }
         ensures by_key { (key uid : ℕ) → shared result key uid ≡ None }
-        ensures below { (number : ℕ) → AreBelow result number }
     {
         Grants {
             maps: GrantMaps::new(alloc),
@@ -54,7 +53,6 @@ impl Grants {
         ensures same { SameGrants self.old self.new }
         ensures by_number { (number : ℕ) → numbered self.new number ≡ numbered self.old number }
         ensures by_key { (key uid : ℕ) → shared self.new key uid ≡ shared self.old key uid }
-        ensures below { (number : ℕ) → AreBelow self.old number → AreBelow self.new number }
     {
         if let Some(newest) = self.newest {
             self.maps.insert(&newest)?;
@@ -97,7 +95,6 @@ impl Grants {
         ensures kept { KeepsRoom self.old self.new }
         ensures by_number { (number : ℕ) → numbered self.new number ≡ unless (is_numbered grant) (numbered self.old number) }
         ensures by_key { (key uid : ℕ) → shared self.new key uid ≡ unless (is_numbered grant) (shared self.old key uid) }
-        ensures below { (number : ℕ) → AreBelow self.old number → AreBelow self.new number }
     {
         if let Some(row) = self.maps.remove(grant) {
             return Some(row);
@@ -118,7 +115,6 @@ impl Grants {
         ensures kept { KeepsRoom self.old self.new }
         ensures by_number { (number : ℕ) → numbered self.new number ≡ unless (is_of key) (numbered self.old number) }
         ensures by_key { (other uid : ℕ) → shared self.new other uid ≡ unless (is_of key) (shared self.old other uid) }
-        ensures below { (number : ℕ) → AreBelow self.old number → AreBelow self.new number }
     {
         let mut next = self.first_of(key);
         'rows: while let Some(number) = next {

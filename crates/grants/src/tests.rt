@@ -1,4 +1,4 @@
-ghost use Rattle.std.specs.Prelude.{◌+◌, ◌<◌, ◌^◌, OnOk};
+ghost use Rattle.std.specs.Prelude.{◌+◌, OnOk};
 ghost use Rattle.grants.specs.Table.{AreBelow};
 
 use crate::{GrantRow, Grants};
@@ -72,12 +72,41 @@ static ENDED: [(u64, u32, u64, u32); 4] = [
 
 fn five(alloc: Global) -> Result<Grants, NoMemory> {
     let mut grants = Grants::new(alloc);
-    let mut number = 1;
-    for (key, uid, bits) in &SHARED {
-        share(&mut grants, number, *key, *uid, *bits)?;
-        number += 1;
+    for index in 0..5usize {
+        let (key, uid, bits) = SHARED[index];
+        share(&mut grants, index as u64 + 1, key, uid, bits)?;
     }
     Ok(grants)
+}
+
+// One grant to 10001 of each key from 1 to 16,384.
+fn many(alloc: Global) -> Result<Grants, NoMemory> {
+    let mut grants = Grants::new(alloc);
+    for index in 0..16_384u64 {
+        share(&mut grants, index + 1, index + 1, 10001, 256)?;
+    }
+    Ok(grants)
+}
+
+// Looks up four million times, and ends as many keys that have no grant. Where one of these went through the rows,
+// they would take minutes.
+fn finds_each(grants: &mut Grants) -> bool {
+    for round in 0..4_000_000u64 {
+        let number = round % 16_384 + 1;
+        if grants.find(number).is_none() || grants.of_key(number, 10001).is_none() {
+            return false;
+        }
+        grants.end_key(20_000 + round);
+    }
+    true
+}
+
+#[test]
+fn no_call_goes_through_the_rows(rt: HostRuntime) -> Result<(), Fail> {
+    let mut grants = many(rt.alloc())?;
+    assert!(rt; finds_each(&mut grants));
+    assert_eq!(rt; grants.len(), 16_384);
+    Ok(())
 }
 
 #[test]

@@ -2,7 +2,7 @@ use Rattle.std.proofs.Common.{◌≡◌, ◌∙◌, arith, not}
 use Rattle.std.specs.List.{filter}
 use Rattle.grants.specs.Rows.{is_of}
 use Rattle.grants.specs.Table.{DropsKey}
-use Rattle.grants.proofs.Granting.{ends_one, fewer, none_left, left_by_number, left_by_key, left_below}
+use Rattle.grants.proofs.Granting.{ends_one, fewer, none_left, left_by_number, left_by_key}
 use Rattle.grants.proofs.table.Grants.end_key.Goals as goal
 
 pub rows-smaller : goal.rows-smaller
@@ -31,9 +31,4 @@ returns-clause-by_number c =
 pub returns-clause-by_key : goal.returns-clause-by_key
 returns-clause-by_key c =
     left_by_key (is_of c.args.key) c.args.self.now c.rows.self c.rows.invariant.ending.was
-      (none_left c.args.key c.rows.self (rw c.in_default.is at c.rows.invariant.none) ∙ c.rows.invariant.ending.out)
-
-pub returns-clause-below : goal.returns-clause-below
-returns-clause-below c =
-    left_below (is_of c.args.key) c.args.self.now c.rows.self
       (none_left c.args.key c.rows.self (rw c.in_default.is at c.rows.invariant.none) ∙ c.rows.invariant.ending.out)

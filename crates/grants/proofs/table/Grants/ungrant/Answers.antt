@@ -6,7 +6,7 @@ use Rattle.grants.specs.Rows.{IsTable, is_numbered}
 use Rattle.grants.specs.Table.{Table}
 use Rattle.grants.specs.Newest.{listed, places}
 use Rattle.grants.proofs.Ordered.{table_filter}
-use Rattle.grants.proofs.Granting.{left_by_number, left_by_key, left_below, out_of_maps, out_at_newest, stays_whole, none_in_whole, none_at_newest, found_in_maps, found_at_newest}
+use Rattle.grants.proofs.Granting.{left_by_number, left_by_key, out_of_maps, out_at_newest, stays_whole, none_in_whole, none_at_newest, found_in_maps, found_at_newest}
 use Rattle.grants.proofs.table.Grants.ungrant.Goals as goal
 
 abbrev table_of : List GrantRow → Option GrantRow → Table
@@ -91,15 +91,3 @@ returns-clause-by_number c = rw (← c.self.view_is, c.in-Some-newest.is) (left_
 
 pub returns-clause-by_key : goal.returns-clause-by_key
 returns-clause-by_key c = rw (← c.self.view_is, c.in-Some-newest.is) (left_by_key (is_numbered c.args.grant) (table_of c.self.inside.maps (Some c.in-Some-newest.newest)) (table_of c.remove.new.self (None)) (table_of_newest c) (rows_of_newest c))
-
-pub returns-in-Some-clause-below : goal.returns-in-Some-clause-below
-returns-in-Some-clause-below c = rw (← c.self.view_is) (left_below (is_numbered c.args.grant) (table_of c.self.inside.maps (c.self.inside.newest)) (table_of c.remove.new.self (c.self.inside.newest)) (rows_of_maps c))
-
-pub returns-in_default-newest-clause-below : goal.returns-in_default-newest-clause-below
-returns-in_default-newest-clause-below c = rw (← c.self.view_is) (left_below (is_numbered c.args.grant) (table_of c.self.inside.maps (c.self.inside.newest)) (table_of c.remove.new.self (c.self.inside.newest)) (rows_of_none c))
-
-pub returns-then-newest-grant-clause-below : goal.returns-then-newest-grant-clause-below
-returns-then-newest-grant-clause-below c = rw (← c.self.view_is) (left_below (is_numbered c.args.grant) (table_of c.self.inside.maps (c.self.inside.newest)) (table_of c.remove.new.self (c.self.inside.newest)) (rows_of_other c))
-
-pub returns-clause-below : goal.returns-clause-below
-returns-clause-below c = rw (← c.self.view_is, c.in-Some-newest.is) (left_below (is_numbered c.args.grant) (table_of c.self.inside.maps (Some c.in-Some-newest.newest)) (table_of c.remove.new.self (None)) (rows_of_newest c))
