@@ -1,20 +1,19 @@
 -- The two maps as lists of rows.
-use Rattle.std.proofs.Common.{◌≡◌, ℕ, ◌<◌, Bool, true, false, ◌&&◌, not, ◌==◌, if◌then◌else◌, cond, List, [], ◌∷◌, ◌++◌, Option, Some, None, refl, sym, ap, ◌∙◌, subst, arith, inl, inr}
+use Rattle.std.proofs.Common.{◌≡◌, ℕ, false, ◌&&◌, not, ◌==◌, List, [], ◌∷◌, ◌++◌, Some, refl, sym, ap, ◌∙◌, arith, inl, inr}
 use Rattle.std.specs.Prelude.{find, map}
-use Rattle.std.specs.Ordering.{nat_cmp, is_eq, ordering_then}
+use Rattle.std.specs.Ordering.{nat_cmp, is_eq}
 use Rattle.std.specs.Cmp.{nat_cmp_is}
-use Rattle.std.specs.declared.cmp.Ordering.{Ordering}
 use Rattle.std.specs.declared.cmp.Ordering.TheVariants.{Less, Equal, Greater}
 use Rattle.std.specs.List.{AllByRecursion, filter}
 use Rattle.std.specs.Map.{lookup, remove_entry, set_value, values_of}
 use Rattle.std.specs.BTreeMap.{is_at, insert_entry}
-use Rattle.std.proofs.lemmas.Bool.{cases_Bool, cases_order, eqb-true, eq-eqb, ne_eqb}
+use Rattle.std.proofs.lemmas.Bool.{cases_Bool, cases_order, eq-eqb, ne_eqb}
 use Rattle.std.proofs.lemmas.Option.{none-some, same_Some}
 use Rattle.grants.specs.declared.row.GrantRow.{GrantRow}
 use Rattle.grants.specs.Rows.{IsTable, IsBefore, is_numbered, is_for, with_bits}
 use Rattle.grants.specs.Maps.{entries_of, holder_cmp}
 use Rattle.grants.proofs.Finding.{all_more, found_has}
-use Rattle.grants.proofs.Ordered.{others_stay, same_holder, bits_keep_all, bits_keep_number}
+use Rattle.grants.proofs.Ordered.{others_stay, same_holder, bits_keep_all}
 
 pub number_test : (n k : ℕ) → is_eq (nat_cmp n k) ≡ (k == n)
 number_test n k =
@@ -71,11 +70,11 @@ set_rows key uid bits [] held t e = absurd (none-some held e)
 set_rows key uid bits (row ∷ rows) held t e =
     elim (cases_Bool (is_for key uid row)) [
       | inl passes ↦
-        let same : row ≡ held = same_Some row held (rw passes at e) in
-        rw (← same, number_test row.grant row.grant, eq-eqb row.grant row.grant refl, passes, bits_keep_all key uid bits rows (all_more (IsBefore row) (λ later. is_for key uid later ≡ false) (λ later before. same_holder key uid row later passes before.1) rows t.0)) refl
+          let same : row ≡ held = same_Some row held (rw passes at e) in
+          rw (← same, number_test row.grant row.grant, eq-eqb row.grant row.grant refl, passes, bits_keep_all key uid bits rows (all_more (IsBefore row) (λ later. is_for key uid later ≡ false) (λ later before. same_holder key uid row later passes before.1) rows t.0)) refl
       | inr fails ↦
-        let found : find (is_for key uid) rows ≡ Some held = rw fails at e in
-        rw (number_test held.grant row.grant, ne_eqb row.grant held.grant (λ same. omega (arith, same, (found_has (IsBefore row) (is_for key uid) rows held t.0 found).0)), fails) (ap (λ es. (row.grant, row) ∷ es) (set_rows key uid bits rows held t.1 found))
+          let found : find (is_for key uid) rows ≡ Some held = rw fails at e in
+          rw (number_test held.grant row.grant, ne_eqb row.grant held.grant (λ same. omega (arith, same, (found_has (IsBefore row) (is_for key uid) rows held t.0 found).0)), fails) (ap (λ es. (row.grant, row) ∷ es) (set_rows key uid bits rows held t.1 found))
     ]
 
 -- a look-up by number in a map that has each row under its number

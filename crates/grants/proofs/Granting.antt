@@ -1,5 +1,5 @@
 -- What granting a row, and taking rows out, make of the table.
-use Rattle.std.proofs.Common.{◌≡◌, ℕ, ◌<◌, ◌≤◌, Bool, true, false, ◌&&◌, not, ◌==◌, if◌then◌else◌, cond, List, [], ◌∷◌, ◌++◌, Option, Some, None, refl, sym, ap, ◌∙◌, subst, arith, inl, inr}
+use Rattle.std.proofs.Common.{◌≡◌, ℕ, ◌<◌, ◌≤◌, Bool, true, false, not, ◌==◌, if◌then◌else◌, List, [], ◌∷◌, ◌++◌, Option, Some, None, refl, sym, ap, ◌∙◌, arith, inl, inr}
 use Rattle.std.specs.Prelude.{find, map, length, is_some, IsSome, IsSomeAnd}
 use Rattle.std.specs.Option.{option_or}
 use Rattle.std.specs.List.{AllByRecursion, filter}
@@ -60,11 +60,13 @@ AllBelow number rows = AllByRecursion (λ row. row.grant < number) rows
 
 all_below : (number : ℕ) (rows : List GrantRow) → ((other : ℕ) → number ≤ other → find (is_numbered other) rows ≡ None) → AllBelow number rows
 all_below number [] h = tt
-all_below number (row ∷ rows) h =
-    (elim (cases_lt row.grant number) [
-      | inl below ↦ below
-      | inr above ↦ absurd (both_ways (is_numbered row.grant row) (all_from_none (is_numbered row.grant) (row ∷ rows) (h row.grant above)).0 (eq-eqb row.grant row.grant refl))
-    ], all_below number rows (λ other le. find_none (is_numbered other) rows (all_from_none (is_numbered other) (row ∷ rows) (h other le)).1))
+all_below number (row ∷ rows) h = (
+  elim (cases_lt row.grant number) [
+    | inl below ↦ below
+    | inr above ↦ absurd (both_ways (is_numbered row.grant row) (all_from_none (is_numbered row.grant) (row ∷ rows) (h row.grant above)).0 (eq-eqb row.grant row.grant refl))
+  ],
+  all_below number rows (λ other le. find_none (is_numbered other) rows (all_from_none (is_numbered other) (row ∷ rows) (h other le)).1),
+)
 
 none_above : (number : ℕ) (rows : List GrantRow) → AllBelow number rows → (other : ℕ) → number ≤ other → find (is_numbered other) rows ≡ None
 none_above number rows a other le =

@@ -1,5 +1,5 @@
 -- The maps hold the same rows after each change of both.
-use Rattle.std.proofs.Common.{◌≡◌, ℕ, Bool, true, false, ◌&&◌, not, ◌==◌, if◌then◌else◌, cond, List, [], ◌∷◌, ◌++◌, Option, Some, None, refl, sym, ap, ◌∙◌, subst, inl, inr}
+use Rattle.std.proofs.Common.{◌≡◌, ℕ, true, false, ◌&&◌, not, ◌==◌, List, [], ◌∷◌, ◌++◌, Option, Some, None, refl, sym, ap, ◌∙◌, subst, inl, inr}
 use Rattle.std.specs.Prelude.{find, map}
 use Rattle.std.specs.Option.{option_map}
 use Rattle.std.specs.Ordering.{nat_cmp}
@@ -9,7 +9,7 @@ use Rattle.std.specs.BTreeMap.{BTreeMap, get, values, is_at, insert_entry, Updat
 use Rattle.std.proofs.lemmas.Bool.{both_ways, cases_Bool, and_parts, and_from, eqb-true, eq-eqb}
 use Rattle.grants.specs.declared.row.GrantRow.{GrantRow}
 use Rattle.grants.specs.declared.maps.GrantMaps.TheInside.{Inside}
-use Rattle.grants.specs.Rows.{IsTable, IsBefore, is_numbered, is_for, with_bits}
+use Rattle.grants.specs.Rows.{IsTable, is_numbered, is_for, with_bits}
 use Rattle.grants.specs.Maps.{IsIndexed, entries_of, holder_cmp}
 use Rattle.grants.proofs.Finding.{found_passes}
 use Rattle.grants.proofs.Ordered.{before_last, find_push, absent_before, find_without, table_filter, table_bits, find_with_bits, bits_keep_key, bits_keep_uid, bits_keep_other}
@@ -45,19 +45,19 @@ pub pushed : (maps : Inside) (numbers : Numbers) (holders : Holders) (row : Gran
 pushed maps numbers holders row s table e u =
     let rows = values maps.by_number in
     indexed numbers holders (rows ++ row ∷ []) (rows_pushed maps numbers row s table e)
-      (λ key uid. u.0 (key, uid) ∙ rw (holder_test row.key row.uid key uid, s.held key uid) (sym (find_push key uid rows row (before_last rows row table))))
-      table
+    (λ key uid. u.0 (key, uid) ∙ rw (holder_test row.key row.uid key uid, s.held key uid) (sym (find_push key uid rows row (before_last rows row table))))
+    table
 
 -- what was put in and taken out again was not there
 pub undone : (maps : Inside) (numbers : Numbers) (put taken : Holders) (row : GrantRow) → IsIndexed maps → IsTable (values maps.by_number ++ row ∷ []) → numbers.entries ≡ maps.by_number.entries → UpdatesBy holder_cmp (holder_cmp (row.key, row.uid)) maps.by_holder put (Some row) → UpdatesBy holder_cmp (holder_cmp (row.key, row.uid)) put taken None → IsIndexed (record { by_number = numbers; by_holder = taken })
 undone maps numbers put taken row s table e in_map out =
     let rows = values maps.by_number in
     indexed numbers taken rows (e ∙ s.numbered)
-      (λ key uid. out.0 (key, uid) ∙ rw (in_map.0 (key, uid), holder_test row.key row.uid key uid, s.held key uid) (elim (cases_Bool (is_for key uid row)) [
-        | inl passes ↦ rw passes (sym (absent_before key uid rows row (before_last rows row table) passes))
-        | inr fails ↦ rw fails refl
-      ]))
-      s.orderly
+    (λ key uid. out.0 (key, uid) ∙ rw (in_map.0 (key, uid), holder_test row.key row.uid key uid, s.held key uid) (elim (cases_Bool (is_for key uid row)) [
+      | inl passes ↦ rw passes (sym (absent_before key uid rows row (before_last rows row table) passes))
+      | inr fails ↦ rw fails refl
+    ]))
+    s.orderly
 
 pub rows_removed : (maps : Inside) (numbers : Numbers) (number : ℕ) → IsIndexed maps → numbers.entries ≡ remove_entry (is_at (nat_cmp number)) maps.by_number.entries → numbers.entries ≡ entries_of (filter (λ row. not (is_numbered number row)) (values maps.by_number))
 rows_removed maps numbers number s e =
@@ -70,8 +70,8 @@ pub removed : (maps : Inside) (numbers : Numbers) (holders : Holders) (number : 
 removed maps numbers holders number out s found e u =
     let rows = values maps.by_number in
     indexed numbers holders (filter (λ row. not (is_numbered number row)) rows) (rows_removed maps numbers number s e)
-      (λ key uid. u.0 (key, uid) ∙ rw (holder_test out.key out.uid key uid, s.held key uid) (sym (find_without number key uid rows out s.orderly found)))
-      (table_filter (λ row. not (is_numbered number row)) rows s.orderly)
+    (λ key uid. u.0 (key, uid) ∙ rw (holder_test out.key out.uid key uid, s.held key uid) (sym (find_without number key uid rows out s.orderly found)))
+    (table_filter (λ row. not (is_numbered number row)) rows s.orderly)
 
 pub bits_pass : (key uid bits k u : ℕ) (row : GrantRow) → is_for k u (with_bits key uid bits row) ≡ is_for k u row
 bits_pass key uid bits k u row = rw (bits_keep_key key uid bits row, bits_keep_uid key uid bits row) refl
@@ -81,9 +81,9 @@ bits_elsewhere : (key uid bits k u : ℕ) (row : GrantRow) → ((key == k) && (u
 bits_elsewhere key uid bits k u row apart passes =
     elim (cases_Bool (is_for key uid row)) [
       | inl same ↦
-        let here = and_parts (row.key == key) (row.uid == uid) same in
-        let there = and_parts (row.key == k) (row.uid == u) passes in
-        absurd (both_ways ((key == k) && (uid == u)) apart (and_from (key == k) (uid == u)
+          let here = and_parts (row.key == key) (row.uid == uid) same in
+          let there = and_parts (row.key == k) (row.uid == u) passes in
+          absurd (both_ways ((key == k) && (uid == u)) apart (and_from (key == k) (uid == u)
           (eq-eqb key k (sym (eqb-true row.key key here.0) ∙ eqb-true row.key k there.0))
           (eq-eqb uid u (sym (eqb-true row.uid uid here.1) ∙ eqb-true row.uid u there.1))))
       | inr other ↦ bits_keep_other key uid bits row other
@@ -104,10 +104,10 @@ pub rebit : (maps : Inside) (numbers : Numbers) (holders : Holders) (key uid bit
 rebit maps numbers holders key uid bits held s found e update =
     let rows = values maps.by_number in
     indexed numbers holders (map (with_bits key uid bits) rows) (rows_rebit maps numbers key uid bits held s found e)
-      (λ k u. update.0 (k, u) ∙ rw (holder_test key uid k u, s.held k u, find_with_bits key uid bits (is_for k u) (bits_pass key uid bits k u) rows) (elim (cases_Bool ((key == k) && (uid == u))) [
-        | inl same ↦
+    (λ k u. update.0 (k, u) ∙ rw (holder_test key uid k u, s.held k u, find_with_bits key uid bits (is_for k u) (bits_pass key uid bits k u) rows) (elim (cases_Bool ((key == k) && (uid == u))) [
+      | inl same ↦
           let parts = and_parts (key == k) (uid == u) same in
           rw (same, ← eqb-true key k parts.0, ← eqb-true uid u parts.1, found, found_passes (is_for key uid) rows held found) refl
-        | inr apart ↦ rw apart (found_elsewhere key uid bits k u rows (find (is_for k u) rows) refl apart)
-      ]))
-      (table_bits key uid bits rows s.orderly)
+      | inr apart ↦ rw apart (found_elsewhere key uid bits k u rows (find (is_for k u) rows) refl apart)
+    ]))
+    (table_bits key uid bits rows s.orderly)

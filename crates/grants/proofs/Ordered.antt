@@ -1,5 +1,5 @@
 -- A table stays one where a row is put behind it, where rows are taken out, and where bits change.
-use Rattle.std.proofs.Common.{◌≡◌, ℕ, ◌<◌, Bool, true, false, ◌&&◌, not, ◌==◌, if◌then◌else◌, cond, List, [], ◌∷◌, ◌++◌, Option, Some, None, refl, sym, ap, ◌∙◌, subst, arith, inl, inr}
+use Rattle.std.proofs.Common.{◌≡◌, ℕ, Bool, true, false, not, ◌==◌, cond, List, [], ◌∷◌, ◌++◌, Some, None, refl, ap, subst, arith, inl, inr}
 use Rattle.std.specs.Prelude.{find, map}
 use Rattle.std.specs.Option.{option_map}
 use Rattle.std.specs.List.{AllByRecursion, filter}
@@ -7,7 +7,7 @@ use Rattle.std.proofs.lemmas.Bool.{both_ways, cases_Bool, and_parts, eqb-true, e
 use Rattle.std.proofs.lemmas.Option.{none-some, same_Some}
 use Rattle.grants.specs.declared.row.GrantRow.{GrantRow}
 use Rattle.grants.specs.Rows.{IsTable, IsBefore, is_numbered, is_for, with_bits}
-use Rattle.grants.proofs.Finding.{all_more, all_front, all_last, all_push, all_filter, find_none, keeps_all, found_has, found_passes}
+use Rattle.grants.proofs.Finding.{all_more, all_front, all_last, all_push, all_filter, find_none, keeps_all, found_has}
 
 -- a row that is for a key and uid, and one that is not for those of the first
 pub same_holder : (key uid : ℕ) (row later : GrantRow) → is_for key uid row ≡ true → is_for row.key row.uid later ≡ false → is_for key uid later ≡ false
@@ -49,9 +49,10 @@ pub bits_keep_other : (key uid bits : ℕ) (row : GrantRow) → is_for key uid r
 bits_keep_other key uid bits row fails = rw fails refl
 
 bits_before : (key uid bits : ℕ) (row later : GrantRow) → IsBefore row later → IsBefore (with_bits key uid bits row) (with_bits key uid bits later)
-bits_before key uid bits row later before =
-    (omega (arith, bits_keep_number key uid bits row, bits_keep_number key uid bits later, before.0),
-     rw (bits_keep_key key uid bits row, bits_keep_uid key uid bits row, bits_keep_key key uid bits later, bits_keep_uid key uid bits later) before.1)
+bits_before key uid bits row later before = (
+  omega (arith, bits_keep_number key uid bits row, bits_keep_number key uid bits later, before.0),
+  rw (bits_keep_key key uid bits row, bits_keep_uid key uid bits row, bits_keep_key key uid bits later, bits_keep_uid key uid bits later) before.1,
+)
 
 all_bits : (key uid bits : ℕ) (row : GrantRow) (rows : List GrantRow) → AllByRecursion (IsBefore row) rows → AllByRecursion (IsBefore (with_bits key uid bits row)) (map (with_bits key uid bits) rows)
 all_bits key uid bits row [] a = tt
@@ -102,14 +103,14 @@ find_without number key uid [] out t e = absurd (none-some out e)
 find_without number key uid (row ∷ rows) out t e =
     elim (cases_Bool (is_numbered number row)) [
       | inl here ↦
-        let same : row ≡ out = same_Some row out (rw here at e) in
-        rw (here, ← same, others_stay number row rows here t.0) (elim (cases_Bool (is_for key uid row)) [ inl passes ↦ rw passes (find_none (is_for key uid) rows (none_behind key uid row rows passes t.0)) | inr fails ↦ rw fails refl ])
+          let same : row ≡ out = same_Some row out (rw here at e) in
+          rw (here, ← same, others_stay number row rows here t.0) (elim (cases_Bool (is_for key uid row)) [ inl passes ↦ rw passes (find_none (is_for key uid) rows (none_behind key uid row rows passes t.0)) | inr fails ↦ rw fails refl ])
       | inr there ↦
-        let found : find (is_numbered number) rows ≡ Some out = rw there at e in
-        rw there (elim (cases_Bool (is_for key uid row)) [
-          | inl passes ↦ rw (passes, same_holder key uid row out passes (found_has (IsBefore row) (is_numbered number) rows out t.0 found).1) refl
-          | inr fails ↦ rw fails (find_without number key uid rows out t.1 found)
-        ])
+          let found : find (is_numbered number) rows ≡ Some out = rw there at e in
+          rw there (elim (cases_Bool (is_for key uid row)) [
+            | inl passes ↦ rw (passes, same_holder key uid row out passes (found_has (IsBefore row) (is_numbered number) rows out t.0 found).1) refl
+            | inr fails ↦ rw fails (find_without number key uid rows out t.1 found)
+          ])
     ]
 
 -- the row of a key and uid is the row of its number
@@ -119,8 +120,8 @@ numbered_from_held key uid (row ∷ rows) held t e =
     elim (cases_Bool (is_for key uid row)) [
       | inl passes ↦ let same : row ≡ held = same_Some row held (rw passes at e) in rw (← same) (rw (eq-eqb row.grant row.grant refl) refl)
       | inr fails ↦
-        let found : find (is_for key uid) rows ≡ Some held = rw fails at e in
-        rw (ne_eqb row.grant held.grant (λ same. omega (arith, same, (found_has (IsBefore row) (is_for key uid) rows held t.0 found).0))) (numbered_from_held key uid rows held t.1 found)
+          let found : find (is_for key uid) rows ≡ Some held = rw fails at e in
+          rw (ne_eqb row.grant held.grant (λ same. omega (arith, same, (found_has (IsBefore row) (is_for key uid) rows held t.0 found).0))) (numbered_from_held key uid rows held t.1 found)
     ]
 
 -- of rows that have one key, each may go before the others of the key do
@@ -129,13 +130,13 @@ ends_after number key [] out t e of = absurd (none-some out e)
 ends_after number key (row ∷ rows) out t e of =
     elim (cases_Bool (is_numbered number row)) [
       | inl here ↦
-        let same : row ≡ out = same_Some row out (rw here at e) in
-        let first : (row.key == key) ≡ true = eq-eqb row.key key (rw same of) in
-        rw (here, others_stay number row rows here t.0, first) refl
+          let same : row ≡ out = same_Some row out (rw here at e) in
+          let first : (row.key == key) ≡ true = eq-eqb row.key key (rw same of) in
+          rw (here, others_stay number row rows here t.0, first) refl
       | inr there ↦
-        let found : find (is_numbered number) rows ≡ Some out = rw there at e in
-        rw there (elim (cases_Bool (row.key == key)) [
-          | inl passes ↦ rw passes (ends_after number key rows out t.1 found of)
-          | inr fails ↦ rw fails (ap (λ rest. row ∷ rest) (ends_after number key rows out t.1 found of))
-        ])
+          let found : find (is_numbered number) rows ≡ Some out = rw there at e in
+          rw there (elim (cases_Bool (row.key == key)) [
+            | inl passes ↦ rw passes (ends_after number key rows out t.1 found of)
+            | inr fails ↦ rw fails (ap (λ rest. row ∷ rest) (ends_after number key rows out t.1 found of))
+          ])
     ]

@@ -1,16 +1,16 @@
 -- The newest row behind those of the maps, and what each change makes of the look-ups.
-use Rattle.std.proofs.Common.{◌≡◌, ℕ, ◌<◌, Bool, true, false, ◌&&◌, not, ◌==◌, if◌then◌else◌, cond, List, [], ◌∷◌, ◌++◌, Option, Some, None, refl, sym, ap, ◌∙◌, subst, arith, inl, inr}
+use Rattle.std.proofs.Common.{◌≡◌, ℕ, ◌<◌, Bool, true, false, ◌&&◌, not, ◌==◌, if◌then◌else◌, cond, List, [], ◌∷◌, ◌++◌, Option, Some, None, refl, sym, ap, ◌∙◌, subst, inl, inr}
 use Rattle.std.specs.Prelude.{find, map, is_some}
 use Rattle.std.specs.Option.{option_map, option_or}
 use Rattle.std.specs.List.{AllByRecursion, filter}
-use Rattle.std.proofs.lemmas.Bool.{both_ways, cases_Bool, and_parts, and_from, eqb-true, eq-eqb, ne_eqb}
+use Rattle.std.proofs.lemmas.Bool.{both_ways, cases_Bool, and_parts, and_from, eqb-true, eq-eqb}
 use Rattle.std.proofs.lemmas.Option.{none-some, same_Some}
 use Rattle.grants.specs.declared.row.GrantRow.{GrantRow}
-use Rattle.grants.specs.Rows.{IsTable, IsBefore, is_numbered, is_for, is_of, with_bits, NoneOf}
+use Rattle.grants.specs.Rows.{IsTable, IsBefore, is_numbered, is_for, with_bits}
 use Rattle.grants.specs.Table.{unless}
 use Rattle.grants.specs.Newest.{listed}
-use Rattle.grants.proofs.Finding.{all_more, all_filter, find_none, found_has, found_passes, all_from_none}
-use Rattle.grants.proofs.Ordered.{same_holder, later_number, before_last, absent_before, find_push, bits_keep_other, bits_keep_number, bits_keep_key, bits_keep_uid, find_with_bits, numbered_from_held}
+use Rattle.grants.proofs.Finding.{all_more, all_filter, find_none, found_has, found_passes}
+use Rattle.grants.proofs.Ordered.{same_holder, later_number, before_last, absent_before, bits_keep_other, bits_keep_number, find_with_bits, numbered_from_held}
 use Rattle.grants.proofs.Indexed.{bits_pass, found_elsewhere}
 
 -- ---- a test that one row at most passes
@@ -21,15 +21,17 @@ IsOnce p (row ∷ rows) = (p row ≡ true → AllByRecursion (λ later. p later 
 
 pub once_by_number : (number : ℕ) (rows : List GrantRow) → IsTable rows → IsOnce (is_numbered number) rows
 once_by_number number [] t = tt
-once_by_number number (row ∷ rows) t =
-    (λ here. all_more (IsBefore row) (λ later. is_numbered number later ≡ false) (λ later before. later_number number row later here before) rows t.0,
-     once_by_number number rows t.1)
+once_by_number number (row ∷ rows) t = (
+  λ here. all_more (IsBefore row) (λ later. is_numbered number later ≡ false) (λ later before. later_number number row later here before) rows t.0,
+  once_by_number number rows t.1,
+)
 
 pub once_by_key : (key uid : ℕ) (rows : List GrantRow) → IsTable rows → IsOnce (is_for key uid) rows
 once_by_key key uid [] t = tt
-once_by_key key uid (row ∷ rows) t =
-    (λ here. all_more (IsBefore row) (λ later. is_for key uid later ≡ false) (λ later before. same_holder key uid row later here before.1) rows t.0,
-     once_by_key key uid rows t.1)
+once_by_key key uid (row ∷ rows) t = (
+  λ here. all_more (IsBefore row) (λ later. is_for key uid later ≡ false) (λ later before. same_holder key uid row later here before.1) rows t.0,
+  once_by_key key uid rows t.1,
+)
 
 -- what is found of the rows that are left
 pub find_left : (out p : GrantRow → Bool) (rows : List GrantRow) → IsOnce p rows → find p (filter (λ row. not (out row)) rows) ≡ unless out (find p rows)
@@ -52,13 +54,13 @@ pub before_new : (rows : List GrantRow) (row : GrantRow) → AllByRecursion (λ 
 before_new [] row below apart = tt
 before_new (held ∷ rows) row below apart =
     let other : is_for held.key held.uid row ≡ false =
-      elim (cases_Bool (is_for held.key held.uid row)) [
-        | inl same ↦
+    elim (cases_Bool (is_for held.key held.uid row)) [
+      | inl same ↦
           let parts = and_parts (row.key == held.key) (row.uid == held.uid) same in
           absurd (both_ways (is_for row.key row.uid held) apart.0 (and_from (held.key == row.key) (held.uid == row.uid)
-            (eq-eqb held.key row.key (sym (eqb-true row.key held.key parts.0))) (eq-eqb held.uid row.uid (sym (eqb-true row.uid held.uid parts.1)))))
-        | inr fails ↦ fails
-      ] in
+          (eq-eqb held.key row.key (sym (eqb-true row.key held.key parts.0))) (eq-eqb held.uid row.uid (sym (eqb-true row.uid held.uid parts.1)))))
+      | inr fails ↦ fails
+    ] in
     ((below.0, other), before_new rows row below.1 apart.1)
 
 pub number_push : (number : ℕ) (rows : List GrantRow) (last : GrantRow) → AllByRecursion (λ row. IsBefore row last) rows → find (is_numbered number) (rows ++ last ∷ []) ≡ cond (is_numbered number last) (Some last) (find (is_numbered number) rows)
@@ -77,11 +79,11 @@ held_from_numbered number (first ∷ rows) row key uid t e same =
     elim (cases_Bool (is_numbered number first)) [
       | inl here ↦ let is : first ≡ row = same_Some first row (rw here at e) in rw is (rw same refl)
       | inr there ↦
-        let found : find (is_numbered number) rows ≡ Some row = rw there at e in
-        elim (cases_Bool (is_for key uid first)) [
-          | inl clash ↦ absurd (both_ways (is_for key uid row) (same_holder key uid first row clash (found_has (IsBefore first) (is_numbered number) rows row t.0 found).1) same)
-          | inr apart ↦ rw apart (held_from_numbered number rows row key uid t.1 found same)
-        ]
+          let found : find (is_numbered number) rows ≡ Some row = rw there at e in
+          elim (cases_Bool (is_for key uid first)) [
+            | inl clash ↦ absurd (both_ways (is_for key uid row) (same_holder key uid first row clash (found_has (IsBefore first) (is_numbered number) rows row t.0 found).1) same)
+            | inr apart ↦ rw apart (held_from_numbered number rows row key uid t.1 found same)
+          ]
     ]
 
 number_passes : (key uid bits number : ℕ) (row : GrantRow) → is_numbered number (with_bits key uid bits row) ≡ is_numbered number row
@@ -92,8 +94,8 @@ other_number key uid bits number rows held None t e apart f = refl
 other_number key uid bits number rows held (Some row) t e apart f =
     ap (λ r. Some r) (elim (cases_Bool (is_for key uid row)) [
       | inl same ↦
-        let is : held ≡ row = same_Some held row (sym e ∙ held_from_numbered number rows row key uid t f same) in
-        absurd (both_ways (held.grant == number) apart (rw is (found_passes (is_numbered number) rows row f)))
+          let is : held ≡ row = same_Some held row (sym e ∙ held_from_numbered number rows row key uid t f same) in
+          absurd (both_ways (held.grant == number) apart (rw is (found_passes (is_numbered number) rows row f)))
       | inr other ↦ bits_keep_other key uid bits row other
     ])
 
@@ -101,8 +103,8 @@ pub number_rebit : (key uid bits number : ℕ) (rows : List GrantRow) (held : Gr
 number_rebit key uid bits number rows held t e =
     find_with_bits key uid bits (is_numbered number) (number_passes key uid bits number) rows ∙ elim (cases_Bool (held.grant == number)) [
       | inl same ↦
-        let at : find (is_numbered number) rows ≡ Some held = subst (λ n. find (is_numbered n) rows ≡ Some held) (eqb-true held.grant number same) (numbered_from_held key uid rows held t e) in
-        rw (same, at, found_passes (is_for key uid) rows held e) refl
+          let at : find (is_numbered number) rows ≡ Some held = subst (λ n. find (is_numbered n) rows ≡ Some held) (eqb-true held.grant number same) (numbered_from_held key uid rows held t e) in
+          rw (same, at, found_passes (is_for key uid) rows held e) refl
       | inr apart ↦ rw apart (other_number key uid bits number rows held (find (is_numbered number) rows) t e apart refl)
     ]
 
@@ -110,8 +112,8 @@ pub key_rebit : (key uid bits k u : ℕ) (rows : List GrantRow) (held : GrantRow
 key_rebit key uid bits k u rows held e =
     find_with_bits key uid bits (is_for k u) (bits_pass key uid bits k u) rows ∙ elim (cases_Bool ((key == k) && (uid == u))) [
       | inl same ↦
-        let parts = and_parts (key == k) (uid == u) same in
-        rw (same, ← eqb-true key k parts.0, ← eqb-true uid u parts.1, e, found_passes (is_for key uid) rows held e) refl
+          let parts = and_parts (key == k) (uid == u) same in
+          rw (same, ← eqb-true key k parts.0, ← eqb-true uid u parts.1, e, found_passes (is_for key uid) rows held e) refl
       | inr apart ↦ rw apart (sym (found_elsewhere key uid bits k u rows (find (is_for k u) rows) refl apart))
     ]
 

@@ -1,5 +1,5 @@
 -- The rows of the maps, and behind them the newest row, where there is one.
-use Rattle.std.specs.Prelude.{ℕ, List, [], ◌∷◌, ◌++◌, Option, None, Some}
+use Rattle.std.specs.Prelude.{ℕ, List, [], ◌∷◌, Option, None, Some}
 use Rattle.grants.specs.declared.row.GrantRow.{GrantRow}
 
 abbrev pub listed : Option GrantRow → List GrantRow

@@ -8,13 +8,7 @@ use std::test::Fail;
 use tags::NoMemory;
 
 // Shares a key with a uid, under the next number where it is new.
-fn share(
-    grants: &mut Grants,
-    number: u64,
-    key: u64,
-    uid: u32,
-    bits: u32,
-) -> Result<(), NoMemory>
+fn share(grants: &mut Grants, number: u64, key: u64, uid: u32, bits: u32) -> Result<(), NoMemory>
     requires { AreBelow grants.old number }
     ensures { OnOk result (AreBelow grants.new (number + 1)) }
 {
@@ -36,7 +30,10 @@ fn stands(grants: &Grants, key: u64, uid: u32, number: u64, bits: u32) -> bool {
                 Some(other) => *other == *row,
                 None => false,
             };
-            same && row.key == key && row.uid == uid && row.grant == number && row.bits.bits() == bits
+            same && row.key == key
+                && row.uid == uid
+                && row.grant == number
+                && row.bits.bits() == bits
         }
         None => number == 0,
     }
@@ -116,7 +113,10 @@ fn a_second_grant_keeps_its_number_and_a_key_takes_its_grants_along(
     let mut grants = five(rt.alloc())?;
     assert_eq!(rt; grants.len(), 4);
     for (key, uid, number, bits) in &STANDING {
-        assert!(rt; stands(&grants, *key, *uid, *number, *bits), "key {key} to {uid}");
+        assert!(rt;
+            stands(&grants, *key, *uid, *number, *bits),
+            "key {key} to {uid}"
+        );
     }
     assert!(rt; grants.find(4).is_none() && grants.find(0).is_none());
     assert!(rt; grants.ungrant(4).is_none());
@@ -125,7 +125,10 @@ fn a_second_grant_keeps_its_number_and_a_key_takes_its_grants_along(
     assert_eq!(rt; grants.len(), 3);
     grants.end_key(7);
     for (key, uid, number, bits) in &ENDED {
-        assert!(rt; stands(&grants, *key, *uid, *number, *bits), "key {key} to {uid} at the end");
+        assert!(rt;
+            stands(&grants, *key, *uid, *number, *bits),
+            "key {key} to {uid} at the end"
+        );
     }
     assert_eq!(rt; grants.len(), 2);
     grants.end_key(8);

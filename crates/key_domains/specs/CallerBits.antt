@@ -1,5 +1,5 @@
 -- What a caller may do with a key, by the way it comes to it.
-use Rattle.std.specs.Prelude.{ℕ, List, Option, None, Some, ◌+◌, ◌==◌, ◌&&◌, unwrap_or, if◌then◌else◌}
+use Rattle.std.specs.Prelude.{ℕ, List, Option, ◌+◌, ◌==◌, ◌&&◌, unwrap_or, if◌then◌else◌}
 use Rattle.key_domains.specs.Domains.{domain_app, domain_selinux}
 use Rattle.tags.specs.declared.policy.PolicyRow.{PolicyRow}
 use Rattle.tags.specs.Policy.{bits_of}

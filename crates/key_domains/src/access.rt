@@ -58,12 +58,7 @@ fn by_number(uid: u32, policy: &Policy, keys: &KeyDatabaseView) -> Access
 
 /// What a descriptor finds for a uid, of what their look-ups found. In another domain than APP, GRANT, SELINUX and
 /// KEY_ID there is nothing to find.
-pub fn resolve(
-    descriptor: &Descriptor,
-    uid: u32,
-    policy: &Policy,
-    keys: &KeyDatabaseView,
-) -> Access
+pub fn resolve(descriptor: &Descriptor, uid: u32, policy: &Policy, keys: &KeyDatabaseView) -> Access
     ensures { result ≡ access policy.now uid descriptor.now keys.now }
 {
     match descriptor.domain {

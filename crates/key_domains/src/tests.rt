@@ -191,7 +191,12 @@ fn finds(alloc: Global, case: &Case, policy: &Policy) -> Result<bool, NoMemory> 
 fn each_domain_finds_its_keys(rt: HostRuntime) -> Result<(), Fail> {
     let policy = policy(rt.alloc())?.ok_or("five rows are a policy")?;
     for case in &CASES {
-        assert!(rt; finds(rt.alloc(), case, &policy)?, "in domain {}, nspace {}", case.0, case.1);
+        assert!(rt;
+            finds(rt.alloc(), case, &policy)?,
+            "in domain {}, nspace {}",
+            case.0,
+            case.1
+        );
     }
     Ok(())
 }

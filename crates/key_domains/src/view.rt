@@ -46,8 +46,11 @@ pub struct KeyDatabaseView {
 /// The live keys and grants, by look-ups that take no memory.
 pub trait KeyLookups {
     ghost named: { Self → ℕ → ℕ → List ℕ → Option KeyRow };
+
     ghost numbered: { Self → ℕ → Option KeyRow };
+
     ghost granted: { Self → ℕ → Option GrantedRow };
+
     ghost shared: { Self → ℕ → ℕ → Option ℕ };
 
     /// The live key of an owner (its domain and nspace) and an alias, of any bytes.

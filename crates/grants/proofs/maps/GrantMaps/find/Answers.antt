@@ -1,4 +1,4 @@
-use Rattle.std.proofs.Common.{◌∙◌, sym}
+use Rattle.std.proofs.Common.{◌∙◌}
 use Rattle.grants.proofs.Entries.{lookup_is}
 use Rattle.grants.proofs.maps.GrantMaps.find.Goals as goal
 

@@ -1,5 +1,3 @@
-use Rattle.std.proofs.Common.{subst, sym}
-use Rattle.grants.specs.Rows.{IsTable}
 use Rattle.grants.proofs.Indexed.{pushed, pushed_rows, undone}
 use Rattle.grants.proofs.maps.GrantMaps.insert.Goals as goal
 

@@ -13,8 +13,8 @@ returns-in_err-row-clause-rows c = rw (← c.self.view_is) (removed_rows c.self.
 pub invariant_of-self-2 : goal.invariant_of-self-2
 invariant_of-self-2 c =
     removed c.self.inside c.remove.new.self c.remove-2.new.self c.args.number c.in_ok-row.row c.self.invariant
-      (sym (lookup_is c.args.number _ c.self.invariant.numbered) ∙ sym c.remove.ensures.value ∙ c.in_ok-row.was)
-      c.remove.ensures.entries c.remove-2.ensures.updates
+    (sym (lookup_is c.args.number _ c.self.invariant.numbered) ∙ sym c.remove.ensures.value ∙ c.in_ok-row.was)
+    c.remove.ensures.entries c.remove-2.ensures.updates
 
 pub returns-clause-found : goal.returns-clause-found
 returns-clause-found c = rw (← c.self.view_is) (sym c.in_ok-row.was ∙ c.remove.ensures.value ∙ lookup_is c.args.number _ c.self.invariant.numbered)

@@ -1,7 +1,5 @@
-use Rattle.std.proofs.Common.{◌≡◌, ◌∙◌, arith, not}
-use Rattle.std.specs.List.{filter}
+use Rattle.std.proofs.Common.{◌∙◌, arith}
 use Rattle.grants.specs.Rows.{is_of}
-use Rattle.grants.specs.Table.{DropsKey}
 use Rattle.grants.proofs.Granting.{ends_one, fewer, none_left, left_by_number, left_by_key}
 use Rattle.grants.proofs.table.Grants.end_key.Goals as goal
 
@@ -26,9 +24,9 @@ returns-clause-out c = none_left c.args.key c.rows.self (rw c.in_default.is at c
 pub returns-clause-by_number : goal.returns-clause-by_number
 returns-clause-by_number c =
     left_by_number (is_of c.args.key) c.args.self.now c.rows.self c.rows.invariant.ending.was
-      (none_left c.args.key c.rows.self (rw c.in_default.is at c.rows.invariant.none) ∙ c.rows.invariant.ending.out)
+    (none_left c.args.key c.rows.self (rw c.in_default.is at c.rows.invariant.none) ∙ c.rows.invariant.ending.out)
 
 pub returns-clause-by_key : goal.returns-clause-by_key
 returns-clause-by_key c =
     left_by_key (is_of c.args.key) c.args.self.now c.rows.self c.rows.invariant.ending.was
-      (none_left c.args.key c.rows.self (rw c.in_default.is at c.rows.invariant.none) ∙ c.rows.invariant.ending.out)
+    (none_left c.args.key c.rows.self (rw c.in_default.is at c.rows.invariant.none) ∙ c.rows.invariant.ending.out)

@@ -1,7 +1,6 @@
 use Rattle.std.proofs.Common.{◌≡◌, ℕ, ◌≤◌, not, length}
 use Rattle.std.specs.Prelude.{IfSome, IfNone, IsSomeAnd}
 use Rattle.std.specs.List.{filter}
-use Rattle.grants.specs.declared.row.GrantRow.{GrantRow}
 use Rattle.grants.specs.Rows.{is_of}
 use Rattle.grants.specs.Table.{Table, numbered, IsOrderly, HasNone}
 use Rattle.grants.proofs.table.Grants.end_key.Given as goal

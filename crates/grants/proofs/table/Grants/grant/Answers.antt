@@ -1,8 +1,8 @@
-use Rattle.std.proofs.Common.{◌≡◌, ◌<◌, List, ◌++◌, [], ◌∷◌, Option, true, false, Some, None, refl, sym, ◌∙◌, ap, subst}
+use Rattle.std.proofs.Common.{◌≡◌, ◌<◌, List, ◌++◌, [], ◌∷◌, Option, true, false, Some, None, sym, ◌∙◌, ap, subst}
 use Rattle.std.specs.Prelude.{map, find, is_some}
 use Rattle.grants.specs.declared.row.GrantRow.{GrantRow}
 use Rattle.grants.specs.Rows.{IsTable, is_for, with_bits}
-use Rattle.grants.specs.Table.{Table, IsNew, IsHeld, IsNext, AddsGrant, SetsBits}
+use Rattle.grants.specs.Table.{Table, IsNew, IsHeld, IsNext}
 use Rattle.grants.specs.Newest.{listed, places}
 use Rattle.grants.proofs.Ordered.{table_bits, table_more}
 use Rattle.grants.proofs.Granting.{rows_in_maps, held_in_maps, is_newest, rows_at_newest, held_at_newest, rows_unchanged, new_in_maps, before_added, added_by_number, added_by_key, bits_by_number, bits_by_key, bits_below, added_below}

@@ -1,5 +1,5 @@
-use Rattle.std.proofs.Common.{◌≡◌, ℕ, List, ◌++◌, [], ◌∷◌, Option, Some, None, refl, sym, ◌∙◌, ap, subst, not}
-use Rattle.std.specs.Prelude.{find, filter}
+use Rattle.std.proofs.Common.{◌≡◌, List, ◌++◌, Option, Some, None, refl, sym, ◌∙◌, subst, not}
+use Rattle.std.specs.Prelude.{filter}
 use Rattle.std.proofs.lemmas.Bool.{eq-eqb}
 use Rattle.grants.specs.declared.row.GrantRow.{GrantRow}
 use Rattle.grants.specs.Rows.{IsTable, is_numbered}
