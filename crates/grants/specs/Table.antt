@@ -94,6 +94,15 @@ granted_of (Some held) row = record held { bits = row.bits }
 abbrev pub granted : Table → GrantRow → GrantRow
 granted table row = granted_of (shared table row.key row.uid) row
 
+-- what the look-up by number finds then
+abbrev pub numbered_after : Table → GrantRow → ℕ → Option GrantRow
+numbered_after table row number =
+    if is_numbered number (granted table row) then Some (granted table row) else numbered table number
+
+-- what the look-up by key and uid finds then
+abbrev pub shared_after : Table → GrantRow → ℕ → ℕ → Option GrantRow
+shared_after table row key uid = if is_for key uid row then Some (granted table row) else shared table key uid
+
 -- what was found, unless it passes the test
 abbrev pub unless : (GrantRow → Bool) → Option GrantRow → Option GrantRow
 unless test None = None

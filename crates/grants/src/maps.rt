@@ -1,11 +1,11 @@
 //! Rows in two ordered maps, by number and by the key and uid that they join.
 
-ghost use Rattle.std.specs.Prelude.{◌≡◌, List, [], ◌∷◌, ◌++◌, ◌<◌, ◌^◌, length, map, find, filter, not, is_some, IsNone, IfSome, IfNone, OnOk, OnErr};
+ghost use Rattle.std.specs.Prelude.{◌≡◌, List, [], ◌∷◌, ◌++◌, ◌<◌, ◌^◌, length, map, find, filter, not, is_some, IfSome, IfNone, OnOk, OnErr};
 ghost use Rattle.std.specs.Option.{option_copied};
 ghost use Rattle.std.specs.Ordering.{nat_cmp};
 ghost use Rattle.std.specs.BTreeMap.{insert_entry};
 ghost use Rattle.grants.specs.Table.{FindsOf};
-ghost use Rattle.grants.specs.Rows.{IsTable, is_numbered, is_for, is_of, with_bits, NoneOf};
+ghost use Rattle.grants.specs.Rows.{IsTable, is_numbered, is_for, with_bits, NoneOf};
 
 use crate::GrantRow;
 use key_domains::Permissions;

@@ -1,9 +1,9 @@
 //! The table of grants: two ordered maps, and beside them the newest row.
 
-ghost use Rattle.std.specs.Prelude.{◌≡◌, ◌<◌, ◌==◌, ℕ, IfSome, IfNone, OnOk, if◌then◌else◌};
+ghost use Rattle.std.specs.Prelude.{◌≡◌, ◌==◌, ℕ, IfSome, IfNone, OnOk};
 ghost use Rattle.std.specs.Option.{option_copied};
-ghost use Rattle.grants.specs.Rows.{is_numbered, is_for, is_of};
-ghost use Rattle.grants.specs.Table.{numbered, shared, grant_count, IsOrderly, IsEmpty, HasRoom, IsNew, IsHeld, IsNext, AreBelow, IsAddedBelow, IsHolderRow, FindsOf, SameGrants, KeepsRoom, AddsGrant, SetsBits, DropsGrant, DropsKey, granted, unless, HasNone};
+ghost use Rattle.grants.specs.Rows.{is_numbered, is_of};
+ghost use Rattle.grants.specs.Table.{numbered, shared, grant_count, IsOrderly, IsEmpty, HasRoom, IsNew, IsHeld, IsNext, AreBelow, IsAddedBelow, IsHolderRow, FindsOf, SameGrants, KeepsRoom, AddsGrant, SetsBits, DropsGrant, DropsKey, numbered_after, shared_after, unless, HasNone};
 
 use crate::GrantRow;
 use crate::maps::GrantMaps;
@@ -62,17 +62,16 @@ impl Grants {
     }
 
     /// Shares a key with a uid: the grant that they have takes the row's bits and keeps its number, and where they have
-    /// none the row is added. A row that is added needs room, and a number greater than each that is held.
+    /// none the row is added. A row that is added needs room, and a number greater than each that is held, as grants are
+    /// counted.
     pub fn grant(&mut self, row: GrantRow)
         requires room { IsNew self.old row → HasRoom self.old }
         requires next { IsNew self.old row → IsNext self.old row }
         ensures added { IsNew self.old row → AddsGrant self.old self.new row }
         ensures replaced { IsHeld self.old row → SetsBits self.old self.new row }
         ensures kept { IsHeld self.old row → KeepsRoom self.old self.new }
-        ensures by_number { (number : ℕ) → numbered self.new number
-            ≡ (if is_numbered number (granted self.old row) then Some (granted self.old row) else numbered self.old number) }
-        ensures by_key { (key uid : ℕ) → shared self.new key uid
-            ≡ (if is_for key uid row then Some (granted self.old row) else shared self.old key uid) }
+        ensures by_number { (number : ℕ) → numbered self.new number ≡ numbered_after self.old row number }
+        ensures by_key { (key uid : ℕ) → shared self.new key uid ≡ shared_after self.old row key uid }
         ensures below { (number : ℕ) → AreBelow self.old number → IsAddedBelow self.old row number → AreBelow self.new number }
     {
         if self.maps.set_bits(row.key, row.uid, row.bits) {
