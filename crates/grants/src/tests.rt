@@ -1,0 +1,138 @@
+ghost use Rattle.std.specs.Prelude.{◌+◌, OnOk};
+ghost use Rattle.grants.specs.Table.{AreBelow};
+
+use crate::{GrantRow, Grants};
+use key_domains::Permissions;
+use std::alloc::Global;
+use std::test::Fail;
+use tags::NoMemory;
+
+// Shares a key with a uid, under the next number where it is new.
+fn share(grants: &mut Grants, number: u64, key: u64, uid: u32, bits: u32) -> Result<(), NoMemory>
+    requires { AreBelow grants.old number }
+    ensures { OnOk result (AreBelow grants.new (number + 1)) }
+{
+    grants.reserve()?;
+    grants.grant(GrantRow {
+        grant: number,
+        key,
+        uid,
+        bits: Permissions::of_bits(bits),
+    });
+    Ok(())
+}
+
+// Whether the grant of a key to a uid has this number and these bits, or there is none (number 0).
+fn stands(grants: &Grants, key: u64, uid: u32, number: u64, bits: u32) -> bool {
+    match grants.of_key(key, uid) {
+        Some(row) => {
+            let same = match grants.find(row.grant) {
+                Some(other) => *other == *row,
+                None => false,
+            };
+            same && row.key == key
+                && row.uid == uid
+                && row.grant == number
+                && row.bits.bits() == bits
+        }
+        None => number == 0,
+    }
+}
+
+// Each grant that is made: a key, a uid and bits. The fourth is the second again.
+static SHARED: [(u64, u32, u32); 5] = [
+    (7, 10002, 260),
+    (7, 10001, 1),
+    (8, 10002, 4),
+    (7, 10001, 256),
+    (9, 10002, 0),
+];
+
+// What stands then: a key, a uid, the grant's number (0 for none) and its bits.
+static STANDING: [(u64, u32, u64, u32); 7] = [
+    (7, 10002, 1, 260),
+    (7, 10001, 2, 256),
+    (8, 10002, 3, 4),
+    (9, 10002, 5, 0),
+    (8, 10001, 0, 0),
+    (7, 10003, 0, 0),
+    (6, 10002, 0, 0),
+];
+
+// What stands once grant 1 is out, and once key 7 has ended.
+static ENDED: [(u64, u32, u64, u32); 4] = [
+    (7, 10002, 0, 0),
+    (7, 10001, 0, 0),
+    (8, 10002, 3, 4),
+    (9, 10002, 5, 0),
+];
+
+fn five(alloc: Global) -> Result<Grants, NoMemory> {
+    let mut grants = Grants::new(alloc);
+    for index in 0..5usize {
+        let (key, uid, bits) = SHARED[index];
+        share(&mut grants, index as u64 + 1, key, uid, bits)?;
+    }
+    Ok(grants)
+}
+
+// One grant to 10001 of each key from 1 to 16,384.
+fn many(alloc: Global) -> Result<Grants, NoMemory> {
+    let mut grants = Grants::new(alloc);
+    for index in 0..16_384u64 {
+        share(&mut grants, index + 1, index + 1, 10001, 256)?;
+    }
+    Ok(grants)
+}
+
+// Looks up four million times, and ends as many keys that have no grant. Where one of these went through the rows,
+// they would take minutes.
+fn finds_each(grants: &mut Grants) -> bool {
+    for round in 0..4_000_000u64 {
+        let number = round % 16_384 + 1;
+        if grants.find(number).is_none() || grants.of_key(number, 10001).is_none() {
+            return false;
+        }
+        grants.end_key(20_000 + round);
+    }
+    true
+}
+
+#[test]
+fn no_call_goes_through_the_rows(rt: HostRuntime) -> Result<(), Fail> {
+    let mut grants = many(rt.alloc())?;
+    assert!(rt; finds_each(&mut grants));
+    assert_eq!(rt; grants.len(), 16_384);
+    Ok(())
+}
+
+#[test]
+fn a_second_grant_keeps_its_number_and_a_key_takes_its_grants_along(
+    rt: HostRuntime,
+) -> Result<(), Fail> {
+    let mut grants = five(rt.alloc())?;
+    assert_eq!(rt; grants.len(), 4);
+    for (key, uid, number, bits) in &STANDING {
+        assert!(rt;
+            stands(&grants, *key, *uid, *number, *bits),
+            "key {key} to {uid}"
+        );
+    }
+    assert!(rt; grants.find(4).is_none() && grants.find(0).is_none());
+    assert!(rt; grants.ungrant(4).is_none());
+    assert!(rt; grants.ungrant(1).is_some());
+    assert!(rt; grants.ungrant(1).is_none());
+    assert_eq!(rt; grants.len(), 3);
+    grants.end_key(7);
+    for (key, uid, number, bits) in &ENDED {
+        assert!(rt;
+            stands(&grants, *key, *uid, *number, *bits),
+            "key {key} to {uid} at the end"
+        );
+    }
+    assert_eq!(rt; grants.len(), 2);
+    grants.end_key(8);
+    grants.end_key(9);
+    assert!(rt; grants.is_empty());
+    Ok(())
+}

@@ -1,0 +1,5 @@
+pub mod Domains
+pub mod Bits
+pub mod CallerBits
+pub mod View
+pub mod Access
