@@ -243,8 +243,8 @@ impl LineReader {
         ensures found { Finds (S.content source.new) self.new result }
         ensures held { (count : ℕ) → IsFirstFeed self.old.bytes count → source.new ≡ source.old }
     {
-        if let Some(count) = self.line_end() {
-            return Found::Line { count };
+        if let Some(held) = self.line_end() {
+            return Found::Line { count: held };
         }
         self.seek(source)
     }

@@ -20,8 +20,11 @@ settled_few setup verdict [] = omega arith
 settled_few setup verdict (Settling settled ∷ past) = omega (arith, settled_few setup (Some settled) past)
 settled_few setup verdict (Acted event drawn reply ∷ past) =
     let before : Option Settled = verdict_before verdict past event.act reply in
-    omega (arith, one_more (counts verdict past event.act reply && makes_key event.act) (next_key_settled setup before past) (setup.start.next_key + length past)
-    (settled_few setup before past))
+    omega (
+      arith,
+      one_more (counts verdict past event.act reply && makes_key event.act) (next_key_settled setup before past) (setup.start.next_key + length past)
+          (settled_few setup before past),
+    )
 
 pub next_few : (setup : Setup) (past : History) → next_key setup past ≤ setup.start.next_key + length past
 next_few setup past = settled_few setup None past

@@ -22,7 +22,7 @@ none_made _ caller drawn number e = refl
 -- an entry that is not admitted and was not settled counts for nothing
 uncounted_keys : (faulted : Bool) (setup : Setup) (past : History) (change : ℕ → KeyChange)
     → (if faulted && false then keys_after (change (next_key_settled setup (if faulted then None else None) past)) (keys_settled setup (if faulted then None else None) past)
-       else keys_settled setup (if faulted then None else None) past) ≡ keys_of setup past
+    else keys_settled setup (if faulted then None else None) past) ≡ keys_of setup past
 uncounted_keys true setup past change = refl
 uncounted_keys false setup past change = refl
 

@@ -1,6 +1,7 @@
 //! The acts of the service as one table: each kind with its number, its name, and what is fixed for it.
 
-ghost use Rattle.std.specs.Prelude.{◌≡◌};
+ghost use Rattle.std.specs.Prelude.{◌≡◌, false, true};
+ghost use Rattle.rule_model.specs.Acts as spec;
 ghost use Rattle.rule_model.specs.Acts.{kind_named, row_of, text_of};
 
 /// The kind of an act. The names are those of Keystore2's AIDL interfaces.
@@ -50,16 +51,76 @@ pub struct ActRow {
     pub is_built: bool,
 }
 
-/// A call of a client: it takes memory, draws nothing, and is not built yet.
-const CALL: ActRow = ActRow {
-    number: 0,
-    has_client: true,
-    takes_memory: true,
-    draws: false,
-    settles: true,
-    enters: false,
-    is_built: false,
-};
+/// A call of a client: it takes memory, draws nothing, settles first, and is not built yet.
+fn call(number: u8) -> ActRow
+    ensures { result ≡ spec.call number }
+{
+    ActRow {
+        number,
+        has_client: true,
+        takes_memory: true,
+        draws: false,
+        settles: true,
+        enters: false,
+        is_built: false,
+    }
+}
+
+impl ActRow {
+    fn of_no_client(self) -> ActRow
+        ensures { result ≡ record self { has_client = false } }
+    {
+        ActRow {
+            has_client: false,
+            ..self
+        }
+    }
+
+    fn without_memory(self) -> ActRow
+        ensures { result ≡ record self { takes_memory = false } }
+    {
+        ActRow {
+            takes_memory: false,
+            ..self
+        }
+    }
+
+    fn drawing(self) -> ActRow
+        ensures { result ≡ record self { draws = true } }
+    {
+        ActRow {
+            draws: true,
+            ..self
+        }
+    }
+
+    fn settling_nothing(self) -> ActRow
+        ensures { result ≡ record self { settles = false } }
+    {
+        ActRow {
+            settles: false,
+            ..self
+        }
+    }
+
+    fn entering(self) -> ActRow
+        ensures { result ≡ record self { enters = true } }
+    {
+        ActRow {
+            enters: true,
+            ..self
+        }
+    }
+
+    fn built(self) -> ActRow
+        ensures { result ≡ record self { is_built = true } }
+    {
+        ActRow {
+            is_built: true,
+            ..self
+        }
+    }
+}
 
 impl ActKind {
     /// The kinds in the order of their numbers.
@@ -94,29 +155,29 @@ impl ActKind {
         ensures { result ≡ row_of self }
     {
         match self {
-            ActKind::Connect => ActRow { number: 1, has_client: false, is_built: true, ..CALL },
-            ActKind::Disconnect => ActRow { number: 2, takes_memory: false, settles: false, ..CALL },
-            ActKind::GenerateKey => ActRow { number: 3, draws: true, is_built: true, ..CALL },
-            ActKind::ImportKey => ActRow { number: 4, draws: true, is_built: true, ..CALL },
-            ActKind::CreateOperation => ActRow { number: 5, draws: true, is_built: true, ..CALL },
-            ActKind::UpdateAad => ActRow { number: 6, enters: true, is_built: true, ..CALL },
-            ActKind::Update => ActRow { number: 7, enters: true, is_built: true, ..CALL },
-            ActKind::Finish => ActRow { number: 8, enters: true, is_built: true, ..CALL },
-            ActKind::Abort => ActRow { number: 9, takes_memory: false, is_built: true, ..CALL },
-            ActKind::GetKeyEntry => ActRow { number: 10, ..CALL },
-            ActKind::DeleteKey => ActRow { number: 11, ..CALL },
-            ActKind::Grant => ActRow { number: 12, ..CALL },
-            ActKind::Ungrant => ActRow { number: 13, ..CALL },
-            ActKind::GetNumberOfEntries => ActRow { number: 14, ..CALL },
-            ActKind::ListEntriesBatched => ActRow { number: 15, ..CALL },
-            ActKind::AddAuthToken => ActRow { number: 16, takes_memory: false, ..CALL },
-            ActKind::DeviceLocked => ActRow { number: 17, takes_memory: false, ..CALL },
-            ActKind::DeviceUnlocked => ActRow { number: 18, takes_memory: false, ..CALL },
-            ActKind::EarlyBootEnded => ActRow { number: 19, takes_memory: false, ..CALL },
-            ActKind::ClearNamespace => ActRow { number: 20, ..CALL },
-            ActKind::UserRemoved => ActRow { number: 21, ..CALL },
-            ActKind::Leave => ActRow { number: 22, has_client: false, takes_memory: false, settles: false, ..CALL },
-            ActKind::Restart => ActRow { number: 23, has_client: false, ..CALL },
+            ActKind::Connect => call(1).of_no_client().built(),
+            ActKind::Disconnect => call(2).without_memory().settling_nothing(),
+            ActKind::GenerateKey => call(3).drawing().built(),
+            ActKind::ImportKey => call(4).drawing().built(),
+            ActKind::CreateOperation => call(5).drawing().built(),
+            ActKind::UpdateAad => call(6).entering().built(),
+            ActKind::Update => call(7).entering().built(),
+            ActKind::Finish => call(8).entering().built(),
+            ActKind::Abort => call(9).without_memory().built(),
+            ActKind::GetKeyEntry => call(10),
+            ActKind::DeleteKey => call(11),
+            ActKind::Grant => call(12),
+            ActKind::Ungrant => call(13),
+            ActKind::GetNumberOfEntries => call(14),
+            ActKind::ListEntriesBatched => call(15),
+            ActKind::AddAuthToken => call(16).without_memory(),
+            ActKind::DeviceLocked => call(17).without_memory(),
+            ActKind::DeviceUnlocked => call(18).without_memory(),
+            ActKind::EarlyBootEnded => call(19).without_memory(),
+            ActKind::ClearNamespace => call(20),
+            ActKind::UserRemoved => call(21),
+            ActKind::Leave => call(22).of_no_client().without_memory().settling_nothing(),
+            ActKind::Restart => call(23).of_no_client(),
         }
     }
 
@@ -155,6 +216,9 @@ impl ActKind {
     pub fn named(name: &str) -> Option<ActKind>
         ensures { result ≡ kind_named name.now }
     {
-        ActKind::ALL.iter().copied().find(|kind| kind.text() == name)
+        ActKind::ALL
+            .iter()
+            .copied()
+            .find(|kind| kind.text() == name)
     }
 }

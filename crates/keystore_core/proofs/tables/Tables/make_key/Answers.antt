@@ -1,4 +1,5 @@
 use Rattle.std.proofs.Common.{◌≡◌, ◌+◌, ◌<◌, length, ap, sym, ◌∙◌, refl, arith}
+use Rattle.key_rules.specs.declared.facts.NewFacts.{NewFacts}
 use Rattle.keymint_ops.specs.Creation.{planned}
 use Rattle.keystore_core.proofs.Making.{fills, made, refused, without_entropy}
 use Rattle.keystore_core.proofs.Standing.{few_keys, same_but_keys}
@@ -38,6 +39,6 @@ returns-clause-serves g c = λ setup past stands.
     omega (arith, c.in-Ok-draw.ensures.whole, c.in_ok-draws.ensures, ap (λ p. p.first + p.second) c.pieces.ensures, c.in_ok-room.ensures.size_is) in
     made setup past c.args.self.now c.args.caller c.args.key c.args.params stands c.requires.caller c.args.import
     (record c.args.self.now { keys = c.reserve.new.self }) c.put.new.self c.in-Ok.plan c.in_ok-room.room c.in-Ok-draw.drawn c.next-id.result is
-    (rw c.unwrap_or.ensures at c.in_ok-room.ensures) long c.next-id.ensures
+    (rw (c.unwrap_or.ensures, ap (λ (f : NewFacts). f.descriptor) c.new_facts-facts.ensures) at c.in_ok-room.ensures) long c.next-id.ensures
     (same_but_keys c.args.self.now c.reserve.new.self c.in_ok-reserve.ensures.same)
     (rw (c.into_record.ensures, c.as_slice.ensures) at c.put.ensures)

@@ -1,0 +1,92 @@
+#!/usr/bin/env python3
+"""Runs the gate, `rt ci`, at the top of the repository, passes its output on, and writes how long each part of it took:
+for each crate the processor seconds of its bodies, of its tests' proofs, of its edits and of its runs, and their sums.
+
+    python3 tools/gate_times.py [FILE]
+
+FILE is where the table goes, as Markdown; without it, standard output has it last. The seconds are those of the processes
+that the gate starts, read from /proc twice a second, so a process that is shorter than that is missed."""
+import collections
+import os
+import subprocess
+import sys
+import threading
+import time
+
+TICKS = os.sysconf("SC_CLK_TCK")
+PARTS = ("bodies", "tests", "edits", "runs")
+
+
+def below(top):
+    """The processes under a process, with their words and processor seconds."""
+    parents, found = {}, {}
+    for name in filter(str.isdigit, os.listdir("/proc")):
+        try:
+            with open(f"/proc/{name}/stat", encoding="utf-8", errors="replace") as it:
+                stat = it.read().rsplit(")", 1)[1].split()
+            with open(f"/proc/{name}/cmdline", "rb") as it:
+                words = it.read().decode(errors="replace").split("\0")
+        except OSError:
+            continue
+        parents[int(name)] = int(stat[1])
+        found[int(name)] = (words, (int(stat[11]) + int(stat[12])) / TICKS)
+    def is_below(pid):
+        while pid in parents and pid != top:
+            pid = parents[pid]
+        return pid == top
+    return {pid: it for pid, it in found.items() if pid != top and is_below(pid)}
+
+
+def place(words, cwd):
+    """The crate and the part of the gate that a process works for."""
+    crate = words[words.index("--crate-name") + 1] if "--crate-name" in words else cwd
+    if "build" in words[:2]:
+        return crate, "tests" if "--test" in words else "bodies"
+    if "check" in words[:2]:
+        return crate, "edits"
+    return crate, "runs"
+
+
+def watch(process, seen):
+    while process.poll() is None:
+        for pid, (words, seconds) in below(process.pid).items():
+            base = os.path.basename(words[0]) if words else ""
+            if base.startswith("rattle") or base.endswith("_tests") or "keystore" in base:
+                crate, part = place(words, base.replace("_tests", ""))
+                seen[pid, crate, part] = max(seconds, seen.get((pid, crate, part), 0))
+        time.sleep(0.5)
+
+
+def table(seen, minutes):
+    sums = collections.defaultdict(lambda: dict.fromkeys(PARTS, 0.0))
+    for (_pid, crate, part), seconds in seen.items():
+        sums[crate][part] += seconds
+    rows = ["| Crate | " + " | ".join(PARTS) + " | all |", "|---|" + "---|" * (len(PARTS) + 1)]
+    for crate in sorted(sums, key=lambda it: -sum(sums[it].values())):
+        parts = [sums[crate][it] for it in PARTS]
+        rows.append(f"| {crate} | " + " | ".join(f"{it:.0f}" for it in [*parts, sum(parts)]) + " |")
+    totals = [sum(it[part] for it in sums.values()) for part in PARTS]
+    rows.append("| all | " + " | ".join(f"{it:.0f}" for it in [*totals, sum(totals)]) + " |")
+    rows.append(f"\nSeconds of processor; {minutes:.1f} minutes by the clock on {os.cpu_count()} processors.")
+    return "\n".join(rows) + "\n"
+
+
+def main():
+    start, seen = time.time(), {}
+    process = subprocess.Popen(["rt", "ci"], stdout=subprocess.PIPE, stderr=subprocess.STDOUT, text=True, errors="replace")
+    watcher = threading.Thread(target=watch, args=(process, seen), daemon=True)
+    watcher.start()
+    for line in process.stdout:
+        print(line, end="", flush=True)
+    status = process.wait()
+    text = table(seen, (time.time() - start) / 60)
+    if len(sys.argv) > 1:
+        with open(sys.argv[1], "w", encoding="utf-8") as out:
+            out.write(text)
+    else:
+        print(text)
+    return status
+
+
+if __name__ == "__main__":
+    sys.exit(main())
