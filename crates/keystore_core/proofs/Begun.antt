@@ -1,19 +1,18 @@
 -- The beginning of an operation: its answer, and the tables after it.
-use Rattle.std.proofs.Common.{◌≡◌, ℕ, ◌+◌, ◌<◌, ◌≤◌, ◌==◌, Bool, true, false, if◌then◌else◌, List, [], ◌∷◌, length, Option, Some, None, Result, Ok, Err, is_some, is_ok, unwrap_or, refl, sym, ap, ◌∙◌, subst, arith}
-use Rattle.std.specs.Option.{option_and_then, option_map_or}
+use Rattle.std.proofs.Common.{◌≡◌, ℕ, ◌+◌, ◌<◌, ◌≤◌, ◌==◌, Bool, true, false, if◌then◌else◌, List, [], length, Option, Some, None, Err, is_some, unwrap_or, refl, sym, ap, ◌∙◌, subst, arith}
+use Rattle.std.specs.Option.{option_and_then}
 use Rattle.tags.specs.declared.code.Code.{Code}
 use Rattle.tags.specs.declared.code.Code.TheVariants.{EntropyFault, MemoryAllocationFailed}
 use Rattle.tags.specs.declared.descriptor.Descriptor.{Descriptor}
 use Rattle.tags.specs.declared.rule.Rule.{Rule}
 use Rattle.use_rules.specs.declared.facts.BeginFacts.{BeginFacts}
-use Rattle.use_rules.specs.Plans.{nonce_given, plan_of}
+use Rattle.use_rules.specs.Plans.{nonce_given}
 use Rattle.use_rules.specs.Table as table
 use Rattle.use_rules.specs.Table.{asked_of, key_of}
 use Rattle.cipher_ops.specs.declared.state.CipherState.{CipherState}
 use Rattle.cipher_ops.specs.Standing.{StandsFor}
 use Rattle.keymint_ops.specs.declared.begin.Begin.{Begin}
 use Rattle.keymint_ops.specs.Begin.{MayBegin, nonce_used}
-use Rattle.rule_model.specs.declared.entry.Entry.TheVariants.{Acted}
 use Rattle.rule_model.specs.declared.entry.KeyRecord.{KeyRecord}
 use Rattle.rule_model.specs.declared.event.Act.TheVariants.{CreateOperation}
 use Rattle.rule_model.specs.declared.event.Event.{Event}
@@ -35,9 +34,9 @@ use Rattle.keystore_core.specs.declared.operations.Operations.{Operations}
 use Rattle.keystore_core.specs.declared.ciphers.Ciphers.{Ciphers}
 use Rattle.keystore_core.specs.declared.tables.Tables.{Tables}
 use Rattle.keystore_core.specs.Beginning.{IsNewRow}
-use Rattle.keystore_core.specs.Ciphers.{CiphersStand, IsCipher, SetsCipher, cipher_in}
+use Rattle.keystore_core.specs.Ciphers.{IsCipher, SetsCipher, cipher_in}
 use Rattle.keystore_core.specs.Keys.{key_named_in}
-use Rattle.keystore_core.specs.Operations.{OperationsStand, OtherRowsStay, SameOperation, operation_in, operations_given}
+use Rattle.keystore_core.specs.Operations.{OtherRowsStay, SameOperation, operation_in, operations_given}
 use Rattle.keystore_core.specs.Tables.{AnswersAfter, IsCaller, SameTables, TablesStand, event_by}
 use Rattle.keystore_core.proofs.Pointwise.{pointwise}
 use Rattle.keystore_core.proofs.Standing.{called, clients_stay, denied_tables, keys_stay, same_tables, still, without_memory}

@@ -1,5 +1,5 @@
 -- Draws one after another.
-use Rattle.std.proofs.Common.{◌≡◌, ℕ, ◌+◌, true, false, List, [], ◌++◌, length, take, subst, sym, refl, Result, Ok, Err, IfOk, arith, length-append, nat_lt}
+use Rattle.std.proofs.Common.{◌≡◌, ℕ, ◌+◌, false, List, ◌++◌, length, take, Result, Ok, Err, IfOk, arith, length-append, nat_lt}
 use Rattle.std.proofs.lemmas.Bool.Decides.{nat_tests}
 use Rattle.std.proofs.lemmas.List.{take_all}
 use Rattle.tags.specs.declared.bytes.NoMemory.{NoMemory}

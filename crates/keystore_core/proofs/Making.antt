@@ -1,5 +1,5 @@
 -- A new key: its answer, and the tables after it.
-use Rattle.std.proofs.Common.{◌≡◌, ℕ, ◌+◌, ◌<◌, ◌≤◌, ◌-◌, ◌^◌, Bool, true, false, ◌||◌, if◌then◌else◌, List, [], ◌∷◌, length, take, drop, Option, Some, None, Result, Ok, Err, unwrap_or, find, refl, sym, ap, ◌∙◌, subst, arith, length-drop, length-take}
+use Rattle.std.proofs.Common.{◌≡◌, ℕ, ◌+◌, ◌<◌, false, ◌||◌, if◌then◌else◌, List, [], ◌∷◌, length, take, Option, Some, None, Result, Ok, Err, find, refl, sym, ap, ◌∙◌, subst, arith, length-drop, length-take}
 use Rattle.std.specs.List.{list_any}
 use Rattle.std.specs.Option.{option_map}
 use Rattle.tags.specs.declared.code.Code.{Code}
@@ -18,7 +18,6 @@ use Rattle.keymint_ops.specs.Creation.{planned, spelled, where_planned}
 use Rattle.rule_model.specs.declared.entry.Entry.TheVariants.{Acted}
 use Rattle.rule_model.specs.declared.entry.KeyRecord.{KeyRecord}
 use Rattle.rule_model.specs.declared.facts.Caller.{Caller}
-use Rattle.rule_model.specs.declared.facts.Pieces.{Pieces}
 use Rattle.rule_model.specs.declared.reply.Reply.{Reply}
 use Rattle.rule_model.specs.declared.reply.Reply.TheVariants.{Done, Broken, Stopped}
 use Rattle.rule_model.specs.declared.event.Event.{Event}
@@ -28,8 +27,8 @@ use Rattle.rule_model.specs.Answer.{answer_by_rules, broken_or, no_fields}
 use Rattle.rule_model.specs.Clients.{caller_of}
 use Rattle.rule_model.specs.Drawn.{size_of, wanted_by_key, wanted_by_rules}
 use Rattle.rule_model.specs.Entries.{History}
-use Rattle.rule_model.specs.Keys.{KeyChange, Makes, is_named, key_change, keys_after, keys_of, next_key, owner_of, with_key}
-use Rattle.rule_model.specs.Legal.{MayFollow, Answered, WithoutMemory, WithoutEntropy}
+use Rattle.rule_model.specs.Keys.{Makes, is_named, key_change, keys_after, keys_of, next_key, owner_of, with_key}
+use Rattle.rule_model.specs.Legal.{MayFollow, Answered, WithoutEntropy}
 use Rattle.rule_model.specs.NewFacts.{new_facts}
 use Rattle.rule_model.specs.Operations.{SameOperations, operation_change}
 use Rattle.rule_model.specs.Setup.{Setup}
@@ -43,7 +42,6 @@ use Rattle.keystore_core.specs.declared.keys.Keys.{Keys}
 use Rattle.keystore_core.specs.declared.tables.Tables.{Tables}
 use Rattle.keystore_core.specs.Creating.{CanFill, IsDrawn, IsKeyRoom, IsMaterial, facts_of_import, making, material_in, record_of}
 use Rattle.keystore_core.specs.Keys.{KeysStand, PutsKey, SameKeys, apart, next_in}
-use Rattle.keystore_core.specs.Room.{room_in}
 use Rattle.keystore_core.specs.Tables.{AnswersAfter, IsCaller, SameTables, TablesStand, event_by}
 use Rattle.keystore_core.proofs.KeyTable.{any_with, named_with}
 use Rattle.keystore_core.proofs.Standing.{called, ciphers_stay, clients_stay, denied_tables, operations_stay, same_tables}

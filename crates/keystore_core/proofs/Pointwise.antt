@@ -1,5 +1,5 @@
 -- A table that is related to the operations of a history at each number goes on by a change of one operation.
-use Rattle.std.proofs.Common.{◌≡◌, ℕ, ◌==◌, Bool, true, false, if◌then◌else◌, List, [], ◌∷◌, ◌++◌, Option, Some, None, refl, sym, ap, subst, arith}
+use Rattle.std.proofs.Common.{◌≡◌, ℕ, ◌==◌, Bool, true, false, List, [], ◌++◌, Option, Some, None, refl, sym, subst, arith}
 use Rattle.std.proofs.lemmas.Bool.Decides.{nat_tests}
 use Rattle.rule_model.specs.Operations.{Operation, OperationChange, SameOperations, Opens, Takes, Closes, ClosesOf, ClosesAll, aad_after, found_after, text_after}
 

@@ -1,10 +1,8 @@
 -- The parts of the relation between the tables and a history, each after an entry that leaves it as it is.
-use Rattle.std.proofs.Common.{◌≡◌, ℕ, ◌+◌, ◌<◌, ◌≤◌, ◌-◌, ◌^◌, Bool, true, false, ◌&&◌, if◌then◌else◌, List, [], ◌∷◌, length, Option, Some, None, refl, sym, ap, ◌∙◌, subst, arith}
+use Rattle.std.proofs.Common.{◌≡◌, ℕ, ◌+◌, ◌<◌, ◌-◌, ◌^◌, Bool, true, false, ◌&&◌, if◌then◌else◌, List, ◌∷◌, length, Option, refl, sym, ap, ◌∙◌, subst, arith}
 use Rattle.std.proofs.Math.Bridge.{le_prop}
 use mathlib.Core.Logic.{∥∥₁_elim}
-use Rattle.tags.specs.declared.code.Code.{Code}
-use Rattle.tags.specs.declared.code.Code.TheVariants.{EntropyFault, MemoryAllocationFailed}
-use Rattle.tags.specs.declared.rule.Rule.{Rule}
+use Rattle.tags.specs.declared.code.Code.TheVariants.{MemoryAllocationFailed}
 use Rattle.rule_model.specs.declared.entry.Entry.TheVariants.{Acted}
 use Rattle.rule_model.specs.declared.event.Act.{Act}
 use Rattle.rule_model.specs.declared.event.Event.{Event}
@@ -12,14 +10,13 @@ use Rattle.rule_model.specs.declared.facts.Caller.{Caller}
 use Rattle.rule_model.specs.declared.reply.Reply.{Reply}
 use Rattle.rule_model.specs.declared.reply.Reply.TheVariants.{Done, Broken, Stopped}
 use Rattle.rule_model.specs.Acts.{is_begin, is_connect}
-use Rattle.rule_model.specs.Clients.{ClientChange, SameClients as NoClients, caller_of, client_change, uid_after, uid_of}
+use Rattle.rule_model.specs.Clients.{SameClients as NoClients, caller_of, client_change, uid_after, uid_of}
 use Rattle.rule_model.specs.Entries.{History, admits, count_of, is_done}
 use Rattle.rule_model.specs.Keys.{keys_of, next_key}
-use Rattle.rule_model.specs.Operations.{Operation, OperationChange, SameOperations, aad_after, aad_of, found_after, is_limited, operation_at, operation_change, text_after, text_of}
+use Rattle.rule_model.specs.Operations.{SameOperations, aad_after, aad_of, found_after, operation_at, operation_change, text_after, text_of}
 use Rattle.rule_model.specs.Setup.{Setup}
 use Rattle.rule_model.proofs.Counting.{count_few, next_few}
 use Rattle.rule_model.proofs.Keys.{denied_keys, denied_next}
-use Rattle.cipher_ops.specs.declared.state.CipherState.{CipherState}
 use Rattle.keystore_core.specs.declared.ciphers.Ciphers.{Ciphers}
 use Rattle.keystore_core.specs.declared.clients.Clients.{Clients}
 use Rattle.keystore_core.specs.declared.keys.Keys.{Keys}
@@ -72,7 +69,7 @@ module _ (setup : Setup) (past : History) (event : Event) (drawn : List ℕ) (re
   operations_stay old new stands same none uncounts = record {
     rows = λ number.
         subst (λ change. SameOperation (length (aad_after change number (aad_of setup past number))) (length (text_after change number (text_of setup past number)))
-            (operation_in new number) (found_after change number (operation_at setup past number))) (sym none)
+        (operation_in new number) (found_after change number (operation_at setup past number))) (sym none)
         (subst (λ row. SameOperation (length (aad_of setup past number)) (length (text_of setup past number)) row (operation_at setup past number)) (sym (same.rows number)) (stands.rows number));
     given = same.given ∙ stands.given ∙ sym (uncounted is_begin past event drawn reply uncounts);
   }
@@ -82,7 +79,7 @@ module _ (setup : Setup) (past : History) (event : Event) (drawn : List ℕ) (re
   ciphers_stay old new stands same none = record {
     states = λ number.
         subst (λ change. IsCipher (aad_after change number (aad_of setup past number)) (text_after change number (text_of setup past number))
-            (cipher_in new number) (found_after change number (operation_at setup past number))) (sym none)
+        (cipher_in new number) (found_after change number (operation_at setup past number))) (sym none)
         (subst (λ state. IsCipher (aad_of setup past number) (text_of setup past number) state (operation_at setup past number)) (sym (same.states number)) (stands.states number));
   }
 

@@ -1,5 +1,5 @@
 -- A step of an open operation: that its work may come, its answer, and the tables after it.
-use Rattle.std.proofs.Common.{◌≡◌, ℕ, ◌+◌, ◌≤◌, ◌-◌, ◌^◌, ◌==◌, Bool, true, false, if◌then◌else◌, List, [], ◌∷◌, ◌++◌, length, Option, Some, None, Result, Ok, Err, inl, inr, ◌⊎◌, refl, sym, ap, ◌∙◌, subst, arith, append-nil, length-append}
+use Rattle.std.proofs.Common.{◌≡◌, ℕ, ◌+◌, Bool, true, false, if◌then◌else◌, List, [], ◌∷◌, length, Option, Some, None, Result, Ok, Err, refl, sym, ap, ◌∙◌, subst, arith, append-nil, length-append}
 use Rattle.std.proofs.Math.Bridge.{le_prop}
 use Rattle.std.proofs.Props.{props}
 use mathlib.Core.Logic.{∥∥₁_prop}
@@ -19,7 +19,7 @@ use Rattle.cipher_ops.specs.declared.room.Work.{Work}
 use Rattle.cipher_ops.specs.declared.room.Work.TheVariants.{Aad, Text, Last}
 use Rattle.cipher_ops.specs.declared.state.CipherState.{CipherState}
 use Rattle.cipher_ops.specs.Jobs.{ComesTo, is_refusal}
-use Rattle.cipher_ops.specs.Running.{CanRun, GoesOn, IsRoom, MayCome}
+use Rattle.cipher_ops.specs.Running.{GoesOn, IsRoom, MayCome}
 use Rattle.cipher_ops.specs.Standing.{StandsFor}
 use Rattle.rule_model.specs.declared.entry.Entry.TheVariants.{Acted}
 use Rattle.rule_model.specs.declared.event.Act.{Act}
@@ -28,7 +28,7 @@ use Rattle.rule_model.specs.declared.event.Event.{Event}
 use Rattle.rule_model.specs.declared.facts.Brought.{Brought}
 use Rattle.rule_model.specs.declared.facts.Caller.{Caller}
 use Rattle.rule_model.specs.declared.reply.Reply.{Reply}
-use Rattle.rule_model.specs.declared.reply.Reply.TheVariants.{Done, Broken, Stopped}
+use Rattle.rule_model.specs.declared.reply.Reply.TheVariants.{Done, Broken}
 use Rattle.rule_model.specs.Acts.{is_begin, is_connect}
 use Rattle.rule_model.specs.Answer.{broken_or, entered, given_or, no_fields}
 use Rattle.rule_model.specs.Clients.{caller_of}
@@ -38,7 +38,7 @@ use Rattle.rule_model.specs.Keys.{is_live, makes_key}
 use Rattle.rule_model.specs.Legal.{MayFollow, Answered}
 use Rattle.rule_model.specs.Operations.{Operation, OperationChange, SameOperations, Takes, Closes, aad_after, aad_of, closes, found_after, is_limited, is_want, operation_at, operation_change, operation_of, output_of, text_after, text_of}
 use Rattle.rule_model.specs.Setup.{Setup}
-use Rattle.rule_model.specs.StepFacts.{brought_by, brought_by_abort, facts_of, input_of, step_facts}
+use Rattle.rule_model.specs.StepFacts.{brought_by, brought_by_abort, facts_of, step_facts}
 use Rattle.rule_model.proofs.Clients.{moves_clients, none_connects, same_clients}
 use Rattle.rule_model.proofs.Keys.{same_keys as keys_same, same_next}
 use Rattle.keystore_core.specs.declared.ciphers.Ciphers.{Ciphers}
@@ -46,7 +46,7 @@ use Rattle.keystore_core.specs.declared.operations.Operation.{Operation as Row}
 use Rattle.keystore_core.specs.declared.tables.Tables.{Tables}
 use Rattle.keystore_core.specs.Ciphers.{IsCipher, SetsCipher, cipher_in}
 use Rattle.keystore_core.specs.Operations.{IsRow, SameOperation, operation_in}
-use Rattle.keystore_core.specs.Stepping.{CanWork, ClosesOne, Denies, DeniesBy, IsRoomAt, MayGrow, MayTake, Runs, TakesRow, added_by, done_of, entering, reply_of}
+use Rattle.keystore_core.specs.Stepping.{CanWork, ClosesOne, Denies, DeniesBy, IsRoomAt, MayGrow, MayTake, TakesRow, added_by, done_of, entering, reply_of}
 use Rattle.keystore_core.specs.Tables.{AnswersAfter, IsCaller, OneOperation, TablesStand, event_by, row_at, state_at}
 use Rattle.keystore_core.proofs.Pointwise.{Concerns, own_aad, own_found, own_text, pointwise}
 use Rattle.keystore_core.proofs.Standing.{called, clients_stay, denied_tables, keys_stay, quiet, same_tables, uncounted}

@@ -1,5 +1,5 @@
 -- The table of the open operations, with what the rules read of each: what a look-up finds in it, and what a change of it is.
-use Rattle.std.specs.Prelude.{◌≡◌, ℕ, ◌+◌, ◌≤◌, true, false, ◌==◌, List, length, Option, Some, None, is_some}
+use Rattle.std.specs.Prelude.{◌≡◌, ℕ, ◌+◌, ◌≤◌, true, false, ◌==◌, length, Option, Some, None, is_some}
 use Rattle.std.specs.BTreeMap.{get}
 use Rattle.std.specs.Option.{option_flatten}
 use Rattle.std.specs.Ordering.{nat_cmp}

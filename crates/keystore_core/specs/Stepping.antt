@@ -25,7 +25,7 @@ use Rattle.keystore_core.specs.declared.operations.Added.{Added}
 use Rattle.keystore_core.specs.declared.operations.Operation.{Operation}
 use Rattle.keystore_core.specs.declared.tables.Tables.{Tables}
 use Rattle.keystore_core.specs.Operations.{Lengthens, MayLengthen}
-use Rattle.keystore_core.specs.Tables.{OneOperation, SameTables, row_at, state_at}
+use Rattle.keystore_core.specs.Tables.{OneOperation, row_at, state_at}
 
 -- the act that enters an operation with a work
 abbrev pub entering : ℕ → Work → Act

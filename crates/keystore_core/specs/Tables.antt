@@ -1,5 +1,5 @@
 -- When the engine's tables stand for a history, and what an act makes of them.
-use Rattle.std.specs.Prelude.{◌≡◌, ℕ, ◌≤◌, Bool, ◌∷◌, length, Option, Some, None, Result, Ok, Err}
+use Rattle.std.specs.Prelude.{◌≡◌, ℕ, ◌≤◌, Bool, ◌∷◌, length, Option, Result, Ok, Err}
 use Rattle.tags.specs.declared.bytes.NoMemory.{NoMemory}
 use Rattle.rule_model.specs.declared.entry.Entry.TheVariants.{Acted}
 use Rattle.rule_model.specs.declared.event.Event.{Event}

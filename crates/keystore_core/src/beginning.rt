@@ -107,7 +107,12 @@ fn new_operation(client: u64, key: &KeyRecord, begin: &Begin) -> Operation
 }
 
 /// The cipher's state of a new operation on a key.
-fn new_cipher(alloc: Global, key: &KeyRecord, begin: &Begin, drawn: &[u8]) -> Result<CipherState, NoMemory>
+fn new_cipher(
+    alloc: Global,
+    key: &KeyRecord,
+    begin: &Begin,
+    drawn: &[u8],
+) -> Result<CipherState, NoMemory>
     requires { Fits begin.now.plan key.now.blob (nonce_used begin.now.nonce drawn.now) }
     ensures { IfOk result (λ state. StandsFor state begin.now.plan (is_limited key.now.limit) key.now.blob (nonce_used begin.now.nonce drawn.now) [] []) }
 {
@@ -149,7 +154,13 @@ impl Tables {
         };
         let Some(found) = found else { unreachable!() };
         let nonce = Room::of(alloc, begin.wanted)?;
-        let draws = DrawRoom::of(alloc, Pieces { first: begin.wanted, second: 0 })?;
+        let draws = DrawRoom::of(
+            alloc,
+            Pieces {
+                first: begin.wanted,
+                second: 0,
+            },
+        )?;
         let op = self.operations.next();
         self.operations.reserve()?;
         self.ciphers.reserve(op)?;
@@ -160,7 +171,8 @@ impl Tables {
         let Ok(state) = new_cipher(alloc, found, &begin, drawn.as_slice()) else {
             return Ok(Answered::without_memory(drawn));
         };
-        self.operations.open(new_operation(caller.client, found, &begin));
+        self.operations
+            .open(new_operation(caller.client, found, &begin));
         self.ciphers.put(op, state);
         let fields = Fields {
             op: Some(op),

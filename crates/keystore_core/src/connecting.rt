@@ -13,7 +13,12 @@ use tags::NoMemory;
 
 impl Tables {
     /// A client comes with this uid.
-    pub fn connect(&mut self, alloc: Global, _caller: Caller, uid: u32) -> Result<Answered, NoMemory>
+    pub fn connect(
+        &mut self,
+        alloc: Global,
+        _caller: Caller,
+        uid: u32,
+    ) -> Result<Answered, NoMemory>
         requires { ∥ IsTables self.old (2 ^ 62 - 1) ∥₁ }
         ensures serves { ServesAfter self.old self.new (event_by _caller (acts.Connect uid)) result }
         ensures drew { IfOk result (λ answered. IsUndrawn answered) }

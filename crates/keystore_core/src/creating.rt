@@ -64,12 +64,7 @@ fn import_facts(import: &Option<Import>) -> Option<ImportFacts>
 }
 
 /// What the rules of a new key read.
-fn new_facts(
-    caller: Caller,
-    key: Descriptor,
-    params: Bytes,
-    import: &Option<Import>,
-) -> NewFacts
+fn new_facts(caller: Caller, key: Descriptor, params: Bytes, import: &Option<Import>) -> NewFacts
     ensures { result ≡ model.new_facts caller key params (option_map spec.facts_of_import import.now) }
 {
     NewFacts {
@@ -188,7 +183,13 @@ impl Tables {
             Err(NewFault::Broken(rule, code)) => return Ok(Answered::refused(alloc, rule, code)),
             Err(NewFault::Memory) => return Err(NoMemory),
         };
-        let room = KeyRoom::of(alloc, caller.uid.unwrap_or(0), facts.descriptor, plan, import)?;
+        let room = KeyRoom::of(
+            alloc,
+            caller.uid.unwrap_or(0),
+            facts.descriptor,
+            plan,
+            import,
+        )?;
         let draws = DrawRoom::of(alloc, room.pieces())?;
         self.keys.reserve()?;
         let drawn = match draws.draw(entropy) {

@@ -42,7 +42,6 @@ fn draw_pieces<N: Entropy>(entropy: &mut N, first: &mut [u8], second: &mut [u8])
 }
 
 impl DrawRoom {
-
     /// Room for these pieces.
     pub fn of(alloc: Global, pieces: Pieces) -> Result<DrawRoom, NoMemory>
         requires { size_of pieces < 2 ^ 62 }

@@ -1,8 +1,6 @@
 -- Entries that leave the keys as they are.
-use Rattle.std.proofs.Common.{◌≡◌, ℕ, ◌+◌, Bool, true, false, ◌&&◌, if◌then◌else◌, List, ◌∷◌, Option, None, refl, ap}
-use Rattle.tags.specs.declared.settled.Settled.{Settled}
+use Rattle.std.proofs.Common.{◌≡◌, ℕ, ◌+◌, Bool, true, false, ◌&&◌, if◌then◌else◌, List, ◌∷◌, None, refl, ap}
 use Rattle.rule_model.specs.declared.entry.Entry.TheVariants.{Acted}
-use Rattle.rule_model.specs.declared.entry.KeyRecord.{KeyRecord}
 use Rattle.rule_model.specs.declared.event.Act.{Act}
 use Rattle.rule_model.specs.declared.event.Act.TheVariants.{GenerateKey, ImportKey}
 use Rattle.rule_model.specs.declared.event.Event.{Event}

@@ -1,5 +1,5 @@
 -- Entries that leave the operations as they are.
-use Rattle.std.proofs.Common.{◌≡◌, ℕ, Bool, true, false, if◌then◌else◌, List, Option, None, refl, ap, ◌∙◌}
+use Rattle.std.proofs.Common.{◌≡◌, ℕ, Bool, true, false, if◌then◌else◌, List, None, refl, ap}
 use Rattle.step_rules.specs.Table.{ends_operation}
 use Rattle.rule_model.specs.declared.event.Act.{Act}
 use Rattle.rule_model.specs.declared.event.Act.TheVariants.{Disconnect, CreateOperation, EnterAad, EnterUpdate, EnterFinish, Abort, Restart}

@@ -1,5 +1,5 @@
 -- The keys of a history.
-use Rattle.std.specs.Prelude.{ℕ, ◌+◌, Bool, true, false, ◌&&◌, ◌||◌, not, ◌==◌, List, [], ◌∷◌, ◌++◌, Option, Some, None, if◌then◌else◌, unwrap_or, length, take, drop, filter, find}
+use Rattle.std.specs.Prelude.{ℕ, ◌+◌, Bool, true, false, ◌&&◌, ◌||◌, not, ◌==◌, List, [], ◌∷◌, ◌++◌, Option, Some, None, if◌then◌else◌, unwrap_or, take, drop, filter, find}
 use Rattle.std.specs.List.{list_any}
 use Rattle.std.specs.Option.{option_and_then}
 use Rattle.std.specs.Str.{bytes_eq}
@@ -10,12 +10,10 @@ use Rattle.tags.specs.declared.settled.Settled.TheVariants.{Kept, Lost}
 use Rattle.tags.specs.declared.descriptor.Descriptor.{Descriptor}
 use Rattle.tags.specs.declared.param.Param.{Param}
 use Rattle.tag_lists.specs.Spelling.{spelling}
-use Rattle.key_rules.specs.declared.facts.ImportFacts.{ImportFacts}
 use Rattle.key_rules.specs.declared.plan.KeyPlan.{KeyPlan}
 use Rattle.key_rules.specs.Creation.{material_size, plan_of}
 use Rattle.rule_model.specs.declared.entry.Entry.TheVariants.{Acted, Settling}
 use Rattle.rule_model.specs.declared.entry.KeyRecord.{KeyRecord}
-use Rattle.rule_model.specs.declared.event.Event.{Event}
 use Rattle.rule_model.specs.declared.event.Act.{Act}
 use Rattle.rule_model.specs.declared.event.Act.TheVariants.{GenerateKey, ImportKey}
 use Rattle.rule_model.specs.declared.reply.Reply.{Reply}

@@ -1,8 +1,7 @@
 -- The operations of a history: what began them, what they have taken, and what they put out.
-use Rattle.std.specs.Prelude.{ℕ, Bool, true, false, not, ◌==◌, List, [], ◌∷◌, ◌++◌, Option, Some, None, Result, Ok, Err, if◌then◌else◌, unwrap_or}
+use Rattle.std.specs.Prelude.{ℕ, Bool, true, false, not, ◌==◌, List, [], ◌∷◌, ◌++◌, Option, Some, None, Result, Ok, if◌then◌else◌, unwrap_or}
 use Rattle.tags.specs.declared.code.Code.{Code}
 use Rattle.tags.specs.declared.code.Code.TheVariants.{MemoryAllocationFailed}
-use Rattle.tags.specs.declared.descriptor.Descriptor.{Descriptor}
 use Rattle.tags.specs.declared.param.Param.{Param}
 use Rattle.tags.specs.declared.plan.Plan.{Plan}
 use Rattle.use_rules.specs.declared.facts.BeginFacts.{BeginFacts}

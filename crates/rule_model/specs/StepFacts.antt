@@ -1,6 +1,5 @@
 -- What the rules of a step read.
-use Rattle.std.specs.Prelude.{ℕ, Bool, true, false, not, ◌==◌, List, [], Option, Some, None, length, unwrap_or}
-use Rattle.std.specs.Option.{option_map_or}
+use Rattle.std.specs.Prelude.{ℕ, Bool, false, not, ◌==◌, List, [], Option, Some, None, length, unwrap_or}
 use Rattle.tags.specs.declared.plan.Plan.TheVariants.{Ctr}
 use Rattle.step_rules.specs.declared.facts.StepFacts.{StepFacts}
 use Rattle.step_rules.specs.declared.facts.StepKind.{StepKind}

@@ -1,4 +1,4 @@
-use Rattle.std.proofs.Common.{◌≡◌, ◌+◌, ◌<◌, length, Some, ap, sym, ◌∙◌, refl, arith}
+use Rattle.std.proofs.Common.{◌≡◌, ◌+◌, ◌<◌, length, Some, ap, sym, ◌∙◌, arith}
 use Rattle.std.specs.Option.{option_copied}
 use Rattle.use_rules.specs.Table.{answer}
 use Rattle.rule_model.specs.Keys.{key_found}

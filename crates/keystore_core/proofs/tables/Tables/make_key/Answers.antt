@@ -1,4 +1,4 @@
-use Rattle.std.proofs.Common.{◌≡◌, ◌+◌, ◌<◌, length, ap, sym, ◌∙◌, refl, arith}
+use Rattle.std.proofs.Common.{◌≡◌, ◌+◌, ◌<◌, length, ap, sym, ◌∙◌, arith}
 use Rattle.key_rules.specs.declared.facts.NewFacts.{NewFacts}
 use Rattle.keymint_ops.specs.Creation.{planned}
 use Rattle.keystore_core.proofs.Making.{fills, made, refused, without_entropy}

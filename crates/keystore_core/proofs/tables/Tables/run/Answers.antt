@@ -1,5 +1,5 @@
-use Rattle.std.proofs.Common.{◌≡◌, Some, None, refl, sym, ◌∙◌, subst}
-use Rattle.keystore_core.specs.Stepping.{TakesRow, done_of}
+use Rattle.std.proofs.Common.{refl, sym, ◌∙◌}
+use Rattle.keystore_core.specs.Stepping.{done_of}
 use Rattle.keystore_core.proofs.Standing.{same_tables}
 use Rattle.keystore_core.proofs.Stepped.{after_take, comes_same, goes_with}
 use Rattle.keystore_core.proofs.tables.Tables.run.Goals as goal
