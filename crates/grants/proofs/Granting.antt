@@ -11,7 +11,7 @@ use Rattle.grants.specs.Table.{Table, numbered, shared, IsOrderly, IsNew, IsHeld
 use Rattle.grants.specs.Newest.{listed}
 use Rattle.grants.proofs.Finding.{all_more, all_push, find_none, keeps_all, all_from_none, found_has, found_passes}
 use Rattle.grants.proofs.Ordered.{later_number, before_last, find_push, bits_keep_all, bits_keep_number, numbered_from_held, ends_after, table_filter}
-use Rattle.grants.proofs.Whole.{once_by_number, once_by_key, find_left, find_whole, before_new, number_push, number_rebit, key_rebit, bits_in_maps, bits_of_newest}
+use Rattle.grants.proofs.Whole.{append_none, once_by_number, once_by_key, find_left, find_whole, before_new, number_push, number_rebit, key_rebit, bits_in_maps, bits_of_newest}
 
 -- ---- a grant
 
@@ -43,10 +43,6 @@ rows_at_newest row rows new last e same = rw e (bits_of_newest row.key row.uid r
 pub held_at_newest : (row : GrantRow) (rows : List GrantRow) (last : GrantRow) → is_some (find (is_for row.key row.uid) rows) ≡ false → is_for row.key row.uid last ≡ true → is_some (find (is_for row.key row.uid) (rows ++ last ∷ [])) ≡ true
 held_at_newest row rows last absent same =
     rw (find_whole (is_for row.key row.uid) rows (Some last), none_from (find (is_for row.key row.uid) rows) absent, same) refl
-
-append_none : (rows : List GrantRow) → rows ++ [] ≡ rows
-append_none [] = refl
-append_none (row ∷ rows) = ap (λ rest. row ∷ rest) (append_none rows)
 
 pub rows_unchanged : (row : GrantRow) (rows new : List GrantRow) → new ≡ map (with_bits row.key row.uid row.bits) rows → is_some (find (is_for row.key row.uid) rows) ≡ false → new ≡ rows ++ []
 rows_unchanged row rows new e absent =

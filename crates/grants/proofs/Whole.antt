@@ -123,7 +123,7 @@ map_push : (key uid bits : ℕ) (rows : List GrantRow) (last : GrantRow) → map
 map_push key uid bits [] last = refl
 map_push key uid bits (row ∷ rows) last = ap (λ rest. with_bits key uid bits row ∷ rest) (map_push key uid bits rows last)
 
-append_none : (rows : List GrantRow) → rows ++ [] ≡ rows
+pub append_none : (rows : List GrantRow) → rows ++ [] ≡ rows
 append_none [] = refl
 append_none (row ∷ rows) = ap (λ rest. row ∷ rest) (append_none rows)
 

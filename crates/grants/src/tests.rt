@@ -76,24 +76,24 @@ fn five(alloc: Global) -> Result<Grants, NoMemory> {
     Ok(grants)
 }
 
-// One grant to 10001 of each key from 1 to 16,384.
+// One grant to 10001 of each key from 1 to 65,536.
 fn many(alloc: Global) -> Result<Grants, NoMemory> {
     let mut grants = Grants::new(alloc);
-    for index in 0..16_384u64 {
+    for index in 0..65_536u64 {
         share(&mut grants, index + 1, index + 1, 10001, 256)?;
     }
     Ok(grants)
 }
 
-// Looks up four million times, and ends as many keys that have no grant. Where one of these went through the rows,
-// they would take minutes.
+// Looks up sixteen million times by each of both, and ends as many keys that have no grant. A walk of the rows in one
+// of these would meet more than 10^11 of them.
 fn finds_each(grants: &mut Grants) -> bool {
-    for round in 0..4_000_000u64 {
-        let number = round % 16_384 + 1;
+    for round in 0..16_000_000u64 {
+        let number = round % 65_536 + 1;
         if grants.find(number).is_none() || grants.of_key(number, 10001).is_none() {
             return false;
         }
-        grants.end_key(20_000 + round);
+        grants.end_key(100_000 + round);
     }
     true
 }
@@ -102,7 +102,7 @@ fn finds_each(grants: &mut Grants) -> bool {
 fn no_call_goes_through_the_rows(rt: HostRuntime) -> Result<(), Fail> {
     let mut grants = many(rt.alloc())?;
     assert!(rt; finds_each(&mut grants));
-    assert_eq!(rt; grants.len(), 16_384);
+    assert_eq!(rt; grants.len(), 65_536);
     Ok(())
 }
 

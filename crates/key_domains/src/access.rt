@@ -15,6 +15,7 @@ use tags::{DOMAIN_APP, DOMAIN_GRANT, DOMAIN_KEY_ID, DOMAIN_SELINUX, Descriptor, 
 pub enum Access {
     /// a live key, and what the caller may do with it
     Found { key: KeyRow, bits: Permissions },
+    /// no live key, or the grant is another uid's
     Nothing,
 }
 

@@ -209,7 +209,7 @@ fn a_grant_passes_on_what_its_giver_has_but_for_the_right_to_grant(
     assert!(rt; owner.has(Permission::Rebind) && !owner.has(Permission::ManageBlob));
     assert!(rt; owner.can_share(Permissions::of_bits(260)));
     assert!(rt; owner.can_share(Permissions::of_bits(0)));
-    assert!(rt; !owner.can_share(Permissions::of_bits(268)));
+    assert!(rt; !owner.can_share(Permissions::of_bits(264)));
     assert!(rt; !owner.can_share(Permissions::of_bits(320)));
     Ok(())
 }
