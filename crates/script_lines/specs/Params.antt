@@ -1,5 +1,5 @@
 -- The parameters of a script line, and the encoded list that they spell.
-use Rattle.std.specs.Prelude.{ℕ, ◌≤◌, ◌^◌, nat_lt, List, [], ◌∷◌, codes, length, Bool, true, false, if◌then◌else◌, Option, Some, None}
+use Rattle.std.specs.Prelude.{ℕ, ◌^◌, nat_lt, List, [], ◌∷◌, codes, length, Bool, true, false, if◌then◌else◌, Option, Some, None}
 use Rattle.tags.specs.Tag.{type_of, tag_named}
 use Rattle.tags.specs.declared.param.Param.{Param}
 use Rattle.tags.specs.declared.param.ParamValue.{ParamValue}
