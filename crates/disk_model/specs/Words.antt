@@ -1,7 +1,6 @@
 -- A disk in memory in words: its calls, what a read gives, and how a call leaves it.
-use Rattle.std.specs.Prelude.{◌≡◌, ℕ, List, ◌∷◌, length, take, reverse, Vec}
+use Rattle.std.specs.Prelude.{◌≡◌, ℕ, List, length, take, reverse}
 use Rattle.disk_model.specs.declared.call.Call.{Call}
-use Rattle.disk_model.specs.declared.call.Call.TheVariants.{Wrote, Synced}
 use Rattle.disk_model.specs.declared.memory.MemoryDisk.{MemoryDisk}
 use Rattle.disk_model.specs.Kept.{content_of}
 
