@@ -1,12 +1,12 @@
 -- Each image keeps within the limits.
-use Rattle.std.proofs.Common.{◌≡◌, ◌⊎◌, inl, inr, ℕ, ◌+◌, ◌-◌, ◌<◌, ◌≤◌, max, List, [], ◌∷◌, length, take, drop, get_or, refl, sym, ap, ◌∙◌, length-take, arith}
+use Rattle.std.proofs.Common.{◌≡◌, ◌⊎◌, inl, inr, ℕ, ◌+◌, ◌-◌, ◌<◌, ◌≤◌, List, [], ◌∷◌, length, take, get_or, refl, sym, ap, ◌∙◌, length-take, arith}
 use Rattle.std.proofs.lemmas.Bool.{cases_lt}
 use Rattle.std.proofs.lemmas.List.{get_or-take, get_or-drop}
 use Rattle.ks_outside.specs.Ranges.{Torn}
 use Rattle.disk_model.specs.declared.call.Call.{Call}
 use Rattle.disk_model.specs.declared.call.Call.TheVariants.{Wrote, Synced}
-use Rattle.disk_model.specs.Kept.{content_of, IsImage}
-use Rattle.disk_model.specs.Limits.{made_last, IsPending, reach, IsWithin}
+use Rattle.disk_model.specs.Kept.{IsImage}
+use Rattle.disk_model.specs.Limits.{IsWithin}
 
 -- a torn write leaves each byte outside its range
 torn_outside : (at n : ℕ) (old new : List ℕ) → Torn at n old new → (place : ℕ) → place < length old → (place < at) ⊎ (at + n ≤ place) → get_or new place 0 ≡ get_or old place 0

@@ -1,9 +1,9 @@
 -- How a replay of calls goes on, and that what is chosen is an image.
-use Rattle.std.proofs.Common.{◌≡◌, ◌⊎◌, inl, inr, ℕ, suc, ◌+◌, ◌-◌, ◌<◌, ◌≤◌, List, [], ◌∷◌, ◌++◌, length, take, get_or, reverse, replicate, max, refl, sym, ap, subst, ◌∙◌, arith}
+use Rattle.std.proofs.Common.{◌≡◌, inl, inr, ℕ, suc, ◌+◌, ◌<◌, ◌≤◌, List, [], ◌∷◌, length, take, get_or, reverse, replicate, refl, sym, ap, subst, ◌∙◌, arith}
 use Rattle.std.proofs.lemmas.Bool.{cases_lt}
 use Rattle.std.proofs.lemmas.List.{take_more, reverse-append, length-reverse, length-replicate}
 use Rattle.std.proofs.Common.{zero, length-take}
-use Rattle.ks_outside.specs.Ranges.{Holds, Torn}
+use Rattle.ks_outside.specs.Ranges.{Torn}
 use Rattle.disk_model.specs.declared.call.Call.{Call}
 use Rattle.disk_model.specs.declared.call.Call.TheVariants.{Wrote, Synced}
 use Rattle.disk_model.specs.declared.image.Choice.{Choice}

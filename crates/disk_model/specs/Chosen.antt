@@ -1,5 +1,5 @@
 -- One image of those that a crash may leave, chosen write by write.
-use Rattle.std.specs.Prelude.{◌≡◌, ℕ, ◌<◌, ◌≤◌, List, [], ◌∷◌, length, take, replicate, reverse, get_or, ⊤}
+use Rattle.std.specs.Prelude.{◌≡◌, ℕ, ◌≤◌, List, [], ◌∷◌, length, take, replicate, reverse, get_or, ⊤}
 use Rattle.disk_model.specs.declared.call.Call.{Call}
 use Rattle.disk_model.specs.declared.call.Call.TheVariants.{Wrote, Synced}
 use Rattle.disk_model.specs.declared.image.Choice.{Choice}

@@ -3,3 +3,4 @@ pub mod Kept
 pub mod Laws
 pub mod Limits
 pub mod Pages
+pub mod Words

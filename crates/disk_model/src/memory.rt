@@ -33,13 +33,15 @@ pub struct MemoryDisk<'a> {
 }
 
 impl<'a> MemoryDisk<'a> {
+    ghost use Rattle.disk_model.specs.Words.{made_by, first_made_by, calls_of, count_of, reads, SameCalls};
+
     /// An empty disk, with room for a number of writes and syncs. The calls with the numbers `failing`, counted from 1, are to fail.
     pub fn with_room(
         alloc: Global,
         calls: usize,
         failing: &'a [u64],
     ) -> Result<MemoryDisk<'a>, AllocError>
-        ensures empty { IfOk result (λ d. d.calls.items ≡ []) }
+        ensures empty { IfOk result (λ d. made_by d ≡ []) }
         ensures room { IfOk result (λ d. calls ≤ vec_capacity d.calls) }
         ensures numbers { IfOk result (λ d. d.plan.numbers.now ≡ failing.now) }
         ensures none { IfOk result (λ d. d.plan.calls ≡ 0) }
@@ -57,7 +59,7 @@ impl<'a> MemoryDisk<'a> {
 
     /// The writes and syncs that were made, in order.
     pub fn calls(&self) -> &[Call]
-        ensures { result.now ≡ self.now.calls.items }
+        ensures { result.now ≡ calls_of self.now }
     {
         self.calls.as_slice()
     }
@@ -65,7 +67,7 @@ impl<'a> MemoryDisk<'a> {
     /// What no crash can do: each image of each moment has every byte that no write since the newest sync before it touched, and ends
     /// where that sync ended, or at most where those writes end.
     pub fn images_keep(&self)
-        ensures { (calls : ℕ) (c : List ℕ) → IsImage (reverse (take calls self.now.calls.items)) c → IsWithin (reverse (take calls self.now.calls.items)) c }
+        ensures { (calls : ℕ) (c : List ℕ) → IsImage (first_made_by calls self.now) c → IsWithin (first_made_by calls self.now) c }
     {}
 
     /// The disk as a crash after the first `calls` of its writes and syncs may leave it, opened again. The choice with a write's number among
@@ -76,10 +78,10 @@ impl<'a> MemoryDisk<'a> {
         calls: usize,
         choices: &[Choice],
     ) -> Result<MemoryDisk<'static>, AllocError>
-        requires { calls ≤ length self.now.calls.items }
-        ensures image { IfOk result (λ d. content_of (reverse d.calls.items) ≡ image_of choices.now (reverse (take calls self.now.calls.items))) }
-        ensures possible { IfOk result (λ d. IsImage (reverse (take calls self.now.calls.items)) (content_of (reverse d.calls.items))) }
-        ensures settled { IfOk result (λ d. (c : List ℕ) → IsImage (reverse d.calls.items) c → c ≡ content_of (reverse d.calls.items)) }
+        requires { calls ≤ count_of self.now }
+        ensures image { IfOk result (λ d. reads d ≡ image_of choices.now (first_made_by calls self.now)) }
+        ensures possible { IfOk result (λ d. IsImage (first_made_by calls self.now) (reads d)) }
+        ensures settled { IfOk result (λ d. (c : List ℕ) → IsImage (made_by d) c → c ≡ reads d) }
     {
         let disk = replayed(self.alloc, &self.calls[..calls], choices)?;
         Ok(disk)
@@ -104,10 +106,10 @@ impl<'a> MemoryDisk<'a> {
 
     /// Makes a write, and keeps it as a call.
     fn make_write(&mut self, at: u64, piece: &[u8]) -> Result<(), AllocError>
-        ensures calls { OnOk result ((copy : _) × (copy.items ≡ piece.now) × (reverse self.new.calls.items ≡ Wrote at copy ∷ reverse self.old.calls.items)) }
-        ensures content { OnOk result (content_of (reverse self.new.calls.items) ≡ overwritten at piece.now (content_of (reverse self.old.calls.items))) }
-        ensures count { OnOk result (length self.new.calls.items ≡ length self.old.calls.items + 1) }
-        ensures same { OnErr result (self.new.calls.items ≡ self.old.calls.items) }
+        ensures calls { OnOk result ((copy : _) × (copy.items ≡ piece.now) × (made_by self.new ≡ Wrote at copy ∷ made_by self.old)) }
+        ensures content { OnOk result (reads self.new ≡ overwritten at piece.now (reads self.old)) }
+        ensures count { OnOk result (count_of self.new ≡ count_of self.old + 1) }
+        ensures same { OnErr result (SameCalls self.old self.new) }
         ensures room { vec_capacity self.old.calls ≤ vec_capacity self.new.calls }
         ensures plan { self.new.plan ≡ self.old.plan }
         ensures faults { self.new.faults ≡ self.old.faults }
@@ -125,7 +127,7 @@ impl<'a> MemoryDisk<'a> {
     }
 
     /// Makes the change of a call, as it is chosen.
-    pub fn replay(&mut self, call: &Call, choice: Choice) -> Result<(), AllocError>
+    pub(crate) fn replay(&mut self, call: &Call, choice: Choice) -> Result<(), AllocError>
         ensures { OnOk result (content_of (reverse self.new.calls.items) ≡ laid choice call.now (content_of (reverse self.old.calls.items))) }
     {
         let Call::Wrote { at, piece } = call else {
@@ -142,11 +144,11 @@ impl<'a> MemoryDisk<'a> {
     }
 
     /// Keeps a sync as a call.
-    pub fn make_sync(&mut self) -> Result<(), AllocError>
-        ensures calls { OnOk result (reverse self.new.calls.items ≡ Synced ∷ reverse self.old.calls.items) }
-        ensures succeeds { length self.old.calls.items < vec_capacity self.old.calls → IsOk result }
-        ensures count { OnOk result (length self.new.calls.items ≡ length self.old.calls.items + 1) }
-        ensures same { OnErr result (self.new.calls.items ≡ self.old.calls.items) }
+    pub(crate) fn make_sync(&mut self) -> Result<(), AllocError>
+        ensures calls { OnOk result (made_by self.new ≡ Synced ∷ made_by self.old) }
+        ensures succeeds { count_of self.old < vec_capacity self.old.calls → IsOk result }
+        ensures count { OnOk result (count_of self.new ≡ count_of self.old + 1) }
+        ensures same { OnErr result (SameCalls self.old self.new) }
         ensures room { vec_capacity self.old.calls ≤ vec_capacity self.new.calls }
         ensures plan { self.new.plan ≡ self.old.plan }
         ensures faults { self.new.faults ≡ self.old.faults }
@@ -157,17 +159,17 @@ impl<'a> MemoryDisk<'a> {
 
     /// Fills `out` with the bytes from a place on.
     fn fill(&self, at: u64, out: &mut [u8])
-        requires there { 0 < length out.old → at + length out.old ≤ length (content_of (reverse self.now.calls.items)) }
+        requires there { 0 < length out.old → at + length out.old ≤ length (reads self.now) }
         requires few { at + length out.old < 2 ^ 64 }
-        ensures { out.new ≡ take (length out.old) (drop at (content_of (reverse self.now.calls.items))) }
+        ensures { out.new ≡ take (length out.old) (drop at (reads self.now)) }
     {
         self.pages.read(at, out);
     }
 
     /// Puts the bytes from a place on, as many as there are and fit, at the front of `out`.
     fn copy_to(&self, at: u64, out: &mut [u8]) -> usize
-        ensures count { result ≡ min (length out.old) (length (content_of (reverse self.now.calls.items)) - at) }
-        ensures front { take result out.new ≡ take result (drop at (content_of (reverse self.now.calls.items))) }
+        ensures count { result ≡ min (length out.old) (length (reads self.now) - at) }
+        ensures front { take result out.new ≡ take result (drop at (reads self.now)) }
         ensures rest { drop result out.new ≡ drop result out.old }
         ensures within { length out.new ≡ length out.old }
     {
@@ -180,17 +182,19 @@ impl<'a> MemoryDisk<'a> {
 }
 
 impl Disk for MemoryDisk<'_> {
-    ghost content = { λ d. Some (content_of (reverse d.calls.items)) };
+    ghost use Rattle.disk_model.specs.Words.{made_by, count_of, reads, SameCalls};
 
-    ghost images = { λ d. IsImage (reverse d.calls.items) };
+    ghost content = { λ d. Some (reads d) };
 
-    ghost moment = { λ d. length d.calls.items };
+    ghost images = { λ d. IsImage (made_by d) };
 
-    ghost images_since = { λ d. WasImage (reverse d.calls.items) };
+    ghost moment = { λ d. count_of d };
+
+    ghost images_since = { λ d. WasImage (made_by d) };
 
     ghost fault_count = { λ d. d.faults.count };
 
-    ghost content_is_image = { λ d c told. content_is_image (reverse d.calls.items) c told };
+    ghost content_is_image = { λ d c told. content_is_image (made_by d) c told };
 
     ghost counts_now = { λ d t c before now. counts_now d.calls.items t c before now };
 
@@ -198,14 +202,14 @@ impl Disk for MemoryDisk<'_> {
 
     fn read(&mut self, at: u64, out: &mut [u8]) -> Result<usize, Failed>
         ensures within { IfOk result (λ n. n ≤ length out.new) }
-        ensures bytes { IfOk result (λ n. Gives (Some (content_of (reverse self.old.calls.items))) at n (length out.old) out.new) }
-        ensures content { Some (content_of (reverse self.new.calls.items)) ≡ Some (content_of (reverse self.old.calls.items)) }
-        ensures images { (c : List ℕ) → IsImage (reverse self.new.calls.items) c → IsImage (reverse self.old.calls.items) c }
-        ensures time { Elapses (length self.old.calls.items) (length self.new.calls.items) (WasImage (reverse self.old.calls.items)) (WasImage (reverse self.new.calls.items)) (IsImage (reverse self.new.calls.items)) }
+        ensures bytes { IfOk result (λ n. Gives (Some (reads self.old)) at n (length out.old) out.new) }
+        ensures content { Some (reads self.new) ≡ Some (reads self.old) }
+        ensures images { (c : List ℕ) → IsImage (made_by self.new) c → IsImage (made_by self.old) c }
+        ensures time { Elapses (count_of self.old) (count_of self.new) (WasImage (made_by self.old)) (WasImage (made_by self.new)) (IsImage (made_by self.new)) }
         ensures cause { HasCause self.old.faults.count self.new.faults.count result }
         ensures planned { IsErr result ↔ Contains self.old.plan.numbers.now self.new.plan.calls }
-        ensures whole { IfOk result (λ n. n ≡ min (length out.old) (length (content_of (reverse self.old.calls.items)) - at)) }
-        ensures same { self.new.calls.items ≡ self.old.calls.items }
+        ensures whole { IfOk result (λ n. n ≡ min (length out.old) (length (reads self.old) - at)) }
+        ensures same { SameCalls self.old self.new }
         ensures numbers { self.new.plan.numbers.now ≡ self.old.plan.numbers.now }
         ensures counted { self.new.plan.calls ≡ one_more self.old.plan.calls }
     {
@@ -216,16 +220,16 @@ impl Disk for MemoryDisk<'_> {
     }
 
     fn write_at(&mut self, at: u64, piece: &[u8]) -> Result<(), Failed>
-        ensures written { OnOk result (Becomes (Holds at piece.now) (Some (content_of (reverse self.old.calls.items))) (Some (content_of (reverse self.new.calls.items)))) }
-        ensures torn { OnErr result (Becomes (Torn at (length piece.now)) (Some (content_of (reverse self.old.calls.items))) (Some (content_of (reverse self.new.calls.items)))) }
-        ensures images { Follows (Torn at (length piece.now)) (IsImage (reverse self.old.calls.items)) (IsImage (reverse self.new.calls.items)) }
-        ensures nothing { OnErr result ((Some (content_of (reverse self.new.calls.items)) ≡ Some (content_of (reverse self.old.calls.items)))
-            × ((c : List ℕ) → IsImage (reverse self.new.calls.items) c → IsImage (reverse self.old.calls.items) c)) }
-        ensures time { Elapses (length self.old.calls.items) (length self.new.calls.items) (WasImage (reverse self.old.calls.items)) (WasImage (reverse self.new.calls.items)) (IsImage (reverse self.new.calls.items)) }
+        ensures written { OnOk result (Becomes (Holds at piece.now) (Some (reads self.old)) (Some (reads self.new))) }
+        ensures torn { OnErr result (Becomes (Torn at (length piece.now)) (Some (reads self.old)) (Some (reads self.new))) }
+        ensures images { Follows (Torn at (length piece.now)) (IsImage (made_by self.old)) (IsImage (made_by self.new)) }
+        ensures nothing { OnErr result ((Some (reads self.new) ≡ Some (reads self.old))
+            × ((c : List ℕ) → IsImage (made_by self.new) c → IsImage (made_by self.old) c)) }
+        ensures time { Elapses (count_of self.old) (count_of self.new) (WasImage (made_by self.old)) (WasImage (made_by self.new)) (IsImage (made_by self.new)) }
         ensures cause { HasCause self.old.faults.count self.new.faults.count result }
         ensures planned { Contains self.old.plan.numbers.now self.new.plan.calls → IsErr result }
-        ensures made { OnOk result ((copy : _) × (copy.items ≡ piece.now) × (reverse self.new.calls.items ≡ Wrote at copy ∷ reverse self.old.calls.items)) }
-        ensures same { OnErr result (self.new.calls.items ≡ self.old.calls.items) }
+        ensures made { OnOk result ((copy : _) × (copy.items ≡ piece.now) × (made_by self.new ≡ Wrote at copy ∷ made_by self.old)) }
+        ensures same { OnErr result (SameCalls self.old self.new) }
         ensures numbers { self.new.plan.numbers.now ≡ self.old.plan.numbers.now }
         ensures counted { self.new.plan.calls ≡ one_more self.old.plan.calls }
     {
@@ -240,13 +244,13 @@ impl Disk for MemoryDisk<'_> {
     }
 
     fn len(&mut self) -> Result<u64, Failed>
-        ensures bytes { IfOk result (λ n. (c : List ℕ) → Some (content_of (reverse self.old.calls.items)) ≡ Some c → n ≡ length c) }
-        ensures content { Some (content_of (reverse self.new.calls.items)) ≡ Some (content_of (reverse self.old.calls.items)) }
-        ensures images { (c : List ℕ) → IsImage (reverse self.new.calls.items) c → IsImage (reverse self.old.calls.items) c }
-        ensures time { Elapses (length self.old.calls.items) (length self.new.calls.items) (WasImage (reverse self.old.calls.items)) (WasImage (reverse self.new.calls.items)) (IsImage (reverse self.new.calls.items)) }
+        ensures bytes { IfOk result (λ n. (c : List ℕ) → Some (reads self.old) ≡ Some c → n ≡ length c) }
+        ensures content { Some (reads self.new) ≡ Some (reads self.old) }
+        ensures images { (c : List ℕ) → IsImage (made_by self.new) c → IsImage (made_by self.old) c }
+        ensures time { Elapses (count_of self.old) (count_of self.new) (WasImage (made_by self.old)) (WasImage (made_by self.new)) (IsImage (made_by self.new)) }
         ensures cause { HasCause self.old.faults.count self.new.faults.count result }
         ensures planned { IsErr result ↔ Contains self.old.plan.numbers.now self.new.plan.calls }
-        ensures same { self.new.calls.items ≡ self.old.calls.items }
+        ensures same { SameCalls self.old self.new }
         ensures numbers { self.new.plan.numbers.now ≡ self.old.plan.numbers.now }
         ensures counted { self.new.plan.calls ≡ one_more self.old.plan.calls }
     {
@@ -257,16 +261,16 @@ impl Disk for MemoryDisk<'_> {
     }
 
     fn sync(&mut self) -> Result<(), Failed>
-        ensures synced { OnOk result ((c : List ℕ) → IsImage (reverse self.new.calls.items) c → Some (content_of (reverse self.new.calls.items)) ≡ Some c) }
-        ensures content { Some (content_of (reverse self.new.calls.items)) ≡ Some (content_of (reverse self.old.calls.items)) }
-        ensures images { (c : List ℕ) → IsImage (reverse self.new.calls.items) c → IsImage (reverse self.old.calls.items) c }
+        ensures synced { OnOk result ((c : List ℕ) → IsImage (made_by self.new) c → Some (reads self.new) ≡ Some c) }
+        ensures content { Some (reads self.new) ≡ Some (reads self.old) }
+        ensures images { (c : List ℕ) → IsImage (made_by self.new) c → IsImage (made_by self.old) c }
         ensures never { ⊥ → IsOk result }
-        ensures time { Elapses (length self.old.calls.items) (length self.new.calls.items) (WasImage (reverse self.old.calls.items)) (WasImage (reverse self.new.calls.items)) (IsImage (reverse self.new.calls.items)) }
+        ensures time { Elapses (count_of self.old) (count_of self.new) (WasImage (made_by self.old)) (WasImage (made_by self.new)) (IsImage (made_by self.new)) }
         ensures cause { HasCause self.old.faults.count self.new.faults.count result }
         ensures planned { Contains self.old.plan.numbers.now self.new.plan.calls → IsErr result }
-        ensures made { OnOk result (reverse self.new.calls.items ≡ Synced ∷ reverse self.old.calls.items) }
-        ensures same { OnErr result (self.new.calls.items ≡ self.old.calls.items) }
-        ensures room { ¬ Contains self.old.plan.numbers.now self.new.plan.calls → length self.old.calls.items < vec_capacity self.old.calls → IsOk result }
+        ensures made { OnOk result (made_by self.new ≡ Synced ∷ made_by self.old) }
+        ensures same { OnErr result (SameCalls self.old self.new) }
+        ensures room { ¬ Contains self.old.plan.numbers.now self.new.plan.calls → count_of self.old < vec_capacity self.old.calls → IsOk result }
         ensures numbers { self.new.plan.numbers.now ≡ self.old.plan.numbers.now }
         ensures counted { self.new.plan.calls ≡ one_more self.old.plan.calls }
     {
