@@ -1,12 +1,12 @@
 -- The walk of the table: the rules of an encoded list, and then those of what it spells.
-use Rattle.std.proofs.Common.{◌≡◌, Bool, true, false, if◌then◌else◌, List, Result, Ok, Err, refl, sym, subst, ◌∙◌, ap}
+use Rattle.std.proofs.Common.{Bool, true, false, if◌then◌else◌, List, Ok, Err}
 use Rattle.tags.specs.declared.code.Code.{Code}
 use Rattle.tags.specs.declared.param.Param.{Param}
 use Rattle.tags.specs.declared.rule.Rule.{Rule}
 use Rattle.tags.specs.Table.{Ruling, where_all_hold}
 use Rattle.key_rules.specs.declared.fault.NewFault.{NewFault}
 use Rattle.key_rules.specs.declared.fault.NewFault.TheVariants.{Broken, Memory}
-use Rattle.key_rules.specs.Gives.{Gives, Tells}
+use Rattle.key_rules.specs.Gives.{Tells}
 
 -- three rows, and what comes behind them
 abbrev pub three : Bool → Bool → Bool → (Rule × Code) → (Rule × Code) → (Rule × Code) → Ruling → Ruling
