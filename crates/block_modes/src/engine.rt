@@ -4,8 +4,8 @@ ghost use Rattle.std.specs.Prelude.{◌≡◌, ℕ, ◌+◌, ◌<◌, ◌≤◌,
 ghost use Rattle.block_modes.specs.Steps.{is_counter, holds_back};
 
 use crate::fault::ModeFault;
-use crate::partial::Partial;
 use crate::padding::text_size;
+use crate::partial::Partial;
 use crate::step::step;
 use aes_core::BlockCipher;
 use tags::Plan;

@@ -41,11 +41,14 @@ went_on g setup past old new bytes before after line drawn reply settled text e 
 -- a line that spells no event
 pub malformed : {N : Type 0} (g : Ghosts N) (setup : Setup) (past : History) (session : Session) (bytes : List ℕ) (entropy : N) (result : Result (List ℕ) NoMemory)
     → event_of bytes ≡ None → StandsFor setup session past → IfOk result (λ text. text ≡ malformed_line) → Serves g setup past session bytes entropy entropy result
-malformed g setup past session bytes entropy (Ok text) e for is = (past, record {
-  says = rw e (refl, is);
-  drew = drew_nothing g entropy entropy past (nothing_drawn g entropy);
-  stands = for;
-})
+malformed g setup past session bytes entropy (Ok text) e for is = (
+  past,
+  record {
+    says = rw e (refl, is);
+    drew = drew_nothing g entropy entropy past (nothing_drawn g entropy);
+    stands = for;
+  },
+)
 malformed g setup past session bytes entropy (Err fault) e for is = inr (record { stands = for; undrawn = nothing_drawn g entropy })
 
 -- want of memory, with all of the line's entries made or with none, and nothing written
