@@ -1,6 +1,6 @@
 -- How a run ends: what was taken from the source, what was served, what was drawn for it, and what was written, between two
 -- moments of all that a run is handed.
-use Rattle.std.specs.Prelude.{◌≡◌, ℕ, ◌+◌, ◌^◌, ◌<◌, ◌≤◌, ◌⊎◌, Bool, true, false, List, [], ◌∷◌, ◌++◌, length, Option, IfSome}
+use Rattle.std.specs.Prelude.{◌≡◌, ℕ, ◌+◌, ◌<◌, ◌≤◌, ◌⊎◌, Bool, true, false, List, [], ◌∷◌, ◌++◌, length, Option, IfSome}
 use Rattle.std.specs.Io.KnownBytes.{IsAtEnd}
 use Rattle.ks_outside.specs.Shown.{Outside, Put, Took}
 use Rattle.ks_outside.specs.declared.entropy.Entropy.{Ghosts as EntropyGhosts}
@@ -15,7 +15,7 @@ use Rattle.keystore_program.specs.declared.status.Status.{Status}
 use Rattle.keystore_program.specs.declared.status.Status.TheVariants as statuses
 use Rattle.keystore_program.specs.Drawn.{DrewAll}
 use Rattle.keystore_program.specs.Follows.{Follows}
-use Rattle.keystore_program.specs.Lines.{AreLines, IsFree, ended, lines_of}
+use Rattle.keystore_program.specs.Lines.{AreLines, IsFree, LINE_BYTES, SCRIPT_BYTES, ended, lines_of}
 
 -- what is fixed in a run of a fresh store
 abbrev pub fresh_setup : DeviceSecrets → List PolicyRow → Setup
@@ -61,7 +61,7 @@ module _ {S K D N : Type 0} (s : SourceGhosts S) (k : SinkGhosts K) (n : Entropy
     pub all : lines ≡ lines_of taken
     pub known : IfSome (s.content old.source) (λ bytes. bytes ≡ taken)
     pub short : AreLines lines
-    pub few : length taken < 2 ^ 30
+    pub few : length taken < SCRIPT_BYTES
 
   -- The lines whose LF was taken were served, and their text was written; the bytes taken after them are no line yet. A read
   -- failed, or none did.
@@ -78,8 +78,8 @@ module _ {S K D N : Type 0} (s : SourceGhosts S) (k : SinkGhosts K) (n : Entropy
     pub lines : List (List ℕ)
     pub rest : List ℕ
     pub amid : EndsAmid setup old new lines rest true
-    pub within : length rest ≤ 262144
-    pub few : length (ended lines ++ rest) < 2 ^ 30
+    pub within : length rest ≤ LINE_BYTES
+    pub few : length (ended lines ++ rest) < SCRIPT_BYTES
 
   -- line `line` passes 262,144 bytes without its LF, and the lines before it were served
   pub record EndsLong (setup : Setup) (old new : Outside S K D N) (line : ℕ) : Type 0 where
@@ -87,16 +87,16 @@ module _ {S K D N : Type 0} (s : SourceGhosts S) (k : SinkGhosts K) (n : Entropy
     pub rest : List ℕ
     pub amid : EndsAmid setup old new lines rest false
     pub number : line ≡ length lines + 1
-    pub long : 262144 < length rest
-    pub few : length (ended lines ++ rest) ≤ 2 ^ 30
+    pub long : LINE_BYTES < length rest
+    pub few : length (ended lines ++ rest) ≤ SCRIPT_BYTES
 
   -- 2^30 bytes were taken without an end, and the lines among them were served
   pub record EndsMany (setup : Setup) (old new : Outside S K D N) : Type 0 where
     pub lines : List (List ℕ)
     pub rest : List ℕ
     pub amid : EndsAmid setup old new lines rest false
-    pub within : length rest ≤ 262144
-    pub many : length (ended lines ++ rest) ≡ 2 ^ 30
+    pub within : length rest ≤ LINE_BYTES
+    pub many : length (ended lines ++ rest) ≡ SCRIPT_BYTES
 
   -- The run stopped at a line. The lines before it were served and their text was written; it was served with a front of its
   -- text written, or it was not served. What the entropy gave was drawn for these lines. No read failed; a write did, or none.
@@ -118,7 +118,7 @@ module _ {S K D N : Type 0} (s : SourceGhosts S) (k : SinkGhosts K) (n : Entropy
     pub took : Took s old.source new.source taken false
     pub are : AreTaken (s.content new.source) taken (front ++ last)
     pub short : AreLines (front ++ last)
-    pub few : length taken ≤ 2 ^ 30
+    pub few : length taken ≤ SCRIPT_BYTES
 
   abbrev pub Ends : Setup → Outside S K D N → Outside S K D N → Status → Type 0
   Ends setup old new statuses.Ok = EndsOk setup old new

@@ -1,6 +1,7 @@
 -- What the reader of a script holds.
-use Rattle.std.specs.Prelude.{◌≡◌, ◌-◌, ◌^◌, ◌≤◌, length, take, drop}
+use Rattle.std.specs.Prelude.{◌≡◌, ◌-◌, ◌≤◌, length, take, drop}
 use Rattle.keystore_program.specs.declared.reader.LineReader.TheInside.{Inside}
+use Rattle.keystore_program.specs.Lines.{SCRIPT_BYTES}
 use Rattle.keystore_program.specs.Window.{Held, HasNoFeedBelow}
 
 -- the bytes between the two ends of the window
@@ -14,4 +15,4 @@ pub record IsReader (reader : Inside) : Type 0 where
   pub within : reader.end ≤ 262145
   pub searched : reader.scanned ≤ reader.end - reader.start
   pub free : HasNoFeedBelow (held_of reader).bytes reader.scanned
-  pub taken : reader.taken ≤ 2 ^ 30
+  pub taken : reader.taken ≤ SCRIPT_BYTES

@@ -1,5 +1,13 @@
 -- The lines of a script.
-use Rattle.std.specs.Prelude.{◌≢◌, ℕ, ◌≤◌, ◌==◌, List, [], ◌∷◌, ◌++◌, length, if◌then◌else◌}
+use Rattle.std.specs.Prelude.{◌≢◌, ℕ, ◌≤◌, ◌^◌, ◌==◌, List, [], ◌∷◌, ◌++◌, length, if◌then◌else◌}
+
+-- the most bytes of a line, without its LF
+abbrev pub LINE_BYTES : ℕ
+LINE_BYTES = 262144
+
+-- how many bytes a script may not reach
+abbrev pub SCRIPT_BYTES : ℕ
+SCRIPT_BYTES = 2 ^ 30
 
 -- the bytes have no LF
 abbrev pub IsFree : List ℕ → Type 0
@@ -21,7 +29,7 @@ abbrev pub ended : List (List ℕ) → List ℕ
 ended [] = []
 ended (line ∷ lines) = (line ++ 10 ∷ []) ++ ended lines
 
--- lines without LF of at most 262,144 bytes
+-- lines without LF, none of them too long
 abbrev pub AreLines : List (List ℕ) → Type 0
 AreLines [] = Unit {0}
-AreLines (line ∷ lines) = (IsFree line × (length line ≤ 262144)) × AreLines lines
+AreLines (line ∷ lines) = (IsFree line × (length line ≤ LINE_BYTES)) × AreLines lines

@@ -1,9 +1,10 @@
 //! Lines out of a source, one at a time.
 
-ghost use Rattle.std.specs.Prelude.{◌≡◌, ℕ, ◌+◌, ◌-◌, ◌^◌, ◌<◌, ◌≤◌, true, false, List, ◌++◌, [], length, take, drop, IfOk, IfSome, IfNone, OnErr};
+ghost use Rattle.std.specs.Prelude.{◌≡◌, ℕ, ◌+◌, ◌-◌, ◌<◌, ◌≤◌, true, false, List, ◌++◌, [], length, take, drop, IfOk, IfSome, IfNone, OnErr};
 ghost use Rattle.std.specs.Io.KnownBytes.{IsAtEnd};
 ghost use Rattle.ks_outside.specs.Shown.{Took};
 ghost use Rattle.keystore_program.specs.Finds.{Finds, is_fault};
+ghost use Rattle.keystore_program.specs.Lines.{LINE_BYTES, SCRIPT_BYTES};
 ghost use Rattle.keystore_program.specs.Window.{HasNoFeedBelow, IsFirstFeed};
 
 use ks_outside::{Failed, Source};
@@ -145,7 +146,7 @@ impl LineReader {
         ensures none { IfNone result (HasNoFeedBelow self.new.bytes (length self.new.bytes)) }
         ensures same { self.new ≡ self.old }
         ensures bound { length self.new.bytes ≤ 262145 }
-        ensures taken { self.new.taken ≤ 2 ^ 30 }
+        ensures taken { self.new.taken ≤ SCRIPT_BYTES }
     {
         let window = &self.buffer[self.start..self.end];
         let length = window.len();
@@ -164,18 +165,18 @@ impl LineReader {
     /// How many bytes were taken in all.
     fn taken(&self) -> u64
         ensures value { result ≡ self.now.taken }
-        ensures bound { result ≤ 2 ^ 30 }
+        ensures bound { result ≤ SCRIPT_BYTES }
     {
         self.taken
     }
 
     /// Takes more bytes from the source, one at least where there is one.
     fn read<S: Source>(&mut self, source: &mut S) -> Result<usize, Failed>
-        requires room { length self.old.bytes ≤ 262144 }
-        requires few { self.old.taken < 2 ^ 30 }
+        requires room { length self.old.bytes ≤ LINE_BYTES }
+        requires few { self.old.taken < SCRIPT_BYTES }
         ensures bytes { IfOk result (λ n. (piece : List ℕ) × (length piece ≡ n) × (self.new.bytes ≡ self.old.bytes ++ piece)
             × (self.new.taken ≡ self.old.taken + n) × Took S.Source source.old source.new piece false) }
-        ensures taken { self.new.taken ≤ 2 ^ 30 }
+        ensures taken { self.new.taken ≤ SCRIPT_BYTES }
         ensures end { IfOk result (λ n. n ≡ 0 → IsAtEnd (S.content source.new)) }
         ensures err { OnErr result ((self.new.bytes ≡ self.old.bytes) × (self.new.taken ≡ self.old.taken) × Took S.Source source.old source.new [] true) }
     {
@@ -213,7 +214,7 @@ impl LineReader {
         requires free { HasNoFeedBelow self.old.bytes (length self.old.bytes) }
         ensures bytes { (piece : List ℕ) × (self.new.bytes ≡ self.old.bytes ++ piece) × (self.new.taken ≡ self.old.taken + length piece)
             × Took S.Source source.old source.new piece (is_fault result) }
-        ensures taken { self.new.taken ≤ 2 ^ 30 }
+        ensures taken { self.new.taken ≤ SCRIPT_BYTES }
         ensures found { Finds (S.content source.new) self.new result }
     {
         'reads: loop {
@@ -239,7 +240,7 @@ impl LineReader {
     pub fn fill<S: Source>(&mut self, source: &mut S) -> Found
         ensures bytes { (piece : List ℕ) × (self.new.bytes ≡ self.old.bytes ++ piece) × (self.new.taken ≡ self.old.taken + length piece)
             × Took S.Source source.old source.new piece (is_fault result) }
-        ensures taken { self.new.taken ≤ 2 ^ 30 }
+        ensures taken { self.new.taken ≤ SCRIPT_BYTES }
         ensures found { Finds (S.content source.new) self.new result }
         ensures held { (count : ℕ) → IsFirstFeed self.old.bytes count → source.new ≡ source.old }
     {
