@@ -35,12 +35,9 @@ use Rattle.rule_model.specs.Setup.{Setup}
 use Rattle.rule_model.proofs.Clients.{moves_clients, same_clients}
 use Rattle.rule_model.proofs.Operations.{moves_operations, same_operations}
 use Rattle.keystore_core.specs.declared.creating.Import.{Import}
-use Rattle.keystore_core.specs.declared.creating.KeyRoom.{KeyRoom}
-use Rattle.keystore_core.specs.declared.creating.Material.{Material}
-use Rattle.keystore_core.specs.declared.creating.Material.TheVariants as materials
 use Rattle.keystore_core.specs.declared.keys.Keys.{Keys}
 use Rattle.keystore_core.specs.declared.tables.Tables.{Tables}
-use Rattle.keystore_core.specs.Creating.{CanFill, IsDrawn, IsKeyRoom, IsMaterial, facts_of_import, making, material_in, record_of}
+use Rattle.keystore_core.specs.Creating.{facts_of_import, making, planned_record}
 use Rattle.keystore_core.specs.Keys.{KeysStand, PutsKey, SameKeys, apart, next_in}
 use Rattle.keystore_core.specs.Tables.{AnswersAfter, IsCaller, SameTables, TablesStand, event_by}
 use Rattle.keystore_core.proofs.KeyTable.{any_with, named_with}
@@ -168,22 +165,10 @@ module _ (setup : Setup) (past : History) (tables : Tables) (caller : Caller) (k
       }
 
   -- the record of a key that is made
-  given_material : (material : Material) (import : Import) (size : ℕ) (drawn : List ℕ) → IsMaterial material (Some import) size → material_in material drawn ≡ import.material
-  given_material (materials.Given material) import size drawn is = is
-  given_material (materials.Drawn room) import size drawn is = absurd is
-
-  drawn_material : (material : Material) (size : ℕ) (drawn : List ℕ) → IsMaterial material None size → material_in material drawn ≡ drawn
-  drawn_material (materials.Given material) size drawn is = absurd is
-  drawn_material (materials.Drawn room) size drawn is = refl
-
-  made_record : (import : Option Import) (plan : NewKey) (room : KeyRoom) (number : ℕ) (drawn : List ℕ) → IsPlanned (facts_of caller key params import) plan
-      → IsKeyRoom room (owner_of caller) key plan import → key_change (making key params import) caller drawn number ≡ Makes (record_of number room drawn)
-  made_record None plan room number drawn is room_is =
-      let material = drawn_material room.material plan.size (take room.size drawn) room_is.material_is in
-      rw (material, room_is.owner_is, room_is.alias_is, room_is.list_is, room_is.limit_is, room_is.size_is, is.plan_is) refl
-  made_record (Some import) plan room number drawn is room_is =
-      let material = given_material room.material import plan.size (take room.size drawn) room_is.material_is in
-      rw (material, room_is.owner_is, room_is.alias_is, room_is.list_is, room_is.limit_is, room_is.size_is, is.plan_is) refl
+  made_record : (import : Option Import) (plan : NewKey) (number : ℕ) (drawn : List ℕ) → IsPlanned (facts_of caller key params import) plan
+      → key_change (making key params import) caller drawn number ≡ Makes (planned_record number (owner_of caller) key plan import drawn)
+  made_record None plan number drawn is = rw is.plan_is refl
+  made_record (Some import) plan number drawn is = rw is.plan_is refl
 
   made_answer : (import : Option Import) (plan : NewKey) (number : ℕ) (drawn : List ℕ) → IsPlanned (facts_of caller key params import) plan → number ≡ next_key setup past
       → Done (record no_fields { key = Some number }) ≡ answer_by_rules (making key params import) setup past caller drawn
@@ -212,11 +197,10 @@ module _ (setup : Setup) (past : History) (tables : Tables) (caller : Caller) (k
         one_more None = refl
         one_more (Some i) = refl
 
-  pub made : (import : Option Import) (middle : Tables) (new : Keys) (plan : NewKey) (room : KeyRoom) (drawn : List ℕ) (number : ℕ) → planned (facts_of caller key params import) ≡ Ok plan
-      → IsKeyRoom room (owner_of caller) key plan import → length drawn ≡ plan.size + 12 → number ≡ next_in middle.keys
-      → SameTables tables middle → PutsKey (record_of number room drawn) middle.keys new
+  pub made : (import : Option Import) (middle : Tables) (new : Keys) (plan : NewKey) (drawn : List ℕ) (number : ℕ) → planned (facts_of caller key params import) ≡ Ok plan
+      → length drawn ≡ plan.size + 12 → number ≡ next_in middle.keys → SameTables tables middle → PutsKey (planned_record number (owner_of caller) key plan import drawn) middle.keys new
       → AnswersAfter setup past (record middle { keys = new }) (event_by caller (making key params import)) (record { reply = Done (record no_fields { key = Some number }); drawn = drawn })
-  made import middle new plan room drawn number e room_is long first still puts =
+  made import middle new plan drawn number e long first still puts =
       let is = is_planned (facts_of caller key params import) plan e in
       let next : number ≡ next_key setup past = first ∙ still.keys.next ∙ stands.keys.next in
       let event : Event = event_by caller (making key params import) in
@@ -225,23 +209,10 @@ module _ (setup : Setup) (past : History) (tables : Tables) (caller : Caller) (k
         follows = answered import drawn reply (long ∙ sym (planned_wanted setup past caller key params import plan is)) (made_answer import plan number drawn is next);
         stands = record {
           clients = clients_stay setup past event drawn reply tables.clients middle.clients stands.clients still.clients (same_clients event reply (moves_none key params import)) (connects_none key params import);
-          keys = made_keys import middle.keys new (record_of number room drawn) drawn _ still.keys puts
+          keys = made_keys import middle.keys new (planned_record number (owner_of caller) key plan import drawn) drawn _ still.keys puts
               (ap (λ c. key_change (making key params import) c drawn (next_key setup past)) (sym (same import)) ∙ ap (λ n. key_change (making key params import) caller drawn n) (sym next)
-              ∙ made_record import plan room number drawn is room_is);
+              ∙ made_record import plan number drawn is);
           operations = operations_stay setup past event drawn reply tables.operations middle.operations stands.operations still.operations (none import drawn reply) (begins_none key params import);
           ciphers = ciphers_stay setup past event drawn reply tables.ciphers middle.ciphers stands.ciphers still.ciphers (none import drawn reply);
         };
       }
-
--- the bytes that are drawn fill the room
-pub fills : (room : KeyRoom) (owner : ℕ) (key : Descriptor) (plan : NewKey) (import : Option Import) (drawn : List ℕ) → IsKeyRoom room owner key plan import → length drawn ≡ plan.size + 12 → IsDrawn room drawn
-fills room owner key plan import drawn is long = record {
-  material = by_material import room.material is.material_is;
-  nonce = omega (arith, is.nonce_is, is.size_is, long, length-drop room.size drawn);
-  long = omega (arith, is.size_is, long);
-} where
-  by_material : (import : Option Import) (material : Material) → IsMaterial material import plan.size → CanFill material (take room.size drawn)
-  by_material None (materials.Given material) is_material = tt
-  by_material (Some i) (materials.Given material) is_material = tt
-  by_material None (materials.Drawn r) is_material = omega (arith, is_material, is.size_is, long, length-take room.size drawn)
-  by_material (Some i) (materials.Drawn r) is_material = absurd is_material

@@ -5,6 +5,7 @@ ghost use Rattle.std.specs.Option.{option_map};
 ghost use Rattle.rule_model.specs.NewFacts as model;
 ghost use Rattle.keystore_core.specs.Creating as spec;
 ghost use Rattle.keystore_core.specs.Drawn.{DrewForResult};
+ghost use Rattle.keystore_core.specs.Room.{room_in};
 ghost use Rattle.keystore_core.specs.Tables.{IsCaller, IsTables, ServesAfter, event_by};
 
 use crate::answered::Answered;
@@ -27,28 +28,6 @@ const NONCE_BYTES: usize = 12;
 pub struct Import {
     pub format: u32,
     pub material: Bytes,
-}
-
-/// Where a new key's material comes from: it was given, or it is drawn into this room.
-#[derive(Drop)]
-pub enum Material {
-    Given(Bytes),
-    Drawn(Room),
-}
-
-/// All of a new key but its number and what is drawn for it.
-#[derive(Drop)]
-pub struct KeyRoom {
-    owner: u32,
-    alias: Bytes,
-    /// the kept list, encoded
-    list: Bytes,
-    /// how many uses the key has in its life, or 0 for no limit
-    limit: u32,
-    /// how many bytes of material are drawn
-    size: usize,
-    material: Material,
-    nonce: Room,
 }
 
 fn import_facts(import: &Option<Import>) -> Option<ImportFacts>
@@ -76,88 +55,44 @@ fn new_facts(caller: Caller, key: Descriptor, params: Bytes, import: &Option<Imp
     }
 }
 
-impl Material {
-    /// The imported material, or room for `size` drawn bytes.
-    fn of(alloc: Global, import: Option<Import>, size: usize) -> Result<Material, NoMemory>
-        ensures { IfOk result (λ material. spec.IsMaterial material import size) }
-    {
-        match import {
-            Some(import) => Ok(Material::Given(import.material)),
-            None => Ok(Material::Drawn(Room::of(alloc, size)?)),
-        }
-    }
-
-    /// The material, where these bytes are drawn for it.
-    fn filled(self, drawn: &[u8]) -> Bytes
-        requires { spec.CanFill self drawn.now }
-        ensures { result ≡ spec.material_in self drawn.now }
-    {
-        match self {
-            Material::Given(material) => material,
-            Material::Drawn(room) => room.filled(drawn),
-        }
+/// A new key's material: the imported one, or these drawn bytes in the room that was taken for them.
+fn material_of(import: Option<Import>, room: Room, drawn: &[u8]) -> Bytes
+    requires { room_in room ≡ length drawn.now }
+    ensures { result ≡ spec.material_of import drawn.now }
+{
+    match import {
+        Some(import) => import.material,
+        None => room.filled(drawn),
     }
 }
 
-impl KeyRoom {
-    /// Takes the room of a planned key.
-    fn of(
-        alloc: Global,
-        owner: u32,
-        key: Descriptor,
-        plan: NewKey,
-        import: Option<Import>,
-    ) -> Result<KeyRoom, NoMemory>
-        ensures { IfOk result (λ room. spec.IsKeyRoom room owner key plan import) }
-    {
-        let NewKey { list, limit, size } = plan;
-        Ok(KeyRoom {
-            owner,
-            alias: into_alias(alloc, key),
-            list,
-            limit,
-            size,
-            material: Material::of(alloc, import, size)?,
-            nonce: Room::of(alloc, NONCE_BYTES)?,
-        })
-    }
-
-    /// What is drawn for the key.
-    fn pieces(&self) -> Pieces
-        ensures { result ≡ spec.pieces_of self.now }
-    {
-        Pieces {
-            first: self.size,
-            second: NONCE_BYTES,
-        }
-    }
-
-    /// The key under its number, by the bytes that were drawn for it.
-    fn into_record(self, id: u64, drawn: &[u8]) -> KeyRecord
-        requires { spec.IsDrawn self drawn.now }
-        ensures { result ≡ spec.record_of id self drawn.now }
-    {
-        let KeyRoom {
-            owner,
-            alias,
-            list,
-            limit,
-            size,
-            material,
-            nonce,
-        } = self;
-        let (front, back) = drawn.split_at(size);
-        KeyRecord {
-            id,
-            domain: 0,
-            nspace: u64::from(owner),
-            alias,
-            blob: material.filled(front),
-            nonce: nonce.filled(back),
-            list,
-            limit,
-            left: limit,
-        }
+/// The record of an app's new key, with all its uses left.
+fn new_record(
+    alloc: Global,
+    id: u64,
+    owner: u32,
+    key: Descriptor,
+    plan: NewKey,
+    material: Bytes,
+    nonce: Bytes,
+) -> KeyRecord
+    ensures { result ≡ spec.record_of id owner key plan material nonce }
+{
+    let NewKey {
+        list,
+        limit,
+        size: _,
+    } = plan;
+    KeyRecord {
+        id,
+        domain: 0,
+        nspace: u64::from(owner),
+        alias: into_alias(alloc, key),
+        blob: material,
+        nonce,
+        list,
+        limit,
+        left: limit,
     }
 }
 
@@ -183,21 +118,26 @@ impl Tables {
             Err(NewFault::Broken(rule, code)) => return Ok(Answered::refused(alloc, rule, code)),
             Err(NewFault::Memory) => return Err(NoMemory),
         };
-        let room = KeyRoom::of(
-            alloc,
-            caller.uid.unwrap_or(0),
-            facts.descriptor,
-            plan,
-            import,
-        )?;
-        let draws = DrawRoom::of(alloc, room.pieces())?;
+        let material = Room::of(alloc, plan.size)?;
+        let nonce = Room::of(alloc, NONCE_BYTES)?;
+        let pieces = Pieces {
+            first: plan.size,
+            second: NONCE_BYTES,
+        };
+        let draws = DrawRoom::of(alloc, pieces)?;
         self.keys.reserve()?;
         let drawn = match draws.draw(entropy) {
             Ok(drawn) => drawn,
             Err(drawn) => return Ok(Answered::without_entropy(drawn)),
         };
+        let (front, back) = drawn.as_slice().split_at(plan.size);
+        let material = material_of(import, material, front);
+        let nonce = nonce.filled(back);
         let id = self.keys.next();
-        self.keys.put(room.into_record(id, drawn.as_slice()));
+        let owner = caller.uid.unwrap_or(0);
+        let key = facts.descriptor;
+        self.keys
+            .put(new_record(alloc, id, owner, key, plan, material, nonce));
         let fields = Fields {
             key: Some(id),
             ..NO_FIELDS
