@@ -1,5 +1,6 @@
 //! Scripts from their bytes to their text, and each status.
 
+mod answered;
 mod begins;
 mod blocks;
 mod clients;
