@@ -1,5 +1,5 @@
 -- A new key of an app.
-use Rattle.std.specs.Prelude.{◌≡◌, ℕ, ◌+◌, List, length, take, drop, Option, Some, None}
+use Rattle.std.specs.Prelude.{ℕ, List, length, take, drop, Option, Some, None}
 use Rattle.tags.specs.declared.descriptor.Descriptor.{Descriptor}
 use Rattle.key_rules.specs.declared.facts.ImportFacts.{ImportFacts}
 use Rattle.keymint_ops.specs.declared.creation.NewKey.{NewKey}

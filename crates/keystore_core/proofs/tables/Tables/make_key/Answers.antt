@@ -30,5 +30,13 @@ returns-clause-serves g c = λ setup past stands.
     made setup past c.args.self.now c.args.caller c.args.key c.args.params stands c.requires.caller c.args.import
     (record c.args.self.now { keys = c.reserve.new.self }) c.put.new.self c.in-Ok.plan c.in-Ok-draw.drawn c.next-id.result is long c.next-id.ensures
     (same_but_keys c.args.self.now c.reserve.new.self c.in_ok-reserve.ensures.same)
-    (rw (c.new_record.ensures, c.unwrap_or-owner.ensures, c.material_of-material.ensures, c.filled-nonce.ensures, c.split_at.ensures.front, c.split_at.ensures.back, c.as_slice.ensures,
-      ap (λ (f : NewFacts). f.descriptor) c.new_facts-facts.ensures) at c.put.ensures)
+    (rw (
+      c.new_record.ensures,
+      c.unwrap_or-owner.ensures,
+      c.material_of-material.ensures,
+      c.filled-nonce.ensures,
+      c.split_at.ensures.front,
+      c.split_at.ensures.back,
+      c.as_slice.ensures,
+      ap (λ (f : NewFacts). f.descriptor) c.new_facts-facts.ensures,
+    ) at c.put.ensures)

@@ -1,0 +1,123 @@
+#!/usr/bin/env python3
+"""Runs the built program over scripts and refuses it one growth of memory after the other: the first that it asks for, then
+the second, and so on. Each line is sent when the one before it is answered, and a line that is answered -41 is sent again.
+
+    python3 tools/refused_growths.py [SCRIPT...] [--program PATH]
+
+A growth that is refused may end the run with status 1 after a front of the replies, or give one -41, at an act that takes
+memory; then nothing is changed by it, so the other replies are those of the script's `.expected` file (`?` there stands for
+any digit). Without SCRIPT it takes those of examples/ and checks/ that are short. It needs a C compiler, `cc`, for the library that
+refuses. The exit status is 1 where a run does otherwise."""
+import argparse
+import json
+import os
+import re
+import subprocess
+import sys
+import tempfile
+from pathlib import Path
+
+TOP = Path(__file__).resolve().parent.parent
+PROGRAM = TOP / "crates/keystore_program/out/keystore_program"
+MOST_LINES = 60
+WANT = '{"code":-41}\n'
+# Acts that are never given up for want of memory.
+WITHOUT_MEMORY = {"abort", "disconnect"}
+
+REFUSING = """
+#define _GNU_SOURCE
+#include <dlfcn.h>
+#include <stdlib.h>
+static long asked;
+static int refuses(void) { return ++asked == atol(getenv("REFUSED_GROWTH")); }
+void *malloc(size_t size) {
+    static void *(*grow)(size_t);
+    if (!grow) grow = dlsym(RTLD_NEXT, "malloc");
+    return refuses() ? NULL : grow(size);
+}
+void *realloc(void *old, size_t size) {
+    static void *(*grow)(void *, size_t);
+    if (!grow) grow = dlsym(RTLD_NEXT, "realloc");
+    return refuses() ? NULL : grow(old, size);
+}
+__attribute__((destructor)) static void tell(void) {
+    if (asked < atol(getenv("REFUSED_GROWTH"))) _exit(99);
+}
+"""
+ENOUGH = 99
+
+
+def reply_to(run, line):
+    """The reply to a line, or None where the run has ended."""
+    try:
+        run.stdin.write(line.encode())
+    except BrokenPipeError:
+        return None
+    return run.stdout.readline().decode() or None
+
+
+def replies_of(program, lines, library, refused):
+    """The replies of a run in which one growth is refused, without its -41s; the acts that got one; and its status."""
+    environment = {**os.environ, "LD_PRELOAD": str(library), "REFUSED_GROWTH": str(refused)}
+    replies, given_up = [], []
+    pipes = {"stdin": subprocess.PIPE, "stdout": subprocess.PIPE, "stderr": subprocess.DEVNULL, "bufsize": 0}
+    with subprocess.Popen([program, "run", "--fresh"], env=environment, **pipes) as run:
+        for line in lines:
+            while (reply := reply_to(run, line)) == WANT:
+                given_up.append(json.loads(line)["do"])
+            if reply is None:
+                break
+            replies.append(reply)
+        run.stdin.close()
+        return replies, given_up, run.wait()
+
+
+def is_expected(reply, expected):
+    return re.fullmatch(re.escape(expected.rstrip("\n")).replace(r"\?", "."), reply.rstrip("\n")) is not None
+
+
+def fault_of(replies, given_up, status, expected):
+    """What is wrong with a run, or None."""
+    if any(not is_expected(*pair) for pair in zip(replies, expected)):
+        return "another reply than expected"
+    if any(act in WITHOUT_MEMORY for act in given_up):
+        return "-41 at an act that takes no memory"
+    if len(given_up) > 1:
+        return "more than one -41 for one growth"
+    if status not in (0, 1, ENOUGH):
+        return f"status {status}"
+    if status != 1 and len(replies) != len(expected):
+        return "replies are missing"
+    return None
+
+
+def main():
+    parser = argparse.ArgumentParser(description=__doc__.split("\n", maxsplit=1)[0])
+    parser.add_argument("scripts", nargs="*", type=Path)
+    parser.add_argument("--program", type=Path, default=PROGRAM)
+    asked = parser.parse_args()
+    scripts = asked.scripts or sorted(TOP.glob("examples/*.jsonl")) + sorted(TOP.glob("checks/*.jsonl"))
+    faults = 0
+    with tempfile.TemporaryDirectory() as folder:
+        library = Path(folder) / "refusing.so"
+        subprocess.run(["cc", "-shared", "-fPIC", "-xc", "-", "-include", "unistd.h", "-o", library, "-ldl"], input=REFUSING, text=True, check=True)
+        for script in scripts:
+            lines = [f"{line}\n" for line in script.read_text(encoding="utf-8").splitlines()]
+            expected = script.with_suffix(".expected").read_text(encoding="utf-8").splitlines()
+            if not asked.scripts and len(lines) > MOST_LINES:
+                continue
+            growths, stopped, wanted, status = 0, 0, 0, 0
+            while status != ENOUGH:
+                growths += 1
+                replies, given_up, status = replies_of(asked.program, lines, library, growths)
+                stopped += status == 1
+                wanted += len(given_up)
+                if fault := fault_of(replies, given_up, status, expected):
+                    faults += 1
+                    print(f"{script.name}, growth {growths}: {fault}")
+            print(f"{script.name}: {growths - 1} growths, {stopped} end the run with status 1, {wanted} are answered -41")
+    return 1 if faults else 0
+
+
+if __name__ == "__main__":
+    sys.exit(main())
