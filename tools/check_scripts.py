@@ -2,19 +2,28 @@
 """Runs the program over each script of examples/ and checks/ and compares its replies with those expected beside it.
 
 A `?` in an expected reply stands for a digit that is drawn: two runs must differ there, so that a program whose random
-bytes are none is seen. It says nothing where all is well, and ends with status 1 at the first script that is answered otherwise.
+bytes are none is seen. Where the Python package `cryptography` is there, the replies of the second model are compared too. It
+says nothing where all is well, and ends with status 1 at the first script that is answered otherwise.
 """
+import importlib.util
 import pathlib
 import subprocess
 import sys
 
 TOP = pathlib.Path(__file__).resolve().parent.parent
+HAS_MODEL = importlib.util.find_spec("cryptography") is not None
 
 
 def replies_of(script):
     with open(script, "rb") as lines:
         ended = subprocess.run([TOP / "keystore2", "run", "--fresh"], stdin=lines, capture_output=True, text=True, check=False)
     return ended.stdout if ended.returncode == 0 else f"status {ended.returncode}: {ended.stderr}"
+
+
+def model_replies_of(script):
+    with open(script, "rb") as lines:
+        ended = subprocess.run([sys.executable, TOP / "tools/second_model.py"], stdin=lines, capture_output=True, text=True, check=False)
+    return ended.stdout
 
 
 def fits(given, wanted):
@@ -28,6 +37,8 @@ def fault_of(script):
         return f"{script.name} gave\n{given}and not\n{wanted}"
     if "?" in wanted and given == replies_of(script):
         return f"{script.name} drew the same bytes twice"
+    if HAS_MODEL and not fits(model_replies_of(script), wanted):
+        return f"{script.name} is answered otherwise by the second model"
     return None
 
 

@@ -1,18 +1,12 @@
 //! Scripts from their bytes to their text, and each status.
 
 mod answered;
-mod begins;
 mod blocks;
-mod clients;
 mod draws;
 mod lengths;
-mod lines;
 mod macs;
-mod new_keys;
-mod refusals;
 mod script;
 mod sealing;
-mod steps;
 mod vectors;
 
 use crate::run::run_words;
