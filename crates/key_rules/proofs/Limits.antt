@@ -1,49 +1,27 @@
 -- The use limit has 32 bits.
-use Rattle.std.proofs.Common.{◌≡◌, ◌^◌, ◌<◌, Bool, true, false, cond, List, [], ◌∷◌, Option, Some, None, refl, sym, subst, arith}
+use Rattle.std.proofs.Common.{◌≡◌, ◌^◌, ◌<◌, Bool, true, false, cond, List, [], ◌∷◌, Option, Some, None, refl, sym, ap, ◌∙◌, subst, arith}
 use Rattle.std.specs.Prelude.{find, IfSome, unwrap_or}
 use Rattle.std.specs.List.{AllByRecursion}
 use Rattle.std.specs.Option.{option_and_then}
 use Rattle.std.proofs.lemmas.Bool.{eqb-true}
 use Rattle.tags.specs.declared.tag.Tag.{Tag}
-use Rattle.tags.specs.declared.tag.Tag.TheVariants.{Purpose, Algorithm, KeySize, BlockMode, Digest, Padding, CallerNonce, MinMacLength, EarlyBootOnly, ActiveDatetime, OriginationExpireDatetime, UsageExpireDatetime, MaxUsesPerBoot, UsageCountLimit, UserId, UserSecureId, NoAuthRequired, UserAuthType, AuthTimeout, UnlockedDeviceRequired, ApplicationId, ApplicationData, CreationDatetime, Origin, OsVersion, OsPatchlevel, Nonce, MacLength}
+use Rattle.tags.specs.declared.tag.Tag.TheVariants.{UsageCountLimit}
 use Rattle.tags.specs.declared.param.Param.{Param}
 use Rattle.tags.specs.declared.param.ParamValue.{ParamValue}
 use Rattle.tags.specs.declared.param.ParamValue.TheVariants.{Number, Flag, Raw}
 use Rattle.tags.specs.Param.{as_number}
-use Rattle.tags.specs.Tag.{type_of, low_of}
+use Rattle.tags.specs.Tag.{type_of, low_of, tag_with_low}
+use Rattle.tags.specs.TagLaws.{with_low_is}
 use Rattle.tag_lists.specs.declared.shape.Shape.TheVariants.{Short}
 use Rattle.tag_lists.specs.Lookups.{is_of, number_of, one_of}
 use Rattle.tag_lists.specs.Order.{shape_of, FitsShape, Fits, IsCanonical}
 
+-- a tag is told by its low bits
+tag_is : (t : Tag) → low_of t ≡ 405 → UsageCountLimit ≡ t
+tag_is t e = let same : Some UsageCountLimit ≡ Some t = sym (with_low_is UsageCountLimit) ∙ ap tag_with_low (sym e) ∙ with_low_is t in cc
+
 is_short : (t : Tag) → low_of t ≡ 405 → shape_of (type_of t) ≡ Short
-is_short Purpose e = absurd (omega (arith, e))
-is_short Algorithm e = absurd (omega (arith, e))
-is_short KeySize e = absurd (omega (arith, e))
-is_short BlockMode e = absurd (omega (arith, e))
-is_short Digest e = absurd (omega (arith, e))
-is_short Padding e = absurd (omega (arith, e))
-is_short CallerNonce e = absurd (omega (arith, e))
-is_short MinMacLength e = absurd (omega (arith, e))
-is_short EarlyBootOnly e = absurd (omega (arith, e))
-is_short ActiveDatetime e = absurd (omega (arith, e))
-is_short OriginationExpireDatetime e = absurd (omega (arith, e))
-is_short UsageExpireDatetime e = absurd (omega (arith, e))
-is_short MaxUsesPerBoot e = absurd (omega (arith, e))
-is_short UsageCountLimit e = refl
-is_short UserId e = absurd (omega (arith, e))
-is_short UserSecureId e = absurd (omega (arith, e))
-is_short NoAuthRequired e = absurd (omega (arith, e))
-is_short UserAuthType e = absurd (omega (arith, e))
-is_short AuthTimeout e = absurd (omega (arith, e))
-is_short UnlockedDeviceRequired e = absurd (omega (arith, e))
-is_short ApplicationId e = absurd (omega (arith, e))
-is_short ApplicationData e = absurd (omega (arith, e))
-is_short CreationDatetime e = absurd (omega (arith, e))
-is_short Origin e = absurd (omega (arith, e))
-is_short OsVersion e = absurd (omega (arith, e))
-is_short OsPatchlevel e = absurd (omega (arith, e))
-is_short Nonce e = absurd (omega (arith, e))
-is_short MacLength e = absurd (omega (arith, e))
+is_short t e = ap (λ tag. shape_of (type_of tag)) (sym (tag_is t e))
 
 number_small : (v : ParamValue) → FitsShape Short v → unwrap_or (as_number v) 0 < 2 ^ 32
 number_small (Number n) fits = fits

@@ -11,7 +11,7 @@ mod vectors;
 
 use crate::run::run_words;
 use crate::status::Status;
-use ks_outside::{EmptyDisk, MemoryEntropy, MemorySink, MemorySource};
+use ks_outside::{EmptyDisk, Entropy, MemoryEntropy, MemorySink, MemorySource, Sink, Source};
 use std::alloc::Global;
 use std::process::Abort;
 use std::test::Fail;
@@ -42,6 +42,31 @@ const MAC: &str =
 
 const MALFORMED: &str = "{\"code\":20,\"rule\":\"L1\"}\n";
 
+/// Runs the words over the demo device and policy.
+fn run_over<S: Source, K: Sink, N: Entropy>(
+    alloc: Global,
+    text: &str,
+    source: &mut S,
+    sink: &mut K,
+    entropy: &mut N,
+) -> Result<Status, Fail> {
+    let mut words = Vec::new(alloc);
+    for word in text.split_whitespace() {
+        words.push(String::from_str(alloc, word)?)?;
+    }
+    let policy = Policy::demo(alloc)?;
+    Ok(run_words(
+        alloc,
+        words.as_slice(),
+        &DeviceSecrets::demo(),
+        &policy,
+        source,
+        sink,
+        &mut EmptyDisk,
+        entropy,
+    ))
+}
+
 /// Runs a script whose reads and writes fail where it is said, and compares its status and its text.
 fn run_case(
     rt: &impl Abort,
@@ -51,23 +76,10 @@ fn run_case(
     status: Status,
     text: &str,
 ) -> Result<(), Fail> {
-    let words = vec![in alloc;
-        String::from_str(alloc, "run")?,
-        String::from_str(alloc, "--fresh")?,
-    ]?;
     let mut source = MemorySource::new(script, failing.0);
     let mut sink = MemorySink::with_room(alloc, 4096, 64, failing.1)?;
-    let policy = Policy::demo(alloc)?;
-    let ended = run_words(
-        alloc,
-        words.as_slice(),
-        &DeviceSecrets::demo(),
-        &policy,
-        &mut source,
-        &mut sink,
-        &mut EmptyDisk,
-        &mut MemoryEntropy::counting(),
-    );
+    let mut entropy = MemoryEntropy::counting();
+    let ended = run_over(alloc, "run --fresh", &mut source, &mut sink, &mut entropy)?;
     assert_eq!(rt; ended, status, "{text}");
     assert_eq!(rt; sink.written(), text.as_bytes());
     Ok(())
@@ -135,81 +147,46 @@ fn padded(alloc: Global, length: usize) -> Result<String, Fail> {
 }
 
 #[test]
-fn each_status_comes_where_it_should(rt: HostRuntime) -> Result<(), Fail> {
+fn a_fault_ends_a_run_after_what_was_answered(rt: HostRuntime) -> Result<(), Fail> {
+    let alloc = rt.alloc();
+    let two = [CONNECT, IMPORT].concat(alloc)?;
+    let both = [CONNECTED, IMPORTED].concat(alloc)?;
+    let script = two.as_bytes();
+    let reads = Status::ReadFault;
+    let writes = Status::WriteFault;
+    run_case(&rt, alloc, script, (&[1], &[]), reads, "")?;
+    run_case(&rt, alloc, script, (&[2], &[]), reads, both.as_str())?;
+    run_case(&rt, alloc, script, (&[], &[1]), writes, "")?;
+    run_case(&rt, alloc, script, (&[], &[2]), writes, CONNECTED)
+}
+
+#[test]
+fn a_line_has_at_most_262144_bytes(rt: HostRuntime) -> Result<(), Fail> {
     let alloc = rt.alloc();
     let none: (&[u64], &[u64]) = (&[], &[]);
-    let two = [CONNECT, IMPORT].concat(alloc)?;
-    run_case(
-        &rt,
-        alloc,
-        two.as_bytes(),
-        (&[1], &[]),
-        Status::ReadFault,
-        "",
-    )?;
-    run_case(
-        &rt,
-        alloc,
-        two.as_bytes(),
-        (&[], &[1]),
-        Status::WriteFault,
-        "",
-    )?;
-    run_case(
-        &rt,
-        alloc,
-        two.as_bytes(),
-        (&[], &[2]),
-        Status::WriteFault,
-        CONNECTED,
-    )?;
-    let both = [CONNECTED, IMPORTED].concat(alloc)?;
-    run_case(
-        &rt,
-        alloc,
-        two.as_bytes(),
-        (&[2], &[]),
-        Status::ReadFault,
-        both.as_str(),
-    )?;
     let limit = padded(alloc, 262_144)?;
     run_case(&rt, alloc, limit.as_bytes(), none, Status::Ok, CONNECTED)?;
     let mut long = String::from_str(alloc, CONNECT)?;
     let line = padded(alloc, 262_145)?;
     long.push_str(line.as_str())?;
-    run_case(
-        &rt,
-        alloc,
-        long.as_bytes(),
-        none,
-        Status::LineTooLong { line: 2 },
-        CONNECTED,
-    )?;
+    let status = Status::LineTooLong { line: 2 };
+    run_case(&rt, alloc, long.as_bytes(), none, status, CONNECTED)
+}
+
+#[test]
+fn words_that_are_no_form_do_nothing(rt: HostRuntime) -> Result<(), Fail> {
     for text in ["", "run", "run --slots", "--fresh run", "run --fresh x"] {
-        run_no_form(&rt, alloc, text)?;
+        run_no_form(&rt, rt.alloc(), text)?;
     }
     Ok(())
 }
 
 /// Words that are no form: nothing is read, and nothing is written.
 fn run_no_form(rt: &impl Abort, alloc: Global, text: &str) -> Result<(), Fail> {
-    let mut words = Vec::new(alloc);
-    for word in text.split_whitespace() {
-        words.push(String::from_str(alloc, word)?)?;
-    }
     let mut source = MemorySource::new(CONNECT.as_bytes(), &[]);
     let mut sink = MemorySink::with_room(alloc, 64, 1, &[])?;
-    let policy = Policy::demo(alloc)?;
-    let ended = run_words(
-        alloc,
-        words.as_slice(),
-        &DeviceSecrets::demo(),
-        &policy,
-        &mut source,
-        &mut sink,
-        &mut EmptyDisk,
-        &mut MemoryEntropy::counting(),
-    );
+    let mut entropy = MemoryEntropy::counting();
+    let ended = run_over(alloc, text, &mut source, &mut sink, &mut entropy)?;
     assert_eq!(rt; ended, Status::Usage, "{text}");
     assert_eq!(rt; source.left(), CONNECT.as_bytes());
     assert_eq!(rt; sink.written().len(), 0);

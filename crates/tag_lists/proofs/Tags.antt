@@ -1,11 +1,11 @@
 -- The tag of a number, and of 28 low bits.
 use Rattle.std.proofs.Common.{◌≡◌, ℕ, Bool, true, false, cond, List, [], ◌∷◌, Some, refl, sym, ap, ◌∙◌, arith}
-use Rattle.std.specs.Prelude.{find, ◌==◌, ◌<◌, ◌^◌}
-use Rattle.std.proofs.lemmas.Bool.{eqb-true}
+use Rattle.std.specs.Prelude.{find, nat_lt, ◌==◌, ◌<◌, ◌^◌}
+use Rattle.std.specs.List.{list_all}
+use Rattle.std.proofs.lemmas.Bool.{and_parts, eqb-true, ltb-true}
 use Rattle.tags.specs.declared.tag.Tag.{Tag}
-use Rattle.tags.specs.declared.tag.Tag.TheVariants.{Purpose, Algorithm, KeySize, BlockMode, Digest, Padding, CallerNonce, MinMacLength, EarlyBootOnly, ActiveDatetime, OriginationExpireDatetime, UsageExpireDatetime, MaxUsesPerBoot, UsageCountLimit, UserId, UserSecureId, NoAuthRequired, UserAuthType, AuthTimeout, UnlockedDeviceRequired, ApplicationId, ApplicationData, CreationDatetime, Origin, OsVersion, OsPatchlevel, Nonce, MacLength}
 use Rattle.tags.specs.Tag.{low_of, number_of, all_tags, tag_numbered, tag_with_low}
-use Rattle.tags.specs.TagLaws.{with_low_is}
+use Rattle.tags.specs.TagLaws.{numbered_is, with_low_is}
 
 -- what a search finds passes the test
 find_passes : {X : Type 0} (p : X → Bool) (xs : List X) (y : X) → find p xs ≡ Some y → p y ≡ true
@@ -26,33 +26,17 @@ pub number_from_tag : (number : ℕ) (t : Tag) → tag_numbered number ≡ Some 
 unfolding tag_numbered
 number_from_tag number t e = eqb-true _ _ (find_passes (λ tag. number_of tag == number) all_tags t e)
 
+-- what a search finds has what all have
+find_has : {X : Type 0} (p q : X → Bool) (xs : List X) (y : X) → list_all q xs ≡ true → find p xs ≡ Some y → q y ≡ true
+find_has p q [] y all e = absurd cc
+find_has p q (x ∷ xs) y all e =
+    let parts = and_parts (q x) (list_all q xs) all in
+    elim (p x) as (λ b. cond b (Some x) (find p xs) ≡ Some y → q y ≡ true) [
+      | true ↦ λ same. let yes : x ≡ y = cc in ap q (sym yes) ∙ parts.0
+      | false ↦ λ same. find_has p q xs y parts.1 same
+    ] e
+
 -- a tag's number has four bytes
 pub number_fits : (t : Tag) → number_of t < 256 ^ 4
-number_fits Purpose = omega arith
-number_fits Algorithm = omega arith
-number_fits KeySize = omega arith
-number_fits BlockMode = omega arith
-number_fits Digest = omega arith
-number_fits Padding = omega arith
-number_fits CallerNonce = omega arith
-number_fits MinMacLength = omega arith
-number_fits EarlyBootOnly = omega arith
-number_fits ActiveDatetime = omega arith
-number_fits OriginationExpireDatetime = omega arith
-number_fits UsageExpireDatetime = omega arith
-number_fits MaxUsesPerBoot = omega arith
-number_fits UsageCountLimit = omega arith
-number_fits UserId = omega arith
-number_fits UserSecureId = omega arith
-number_fits NoAuthRequired = omega arith
-number_fits UserAuthType = omega arith
-number_fits AuthTimeout = omega arith
-number_fits UnlockedDeviceRequired = omega arith
-number_fits ApplicationId = omega arith
-number_fits ApplicationData = omega arith
-number_fits CreationDatetime = omega arith
-number_fits Origin = omega arith
-number_fits OsVersion = omega arith
-number_fits OsPatchlevel = omega arith
-number_fits Nonce = omega arith
-number_fits MacLength = omega arith
+unfolding tag_numbered
+number_fits t = ltb-true _ _ (find_has (λ tag. number_of tag == number_of t) (λ tag. nat_lt (number_of tag) (256 ^ 4)) all_tags t refl (numbered_is t))

@@ -3,13 +3,11 @@
 
 ghost use Rattle.std.specs.Prelude.{ℕ, None};
 
-use crate::run::run_words;
+use super::{BEGIN, CONNECT, FINISH, IMPORT, run_over};
 use crate::status::Status;
-use crate::tests::{BEGIN, CONNECT, FINISH, IMPORT};
-use ks_outside::{EmptyDisk, Failed, FaultCount, MemoryEntropy, Sink, Source};
+use ks_outside::{Failed, FaultCount, MemoryEntropy, Sink, Source};
 use std::cell::Cell;
 use std::test::Fail;
-use tags::{DeviceSecrets, Policy};
 
 /// A client that sends a line and waits for its answer.
 #[derive(Drop)]
@@ -76,24 +74,9 @@ fn each_line_is_answered_before_the_next_read(rt: HostRuntime) -> Result<(), Fai
         answered: &answered,
         faults: FaultCount::new(),
     };
-    let mut sink = Answering {
-        answered: &answered,
-    };
-    let words = vec![in alloc;
-        String::from_str(alloc, "run")?,
-        String::from_str(alloc, "--fresh")?,
-    ]?;
-    let policy = Policy::demo(alloc)?;
-    let ended = run_words(
-        alloc,
-        words.as_slice(),
-        &DeviceSecrets::demo(),
-        &policy,
-        &mut source,
-        &mut sink,
-        &mut EmptyDisk,
-        &mut MemoryEntropy::counting(),
-    );
+    let mut sink = Answering { answered: &answered };
+    let mut entropy = MemoryEntropy::counting();
+    let ended = run_over(alloc, "run --fresh", &mut source, &mut sink, &mut entropy)?;
     assert_eq!(rt; ended, Status::Ok);
     assert_eq!(rt; answered.get(), 4);
     Ok(())

@@ -105,48 +105,32 @@ fn add_zeros(
     Ok(())
 }
 
+/// Inputs of bytes 00, how long each is, and how often it comes.
+static ZEROS: [(Row, usize, usize); 6] = [
+    ((Call::Update(1, 1, "ZEROS"), NO_BYTES), 32768, 32),
+    ((Call::Update(1, 2, "ZEROS"), NO_BYTES), 32768, 32),
+    (
+        (Call::Update(1, 3, "ZEROS"), r#"{"code":0,"out":"CIPHER"}"#),
+        32768,
+        32,
+    ),
+    ((Call::Aad(1, 4, "ZEROS"), r#"{"code":0}"#), 32768, 31),
+    ((Call::Aad(1, 4, "ZEROS"), r#"{"code":0}"#), 32767, 1),
+    (
+        (Call::Update(1, 4, "ZEROS"), r#"{"code":0,"out":"03"}"#),
+        1,
+        1,
+    ),
+];
+
 #[test]
 fn an_operation_takes_at_most_1048576_bytes(rt: HostRuntime) -> Result<(), Fail> {
     let alloc = rt.alloc();
     let mut script = Script::new(alloc)?;
     script.add(alloc, &OPERATIONS)?;
-    add_zeros(
-        &mut script,
-        alloc,
-        (Call::Update(1, 1, "ZEROS"), NO_BYTES),
-        32768,
-        32,
-    )?;
-    add_zeros(
-        &mut script,
-        alloc,
-        (Call::Update(1, 2, "ZEROS"), NO_BYTES),
-        32768,
-        32,
-    )?;
-    let blocks = (Call::Update(1, 3, "ZEROS"), r#"{"code":0,"out":"CIPHER"}"#);
-    add_zeros(&mut script, alloc, blocks, 32768, 32)?;
-    add_zeros(
-        &mut script,
-        alloc,
-        (Call::Aad(1, 4, "ZEROS"), r#"{"code":0}"#),
-        32768,
-        31,
-    )?;
-    add_zeros(
-        &mut script,
-        alloc,
-        (Call::Aad(1, 4, "ZEROS"), r#"{"code":0}"#),
-        32767,
-        1,
-    )?;
-    add_zeros(
-        &mut script,
-        alloc,
-        (Call::Update(1, 4, "ZEROS"), r#"{"code":0,"out":"03"}"#),
-        1,
-        1,
-    )?;
+    for row in &ZEROS {
+        add_zeros(&mut script, alloc, row.0, row.1, row.2)?;
+    }
     script.add(alloc, &BEYOND)?;
     script.check(&rt, alloc, &[])
 }

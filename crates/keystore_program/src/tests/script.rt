@@ -1,12 +1,11 @@
 //! Scripts from their calls, and the replies that they are to get.
 
-use crate::run::run_words;
+use super::run_over;
 use crate::status::Status;
-use ks_outside::{EmptyDisk, MemoryEntropy, MemorySink, MemorySource};
+use ks_outside::{MemoryEntropy, MemorySink, MemorySource};
 use std::alloc::Global;
 use std::process::Abort;
 use std::test::Fail;
-use tags::{DeviceSecrets, Policy};
 
 /// The parameters of an AES key of all modes.
 pub const AES: &str =
@@ -84,24 +83,11 @@ impl Script {
 
     /// What the lines get where the draws with these numbers fail.
     pub fn run(&self, rt: &impl Abort, alloc: Global, failing: &[u64]) -> Result<String, Fail> {
-        let words = vec![in alloc;
-            String::from_str(alloc, "run")?,
-            String::from_str(alloc, "--fresh")?,
-        ]?;
         let mut source = MemorySource::new(self.asked.as_bytes(), &[]);
         let room = self.asked.len();
         let mut sink = MemorySink::with_room(alloc, room, room, &[])?;
-        let policy = Policy::demo(alloc)?;
-        let ended = run_words(
-            alloc,
-            words.as_slice(),
-            &DeviceSecrets::demo(),
-            &policy,
-            &mut source,
-            &mut sink,
-            &mut EmptyDisk,
-            &mut MemoryEntropy::failing(failing),
-        );
+        let mut entropy = MemoryEntropy::failing(failing);
+        let ended = run_over(alloc, "run --fresh", &mut source, &mut sink, &mut entropy)?;
         assert_eq!(rt; ended, Status::Ok);
         Ok(String::from_utf8_lossy(alloc, sink.written())?)
     }
