@@ -15,14 +15,23 @@ const SHA_256: u8 = 4;
 /// The text under a token's mac: the version 00; challenge, user and authenticator as eight bytes each, the lowest first;
 /// kind as four bytes and time as eight, the highest first (Android's `HardwareAuthToken`).
 pub fn mac_input(token: &AuthToken) -> [u8; 37]
-    ensures { result ≡ spec.mac_text token.now }
+    ensures text { result ≡ spec.mac_text token.now }
+    ensures fields { spec.HasFields result token.now }
 {
+    let AuthToken {
+        challenge,
+        user,
+        authenticator,
+        kind,
+        time,
+        mac: _,
+    } = *token;
     let mut text = [0u8; MAC_INPUT_BYTES];
-    text[1..9].copy_from_slice(&token.challenge.to_le_bytes());
-    text[9..17].copy_from_slice(&token.user.to_le_bytes());
-    text[17..25].copy_from_slice(&token.authenticator.to_le_bytes());
-    text[25..29].copy_from_slice(&token.kind.to_be_bytes());
-    text[29..37].copy_from_slice(&token.time.to_be_bytes());
+    text[1..9].copy_from_slice(&challenge.to_le_bytes());
+    text[9..17].copy_from_slice(&user.to_le_bytes());
+    text[17..25].copy_from_slice(&authenticator.to_le_bytes());
+    text[25..29].copy_from_slice(&kind.to_be_bytes());
+    text[29..37].copy_from_slice(&time.to_be_bytes());
     text
 }
 
