@@ -35,8 +35,8 @@ pub fn mac_input(token: &AuthToken) -> [u8; 37]
     text
 }
 
-/// Whether the token's mac is right under the key that the authenticators share with the service. All 32 bytes are
-/// compared, in a time that tells nothing of where they differ.
+/// Whether the token's mac is right under the key that the authenticators share with the service: all 32 bytes of it are
+/// compared, by `hmac_core::same_bytes`.
 pub fn check(token: &AuthToken, key: &[u8; 32]) -> bool
     ensures { IsTrue result ↔ (token.now.mac ≡ spec.token_mac key.now token.now) }
 {
