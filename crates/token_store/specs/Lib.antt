@@ -1,0 +1,3 @@
+pub mod Fitting
+pub mod Table
+pub mod Room
