@@ -74,7 +74,9 @@ fn each_line_is_answered_before_the_next_read(rt: HostRuntime) -> Result<(), Fai
         answered: &answered,
         faults: FaultCount::new(),
     };
-    let mut sink = Answering { answered: &answered };
+    let mut sink = Answering {
+        answered: &answered,
+    };
     let mut entropy = MemoryEntropy::counting();
     let ended = run_over(alloc, "run --fresh", &mut source, &mut sink, &mut entropy)?;
     assert_eq!(rt; ended, Status::Ok);
