@@ -1,7 +1,7 @@
 //! A line is answered before more is read: a source that gives one line a read, and fails when it is read before the reply to
 //! its last line was written.
 
-ghost use Rattle.std.specs.Prelude.{ℕ, None};
+ghost use Rattle.std.specs.Prelude.{◌≡◌, ◌≤◌, ℕ, None, length, IfOk};
 
 use super::{BEGIN, CONNECT, FINISH, IMPORT, run_over};
 use crate::status::Status;
@@ -26,7 +26,10 @@ struct Answering<'a> {
 
 impl Asking<'_> {
     /// The next line, at the front of `out`, where the last one was answered.
-    fn ask(&mut self, out: &mut [u8]) -> Result<usize, Failed> {
+    fn ask(&mut self, out: &mut [u8]) -> Result<usize, Failed>
+        ensures within { IfOk result (λ n. n ≤ length out.new) }
+        ensures faults { self.new.faults ≡ self.old.faults }
+    {
         if self.answered.get() != self.asked {
             return Err(Failed);
         }
