@@ -1,5 +1,5 @@
 -- The beginning of an operation: its answer, and the tables after it.
-use Rattle.std.proofs.Common.{◌≡◌, ℕ, ◌+◌, ◌<◌, ◌≤◌, ◌==◌, Bool, true, false, if◌then◌else◌, List, [], length, Option, Some, None, Err, is_some, unwrap_or, refl, sym, ap, ◌∙◌, subst, arith}
+use Rattle.std.proofs.Common.{◌≡◌, ℕ, ◌+◌, ◌<◌, ◌≤◌, ◌==◌, Bool, true, false, if◌then◌else◌, List, [], ◌∷◌, length, Option, Some, None, Err, is_some, unwrap_or, refl, sym, ap, ◌∙◌, subst, arith}
 use Rattle.std.specs.Option.{option_and_then}
 use Rattle.tags.specs.declared.code.Code.{Code}
 use Rattle.tags.specs.declared.code.Code.TheVariants.{EntropyFault, MemoryAllocationFailed}
@@ -13,6 +13,7 @@ use Rattle.cipher_ops.specs.declared.state.CipherState.{CipherState}
 use Rattle.cipher_ops.specs.Standing.{StandsFor}
 use Rattle.keymint_ops.specs.declared.begin.Begin.{Begin}
 use Rattle.keymint_ops.specs.Begin.{MayBegin, nonce_used}
+use Rattle.rule_model.specs.declared.entry.Entry.TheVariants.{Acted}
 use Rattle.rule_model.specs.declared.entry.KeyRecord.{KeyRecord}
 use Rattle.rule_model.specs.declared.event.Act.TheVariants.{CreateOperation}
 use Rattle.rule_model.specs.declared.event.Event.{Event}
@@ -39,7 +40,8 @@ use Rattle.keystore_core.specs.Keys.{key_named_in}
 use Rattle.keystore_core.specs.Operations.{OtherRowsStay, SameOperation, operation_in, operations_given}
 use Rattle.keystore_core.specs.Tables.{AnswersAfter, IsCaller, SameTables, TablesStand, event_by}
 use Rattle.keystore_core.proofs.Pointwise.{pointwise}
-use Rattle.keystore_core.proofs.Standing.{called, clients_stay, denied_tables, keys_stay, same_tables, still, without_memory}
+use Rattle.keystore_core.proofs.KeyTable.{keys_stay, same_keys}
+use Rattle.keystore_core.proofs.Standing.{called, clients_stay, denied_tables, same_tables, still, without_memory}
 
 -- no key is found where none is there
 pub no_key : (facts : BeginFacts) (found : Option KeyRecord) (caller : Caller) (key : Descriptor) (params : List ℕ) (begin : Begin)
@@ -154,7 +156,7 @@ module _ (setup : Setup) (past : History) (tables : Tables) (caller : Caller) (k
             (sym (ap (λ found. broken_or found (Done (record no_fields { op = Some (count_of is_begin past + 1); nonce = drawn_nonce facts drawn }))) may.answers)));
         stands = record {
           clients = clients_stay setup past ev drawn reply middle.clients middle.clients now.clients (same_tables middle).clients refl refl;
-          keys = keys_stay setup past ev drawn reply middle.keys middle.keys now.keys (same_tables middle).keys refl refl;
+          keys = keys_stay setup past (Acted ev drawn reply ∷ past) middle.keys middle.keys now.keys (same_keys middle.keys) refl refl;
           operations = record {
             rows = λ n. subst (λ change. SameOperation (length (aad_after change n (aad_of setup past n))) (length (text_after change n (text_of setup past n))) (operation_in rows n) (found_after change n (operation_at setup past n))) (sym change)
                 (pointwise (λ aad text entry at. SameOperation (length aad) (length text) entry at) (Opens o) number (aad_of setup past) (text_of setup past) (operation_at setup past)

@@ -1,30 +1,46 @@
--- A list of keys with a new one in the place of those under the same owner and alias.
-use Rattle.std.proofs.Common.{◌≡◌, ℕ, Bool, true, false, ◌&&◌, ◌||◌, not, ◌==◌, if◌then◌else◌, List, [], ◌∷◌, ◌++◌, Some, filter, find, refl, sym, ap, ◌∙◌, arith}
-use Rattle.std.specs.List.{list_any}
+-- The keys' table: what a change leaves of its relation to a history, and a list of keys with a new one in the place of those
+-- under the same owner and alias.
+use Rattle.std.proofs.Common.{◌≡◌, ℕ, ◌+◌, Bool, true, false, ◌&&◌, ◌||◌, not, ◌==◌, if◌then◌else◌, cond, List, [], ◌∷◌, ◌++◌, Some, filter, find, refl, sym, ap, ◌∙◌, arith}
+use Rattle.std.specs.List.{count_by, list_any}
 use Rattle.std.proofs.lemmas.Bool.Decides.{nat_tests}
+use Rattle.std.proofs.lemmas.List.Sums.{sum_by-cons, sum_by_push}
 use Rattle.std.proofs.lemmas.Slice.Eq.{bytes_eq-Decides}
 use Rattle.rule_model.specs.declared.entry.KeyRecord.{KeyRecord}
-use Rattle.rule_model.specs.Keys.{is_named, with_key}
-use Rattle.keystore_core.specs.Keys.{apart}
+use Rattle.rule_model.specs.Entries.{History}
+use Rattle.rule_model.specs.Keys.{is_named, keys_of, next_key, with_key}
+use Rattle.rule_model.specs.Setup.{Setup}
+use Rattle.keystore_core.specs.declared.keys.Keys.{Keys}
+use Rattle.keystore_core.specs.Keys.{KeysStand, PutsKey, SameKeys, apart}
 
-or_none : (b : Bool) → (b || false) ≡ b
-or_none true = refl
-or_none false = refl
+zero_plus : (n : ℕ) → n ≡ 0 + n
+zero_plus n = omega arith
 
-or_assoc : (a b c : Bool) → (a || (b || c)) ≡ ((a || b) || c)
-or_assoc true b c = refl
-or_assoc false b c = refl
+one_plus : (n : ℕ) → (1 + n == 0) ≡ false
+one_plus n = grind (arith, nat_tests)
 
--- a key passes the test among those that are left, or the new one does
-pub any_with : (key : KeyRecord) (keys : List KeyRecord) (test : KeyRecord → Bool)
-    → list_any test (with_key key keys) ≡ (list_any (apart key test) keys || test key)
-any_with key [] test = or_none (test key)
-any_with key (other ∷ keys) test = by_name (is_named key.domain key.nspace key.alias other) (test other) (any_with key keys test) where
-  by_name : (named passes : Bool) → list_any test (with_key key keys) ≡ (list_any (apart key test) keys || test key)
-      → list_any test ((if not named then other ∷ filter (λ o. not (is_named key.domain key.nspace key.alias o)) keys else filter (λ o. not (is_named key.domain key.nspace key.alias o)) keys) ++ key ∷ [])
-      ≡ (((not named && test other) || list_any (apart key test) keys) || test key)
-  by_name true passes rest = rest
-  by_name false passes rest = ap (λ b. test other || b) rest ∙ or_assoc (test other) (list_any (apart key test) keys) (test key)
+-- a count over what a filter leaves
+count_filter : {X : Type 0} (keeps test : X → Bool) (xs : List X) → count_by test (filter keeps xs) ≡ count_by (λ x. keeps x && test x) xs
+count_filter keeps test [] = refl
+count_filter keeps test (x ∷ xs) = by_kept (keeps x) (count_filter keeps test xs) ∙ sym (sum_by-cons (λ y. cond (keeps y && test y) 1 0) x xs) where
+  by_kept : (kept : Bool) → count_by test (filter keeps xs) ≡ count_by (λ y. keeps y && test y) xs
+      → count_by test (if kept then x ∷ filter keeps xs else filter keeps xs) ≡ cond (kept && test x) 1 0 + count_by (λ y. keeps y && test y) xs
+  by_kept true rest = sum_by-cons (λ y. cond (test y) 1 0) x (filter keeps xs) ∙ ap (λ n. cond (test x) 1 0 + n) rest
+  by_kept false rest = rest ∙ zero_plus (count_by (λ y. keeps y && test y) xs)
+
+-- one passes the test where the count is not 0
+pub any_counted : {X : Type 0} (test : X → Bool) (xs : List X) → list_any test xs ≡ not (count_by test xs == 0)
+any_counted test [] = refl
+any_counted test (x ∷ xs) = by_first (test x) (any_counted test xs) ∙ ap (λ n. not (n == 0)) (sym (sum_by-cons (λ y. cond (test y) 1 0) x xs)) where
+  by_first : (passes : Bool) → list_any test xs ≡ not (count_by test xs == 0) → (passes || list_any test xs) ≡ not (cond passes 1 0 + count_by test xs == 0)
+  by_first true rest = sym (ap not (one_plus (count_by test xs)))
+  by_first false rest = rest ∙ ap (λ n. not (n == 0)) (zero_plus (count_by test xs))
+
+-- the keys that are left are counted, and the new one
+pub count_with : (key : KeyRecord) (keys : List KeyRecord) (test : KeyRecord → Bool)
+    → count_by test (with_key key keys) ≡ count_by (apart key test) keys + cond (test key) 1 0
+count_with key keys test =
+    sum_by_push (λ k. cond (test k) 1 0) (filter (λ other. not (is_named key.domain key.nspace key.alias other)) keys) key
+    ∙ ap (λ n. n + cond (test key) 1 0) (count_filter (λ other. not (is_named key.domain key.nspace key.alias other)) test keys)
 
 both : (a b : Bool) → (a && b) ≡ true → (a ≡ true) × (b ≡ true)
 both true b e = (refl, e)
@@ -81,3 +97,29 @@ named_with key (other ∷ keys) domain nspace alias =
       by_name false true true like meet rest = cc (meet refl refl)
       by_name false true false like meet rest = refl
       by_name false false mine like meet rest = rest
+
+pub same_keys : (keys : Keys) → SameKeys keys keys
+same_keys keys = record { named = λ domain nspace alias. refl; count = λ test. refl; next = refl }
+
+-- a table that answers as another stands for what that stood for, and for a history with the same keys
+pub keys_stay : (setup : Setup) (past later : History) (old new : Keys) → KeysStand setup old past → SameKeys old new
+    → keys_of setup later ≡ keys_of setup past → next_key setup later ≡ next_key setup past → KeysStand setup new later
+keys_stay setup past later old new stands same keys next = record {
+  named = λ domain nspace alias. same.named domain nspace alias ∙ rw keys (stands.named domain nspace alias);
+  count = λ test. same.count test ∙ rw keys (stands.count test);
+  next = same.next ∙ stands.next ∙ sym next;
+}
+
+-- a new key in the table and in the history
+pub keys_put : (setup : Setup) (past later : History) (key : KeyRecord) (old new : Keys) → KeysStand setup old past → PutsKey key old new
+    → keys_of setup later ≡ with_key key (keys_of setup past) → next_key setup later ≡ next_key setup past + 1 → KeysStand setup new later
+keys_put setup past later key old new stands puts keys next = record {
+  named = λ domain nspace alias.
+      puts.named domain nspace alias
+      ∙ ap (λ found. if is_named domain nspace alias key then Some key else found) (stands.named domain nspace alias)
+      ∙ sym (ap (find (is_named domain nspace alias)) keys ∙ named_with key (keys_of setup past) domain nspace alias);
+  count = λ test.
+      puts.count test ∙ ap (λ n. n + cond (test key) 1 0) (stands.count (apart key test))
+      ∙ sym (ap (count_by test) keys ∙ count_with key (keys_of setup past) test);
+  next = puts.next ∙ ap (λ n. n + 1) stands.next ∙ sym next;
+}

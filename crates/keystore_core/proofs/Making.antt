@@ -1,6 +1,5 @@
 -- A new key: its answer, and the tables after it.
 use Rattle.std.proofs.Common.{◌≡◌, ℕ, ◌+◌, ◌<◌, false, ◌||◌, if◌then◌else◌, List, [], ◌∷◌, length, Option, Some, None, Result, Ok, Err, find, refl, sym, ap, ◌∙◌, subst}
-use Rattle.std.specs.List.{list_any}
 use Rattle.std.specs.Option.{option_map}
 use Rattle.tags.specs.declared.code.Code.{Code}
 use Rattle.tags.specs.declared.code.Code.TheVariants.{EntropyFault}
@@ -40,7 +39,7 @@ use Rattle.keystore_core.specs.declared.tables.Tables.{Tables}
 use Rattle.keystore_core.specs.Creating.{facts_of_import, making, planned_record}
 use Rattle.keystore_core.specs.Keys.{KeysStand, PutsKey, SameKeys, apart, next_in}
 use Rattle.keystore_core.specs.Tables.{AnswersAfter, IsCaller, SameTables, TablesStand, event_by}
-use Rattle.keystore_core.proofs.KeyTable.{any_with, named_with}
+use Rattle.keystore_core.proofs.KeyTable.{keys_put, keys_stay}
 use Rattle.keystore_core.proofs.Standing.{called, ciphers_stay, clients_stay, denied_tables, operations_stay, same_tables}
 
 abbrev facts_of : Caller → Descriptor → List ℕ → Option Import → NewFacts
@@ -181,18 +180,8 @@ module _ (setup : Setup) (past : History) (tables : Tables) (caller : Caller) (k
       → key_change (making key params import) (caller_of past (event_by caller (making key params import))) drawn (next_key setup past) ≡ Makes made
       → KeysStand setup new (Acted (event_by caller (making key params import)) drawn (Done fields) ∷ past)
   made_keys import middle new made drawn fields still puts is =
-      let keys : keys_of setup (Acted (event_by caller (making key params import)) drawn (Done fields) ∷ past) ≡ with_key made (keys_of setup past) =
-      ap (λ change. keys_after change (keys_of setup past)) is in
-      record {
-        named = λ domain nspace alias.
-            puts.named domain nspace alias
-            ∙ ap (λ found. if is_named domain nspace alias made then Some made else found) (still.named domain nspace alias ∙ stands.keys.named domain nspace alias)
-            ∙ sym (ap (find (is_named domain nspace alias)) keys ∙ named_with made (keys_of setup past) domain nspace alias);
-        any = λ test.
-            puts.any test ∙ ap (λ b. b || test made) (still.any (apart made test) ∙ stands.keys.any (apart made test))
-            ∙ sym (ap (list_any test) keys ∙ any_with made (keys_of setup past) test);
-        next = puts.next ∙ ap (λ n. n + 1) (still.next ∙ stands.keys.next) ∙ sym (one_more import);
-      } where
+      keys_put setup past _ made middle new (keys_stay setup past past tables.keys middle stands.keys still refl refl) puts
+      (ap (λ change. keys_after change (keys_of setup past)) is) (one_more import) where
         one_more : (i : Option Import) → next_key setup (Acted (event_by caller (making key params i)) drawn (Done fields) ∷ past) ≡ next_key setup past + 1
         one_more None = refl
         one_more (Some i) = refl

@@ -12,7 +12,6 @@ use Rattle.rule_model.specs.declared.reply.Reply.TheVariants.{Done, Broken, Stop
 use Rattle.rule_model.specs.Acts.{is_begin, is_connect}
 use Rattle.rule_model.specs.Clients.{SameClients as NoClients, caller_of, client_change, uid_after, uid_of}
 use Rattle.rule_model.specs.Entries.{History, admits, count_of, is_done}
-use Rattle.rule_model.specs.Keys.{keys_of, next_key}
 use Rattle.rule_model.specs.Operations.{SameOperations, aad_after, aad_of, found_after, operation_at, operation_change, text_after, text_of}
 use Rattle.rule_model.specs.Setup.{Setup}
 use Rattle.rule_model.proofs.Counting.{count_few, next_few}
@@ -24,14 +23,15 @@ use Rattle.keystore_core.specs.declared.operations.Operations.{Operations}
 use Rattle.keystore_core.specs.declared.tables.Tables.{Tables}
 use Rattle.keystore_core.specs.Ciphers.{CiphersStand, IsCipher, SameCiphers, cipher_in}
 use Rattle.keystore_core.specs.Clients.{ClientsStand, SameClients, clients_given}
-use Rattle.keystore_core.specs.Keys.{KeysStand, SameKeys, next_in}
+use Rattle.keystore_core.specs.Keys.{SameKeys, next_in}
 use Rattle.keystore_core.specs.Operations.{OperationsStand, SameOperation, SameRows, operation_in, operations_given}
 use Rattle.keystore_core.specs.Tables.{IsCaller, IsTables, SameTables, TablesStand, event_by}
+use Rattle.keystore_core.proofs.KeyTable.{keys_stay, same_keys}
 
 pub same_tables : (tables : Tables) → SameTables tables tables
 same_tables tables = record {
   clients = record { uids = λ client. refl; given = refl };
-  keys = record { named = λ domain nspace alias. refl; any = λ test. refl; next = refl };
+  keys = same_keys tables.keys;
   operations = record { rows = λ number. refl; given = refl };
   ciphers = record { states = λ number. refl };
 }
@@ -54,14 +54,6 @@ module _ (setup : Setup) (past : History) (event : Event) (drawn : List ℕ) (re
   clients_stay old new stands same none uncounts = record {
     uids = λ client. same.uids client ∙ stands.uids client ∙ sym (ap (λ change. uid_after change client (uid_of past client)) none);
     given = same.given ∙ stands.given ∙ sym (uncounted is_connect past event drawn reply uncounts);
-  }
-
-  pub keys_stay : (old new : Keys) → KeysStand setup old past → SameKeys old new → keys_of setup (Acted event drawn reply ∷ past) ≡ keys_of setup past
-      → next_key setup (Acted event drawn reply ∷ past) ≡ next_key setup past → KeysStand setup new (Acted event drawn reply ∷ past)
-  keys_stay old new stands same keys next = record {
-    named = λ domain nspace alias. same.named domain nspace alias ∙ rw keys (stands.named domain nspace alias);
-    any = λ test. same.any test ∙ rw keys (stands.any test);
-    next = same.next ∙ stands.next ∙ sym next;
   }
 
   pub operations_stay : (old new : Operations) → OperationsStand setup old past → SameRows old new → operation_change setup past event drawn reply ≡ SameOperations
@@ -98,7 +90,7 @@ module _ (setup : Setup) (past : History) (event : Event) (drawn : List ℕ) (re
       → operation_change setup past event drawn reply ≡ SameOperations → TablesStand setup new (Acted event drawn reply ∷ past)
   denied_tables old new stands same denied none = record {
     clients = clients_stay old.clients new.clients stands.clients same.clients (denied_clients denied) (not_connect denied is_connect);
-    keys = keys_stay old.keys new.keys stands.keys same.keys (denied_keys setup past event drawn reply denied) (denied_next setup past event drawn reply denied);
+    keys = keys_stay setup past (Acted event drawn reply ∷ past) old.keys new.keys stands.keys same.keys (denied_keys setup past event drawn reply denied) (denied_next setup past event drawn reply denied);
     operations = operations_stay old.operations new.operations stands.operations same.operations none (not_connect denied is_begin);
     ciphers = ciphers_stay old.ciphers new.ciphers stands.ciphers same.ciphers none;
   }
@@ -110,11 +102,7 @@ still setup past old new stands same = record {
     uids = λ client. same.clients.uids client ∙ stands.clients.uids client;
     given = same.clients.given ∙ stands.clients.given;
   };
-  keys = record {
-    named = λ domain nspace alias. same.keys.named domain nspace alias ∙ stands.keys.named domain nspace alias;
-    any = λ test. same.keys.any test ∙ stands.keys.any test;
-    next = same.keys.next ∙ stands.keys.next;
-  };
+  keys = keys_stay setup past past old.keys new.keys stands.keys same.keys refl refl;
   operations = record {
     rows = λ number.
         subst (λ row. SameOperation (length (aad_of setup past number)) (length (text_of setup past number)) row (operation_at setup past number)) (sym (same.operations.rows number)) (stands.operations.rows number);
@@ -159,7 +147,7 @@ pub same_but_operations : (tables : Tables) (rows : Operations) (states : Cipher
     → SameTables tables (record tables { operations = rows; ciphers = states })
 same_but_operations tables rows states same_rows same_states = record {
   clients = record { uids = λ client. refl; given = refl };
-  keys = record { named = λ domain nspace alias. refl; any = λ test. refl; next = refl };
+  keys = same_keys tables.keys;
   operations = same_rows;
   ciphers = same_states;
 }

@@ -49,7 +49,8 @@ use Rattle.keystore_core.specs.Operations.{IsRow, SameOperation, operation_in}
 use Rattle.keystore_core.specs.Stepping.{CanWork, ClosesOne, Denies, DeniesBy, IsRoomAt, MayGrow, MayTake, TakesRow, added_by, done_of, entering, reply_of}
 use Rattle.keystore_core.specs.Tables.{AnswersAfter, IsCaller, OneOperation, TablesStand, event_by, row_at, state_at}
 use Rattle.keystore_core.proofs.Pointwise.{Concerns, own_aad, own_found, own_text, pointwise}
-use Rattle.keystore_core.proofs.Standing.{called, clients_stay, denied_tables, keys_stay, quiet, same_tables, uncounted}
+use Rattle.keystore_core.proofs.KeyTable.{keys_stay}
+use Rattle.keystore_core.proofs.Standing.{called, clients_stay, denied_tables, quiet, same_tables, uncounted}
 
 -- the facts of a step that brings a work
 abbrev pub facts_at : Option Operation → (ℕ → Bool) → List ℕ → List ℕ → Caller → Work → StepFacts
@@ -254,7 +255,7 @@ pub one_tables : (setup : Setup) (past : History) (old new : Tables) (event : Ev
     → TablesStand setup new (Acted event [] reply ∷ past)
 one_tables setup past old new event reply op change stands step one is named row state = record {
   clients = clients_stay setup past event [] reply old.clients new.clients stands.clients one.clients (same_clients event reply step.clients) (quiet is_connect past event [] reply (none_connects event.act step.clients));
-  keys = keys_stay setup past event [] reply old.keys new.keys stands.keys one.keys (keys_same setup past event [] reply step.keys) (same_next setup past event [] reply step.keys);
+  keys = keys_stay setup past (Acted event [] reply ∷ past) old.keys new.keys stands.keys one.keys (keys_same setup past event [] reply step.keys) (same_next setup past event [] reply step.keys);
   operations = record {
     rows = λ n. subst (λ change. SameOperation (length (aad_after change n (aad_of setup past n))) (length (text_after change n (text_of setup past n))) (operation_in new.operations n) (found_after change n (operation_at setup past n))) (sym is)
         (pointwise (λ aad text entry at. SameOperation (length aad) (length text) entry at) change op (aad_of setup past) (text_of setup past) (operation_at setup past)

@@ -1,9 +1,11 @@
 //! The live keys.
 
-ghost use Rattle.std.specs.Prelude.{◌≡◌, ℕ, ◌+◌, ◌^◌, ◌<◌, ◌≤◌, List, not, filter, vec_len, vec_capacity, None, false, OnOk};
+ghost use Rattle.std.specs.Prelude.{◌≡◌, ℕ, ◌+◌, ◌^◌, ◌<◌, ◌≤◌, ◌==◌, List, not, filter, vec_len, vec_capacity, None, OnOk};
+ghost use Rattle.std.specs.List.{list_any};
 ghost use Rattle.std.specs.Option.{option_and_then, option_copied};
+ghost use Rattle.rule_model.specs.declared.entry.KeyRecord.{KeyRecord};
 ghost use Rattle.rule_model.specs.Keys.{alias_of, is_named as has_name};
-ghost use Rattle.keystore_core.specs.Keys.{HasRoomForKey, PutsKey, SameKeys, any_in, key_named_in, live_in, next_in};
+ghost use Rattle.keystore_core.specs.Keys.{HasRoomForKey, PutsKey, SameKeys, count_in, key_named_in, live_in, next_in};
 
 use crate::descriptors::alias_bytes;
 use rule_model::{Caller, KeyRecord};
@@ -23,6 +25,12 @@ fn is_named(key: &KeyRecord, domain: u32, nspace: u64, alias: &[u8]) -> bool
     key.domain == domain && key.nspace == nspace && key.alias.as_slice() == alias
 }
 
+fn has_id(keys: &[KeyRecord], id: u64) -> bool
+    ensures { result ≡ list_any (λ (key : KeyRecord). key.id == id) keys.now }
+{
+    keys.iter().any(|key| key.id == id)
+}
+
 /// Takes out the keys of an owner and an alias.
 fn end_named(keys: &mut Vec<KeyRecord>, domain: u32, nspace: u64, alias: &[u8])
     ensures keys { keys.new.items ≡ filter (λ other. not (has_name domain nspace alias.now other)) keys.old.items }
@@ -38,7 +46,7 @@ impl Keys {
 
     pub fn new(alloc: Global) -> Keys
         ensures named { (domain nspace : ℕ) (alias : List ℕ) → key_named_in result domain nspace alias ≡ None }
-        ensures any { (test : KeyRecord → Bool) → any_in result test ≡ false }
+        ensures count { (test : KeyRecord → Bool) → count_in result test ≡ 0 }
         ensures next { next_in result ≡ 1 }
     {
         Keys {
@@ -70,7 +78,7 @@ impl Keys {
     pub fn is_live(&self, id: u64) -> bool
         ensures { result ≡ live_in self.now id }
     {
-        self.keys.iter().any(|key| key.id == id)
+        has_id(&self.keys, id)
     }
 
     /// The number that the next key takes.

@@ -1,6 +1,6 @@
 -- The keys of a history.
 use Rattle.std.specs.Prelude.{ℕ, ◌+◌, Bool, true, false, ◌&&◌, ◌||◌, not, ◌==◌, List, [], ◌∷◌, ◌++◌, Option, Some, None, if◌then◌else◌, unwrap_or, take, drop, filter, find}
-use Rattle.std.specs.List.{list_any}
+use Rattle.std.specs.List.{count_by}
 use Rattle.std.specs.Option.{option_and_then}
 use Rattle.std.specs.Str.{bytes_eq}
 use Rattle.tags.specs.declared.code.Code.{Code}
@@ -157,6 +157,10 @@ key_named setup past domain nspace alias = find (is_named domain nspace alias) (
 abbrev pub key_found : Setup → History → Caller → Descriptor → Option KeyRecord
 key_found setup past caller key = option_and_then (λ uid. key_named setup past 0 uid (alias_of key)) caller.uid
 
+-- how many live keys pass a test
+abbrev pub count_where : Setup → History → (KeyRecord → Bool) → ℕ
+count_where setup past test = count_by test (keys_of setup past)
+
 -- whether a key of this number has not ended
 abbrev pub is_live : Setup → History → ℕ → Bool
-is_live setup past id = list_any (λ (key : KeyRecord). key.id == id) (keys_of setup past)
+is_live setup past id = not (count_where setup past (λ (key : KeyRecord). key.id == id) == 0)

@@ -1,7 +1,7 @@
 use Rattle.std.proofs.Common.{◌≡◌, [], ◌∷◌, ◌++◌, ap, ◌∙◌, refl, find}
-use Rattle.std.specs.List.{list_any}
+use Rattle.std.specs.List.{count_by}
 use Rattle.rule_model.specs.Keys.{is_named, with_key}
-use Rattle.keystore_core.proofs.KeyTable.{any_with, named_with}
+use Rattle.keystore_core.proofs.KeyTable.{count_with, named_with}
 use Rattle.keystore_core.proofs.keys.Keys.put.Goals as goal
 
 pub returns : goal.returns
@@ -10,6 +10,6 @@ returns c =
     c.in-Ok.ensures.items ∙ ap (λ keys. keys ++ c.args.key ∷ []) (rw c.as_slice.ensures at c.end_named.ensures.keys) in
     record {
       named = λ domain nspace alias. ap (find (is_named domain nspace alias)) items ∙ named_with c.args.key c.args.self.now.keys.items domain nspace alias;
-      any = λ test. ap (list_any test) items ∙ any_with c.args.key c.args.self.now.keys.items test;
+      count = λ test. ap (count_by test) items ∙ count_with c.args.key c.args.self.now.keys.items test;
       next = refl;
     }
