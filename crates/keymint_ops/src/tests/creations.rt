@@ -26,8 +26,8 @@ fn planned(
     };
     let facts = NewFacts {
         connected: true,
-        descriptor: app_key(alloc)?,
-        params: Bytes::of(encoded(alloc, list, None)?),
+        descriptor: app_key(alloc, b"a")?,
+        params: Bytes::of(encoded(alloc, list, &[], None)?),
         import,
         wall: 1000,
     };
