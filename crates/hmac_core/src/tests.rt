@@ -1,4 +1,4 @@
-use crate::{Hmac, digest_size, same_bytes};
+use crate::{Hmac, digest_size};
 use std::process::Abort;
 use std::test::Fail;
 
@@ -136,18 +136,4 @@ fn the_cases_of_rfc_4231(rt: HostRuntime) -> Result<(), Fail> {
         ],
     )?;
     Ok(())
-}
-
-#[test]
-fn same_bytes_looks_at_all(rt: HostRuntime) {
-    assert!(rt; same_bytes(b"", b""));
-    assert!(rt; !same_bytes(b"", b"a"));
-    assert!(rt; !same_bytes(b"mac", b"ma"));
-    let mac = [7u8; 64];
-    assert!(rt; same_bytes(&mac, &[7u8; 64]));
-    for i in 0..64 {
-        let mut other = mac;
-        other[i] = 6;
-        assert!(rt; !same_bytes(&mac, &other), "at {i}");
-    }
 }

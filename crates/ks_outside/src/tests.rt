@@ -136,23 +136,23 @@ fn entropy_that_counts(rt: HostRuntime) {
     let mut all = [0; 255];
     let mut out = [9; 3];
     let mut steady = SteadyEntropy::counting();
-    assert_eq!(rt; steady.draw(&mut []), Ok(()));
-    assert_eq!(rt; steady.draw(&mut all), Ok(()));
-    assert_eq!(rt; (all[0], all[1], all[254]), (0, 1, 254));
-    assert_eq!(rt; steady.draw(&mut out), Ok(()));
-    assert_eq!(rt; (out, steady.faults()), ([255, 0, 1], 0));
+    assert!(rt; steady.draw(&mut []) == Ok(()));
+    assert!(rt; steady.draw(&mut all) == Ok(()));
+    assert!(rt; (all[0], all[1], all[254]) == (0, 1, 254));
+    assert!(rt; steady.draw(&mut out) == Ok(()));
+    assert!(rt; (out, steady.faults()) == ([255, 0, 1], 0));
 
     let mut failing = MemoryEntropy::failing(&[1, 3]);
-    assert_eq!(rt; failing.draw(&mut out), Err(Failed));
-    assert_eq!(rt; (out, failing.faults()), ([255, 0, 1], 1));
-    assert_eq!(rt; failing.draw(&mut out), Ok(()));
-    assert_eq!(rt; (out, failing.faults()), ([0, 1, 2], 1));
-    assert_eq!(rt; failing.draw(&mut out), Err(Failed));
-    assert_eq!(rt; failing.draw(&mut out), Ok(()));
-    assert_eq!(rt; (out, failing.faults()), ([3, 4, 5], 2));
+    assert!(rt; failing.draw(&mut out) == Err(Failed));
+    assert!(rt; (out, failing.faults()) == ([255, 0, 1], 1));
+    assert!(rt; failing.draw(&mut out) == Ok(()));
+    assert!(rt; (out, failing.faults()) == ([0, 1, 2], 1));
+    assert!(rt; failing.draw(&mut out) == Err(Failed));
+    assert!(rt; failing.draw(&mut out) == Ok(()));
+    assert!(rt; (out, failing.faults()) == ([3, 4, 5], 2));
     let mut counting = MemoryEntropy::counting();
-    assert_eq!(rt; counting.draw(&mut out), Ok(()));
-    assert_eq!(rt; (out, counting.faults()), ([0, 1, 2], 0));
+    assert!(rt; counting.draw(&mut out) == Ok(()));
+    assert!(rt; (out, counting.faults()) == ([0, 1, 2], 0));
 }
 
 // The key stream of the zero key and nonce (RFC 8439, appendix A.1, the first vector), drawn with cuts inside words.
@@ -198,17 +198,17 @@ fn a_cursor_over_bytes(rt: HostRuntime) {
         7, 1, 2, 0, 0, 1, 0, 0x80, 0, 0, 0, 0, 0, 0, 1, b'a', b'b', b'c',
     ];
     let mut cursor = Cursor::new(&bytes);
-    assert_eq!(rt; cursor.u8(), Some(7));
-    assert_eq!(rt; cursor.u16(), Some(0x102));
-    assert_eq!(rt; cursor.u32(), Some(0x100));
-    assert_eq!(rt; cursor.u64(), Some(0x8000_0000_0000_0001));
-    assert_eq!(rt; cursor.take(4), None);
-    assert_eq!(rt; cursor.u32(), None);
-    assert_eq!(rt; (cursor.offset(), cursor.is_at_end()), (15, false));
-    assert_eq!(rt; cursor.take(3), Some(b"abc".as_slice()));
-    assert_eq!(rt; (cursor.offset(), cursor.is_at_end()), (18, true));
-    assert_eq!(rt; cursor.left().len(), 0);
-    assert_eq!(rt; cursor.u8(), None);
+    assert!(rt; cursor.u8() == Some(7));
+    assert!(rt; cursor.u16() == Some(0x102));
+    assert!(rt; cursor.u32() == Some(0x100));
+    assert!(rt; cursor.u64() == Some(0x8000_0000_0000_0001));
+    assert!(rt; cursor.take(4) == None);
+    assert!(rt; cursor.u32() == None);
+    assert!(rt; (cursor.offset(), cursor.is_at_end()) == (15, false));
+    assert!(rt; cursor.take(3) == Some(b"abc".as_slice()));
+    assert!(rt; (cursor.offset(), cursor.is_at_end()) == (18, true));
+    assert!(rt; cursor.left().len() == 0);
+    assert!(rt; cursor.u8() == None);
 }
 
 /// The permissions of a file.

@@ -4,7 +4,7 @@ use std::test::Fail;
 use tags::{Param, ParamValue, Tag};
 
 // The format's tags, as its description lists them: the 28 low bits and the type.
-const TAGS: [(u32, u32); 28] = [
+static TAGS: [(u32, u32); 28] = [
     (1, 2),
     (2, 1),
     (3, 3),
@@ -71,9 +71,9 @@ fn plain_value(kind: u32, at: usize, bytes: &[u8]) -> Option<&[u8]> {
 
 // The type of the tag of these 28 low bits, or 0.
 fn plain_kind(low: u32) -> u32 {
-    for (known, kind) in TAGS {
-        if known == low {
-            return kind;
+    for (known, kind) in &TAGS {
+        if *known == low {
+            return *kind;
         }
     }
     0
@@ -222,93 +222,95 @@ fn random_bytes_read_as_a_plain_reader_reads_them(rt: HostRuntime) -> Result<(),
     Ok(())
 }
 
+// Bytes, and the fault of least offset.
+static FAULTS: [(&[u8], ListFault); 25] = [
+    (b"", ListFault::Truncated { at: 0 }),
+    (b"\x00", ListFault::Truncated { at: 0 }),
+    (b"\x00\x01", ListFault::Truncated { at: 2 }),
+    (b"\x00\x01\x20\x00\x00", ListFault::Truncated { at: 2 }),
+    (
+        b"\x00\x01\x20\x00\x00\x01\x00\x00",
+        ListFault::Truncated { at: 2 },
+    ),
+    (
+        b"\x00\x01\x70\x00\x09\x99\x01",
+        ListFault::UnknownTag { at: 2 },
+    ),
+    (b"\x00\x01\x00\x00\x00\x00", ListFault::UnknownTag { at: 2 }),
+    (
+        b"\x00\x01\x10\x00\x00\x01\x00\x00\x00\x02",
+        ListFault::WrongKind { at: 2 },
+    ),
+    (
+        b"\x00\x01\x80\x00\x02\x59\x00\x00",
+        ListFault::WrongKind { at: 2 },
+    ),
+    (
+        b"\x00\x01\x70\x00\x01\xf7\x02",
+        ListFault::WrongKind { at: 2 },
+    ),
+    (
+        b"\x00\x01\x70\x00\x01\xf7\x00",
+        ListFault::WrongKind { at: 2 },
+    ),
+    (b"\x00\x01\x70\x00\x01\xf7", ListFault::Truncated { at: 2 }),
+    (
+        b"\x00\x02\x70\x00\x01\xf7\x01\x70\x00\x01\xf7\x01",
+        ListFault::Repeated { at: 7 },
+    ),
+    (
+        b"\x00\x02\x70\x00\x01\xf7\x01\x70\x00\x01\xf7\x02",
+        ListFault::WrongKind { at: 7 },
+    ),
+    (
+        b"\x00\x02\x70\x00\x01\xf7\x01\x70\x00\x01\xf7",
+        ListFault::Repeated { at: 7 },
+    ),
+    (
+        b"\x00\x02\x30\x00\x00\x03\x00\x00\x00\x80\x30\x00\x00\x03\x00\x00\x01\x00",
+        ListFault::Repeated { at: 10 },
+    ),
+    (
+        b"\x00\x02\x30\x00\x00\x03\x00\x00\x00\x80\x30\x00\x00\x03\x00\x00",
+        ListFault::Repeated { at: 10 },
+    ),
+    (
+        b"\x00\x02\x90\x00\x02\x59\x00\x01\xaa\x90\x00\x02\x59\x00\x01\xbb",
+        ListFault::Repeated { at: 9 },
+    ),
+    (
+        b"\x00\x01\x90\x00\x02\x59\x00\x02\xaa",
+        ListFault::Truncated { at: 2 },
+    ),
+    (
+        b"\x00\x01\x90\x00\x02\x59\x00",
+        ListFault::Truncated { at: 2 },
+    ),
+    (
+        b"\x00\x02\x70\x00\x09\x99\x01\x70\x00\x01\xf7\x02",
+        ListFault::UnknownTag { at: 2 },
+    ),
+    (
+        b"\x00\x01\x70\x00\x01\xf7\x01\x00",
+        ListFault::Trailing { at: 7 },
+    ),
+    (b"\x00\x00\xff", ListFault::Trailing { at: 2 }),
+    (
+        b"\x00\x02\x70\x00\x01\xf7\x01",
+        ListFault::Truncated { at: 7 },
+    ),
+    (
+        b"\xff\xff\x20\x00\x00\x01\x00\x00\x00\x02\x70\x00\x01\xf7\x01",
+        ListFault::Truncated { at: 15 },
+    ),
+];
+
 #[test]
 fn each_fault_has_its_offset(rt: HostRuntime) {
-    let cases: [(&[u8], ListFault); 25] = [
-        (b"", ListFault::Truncated { at: 0 }),
-        (b"\x00", ListFault::Truncated { at: 0 }),
-        (b"\x00\x01", ListFault::Truncated { at: 2 }),
-        (b"\x00\x01\x20\x00\x00", ListFault::Truncated { at: 2 }),
-        (
-            b"\x00\x01\x20\x00\x00\x01\x00\x00",
-            ListFault::Truncated { at: 2 },
-        ),
-        (
-            b"\x00\x01\x70\x00\x09\x99\x01",
-            ListFault::UnknownTag { at: 2 },
-        ),
-        (b"\x00\x01\x00\x00\x00\x00", ListFault::UnknownTag { at: 2 }),
-        (
-            b"\x00\x01\x10\x00\x00\x01\x00\x00\x00\x02",
-            ListFault::WrongKind { at: 2 },
-        ),
-        (
-            b"\x00\x01\x80\x00\x02\x59\x00\x00",
-            ListFault::WrongKind { at: 2 },
-        ),
-        (
-            b"\x00\x01\x70\x00\x01\xf7\x02",
-            ListFault::WrongKind { at: 2 },
-        ),
-        (
-            b"\x00\x01\x70\x00\x01\xf7\x00",
-            ListFault::WrongKind { at: 2 },
-        ),
-        (b"\x00\x01\x70\x00\x01\xf7", ListFault::Truncated { at: 2 }),
-        (
-            b"\x00\x02\x70\x00\x01\xf7\x01\x70\x00\x01\xf7\x01",
-            ListFault::Repeated { at: 7 },
-        ),
-        (
-            b"\x00\x02\x70\x00\x01\xf7\x01\x70\x00\x01\xf7\x02",
-            ListFault::WrongKind { at: 7 },
-        ),
-        (
-            b"\x00\x02\x70\x00\x01\xf7\x01\x70\x00\x01\xf7",
-            ListFault::Repeated { at: 7 },
-        ),
-        (
-            b"\x00\x02\x30\x00\x00\x03\x00\x00\x00\x80\x30\x00\x00\x03\x00\x00\x01\x00",
-            ListFault::Repeated { at: 10 },
-        ),
-        (
-            b"\x00\x02\x30\x00\x00\x03\x00\x00\x00\x80\x30\x00\x00\x03\x00\x00",
-            ListFault::Repeated { at: 10 },
-        ),
-        (
-            b"\x00\x02\x90\x00\x02\x59\x00\x01\xaa\x90\x00\x02\x59\x00\x01\xbb",
-            ListFault::Repeated { at: 9 },
-        ),
-        (
-            b"\x00\x01\x90\x00\x02\x59\x00\x02\xaa",
-            ListFault::Truncated { at: 2 },
-        ),
-        (
-            b"\x00\x01\x90\x00\x02\x59\x00",
-            ListFault::Truncated { at: 2 },
-        ),
-        (
-            b"\x00\x02\x70\x00\x09\x99\x01\x70\x00\x01\xf7\x02",
-            ListFault::UnknownTag { at: 2 },
-        ),
-        (
-            b"\x00\x01\x70\x00\x01\xf7\x01\x00",
-            ListFault::Trailing { at: 7 },
-        ),
-        (b"\x00\x00\xff", ListFault::Trailing { at: 2 }),
-        (
-            b"\x00\x02\x70\x00\x01\xf7\x01",
-            ListFault::Truncated { at: 7 },
-        ),
-        (
-            b"\xff\xff\x20\x00\x00\x01\x00\x00\x00\x02\x70\x00\x01\xf7\x01",
-            ListFault::Truncated { at: 15 },
-        ),
-    ];
-    for (bytes, fault) in cases {
+    for (bytes, fault) in &FAULTS {
         match AuthList::read(rt.alloc(), bytes) {
             Ok(_) => assert!(rt; false, "{bytes:?} was read"),
-            Err(found) => assert_eq!(rt; found, fault, "of {bytes:?}"),
+            Err(found) => assert!(rt; found == *fault, "{found:?} of {bytes:?}"),
         }
     }
 }
