@@ -1,3 +1,5 @@
+//! Strings of one length that differ at each place, and strings of two lengths.
+
 use crate::same_bytes;
 
 #[test]

@@ -1,3 +1,5 @@
+//! The keys that the tests make and use, and how their lists are spelled.
+
 mod begin_rules;
 mod beginnings;
 mod creations;

@@ -315,12 +315,9 @@ fn fill(alloc: Global, case: &Case) -> Result<Desk, Fail> {
 fn the_first_to_go_of_sixteen(rt: HostRuntime) -> Result<(), Fail> {
     for case in &CASES {
         let desk = fill(rt.alloc(), case)?;
-        assert_eq!(rt; desk.slots.open_count(), 16);
-        assert_eq!(rt; desk.next, NOW);
-        assert_eq!(rt;
-            pruned::<Brand>(&desk, case.uid, case.forced, Blank::new(1)),
-            case.want
-        );
+        assert!(rt; desk.slots.open_count() == 16);
+        assert!(rt; desk.next == NOW);
+        assert!(rt; pruned::<Brand>(&desk, case.uid, case.forced, Blank::new(1)) == case.want);
     }
     Ok(())
 }

@@ -1,3 +1,5 @@
+//! Lines with the events that they spell, and replies with their lines.
+
 use crate::act_name::name_of;
 use crate::event::{act_of, parsed};
 use crate::{LineFault, event_of, line_of, malformed_line};
@@ -211,10 +213,7 @@ fn all_fields(alloc: Global) -> Result<Fields, NoMemory> {
 #[test]
 fn replies(rt: HostRuntime) -> Result<(), Fail> {
     let alloc = rt.alloc();
-    assert_eq!(rt;
-        malformed_line(),
-        b"{\"code\":20,\"rule\":\"L1\"}\n".as_slice()
-    );
+    assert!(rt; malformed_line() == b"{\"code\":20,\"rule\":\"L1\"}\n".as_slice());
     let rule = Rule {
         table: RuleTable::B,
         number: 11,
@@ -251,10 +250,7 @@ fn replies(rt: HostRuntime) -> Result<(), Fail> {
         ),
     ];
     for (settled, reply, want) in table {
-        assert_eq!(rt;
-            lines_of(alloc, settled, reply)?.as_slice(),
-            want.as_bytes()
-        );
+        assert!(rt; lines_of(alloc, settled, reply)?.as_slice() == want.as_bytes());
     }
     Ok(())
 }

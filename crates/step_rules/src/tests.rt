@@ -1,3 +1,5 @@
+//! Each rule of table S alone and before a later one.
+
 use crate::{StepFacts, StepKind, check_step, ends_operation};
 use std::test::Fail;
 use tags::{Code, Plan, Rule, RuleTable};

@@ -1,3 +1,5 @@
+//! Lists against a plain reader of the format, each fault with its offset, and a list of the greatest length.
+
 use crate::{AuthList, ListFault};
 use std::alloc::Global;
 use std::test::Fail;
@@ -211,10 +213,10 @@ fn random_bytes_read_as_a_plain_reader_reads_them(rt: HostRuntime) -> Result<(),
         let bytes = made_up(alloc, &mut state)?;
         match (again(alloc, &bytes), plain_spelling(alloc, &bytes)) {
             (Ok(read), Ok(plain)) => {
-                assert_eq!(rt; read.as_slice(), plain.as_slice(), "in round {round}");
+                assert!(rt; read.as_slice() == plain.as_slice(), "in round {round}");
                 lists = lists.saturating_add(1);
             }
-            (Err(read), Err(plain)) => assert_eq!(rt; read, plain, "in round {round}"),
+            (Err(read), Err(plain)) => assert!(rt; read == plain, "in round {round}"),
             _ => assert!(rt; false, "one reads and one does not in round {round}"),
         }
     }
@@ -327,15 +329,15 @@ fn two_parameters_read_alike_in_either_order(rt: HostRuntime) -> Result<(), Fail
             assert!(rt; false, "{bytes:?} was not read");
             continue;
         };
-        assert_eq!(rt; list.params().len(), 2);
+        assert!(rt; list.params().len() == 2);
         assert!(rt; list.has(Tag::Purpose, 2) && !list.has(Tag::Purpose, 3));
         assert!(rt; list.one(Tag::NoAuthRequired).is_some() && list.one(Tag::KeySize).is_none());
-        assert_eq!(rt; list.all(Tag::Purpose).len(), 1);
+        assert!(rt; list.all(Tag::Purpose).len() == 1);
         let Ok(written) = list.write(alloc) else {
             assert!(rt; false, "no memory");
             continue;
         };
-        assert_eq!(rt; written.as_slice(), canonical.as_slice());
+        assert!(rt; written.as_slice() == canonical.as_slice());
     }
     assert!(rt; AuthList::empty(alloc).params().is_empty());
     Ok(())
@@ -354,7 +356,7 @@ fn the_longest_list_is_sorted(rt: HostRuntime) -> Result<(), Fail> {
         assert!(rt; false, "the list was not read");
         return Ok(());
     };
-    assert_eq!(rt; list.params().len(), 65535);
+    assert!(rt; list.params().len() == 65535);
     assert!(rt; list.has(Tag::UserSecureId, 1) && list.has(Tag::UserSecureId, 65535));
     assert!(rt; !list.has(Tag::UserSecureId, 0) && !list.has(Tag::UserSecureId, 65536));
     Ok(())
@@ -386,9 +388,9 @@ fn a_parameter_takes_the_place_of_its_tags_others(rt: HostRuntime) -> Result<(),
         assert!(rt; false, "no memory");
         return Ok(());
     };
-    assert_eq!(rt;
-        written.as_slice(),
-        b"\x00\x02\x30\x00\x00\x03\x00\x00\x01\x00\x70\x00\x01\xf7\x01".as_slice()
+    assert!(rt;
+        written.as_slice()
+            == b"\x00\x02\x30\x00\x00\x03\x00\x00\x01\x00\x70\x00\x01\xf7\x01".as_slice()
     );
     Ok(())
 }

@@ -104,15 +104,15 @@ fn the_kept_list_has_what_is_set_and_not_what_is_dropped(rt: HostRuntime) -> Res
             assert!(rt; false, "no key in row {row}");
             continue;
         };
-        assert_eq!(rt; plan.limit, 0);
-        assert_eq!(rt; material_size(&plan.list), *size, "in row {row}");
+        assert!(rt; plan.limit == 0);
+        assert!(rt; material_size(&plan.list) == *size, "in row {row}");
         let Ok(written) = plan.list.write(alloc) else {
             assert!(rt; false, "no memory in row {row}");
             continue;
         };
-        assert_eq!(rt; written.as_slice(), *expected, "in row {row}");
+        assert!(rt; written.as_slice() == *expected, "in row {row}");
     }
-    assert_eq!(rt; material_size(&AuthList::empty(alloc)), 0);
+    assert!(rt; material_size(&AuthList::empty(alloc)) == 0);
     Ok(())
 }
 
@@ -206,7 +206,7 @@ fn a_list_and_a_length_are_a_keys_or_not(rt: HostRuntime) -> Result<(), Fail> {
             continue;
         };
         assert!(rt; list.has(Tag::Purpose, 3) || list.is_aes(), "in row {row}");
-        assert_eq!(rt; usable(&list, *length), *expected, "in row {row}");
+        assert!(rt; usable(&list, *length) == *expected, "in row {row}");
     }
     let cut = read_asked(alloc, b"\x00");
     assert!(rt; matches!(cut, Ok(Err(Code::InvalidTag))));
