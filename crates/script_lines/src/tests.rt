@@ -182,14 +182,18 @@ fn lines_of(alloc: Global, settled: Option<Settled>, reply: Reply) -> Result<Vec
     Ok(line_of(alloc, &stepped)?.into_vec())
 }
 
-fn all_fields(alloc: Global) -> Result<Fields, NoMemory> {
+fn two_entries(alloc: Global) -> Result<Entries, NoMemory> {
     let mut entries = Vec::new(alloc);
     entries.push((Bytes::copy_of(alloc, b"a\"")?, 1))?;
     entries.push((
         Bytes::copy_of(alloc, "\u{e9}".as_bytes())?,
         18446744073709551615,
     ))?;
-    Ok(Fields {
+    Ok(Entries::of(entries))
+}
+
+fn all_fields(alloc: Global) -> Result<Fields, NoMemory> {
+    let mut fields = Fields {
         client: Some(1),
         key: Some(2),
         op: Some(3),
@@ -201,13 +205,25 @@ fn all_fields(alloc: Global) -> Result<Fields, NoMemory> {
         uses: Some(9),
         domain: Some(0),
         nspace: Some(11),
-        alias: bytes(alloc, "k")?,
-        nonce: bytes(alloc, "JZ")?,
-        out: bytes(alloc, "")?,
-        blob: bytes(alloc, "KSB1")?,
-        list: bytes(alloc, "\n")?,
-        entries: Some(Entries::of(entries)),
-    })
+        ..NO_FIELDS
+    };
+    fields.alias = bytes(alloc, "k")?;
+    fields.nonce = bytes(alloc, "JZ")?;
+    fields.out = bytes(alloc, "")?;
+    fields.blob = bytes(alloc, "KSB1")?;
+    fields.list = bytes(alloc, "\n")?;
+    fields.entries = Some(two_entries(alloc)?);
+    Ok(fields)
+}
+
+// Whether the line of a reply is this text.
+fn says(
+    alloc: Global,
+    settled: Option<Settled>,
+    reply: Reply,
+    text: &str,
+) -> Result<bool, NoMemory> {
+    Ok(lines_of(alloc, settled, reply)?.as_slice() == text.as_bytes())
 }
 
 #[test]
@@ -218,39 +234,38 @@ fn replies(rt: HostRuntime) -> Result<(), Fail> {
         table: RuleTable::B,
         number: 11,
     };
-    let table = [
-        (None, Reply::Done(NO_FIELDS), "{\"code\":0}\n"),
-        (
-            None,
-            Reply::Done(all_fields(alloc)?),
-            "{\"alias\":\"k\",\"blob\":\"4b534231\",\"challenge\":868365761009226259,\"client\":1,\"code\":0,\"count\":8,\"domain\":0,\"entries\":[[\"a\\\"\",1],[\"\u{e9}\",18446744073709551615]],\"grant\":7,\"key\":2,\"list\":\"0a\",\"nonce\":\"4a5a\",\"nspace\":11,\"op\":3,\"out\":\"\",\"pruned\":6,\"ticket\":5,\"uses\":9}\n",
-        ),
-        (
-            None,
-            Reply::Broken {
-                rule,
-                code: Code::KeyExpired,
-            },
-            "{\"code\":-25,\"rule\":\"B11\"}\n",
-        ),
-        (
-            Some(Settled::Kept),
-            Reply::Stopped {
-                code: Code::NoTicket,
-            },
-            "{\"settled\":\"kept\"}\n{\"code\":1006}\n",
-        ),
-        (
-            Some(Settled::Lost),
-            Reply::Broken {
-                rule,
-                code: Code::KeyNotFound,
-            },
-            "{\"settled\":\"lost\"}\n{\"code\":7,\"rule\":\"B11\"}\n",
-        ),
-    ];
-    for (settled, reply, want) in table {
-        assert!(rt; lines_of(alloc, settled, reply)?.as_slice() == want.as_bytes());
-    }
+    let done = says(alloc, None, Reply::Done(NO_FIELDS), "{\"code\":0}\n")?;
+    let whole = says(
+        alloc,
+        None,
+        Reply::Done(all_fields(alloc)?),
+        "{\"alias\":\"k\",\"blob\":\"4b534231\",\"challenge\":868365761009226259,\"client\":1,\"code\":0,\"count\":8,\"domain\":0,\"entries\":[[\"a\\\"\",1],[\"\u{e9}\",18446744073709551615]],\"grant\":7,\"key\":2,\"list\":\"0a\",\"nonce\":\"4a5a\",\"nspace\":11,\"op\":3,\"out\":\"\",\"pruned\":6,\"ticket\":5,\"uses\":9}\n",
+    )?;
+    let expired = Reply::Broken {
+        rule,
+        code: Code::KeyExpired,
+    };
+    let broken = says(alloc, None, expired, "{\"code\":-25,\"rule\":\"B11\"}\n")?;
+    let none = Reply::Stopped {
+        code: Code::NoTicket,
+    };
+    let kept = says(
+        alloc,
+        Some(Settled::Kept),
+        none,
+        "{\"settled\":\"kept\"}\n{\"code\":1006}\n",
+    )?;
+    let missing = Reply::Broken {
+        rule,
+        code: Code::KeyNotFound,
+    };
+    let lost = says(
+        alloc,
+        Some(Settled::Lost),
+        missing,
+        "{\"settled\":\"lost\"}\n{\"code\":7,\"rule\":\"B11\"}\n",
+    )?;
+    assert!(rt; done && whole);
+    assert!(rt; broken && kept && lost);
     Ok(())
 }

@@ -2,7 +2,7 @@
 ghost use Rattle.std.specs.Prelude.{◌≡◌, ◌<◌};
 ghost use Rattle.operation_slots.specs.Table.{IsLater};
 
-use crate::{OpId, Slots, Steps, Taken};
+use operation_slots::{OpId, Slots, Steps, Taken};
 use std::marker::Brand;
 use std::process::Abort;
 use std::sync::ledger::{Blank, Ledger};
