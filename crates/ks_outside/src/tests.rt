@@ -1,5 +1,3 @@
-//! Each device in memory and each adapter, with failing readers and writers, and a store in a real file.
-
 use crate::device::open_file;
 use crate::{
     Cursor, DeviceEntropy, Disk, EmptyDisk, Entropy, Failed, MemoryEntropy, MemorySink,
@@ -60,60 +58,60 @@ impl Read for FailsOnce {
 fn sources_in_memory(rt: HostRuntime) {
     let mut out = [9; 3];
     let mut steady = SteadySource::new(b"abcde");
-    assert!(rt; steady.read(&mut out) == Ok(3));
-    assert!(rt; out.as_slice() == b"abc".as_slice());
-    assert!(rt; steady.read(&mut out) == Ok(2));
-    assert!(rt; out.as_slice() == b"dec".as_slice());
-    assert!(rt; steady.read(&mut out) == Ok(0));
-    assert!(rt; steady.left().len() == 0);
+    assert_eq!(rt; steady.read(&mut out), Ok(3));
+    assert_eq!(rt; out.as_slice(), b"abc".as_slice());
+    assert_eq!(rt; steady.read(&mut out), Ok(2));
+    assert_eq!(rt; out.as_slice(), b"dec".as_slice());
+    assert_eq!(rt; steady.read(&mut out), Ok(0));
+    assert_eq!(rt; steady.left().len(), 0);
 
     let mut failing = MemorySource::new(b"abcde", &[1, 3]);
-    assert!(rt; failing.read(&mut out) == Err(Failed));
-    assert!(rt; out.as_slice() == b"dec".as_slice());
-    assert!(rt; failing.read(&mut out) == Ok(3));
-    assert!(rt; failing.read(&mut out) == Err(Failed));
-    assert!(rt; failing.left() == b"de".as_slice());
-    assert!(rt; failing.faults() == 2);
+    assert_eq!(rt; failing.read(&mut out), Err(Failed));
+    assert_eq!(rt; out.as_slice(), b"dec".as_slice());
+    assert_eq!(rt; failing.read(&mut out), Ok(3));
+    assert_eq!(rt; failing.read(&mut out), Err(Failed));
+    assert_eq!(rt; failing.left(), b"de".as_slice());
+    assert_eq!(rt; failing.faults(), 2);
 }
 
 #[test]
 fn a_sink_in_memory(rt: HostRuntime) -> Result<(), Fail> {
     let mut sink = MemorySink::with_room(rt.alloc(), 5, 2, &[2])?;
-    assert!(rt; sink.write(b"abc") == Ok(3));
-    assert!(rt; sink.write(b"xy") == Err(Failed));
-    assert!(rt; sink.write(b"") == Ok(0));
-    assert!(rt; sink.write(b"de") == Ok(2));
-    assert!(rt; sink.written() == b"abcde".as_slice());
-    assert!(rt; sink.pieces() == [3, 0, 2].as_slice());
-    assert!(rt; sink.faults() == 1);
+    assert_eq!(rt; sink.write(b"abc"), Ok(3));
+    assert_eq!(rt; sink.write(b"xy"), Err(Failed));
+    assert_eq!(rt; sink.write(b""), Ok(0));
+    assert_eq!(rt; sink.write(b"de"), Ok(2));
+    assert_eq!(rt; sink.written(), b"abcde".as_slice());
+    assert_eq!(rt; sink.pieces(), [3, 0, 2].as_slice());
+    assert_eq!(rt; sink.faults(), 1);
     Ok(())
 }
 
 #[test]
 fn adapters_over_standard_input_and_output(rt: HostRuntime) {
     let mut input = ReaderSource::new(rt.stdin());
-    assert!(rt; input.read(&mut []) == Ok(0));
-    assert!(rt; input.faults() == 0);
+    assert_eq!(rt; input.read(&mut []), Ok(0));
+    assert_eq!(rt; input.faults(), 0);
     let mut output = WriterSink::new(rt.stdout());
-    assert!(rt; output.write(b"") == Ok(0));
-    assert!(rt; output.faults() == 0);
+    assert_eq!(rt; output.write(b""), Ok(0));
+    assert_eq!(rt; output.faults(), 0);
 
     let mut out = [0; 4];
     let mut text = ReaderSource::new(b"abcde".as_slice());
-    assert!(rt; text.read(&mut out) == Ok(4));
-    assert!(rt; out.as_slice() == b"abcd".as_slice());
-    assert!(rt; text.read(&mut out) == Ok(1));
-    assert!(rt; text.read(&mut out) == Ok(0));
+    assert_eq!(rt; text.read(&mut out), Ok(4));
+    assert_eq!(rt; out.as_slice(), b"abcd".as_slice());
+    assert_eq!(rt; text.read(&mut out), Ok(1));
+    assert_eq!(rt; text.read(&mut out), Ok(0));
     let mut broken = ReaderSource::new(Broken { fails: true });
-    assert!(rt; broken.read(&mut out) == Err(Failed));
-    assert!(rt; broken.faults() == 1);
+    assert_eq!(rt; broken.read(&mut out), Err(Failed));
+    assert_eq!(rt; broken.faults(), 1);
     let mut failing = WriterSink::new(Broken { fails: true });
-    assert!(rt; failing.write(b"a") == Err(Failed));
+    assert_eq!(rt; failing.write(b"a"), Err(Failed));
     let mut full = WriterSink::new(Broken { fails: false });
-    assert!(rt; full.write(b"a") == Err(Failed));
-    assert!(rt; full.write(b"") == Ok(0));
-    assert!(rt; (failing.faults(), full.faults()) == (1, 1));
-    assert!(rt; EmptyDisk.faults() == 0);
+    assert_eq!(rt; full.write(b"a"), Err(Failed));
+    assert_eq!(rt; full.write(b""), Ok(0));
+    assert_eq!(rt; (failing.faults(), full.faults()), (1, 1));
+    assert_eq!(rt; EmptyDisk.faults(), 0);
 }
 
 // Each read is one call of the reader, whatever the buffer's length, and a failed one is answered and counted.
@@ -121,16 +119,16 @@ fn adapters_over_standard_input_and_output(rt: HostRuntime) {
 fn a_reader_that_fails_once(rt: HostRuntime) {
     let mut out = [0; 3];
     let mut source = ReaderSource::new(FailsOnce { asked: 0 });
-    assert!(rt; source.read(&mut out) == Err(Failed));
-    assert!(rt; (out, source.faults()) == ([0; 3], 1));
-    assert!(rt; source.read(&mut out) == Ok(3));
-    assert!(rt; (out, source.faults()) == ([7; 3], 1));
+    assert_eq!(rt; source.read(&mut out), Err(Failed));
+    assert_eq!(rt; (out, source.faults()), ([0; 3], 1));
+    assert_eq!(rt; source.read(&mut out), Ok(3));
+    assert_eq!(rt; (out, source.faults()), ([7; 3], 1));
 
     let mut device = DeviceEntropy::new(FailsOnce { asked: 0 });
-    assert!(rt; device.draw(&mut out) == Err(Failed));
-    assert!(rt; device.faults() == 1);
-    assert!(rt; device.draw(&mut out) == Ok(()));
-    assert!(rt; (out, device.faults()) == ([7; 3], 1));
+    assert_eq!(rt; device.draw(&mut out), Err(Failed));
+    assert_eq!(rt; device.faults(), 1);
+    assert_eq!(rt; device.draw(&mut out), Ok(()));
+    assert_eq!(rt; (out, device.faults()), ([7; 3], 1));
 }
 
 #[test]
@@ -138,23 +136,23 @@ fn entropy_that_counts(rt: HostRuntime) {
     let mut all = [0; 255];
     let mut out = [9; 3];
     let mut steady = SteadyEntropy::counting();
-    assert!(rt; steady.draw(&mut []) == Ok(()));
-    assert!(rt; steady.draw(&mut all) == Ok(()));
-    assert!(rt; (all[0], all[1], all[254]) == (0, 1, 254));
-    assert!(rt; steady.draw(&mut out) == Ok(()));
-    assert!(rt; (out, steady.faults()) == ([255, 0, 1], 0));
+    assert_eq!(rt; steady.draw(&mut []), Ok(()));
+    assert_eq!(rt; steady.draw(&mut all), Ok(()));
+    assert_eq!(rt; (all[0], all[1], all[254]), (0, 1, 254));
+    assert_eq!(rt; steady.draw(&mut out), Ok(()));
+    assert_eq!(rt; (out, steady.faults()), ([255, 0, 1], 0));
 
     let mut failing = MemoryEntropy::failing(&[1, 3]);
-    assert!(rt; failing.draw(&mut out) == Err(Failed));
-    assert!(rt; (out, failing.faults()) == ([255, 0, 1], 1));
-    assert!(rt; failing.draw(&mut out) == Ok(()));
-    assert!(rt; (out, failing.faults()) == ([0, 1, 2], 1));
-    assert!(rt; failing.draw(&mut out) == Err(Failed));
-    assert!(rt; failing.draw(&mut out) == Ok(()));
-    assert!(rt; (out, failing.faults()) == ([3, 4, 5], 2));
+    assert_eq!(rt; failing.draw(&mut out), Err(Failed));
+    assert_eq!(rt; (out, failing.faults()), ([255, 0, 1], 1));
+    assert_eq!(rt; failing.draw(&mut out), Ok(()));
+    assert_eq!(rt; (out, failing.faults()), ([0, 1, 2], 1));
+    assert_eq!(rt; failing.draw(&mut out), Err(Failed));
+    assert_eq!(rt; failing.draw(&mut out), Ok(()));
+    assert_eq!(rt; (out, failing.faults()), ([3, 4, 5], 2));
     let mut counting = MemoryEntropy::counting();
-    assert!(rt; counting.draw(&mut out) == Ok(()));
-    assert!(rt; (out, counting.faults()) == ([0, 1, 2], 0));
+    assert_eq!(rt; counting.draw(&mut out), Ok(()));
+    assert_eq!(rt; (out, counting.faults()), ([0, 1, 2], 0));
 }
 
 // The key stream of the zero key and nonce (RFC 8439, appendix A.1, the first vector), drawn with cuts inside words.
@@ -162,36 +160,36 @@ fn entropy_that_counts(rt: HostRuntime) {
 fn entropy_of_a_seed(rt: HostRuntime) {
     let mut entropy = SeededEntropy::new([0; 32]);
     let (mut first, mut second, mut third) = ([0; 3], [0; 6], [0; 3]);
-    assert!(rt; entropy.draw(&mut first) == Ok(()));
-    assert!(rt; entropy.draw(&mut second) == Ok(()));
-    assert!(rt; entropy.draw(&mut third) == Ok(()));
-    assert!(rt; first == [0x76, 0xb8, 0xe0]);
-    assert!(rt; second == [0xad, 0xa0, 0xf1, 0x3d, 0x90, 0x40]);
-    assert!(rt; third == [0x5d, 0x6a, 0xe5]);
-    assert!(rt; entropy.faults() == 0);
+    assert_eq!(rt; entropy.draw(&mut first), Ok(()));
+    assert_eq!(rt; entropy.draw(&mut second), Ok(()));
+    assert_eq!(rt; entropy.draw(&mut third), Ok(()));
+    assert_eq!(rt; first, [0x76, 0xb8, 0xe0]);
+    assert_eq!(rt; second, [0xad, 0xa0, 0xf1, 0x3d, 0x90, 0x40]);
+    assert_eq!(rt; third, [0x5d, 0x6a, 0xe5]);
+    assert_eq!(rt; entropy.faults(), 0);
 }
 
 #[test]
 fn entropy_of_the_random_device(rt: HostRuntime) {
     let (mut first, mut second) = ([0; 64], [0; 64]);
     let mut device = open_device(&rt);
-    assert!(rt; device.draw(&mut first) == Ok(()));
-    assert!(rt; device.draw(&mut second) == Ok(()));
+    assert_eq!(rt; device.draw(&mut first), Ok(()));
+    assert_eq!(rt; device.draw(&mut second), Ok(()));
     assert!(rt; first != second);
     assert!(rt; first != [0; 64] && second != [0; 64]);
-    assert!(rt; device.faults() == 0);
+    assert_eq!(rt; device.faults(), 0);
 
     let mut missing = open_file(&rt, "no_such_device");
-    assert!(rt; missing.draw(&mut first) == Err(Failed));
-    assert!(rt; missing.faults() == 1);
+    assert_eq!(rt; missing.draw(&mut first), Err(Failed));
+    assert_eq!(rt; missing.faults(), 1);
     let mut short = DeviceEntropy::new(b"abcde".as_slice());
     let mut out = [0; 3];
-    assert!(rt; short.draw(&mut out) == Ok(()));
-    assert!(rt; out == [b'a', b'b', b'c']);
-    assert!(rt; short.draw(&mut out) == Err(Failed));
+    assert_eq!(rt; short.draw(&mut out), Ok(()));
+    assert_eq!(rt; out, [b'a', b'b', b'c']);
+    assert_eq!(rt; short.draw(&mut out), Err(Failed));
     let mut broken = DeviceEntropy::new(Broken { fails: true });
-    assert!(rt; broken.draw(&mut out) == Err(Failed));
-    assert!(rt; (short.faults(), broken.faults()) == (1, 1));
+    assert_eq!(rt; broken.draw(&mut out), Err(Failed));
+    assert_eq!(rt; (short.faults(), broken.faults()), (1, 1));
 }
 
 #[test]
@@ -200,17 +198,17 @@ fn a_cursor_over_bytes(rt: HostRuntime) {
         7, 1, 2, 0, 0, 1, 0, 0x80, 0, 0, 0, 0, 0, 0, 1, b'a', b'b', b'c',
     ];
     let mut cursor = Cursor::new(&bytes);
-    assert!(rt; cursor.u8() == Some(7));
-    assert!(rt; cursor.u16() == Some(0x102));
-    assert!(rt; cursor.u32() == Some(0x100));
-    assert!(rt; cursor.u64() == Some(0x8000_0000_0000_0001));
-    assert!(rt; cursor.take(4) == None);
-    assert!(rt; cursor.u32() == None);
-    assert!(rt; (cursor.offset(), cursor.is_at_end()) == (15, false));
-    assert!(rt; cursor.take(3) == Some(b"abc".as_slice()));
-    assert!(rt; (cursor.offset(), cursor.is_at_end()) == (18, true));
-    assert!(rt; cursor.left().len() == 0);
-    assert!(rt; cursor.u8() == None);
+    assert_eq!(rt; cursor.u8(), Some(7));
+    assert_eq!(rt; cursor.u16(), Some(0x102));
+    assert_eq!(rt; cursor.u32(), Some(0x100));
+    assert_eq!(rt; cursor.u64(), Some(0x8000_0000_0000_0001));
+    assert_eq!(rt; cursor.take(4), None);
+    assert_eq!(rt; cursor.u32(), None);
+    assert_eq!(rt; (cursor.offset(), cursor.is_at_end()), (15, false));
+    assert_eq!(rt; cursor.take(3), Some(b"abc".as_slice()));
+    assert_eq!(rt; (cursor.offset(), cursor.is_at_end()), (18, true));
+    assert_eq!(rt; cursor.left().len(), 0);
+    assert_eq!(rt; cursor.u8(), None);
 }
 
 /// The permissions of a file.
