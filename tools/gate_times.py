@@ -5,7 +5,8 @@ for each crate the processor seconds of its bodies, of its tests' proofs, of its
     python3 tools/gate_times.py [FILE]
 
 FILE is where the table goes, as Markdown; without it, standard output has it last. The seconds are those of the processes
-that the gate starts, read from /proc twice a second, so a process that is shorter than that is missed."""
+that the gate starts, read from /proc twice a second, so a process that is shorter than that is missed. An edit is told from
+a crate by its folder: the gate checks it on a copy. To compile what a program's check proved counts with the runs."""
 import collections
 import os
 import subprocess
@@ -18,7 +19,7 @@ PARTS = ("bodies", "tests", "edits", "runs")
 
 
 def below(top):
-    """The processes under a process, with their words and processor seconds."""
+    """The processes under a process, with their words, their folders and processor seconds."""
     parents, found = {}, {}
     for name in filter(str.isdigit, os.listdir("/proc")):
         try:
@@ -26,10 +27,12 @@ def below(top):
                 stat = it.read().rsplit(")", 1)[1].split()
             with open(f"/proc/{name}/cmdline", "rb") as it:
                 words = it.read().decode(errors="replace").split("\0")
+            folder = os.readlink(f"/proc/{name}/cwd")
         except OSError:
             continue
         parents[int(name)] = int(stat[1])
-        found[int(name)] = (words, (int(stat[11]) + int(stat[12])) / TICKS)
+        found[int(name)] = (words, folder, (int(stat[11]) + int(stat[12])) / TICKS)
+
     def is_below(pid):
         while pid in parents and pid != top:
             pid = parents[pid]
@@ -37,23 +40,28 @@ def below(top):
     return {pid: it for pid, it in found.items() if pid != top and is_below(pid)}
 
 
-def place(words, cwd):
-    """The crate and the part of the gate that a process works for."""
-    crate = words[words.index("--crate-name") + 1] if "--crate-name" in words else cwd
-    if "build" in words[:2]:
-        return crate, "tests" if "--test" in words else "bodies"
-    if "check" in words[:2]:
-        return crate, "edits"
-    return crate, "runs"
+def place(words, folder):
+    """The crate and the part of the gate that a process works for, or None for a process of no crate.
+
+    A library is proved by `rattle build`, a program by `rattle check`, and an edit by `rattle check` in a copy."""
+    name = os.path.basename(words[0])
+    if "--crate-name" not in words:
+        crate = name.removesuffix("_tests")
+        return (crate, "runs") if os.path.isdir(f"crates/{crate}") else None
+    crate = words[words.index("--crate-name") + 1]
+    if "--crate-checked" in words:
+        return crate, "runs"
+    if "--test" in words:
+        return crate, "tests"
+    return crate, "edits" if os.path.basename(folder).startswith("rt-edit-") else "bodies"
 
 
 def watch(process, seen):
     while process.poll() is None:
-        for pid, (words, seconds) in below(process.pid).items():
-            base = os.path.basename(words[0]) if words else ""
-            if base.startswith("rattle") or base.endswith("_tests") or "keystore" in base:
-                crate, part = place(words, base.replace("_tests", ""))
-                seen[pid, crate, part] = max(seconds, seen.get((pid, crate, part), 0))
+        for pid, (words, folder, seconds) in below(process.pid).items():
+            at = place(words, folder)
+            if at:
+                seen[pid, *at] = max(seconds, seen.get((pid, *at), 0))
         time.sleep(0.5)
 
 

@@ -4,7 +4,8 @@ ghost use Rattle.std.specs.Prelude.{◌≡◌, ◌↔◌, IsTrue};
 ghost use Rattle.auth_tokens.specs.Mac as spec;
 
 use crate::AuthToken;
-use hmac_core::{Hmac, same_bytes};
+use byte_strings::same_bytes;
+use hmac_core::Hmac;
 
 /// The length of the text under a token's mac, in bytes.
 pub const MAC_INPUT_BYTES: usize = 37;
@@ -36,7 +37,7 @@ pub fn mac_input(token: &AuthToken) -> [u8; 37]
 }
 
 /// Whether the token's mac is right under the key that the authenticators share with the service: all 32 bytes of it are
-/// compared, by `hmac_core::same_bytes`.
+/// compared, by `byte_strings::same_bytes`.
 pub fn check(token: &AuthToken, key: &[u8; 32]) -> bool
     ensures { IsTrue result ↔ (token.now.mac ≡ spec.token_mac key.now token.now) }
 {

@@ -1,3 +1,5 @@
+//! Tokens whose macs were computed elsewhere.
+
 use crate::{AuthToken, check, mac_input};
 use std::process::Abort;
 use std::test::Fail;

@@ -6,7 +6,8 @@ ghost use Rattle.hmac_core.specs.Hmac as spec;
 ghost use Rattle.hmac_core.specs.State.{Holds};
 ghost use Rattle.cipher_ops.specs.Output.{verified};
 
-use hmac_core::{Hmac, same_bytes};
+use byte_strings::same_bytes;
+use hmac_core::Hmac;
 use tags::{Bytes, Code};
 
 /// Puts the leftmost `size` bytes of the mac at the front of `out`.

@@ -1,7 +1,6 @@
-// Work on plain bytes: adding blocks, comparing tags, and writing two strings one behind the other.
+// Work on plain bytes: adding blocks, and writing two strings one behind the other.
 
 ghost use Rattle.std.specs.Prelude.{◌≡◌, ◌+◌, ◌≤◌, ◌++◌, drop, length};
-ghost use Rattle.std.specs.Str.{bytes_eq};
 ghost use Rattle.gcm_mode.specs.Counter.{xor_bytes};
 
 /// A block and another, added bit by bit.
@@ -13,19 +12,6 @@ pub(crate) fn xor_blocks(block: [u8; 16], key: &[u8; 16]) -> [u8; 16]
         out[i] ^= key[i];
     }
     out
-}
-
-/// Whether two strings of one length are the same. Each byte is looked at, also behind a difference.
-pub(crate) fn same_bytes(a: &[u8], b: &[u8]) -> bool
-    requires { length a.now ≡ length b.now }
-    ensures { result ≡ bytes_eq a.now b.now }
-{
-    let mut same = true;
-    'bytes: for i in 0..a.len() {
-        let equal = a[i] == b[i];
-        same = same & equal;
-    }
-    same
 }
 
 /// Writes `first` and behind it `second` to the front of `out`.

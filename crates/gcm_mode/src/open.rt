@@ -5,10 +5,11 @@ ghost use Rattle.gcm_mode.specs.Gcm.{gcm_open, open_front, open_given, raw};
 ghost use Rattle.gcm_mode.specs.Holds.{HasTag, IsOpened, Opens, OpensNoText};
 
 use crate::authenticator::Authenticator;
-use crate::bytes::{same_bytes, xor_blocks};
+use crate::bytes::xor_blocks;
 use crate::held::Held;
 use crate::stream::Gctr;
 use aes_core::BlockCipher;
+use byte_strings::same_bytes;
 
 /// The tag is not that of the additional data and the ciphertext.
 #[derive(Debug, Clone, Copy, PartialEq, Eq, Drop)]

@@ -1,3 +1,5 @@
+//! Grants that are made again, taken back and ended with their key, and look-ups among very many.
+
 ghost use Rattle.std.specs.Prelude.{◌+◌, OnOk};
 ghost use Rattle.grants.specs.Table.{AreBelow};
 
@@ -102,7 +104,7 @@ fn finds_each(grants: &mut Grants) -> bool {
 fn no_call_goes_through_the_rows(rt: HostRuntime) -> Result<(), Fail> {
     let mut grants = many(rt.alloc())?;
     assert!(rt; finds_each(&mut grants));
-    assert_eq!(rt; grants.len(), 65_536);
+    assert!(rt; grants.len() == 65_536);
     Ok(())
 }
 
@@ -111,7 +113,7 @@ fn a_second_grant_keeps_its_number_and_a_key_takes_its_grants_along(
     rt: HostRuntime,
 ) -> Result<(), Fail> {
     let mut grants = five(rt.alloc())?;
-    assert_eq!(rt; grants.len(), 4);
+    assert!(rt; grants.len() == 4);
     for (key, uid, number, bits) in &STANDING {
         assert!(rt;
             stands(&grants, *key, *uid, *number, *bits),
@@ -122,7 +124,7 @@ fn a_second_grant_keeps_its_number_and_a_key_takes_its_grants_along(
     assert!(rt; grants.ungrant(4).is_none());
     assert!(rt; grants.ungrant(1).is_some());
     assert!(rt; grants.ungrant(1).is_none());
-    assert_eq!(rt; grants.len(), 3);
+    assert!(rt; grants.len() == 3);
     grants.end_key(7);
     for (key, uid, number, bits) in &ENDED {
         assert!(rt;
@@ -130,7 +132,7 @@ fn a_second_grant_keeps_its_number_and_a_key_takes_its_grants_along(
             "key {key} to {uid} at the end"
         );
     }
-    assert_eq!(rt; grants.len(), 2);
+    assert!(rt; grants.len() == 2);
     grants.end_key(8);
     grants.end_key(9);
     assert!(rt; grants.is_empty());

@@ -1,5 +1,5 @@
 //! The keyed-hash message authentication code HMAC (FIPS 198-1) over the SHA-2 hash functions
-//! (FIPS 180-4), and the comparison of two macs.
+//! (FIPS 180-4).
 //!
 //! Its one contract: for every cutting of the input into pieces, what `finish` writes is the HMAC of
 //! the joined input under the key. No call takes memory.
@@ -15,12 +15,10 @@
 //! ```
 #![tactic(auto)]
 
-mod compare;
 mod hash;
 mod keyed;
 mod mac;
 #[cfg(test)]
 mod tests;
 
-pub use compare::same_bytes;
 pub use mac::{Hmac, digest_size};

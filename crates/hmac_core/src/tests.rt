@@ -1,4 +1,6 @@
-use crate::{Hmac, digest_size, same_bytes};
+//! The cases of RFC 4231, whole and in pieces.
+
+use crate::{Hmac, digest_size};
 use std::process::Abort;
 use std::test::Fail;
 
@@ -27,7 +29,7 @@ fn spells(digits: &[u8], bytes: &[u8]) -> bool {
 
 // One key and text under the four hash functions: the macs are `macs`, in hexadecimal digits, also
 // where the text comes in pieces and where the keyed code is cloned.
-fn check(rt: &impl Abort, key: &[u8], text: &[u8], macs: [&[u8]; 4]) -> Result<(), Fail> {
+fn check(rt: &impl Abort, key: &[u8], text: &[u8], macs: &[&[u8]; 4]) -> Result<(), Fail> {
     for digest in 3..7u8 {
         let mac = macs[(digest - 3) as usize];
         let mut out = [0x55u8; 64];
@@ -35,7 +37,7 @@ fn check(rt: &impl Abort, key: &[u8], text: &[u8], macs: [&[u8]; 4]) -> Result<(
         let mut whole = keyed.clone()?;
         whole.update(text);
         let size = whole.finish(&mut out);
-        assert_eq!(rt; size, digest_size(digest));
+        assert!(rt; size == digest_size(digest));
         assert!(rt; spells(mac, &out[..size]), "under {digest}");
         assert!(rt; out[size..].iter().all(|b| *b == 0x55), "under {digest}");
         for piece_size in 1..70usize {
@@ -54,12 +56,13 @@ fn check(rt: &impl Abort, key: &[u8], text: &[u8], macs: [&[u8]; 4]) -> Result<(
     Ok(())
 }
 
+// A key, a text, and the macs under the four hash functions.
+type Case = (&'static [u8], &'static [u8], [&'static [u8]; 4]);
+
 // The cases of RFC 4231, section 4. The fifth case's macs, which the RFC cuts to 16 bytes, stand
 // here whole.
-#[test]
-fn the_cases_of_rfc_4231(rt: HostRuntime) -> Result<(), Fail> {
-    check(
-        &rt,
+static CASES: [Case; 7] = [
+    (
         &[0x0b; 20],
         b"Hi There",
         [
@@ -68,9 +71,8 @@ fn the_cases_of_rfc_4231(rt: HostRuntime) -> Result<(), Fail> {
             b"afd03944d84895626b0825f4ab46907f15f9dadbe4101ec682aa034c7cebc59cfaea9ea9076ede7f4af152e8b2fa9cb6",
             b"87aa7cdea5ef619d4ff0b4241a1d6cb02379f4e2ce4ec2787ad0b30545e17cdedaa833b7d6b8a702038b274eaea3f4e4be9d914eeb61f1702e696c203a126854",
         ],
-    )?;
-    check(
-        &rt,
+    ),
+    (
         b"Jefe",
         b"what do ya want for nothing?",
         [
@@ -79,9 +81,8 @@ fn the_cases_of_rfc_4231(rt: HostRuntime) -> Result<(), Fail> {
             b"af45d2e376484031617f78d2b58a6b1b9c7ef464f5a01b47e42ec3736322445e8e2240ca5e69e2c78b3239ecfab21649",
             b"164b7a7bfcf819e2e395fbe73b56e0a387bd64222e831fd610270cd7ea2505549758bf75c05a994a6d034f65f8f0e6fdcaeab1a34d4a6b4b636e070a38bce737",
         ],
-    )?;
-    check(
-        &rt,
+    ),
+    (
         &[0xaa; 20],
         &[0xdd; 50],
         [
@@ -90,9 +91,8 @@ fn the_cases_of_rfc_4231(rt: HostRuntime) -> Result<(), Fail> {
             b"88062608d3e6ad8a0aa2ace014c8a86f0aa635d947ac9febe83ef4e55966144b2a5ab39dc13814b94e3ab6e101a34f27",
             b"fa73b0089d56a284efb0f0756c890be9b1b5dbdd8ee81a3655f83e33b2279d39bf3e848279a722c806b485a47e67c807b946a337bee8942674278859e13292fb",
         ],
-    )?;
-    check(
-        &rt,
+    ),
+    (
         b"\x01\x02\x03\x04\x05\x06\x07\x08\x09\x0a\x0b\x0c\x0d\x0e\x0f\x10\x11\x12\x13\x14\x15\x16\x17\x18\x19",
         &[0xcd; 50],
         [
@@ -101,9 +101,8 @@ fn the_cases_of_rfc_4231(rt: HostRuntime) -> Result<(), Fail> {
             b"3e8a69b7783c25851933ab6290af6ca77a9981480850009cc5577c6e1f573b4e6801dd23c4a7d679ccf8a386c674cffb",
             b"b0ba465637458c6990e5a8c5f61d4af7e576d97ff94b872de76f8050361ee3dba91ca5c11aa25eb4d679275cc5788063a5f19741120c4f2de2adebeb10a298dd",
         ],
-    )?;
-    check(
-        &rt,
+    ),
+    (
         &[0x0c; 20],
         b"Test With Truncation",
         [
@@ -112,9 +111,8 @@ fn the_cases_of_rfc_4231(rt: HostRuntime) -> Result<(), Fail> {
             b"3abf34c3503b2a23a46efc619baef897f4c8e42c934ce55ccbae9740fcbc1af4ca62269e2a37cd88ba926341efe4aeea",
             b"415fad6271580a531d4179bc891d87a650188707922a4fbb36663a1eb16da008711c5b50ddd0fc235084eb9d3364a1454fb2ef67cd1d29fe6773068ea266e96b",
         ],
-    )?;
-    check(
-        &rt,
+    ),
+    (
         &[0xaa; 131],
         b"Test Using Larger Than Block-Size Key - Hash Key First",
         [
@@ -123,9 +121,8 @@ fn the_cases_of_rfc_4231(rt: HostRuntime) -> Result<(), Fail> {
             b"4ece084485813e9088d2c63a041bc5b44f9ef1012a2b588f3cd11f05033ac4c60c2ef6ab4030fe8296248df163f44952",
             b"80b24263c7c1a3ebb71493c1dd7be8b49b46d1f41b4aeec1121b013783f8f3526b56d037e05f2598bd0fd2215d6a1e5295e64f73f63f0aec8b915a985d786598",
         ],
-    )?;
-    check(
-        &rt,
+    ),
+    (
         &[0xaa; 131],
         b"This is a test using a larger than block-size key and a larger than block-size data. The key needs to be hashed before being used by the HMAC algorithm.",
         [
@@ -134,20 +131,13 @@ fn the_cases_of_rfc_4231(rt: HostRuntime) -> Result<(), Fail> {
             b"6617178e941f020d351e2f254e8fd32c602420feb0b8fb9adccebb82461e99c5a678cc31e799176d3860e6110c46523e",
             b"e37b6a775dc87dbaa4dfa9f96e5e3ffddebd71f8867289865df5a32d20cdc944b6022cac3c4982b10d5eeb55c3e4de15134676fb6de0446065c97440fa8c6a58",
         ],
-    )?;
-    Ok(())
-}
+    ),
+];
 
 #[test]
-fn same_bytes_looks_at_all(rt: HostRuntime) {
-    assert!(rt; same_bytes(b"", b""));
-    assert!(rt; !same_bytes(b"", b"a"));
-    assert!(rt; !same_bytes(b"mac", b"ma"));
-    let mac = [7u8; 64];
-    assert!(rt; same_bytes(&mac, &[7u8; 64]));
-    for i in 0..64 {
-        let mut other = mac;
-        other[i] = 6;
-        assert!(rt; !same_bytes(&mac, &other), "at {i}");
+fn the_cases_of_rfc_4231(rt: HostRuntime) -> Result<(), Fail> {
+    for (key, text, macs) in &CASES {
+        check(&rt, key, text, macs)?;
     }
+    Ok(())
 }

@@ -1,3 +1,5 @@
+//! What the descriptors of each domain find, and what a grant passes on.
+
 ghost use Rattle.std.specs.Prelude.{◌≡◌, ℕ, Option, None, Some, ◌==◌, ◌&&◌, ◌||◌, length, if◌then◌else◌};
 
 use crate::{Access, GrantedRow, KeyLookups, KeyRow, Permission, Permissions, find_key};

@@ -30,16 +30,21 @@ cipher_rules import list =
     check 12 UnsupportedMinMacLength (has_fit_length list) ∷  -- of whole bytes, that the digest or GCM has
     []
 
+-- the rules behind those of the cipher
+abbrev pub last_rules : List Param → List Check
+last_rules list =
+    check 13 InvalidKeyArgument (has_one_authority list) ∷  -- no authentication is not asked for beside one
+    check 14 InvalidKeyArgument (has_some_uses list) ∷  -- a use limit allows a use
+    check 16 UnsupportedTag (has_no_unbuilt list) ∷  -- no tag whose rules are not built yet
+    []
+
 -- the rules that read the list
 unfoldable pub list_rules : Option ImportFacts → List Param → List Check
 list_rules import list =
     check 5 UnsupportedAlgorithm (names_algorithm list) ∷  -- the algorithm is known
     check 6 UnsupportedKeyFormat (takes_format import) ∷  -- import: the format is RAW
     cipher_rules import list ++
-    check 13 InvalidKeyArgument (has_one_authority list) ∷  -- no authentication is not asked for beside one
-    check 14 InvalidKeyArgument (has_some_uses list) ∷  -- a use limit allows a use
-    check 16 UnsupportedTag (has_no_unbuilt list) ∷  -- no tag whose rules are not built yet
-    []
+    last_rules list
 
 -- table K
 abbrev pub rules_of : NewFacts → List Check

@@ -13,8 +13,6 @@ mod kept;
 mod plan;
 mod rules;
 mod table;
-#[cfg(test)]
-mod tests;
 mod values;
 
 pub use asked::read_asked;

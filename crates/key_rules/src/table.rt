@@ -56,16 +56,13 @@ pub(crate) fn read_by_rule(alloc: Global, params: &[u8]) -> Result<AuthList, New
     Ok(list)
 }
 
-/// The rules that read the list, in the table's order.
-#[tactic(auto, unfolding(crate::specs::Table::list_rules))]
-fn check_list(import: Option<ImportFacts>, list: &AuthList) -> Ruling
-    ensures first { result ≡ first_broken K (spec.list_rules import list.now) }
+/// The rules that make a list and a material a key of their cipher, in the table's order.
+fn check_cipher(import: Option<ImportFacts>, list: &AuthList) -> Ruling
+    ensures first { result ≡ first_broken K (spec.cipher_rules import list.now) }
     ensures size { OnOk result (rules.has_allowed_size import list.now ≡ true) }
     ensures digest { OnOk result (rules.has_one_digest list.now ≡ true) }
     ensures short { OnOk result (IfSome import (λ facts. facts.length ≤ 64)) }
 {
-    check(rule(5), Code::UnsupportedAlgorithm, names_algorithm(list))?;
-    check(rule(6), Code::UnsupportedKeyFormat, takes_format(import))?;
     check(
         rule(7),
         Code::UnsupportedKeySize,
@@ -90,10 +87,42 @@ fn check_list(import: Option<ImportFacts>, list: &AuthList) -> Ruling
         Code::UnsupportedMinMacLength,
         has_fit_length(list),
     )?;
+    Ok(())
+}
+
+/// The rules behind those of the cipher, in the table's order.
+fn check_last(list: &AuthList) -> Ruling
+    ensures { result ≡ first_broken K (spec.last_rules list.now) }
+{
     check(rule(13), Code::InvalidKeyArgument, has_one_authority(list))?;
     check(rule(14), Code::InvalidKeyArgument, has_some_uses(list))?;
-    check(rule(16), Code::UnsupportedTag, has_no_unbuilt(list))?;
-    Ok(())
+    check(rule(16), Code::UnsupportedTag, has_no_unbuilt(list))
+}
+
+/// The rules of the cipher and those behind them.
+fn check_cipher_and_last(import: Option<ImportFacts>, list: &AuthList) -> Ruling
+    ensures first { result ≡ first_broken K (spec.cipher_rules import list.now ++ spec.last_rules list.now) }
+    ensures size { OnOk result (rules.has_allowed_size import list.now ≡ true) }
+    ensures digest { OnOk result (rules.has_one_digest list.now ≡ true) }
+    ensures short { OnOk result (IfSome import (λ facts. facts.length ≤ 64)) }
+{
+    match check_cipher(import, list) {
+        Ok(()) => check_last(list),
+        Err(broken) => Err(broken),
+    }
+}
+
+/// The rules that read the list, in the table's order.
+#[tactic(auto, unfolding(crate::specs::Table::list_rules))]
+fn check_list(import: Option<ImportFacts>, list: &AuthList) -> Ruling
+    ensures first { result ≡ first_broken K (spec.list_rules import list.now) }
+    ensures size { OnOk result (rules.has_allowed_size import list.now ≡ true) }
+    ensures digest { OnOk result (rules.has_one_digest list.now ≡ true) }
+    ensures short { OnOk result (IfSome import (λ facts. facts.length ≤ 64)) }
+{
+    check(rule(5), Code::UnsupportedAlgorithm, names_algorithm(list))?;
+    check(rule(6), Code::UnsupportedKeyFormat, takes_format(import))?;
+    check_cipher_and_last(import, list)
 }
 
 /// The rules of an encoded list and of what it spells.
@@ -148,29 +177,5 @@ pub(crate) fn check_key(length: u64, list: &AuthList) -> Ruling
         length,
     });
     check(rule(5), Code::UnsupportedAlgorithm, names_algorithm(list))?;
-    check(
-        rule(7),
-        Code::UnsupportedKeySize,
-        has_allowed_size(import, list),
-    )?;
-    check(
-        rule(7),
-        Code::ImportParameterMismatch,
-        has_own_size(import, list),
-    )?;
-    check(rule(8), Code::UnsupportedPurpose, has_own_purposes(list))?;
-    check(rule(9), Code::UnsupportedBlockMode, has_known_modes(list))?;
-    check(
-        rule(10),
-        Code::UnsupportedPaddingMode,
-        has_known_paddings(list),
-    )?;
-    check(rule(11), Code::UnsupportedDigest, has_one_digest(list))?;
-    check(rule(12), Code::MissingMinMacLength, has_least_length(list))?;
-    check(
-        rule(12),
-        Code::UnsupportedMinMacLength,
-        has_fit_length(list),
-    )?;
-    Ok(())
+    check_cipher(import, list)
 }

@@ -1,11 +1,15 @@
+//! The keys that the tests make and use, and how their lists are spelled.
+
+mod begin_rules;
 mod beginnings;
 mod creations;
+mod new_key_rules;
 
 use std::alloc::{AllocError, Global};
 use tags::{Bytes, Descriptor, Tag, TagType};
 
-// The parameters of a key or an operation.
-type Pairs = &'static [(Tag, u32)];
+// The parameters of a key or an operation: of a BYTES tag the number of zero bytes.
+type Pairs = &'static [(Tag, u64)];
 
 // An HMAC-SHA256 key, an AES key of every mode, and an AES-GCM key of 256 bits that is generated.
 const MAC_KEY: Pairs = &[
@@ -43,18 +47,42 @@ const GCM_KEY: Pairs = &[
     (Tag::NoAuthRequired, 1),
 ];
 
-// The encoded list of these parameters, and of a nonce where there is one.
-fn encoded(alloc: Global, params: Pairs, nonce: Option<&[u8]>) -> Result<Vec<u8>, AllocError> {
+// Adds a parameter.
+fn put(bytes: &mut Vec<u8>, tag: Tag, number: u64) -> Result<(), AllocError> {
+    bytes.extend_from_slice(&tag.number().to_be_bytes())?;
+    match tag.kind() {
+        TagType::Ulong | TagType::UlongRep | TagType::Date => {
+            bytes.extend_from_slice(&number.to_be_bytes())
+        }
+        TagType::Bool => bytes.extend_from_slice(&[1]),
+        TagType::Bytes | TagType::Bignum => {
+            let length = (number % 65536) as u16;
+            bytes.extend_from_slice(&length.to_be_bytes())?;
+            for _ in 0..length {
+                bytes.push(0)?;
+            }
+            Ok(())
+        }
+        TagType::Enum | TagType::EnumRep | TagType::Uint | TagType::UintRep => {
+            bytes.extend_from_slice(&((number % (1 << 32)) as u32).to_be_bytes())
+        }
+    }
+}
+
+// The encoded list of these parameters without those of some tags, and of a nonce where there is one.
+fn encoded(
+    alloc: Global,
+    params: Pairs,
+    dropped: &[Tag],
+    nonce: Option<&[u8]>,
+) -> Result<Vec<u8>, AllocError> {
     let mut count = 0u16;
     let mut body = Vec::new(alloc);
-    for (tag, value) in params {
-        body.extend_from_slice(&tag.number().to_be_bytes())?;
-        if tag.kind() == TagType::Bool {
-            body.push(1)?;
-        } else {
-            body.extend_from_slice(&value.to_be_bytes())?;
+    for (tag, number) in params {
+        if !dropped.contains(tag) {
+            put(&mut body, *tag, *number)?;
+            count = count.wrapping_add(1);
         }
-        count = count.wrapping_add(1);
     }
     if let Some(nonce) = nonce {
         body.extend_from_slice(&Tag::Nonce.number().to_be_bytes())?;
@@ -68,12 +96,12 @@ fn encoded(alloc: Global, params: Pairs, nonce: Option<&[u8]>) -> Result<Vec<u8>
     Ok(bytes)
 }
 
-// A key of an app.
-fn app_key(alloc: Global) -> Result<Descriptor, AllocError> {
+// The key of an app under an alias.
+fn app_key(alloc: Global, alias: &[u8]) -> Result<Descriptor, AllocError> {
     Ok(Descriptor {
         domain: 0,
         nspace: 0,
-        alias: Some(Bytes::of(Vec::from_slice(alloc, b"a")?)),
+        alias: Some(Bytes::of(Vec::from_slice(alloc, alias)?)),
         blob: None,
     })
 }

@@ -11,8 +11,6 @@ mod operation;
 mod owners;
 mod slots;
 mod steps;
-#[cfg(test)]
-mod tests;
 
 use operation::Operation;
 pub use operation::{OpId, Taken};

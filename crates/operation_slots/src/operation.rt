@@ -1,3 +1,5 @@
+//! An operation as a slot holds it.
+
 ghost use Rattle.std.specs.Prelude.{◌≡◌, Some};
 
 /// The number of an operation.

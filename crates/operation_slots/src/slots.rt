@@ -1,3 +1,5 @@
+//! The operations in their slots, and each call on them.
+
 ghost use Rattle.std.specs.Prelude.{◌≡◌, ℕ, ◌+◌, ◌<◌, ◌≤◌, true, false, length, slice_get, Some, None, IfSome, IfNone, OnSome, IfOk};
 ghost use Rattle.operation_slots.specs.Table.{IsSound, IsEmpty, IsLater, Same, Begins, Takes, Gives, TakesOut, idle_operation, held, open_count as held_count, open_of as held_of, has_room as room_in, has_idle, owners_of, capacity_of, taken, idle_value, is_busy, is_taken, MatchTaken, FindsNew, FindsChanged, FindsWithout, KeepsLater, KeepsLaterThan, made_busy, given_back, IsOldestIdle};
 

@@ -1,3 +1,5 @@
+//! The binary digits of a number.
+
 ghost use Rattle.std.specs.Prelude.{◌≡◌, ◌≤◌};
 ghost use Rattle.pruning.specs.Victim.{binary_digits};
 

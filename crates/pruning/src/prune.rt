@@ -1,3 +1,5 @@
+//! The operation that gives way.
+
 ghost use Rattle.std.specs.Prelude.{◌≡◌, IfSome, IsSome, ◌+◌, ◌*◌, ◌≤◌, length};
 ghost use Rattle.operation_slots.specs.Table.{IsLater, held, idle_value, owners_of, capacity_of};
 ghost use Rattle.pruning.specs.Victim as spec;

@@ -2,6 +2,8 @@
 ghost use Rattle.std.specs.Prelude.{◌≡◌, ◌<◌, ◌≤◌};
 ghost use Rattle.operation_slots.specs.Table.{IsLater};
 
+mod slots;
+
 use crate::victim;
 use operation_slots::{OpId, Slots, Steps, Taken};
 use std::alloc::Global;
@@ -315,12 +317,9 @@ fn fill(alloc: Global, case: &Case) -> Result<Desk, Fail> {
 fn the_first_to_go_of_sixteen(rt: HostRuntime) -> Result<(), Fail> {
     for case in &CASES {
         let desk = fill(rt.alloc(), case)?;
-        assert_eq!(rt; desk.slots.open_count(), 16);
-        assert_eq!(rt; desk.next, NOW);
-        assert_eq!(rt;
-            pruned::<Brand>(&desk, case.uid, case.forced, Blank::new(1)),
-            case.want
-        );
+        assert!(rt; desk.slots.open_count() == 16);
+        assert!(rt; desk.next == NOW);
+        assert!(rt; pruned::<Brand>(&desk, case.uid, case.forced, Blank::new(1)) == case.want);
     }
     Ok(())
 }

@@ -1,308 +1,301 @@
+//! Each rule of table S alone and before a later one.
+
 use crate::{StepFacts, StepKind, check_step, ends_operation};
 use std::test::Fail;
 use tags::{Code, Plan, Rule, RuleTable};
 
-// Facts that break no rule.
-const FINE: StepFacts = StepFacts {
-    kind: StepKind::Text,
-    own: true,
-    input: 16,
-    signature: 0,
-    ended: false,
-    plan: Plan::Gcm {
-        seal: true,
-        tag: 16,
-    },
-    aad: 0,
-    text: 0,
+const SEALING: Plan = Plan::Gcm {
+    seal: true,
+    tag: 16,
 };
 
-// A mac, which takes no additional data.
+const OPENING: Plan = Plan::Gcm {
+    seal: false,
+    tag: 13,
+};
+
 const MAC: Plan = Plan::HmacSign {
     digest: 4,
     size: 32,
 };
 
-// The last input of an operation, of a plan and with so much text before.
-const fn last(plan: Plan, text: u64, input: u64) -> StepFacts {
-    StepFacts {
-        kind: StepKind::Last,
-        plan,
-        text,
-        input,
-        ..FINE
-    }
-}
+const VERIFY: Plan = Plan::HmacVerify {
+    digest: 4,
+    least: 8,
+};
 
-// The facts hold all rules, or break this one first.
-fn breaks(facts: &StepFacts, want: Option<(u8, Code)>) -> bool {
-    match (check_step(facts), want) {
-        (Ok(()), None) => true,
-        (Err((rule, code)), Some((number, expected))) => {
-            rule == Rule {
-                table: RuleTable::S,
-                number,
-            } && code == expected
-        }
-        _ => false,
-    }
-}
+const SEALING_BLOCKS: Plan = Plan::Ecb {
+    seal: true,
+    padded: false,
+};
+
+const PLAIN: Plan = Plan::Ecb {
+    seal: false,
+    padded: false,
+};
+
+const CHAINED: Plan = Plan::Cbc {
+    seal: true,
+    padded: false,
+};
+
+const PADDING: Plan = Plan::Cbc {
+    seal: true,
+    padded: true,
+};
+
+const UNPADDING: Plan = Plan::Ecb {
+    seal: false,
+    padded: true,
+};
+
+type Broken = Option<(u8, Code)>;
+
+const NOT_OWN: Broken = Some((1, Code::InvalidOperationHandle));
+
+const TOO_LONG: Broken = Some((3, Code::TooMuchData));
+
+const ENDED: Broken = Some((4, Code::InvalidKeyBlob));
+
+const NO_AAD: Broken = Some((6, Code::InvalidTag));
+
+const TOO_MUCH: Broken = Some((7, Code::InvalidInputLength));
+
+const NO_BLOCKS: Broken = Some((8, Code::InvalidInputLength));
+
+// A step; whether the operation is the client's own, and whether its key has ended; the plan; the lengths of the additional
+// data and the text that were admitted, of the input and of the signature; and the rule that is broken first.
+type Row = (StepKind, bool, bool, Plan, u64, u64, u64, u64, Broken);
+
+static ROWS: [Row; 46] = [
+    (StepKind::Text, true, false, SEALING, 0, 0, 16, 0, None),
+    (StepKind::Aad, true, false, SEALING, 0, 0, 16, 0, None),
+    (StepKind::Abort, true, false, SEALING, 0, 0, 16, 0, None),
+    // the operation is open and the client's own
+    (StepKind::Text, false, false, SEALING, 0, 0, 16, 0, NOT_OWN),
+    (
+        StepKind::Text,
+        false,
+        false,
+        SEALING,
+        0,
+        0,
+        40_000,
+        0,
+        NOT_OWN,
+    ),
+    (StepKind::Abort, false, false, SEALING, 0, 0, 16, 0, NOT_OWN),
+    (StepKind::Abort, true, true, SEALING, 0, 0, 40_000, 0, None),
+    // input and signature
+    (
+        StepKind::Text,
+        true,
+        false,
+        SEALING,
+        0,
+        0,
+        32_768,
+        32_768,
+        None,
+    ),
+    (
+        StepKind::Text,
+        true,
+        false,
+        SEALING,
+        0,
+        0,
+        32_769,
+        0,
+        TOO_LONG,
+    ),
+    (
+        StepKind::Text,
+        true,
+        true,
+        SEALING,
+        0,
+        0,
+        32_769,
+        0,
+        TOO_LONG,
+    ),
+    (
+        StepKind::Text,
+        true,
+        false,
+        SEALING,
+        0,
+        0,
+        16,
+        32_769,
+        TOO_LONG,
+    ),
+    (
+        StepKind::Text,
+        true,
+        false,
+        SEALING,
+        0,
+        1_048_576,
+        16,
+        32_769,
+        TOO_LONG,
+    ),
+    // the key has not ended
+    (StepKind::Text, true, true, SEALING, 0, 0, 16, 0, ENDED),
+    (StepKind::Aad, true, true, MAC, 0, 0, 16, 0, ENDED),
+    // additional data
+    (StepKind::Aad, true, false, MAC, 0, 0, 16, 0, NO_AAD),
+    (StepKind::Aad, true, false, Plan::Ctr, 0, 0, 16, 0, NO_AAD),
+    (StepKind::Aad, true, false, SEALING, 0, 1, 16, 0, NO_AAD),
+    (StepKind::Aad, true, false, SEALING, 0, 1, 0, 0, NO_AAD),
+    (
+        StepKind::Aad,
+        true,
+        false,
+        SEALING,
+        0,
+        1_048_576,
+        16,
+        0,
+        NO_AAD,
+    ),
+    (StepKind::Text, true, false, MAC, 0, 0, 16, 0, None),
+    // all input together
+    (
+        StepKind::Text,
+        true,
+        false,
+        SEALING,
+        0,
+        1_048_560,
+        16,
+        0,
+        None,
+    ),
+    (
+        StepKind::Text,
+        true,
+        false,
+        SEALING,
+        0,
+        1_048_561,
+        16,
+        0,
+        TOO_MUCH,
+    ),
+    (
+        StepKind::Text,
+        true,
+        false,
+        SEALING,
+        1_048_000,
+        561,
+        16,
+        0,
+        TOO_MUCH,
+    ),
+    (
+        StepKind::Aad,
+        true,
+        false,
+        SEALING,
+        1_048_561,
+        0,
+        16,
+        0,
+        TOO_MUCH,
+    ),
+    (
+        StepKind::Text,
+        true,
+        false,
+        SEALING,
+        u64::MAX,
+        u64::MAX,
+        16,
+        0,
+        TOO_MUCH,
+    ),
+    (
+        StepKind::Last,
+        true,
+        false,
+        SEALING_BLOCKS,
+        1_048_000,
+        570,
+        7,
+        0,
+        TOO_MUCH,
+    ),
+    // the last input makes the text whole
+    (StepKind::Last, true, false, PLAIN, 0, 0, 0, 0, None),
+    (StepKind::Last, true, false, PLAIN, 0, 16, 15, 0, NO_BLOCKS),
+    (StepKind::Last, true, false, PLAIN, 0, 17, 15, 0, None),
+    (StepKind::Last, true, false, CHAINED, 0, 0, 0, 0, None),
+    (StepKind::Last, true, false, CHAINED, 0, 16, 0, 0, None),
+    (StepKind::Last, true, false, CHAINED, 0, 1, 0, 0, NO_BLOCKS),
+    (StepKind::Text, true, false, CHAINED, 0, 1, 0, 0, None),
+    (StepKind::Last, true, false, PADDING, 0, 0, 0, 0, None),
+    (StepKind::Last, true, false, PADDING, 0, 1, 4, 0, None),
+    (
+        StepKind::Last,
+        true,
+        false,
+        UNPADDING,
+        0,
+        0,
+        0,
+        0,
+        NO_BLOCKS,
+    ),
+    (StepKind::Last, true, false, UNPADDING, 0, 0, 16, 0, None),
+    (
+        StepKind::Last,
+        true,
+        false,
+        UNPADDING,
+        0,
+        16,
+        8,
+        0,
+        NO_BLOCKS,
+    ),
+    (StepKind::Last, true, false, UNPADDING, 0, 24, 8, 0, None),
+    (StepKind::Last, true, false, OPENING, 0, 12, 0, 0, NO_BLOCKS),
+    (StepKind::Last, true, false, OPENING, 0, 0, 13, 0, None),
+    (StepKind::Last, true, false, OPENING, 0, 1, 17, 0, None),
+    (StepKind::Last, true, false, SEALING, 0, 0, 0, 0, None),
+    (StepKind::Last, true, false, Plan::Ctr, 0, 3, 4, 0, None),
+    (StepKind::Last, true, false, MAC, 0, 0, 5, 0, None),
+    (StepKind::Last, true, false, VERIFY, 0, 0, 5, 0, None),
+];
 
 #[test]
 fn each_rule_breaks_alone_and_before_a_later_one(rt: HostRuntime) -> Result<(), Fail> {
-    let aad = StepFacts {
-        kind: StepKind::Aad,
-        ..FINE
-    };
-    let abort = StepFacts {
-        kind: StepKind::Abort,
-        ..FINE
-    };
-    let not_own = Some((1, Code::InvalidOperationHandle));
-    let too_long = Some((3, Code::TooMuchData));
-    let ended = Some((4, Code::InvalidKeyBlob));
-    let no_aad = Some((6, Code::InvalidTag));
-    let too_much = Some((7, Code::InvalidInputLength));
-    let cases = [
-        (FINE, None),
-        (aad, None),
-        (abort, None),
-        // the operation is open and the client's own
-        (StepFacts { own: false, ..FINE }, not_own),
-        (
-            StepFacts {
-                own: false,
-                input: 40_000,
-                ..FINE
-            },
-            not_own,
-        ),
-        (
-            StepFacts {
-                own: false,
-                ..abort
-            },
-            not_own,
-        ),
-        (
-            StepFacts {
-                input: 40_000,
-                ended: true,
-                ..abort
-            },
-            None,
-        ),
-        // input and signature
-        (
-            StepFacts {
-                input: 32_768,
-                signature: 32_768,
-                ..FINE
-            },
-            None,
-        ),
-        (
-            StepFacts {
-                input: 32_769,
-                ..FINE
-            },
-            too_long,
-        ),
-        (
-            StepFacts {
-                input: 32_769,
-                ended: true,
-                ..FINE
-            },
-            too_long,
-        ),
-        (
-            StepFacts {
-                signature: 32_769,
-                ..FINE
-            },
-            too_long,
-        ),
-        (
-            StepFacts {
-                signature: 32_769,
-                text: 1_048_576,
-                ..FINE
-            },
-            too_long,
-        ),
-        // the key has not ended
-        (
-            StepFacts {
-                ended: true,
-                ..FINE
-            },
-            ended,
-        ),
-        (
-            StepFacts {
-                ended: true,
-                plan: MAC,
-                ..aad
-            },
-            ended,
-        ),
-        // additional data
-        (StepFacts { plan: MAC, ..aad }, no_aad),
-        (
-            StepFacts {
-                plan: Plan::Ctr,
-                ..aad
-            },
-            no_aad,
-        ),
-        (StepFacts { text: 1, ..aad }, no_aad),
-        (
-            StepFacts {
-                text: 1,
-                input: 0,
-                ..aad
-            },
-            no_aad,
-        ),
-        (
-            StepFacts {
-                text: 1_048_576,
-                ..aad
-            },
-            no_aad,
-        ),
-        (StepFacts { plan: MAC, ..FINE }, None),
-        // all input together
-        (
-            StepFacts {
-                text: 1_048_560,
-                ..FINE
-            },
-            None,
-        ),
-        (
-            StepFacts {
-                text: 1_048_561,
-                ..FINE
-            },
-            too_much,
-        ),
-        (
-            StepFacts {
-                aad: 1_048_000,
-                text: 561,
-                ..FINE
-            },
-            too_much,
-        ),
-        (
-            StepFacts {
-                aad: 1_048_561,
-                ..aad
-            },
-            too_much,
-        ),
-        (
-            StepFacts {
-                aad: u64::MAX,
-                text: u64::MAX,
-                ..FINE
-            },
-            too_much,
-        ),
-        (
-            StepFacts {
-                aad: 1_048_000,
-                ..last(
-                    Plan::Ecb {
-                        seal: true,
-                        padded: false,
-                    },
-                    570,
-                    7,
-                )
-            },
-            too_much,
-        ),
-    ];
-    let mut row = 0u32;
-    for (facts, want) in cases {
-        assert!(rt; breaks(&facts, want), "in row {row}: {facts:?}");
-        row = row.wrapping_add(1);
-    }
-    Ok(())
-}
-
-#[test]
-fn the_last_input_makes_the_text_whole(rt: HostRuntime) -> Result<(), Fail> {
-    let no_blocks = Some((8, Code::InvalidInputLength));
-    let plain = Plan::Ecb {
-        seal: false,
-        padded: false,
-    };
-    let chained = Plan::Cbc {
-        seal: true,
-        padded: false,
-    };
-    let padding = Plan::Cbc {
-        seal: true,
-        padded: true,
-    };
-    let unpadding = Plan::Ecb {
-        seal: false,
-        padded: true,
-    };
-    let opening = Plan::Gcm {
-        seal: false,
-        tag: 13,
-    };
-    let verify = Plan::HmacVerify {
-        digest: 4,
-        least: 8,
-    };
-    let cases = [
-        (last(plain, 0, 0), None),
-        (last(plain, 16, 15), no_blocks),
-        (last(plain, 17, 15), None),
-        (last(chained, 0, 0), None),
-        (last(chained, 16, 0), None),
-        (last(chained, 1, 0), no_blocks),
-        (
-            StepFacts {
-                kind: StepKind::Text,
-                ..last(chained, 1, 0)
-            },
-            None,
-        ),
-        (last(padding, 0, 0), None),
-        (last(padding, 1, 4), None),
-        (last(unpadding, 0, 0), no_blocks),
-        (last(unpadding, 0, 16), None),
-        (last(unpadding, 16, 8), no_blocks),
-        (last(unpadding, 24, 8), None),
-        (last(opening, 12, 0), no_blocks),
-        (last(opening, 0, 13), None),
-        (last(opening, 1, 17), None),
-        (
-            last(
-                Plan::Gcm {
-                    seal: true,
-                    tag: 16,
-                },
-                0,
-                0,
-            ),
-            None,
-        ),
-        (last(Plan::Ctr, 3, 4), None),
-        (last(MAC, 0, 5), None),
-        (last(verify, 0, 5), None),
-    ];
-    let mut row = 0u32;
-    for (facts, want) in cases {
-        assert!(rt; breaks(&facts, want), "in row {row}: {facts:?}");
-        row = row.wrapping_add(1);
+    for (row, (kind, own, ended, plan, aad, text, input, signature, want)) in ROWS
+        .iter()
+        .enumerate()
+    {
+        let facts = StepFacts {
+            kind: *kind,
+            own: *own,
+            input: *input,
+            signature: *signature,
+            ended: *ended,
+            plan: *plan,
+            aad: *aad,
+            text: *text,
+        };
+        let right = match (check_step(&facts), *want) {
+            (Ok(()), None) => true,
+            (Err((rule, code)), Some((number, expected))) => {
+                rule.table == RuleTable::S && rule.number == number && code == expected
+            }
+            _ => false,
+        };
+        assert!(rt; right, "in row {row}");
     }
     Ok(())
 }
@@ -319,7 +312,7 @@ fn four_rules_end_the_operation(rt: HostRuntime) -> Result<(), Fail> {
             table: RuleTable::B,
             number,
         };
-        assert_eq!(rt; ends_operation(rule), ends, "of {number}");
+        assert!(rt; ends_operation(rule) == ends, "of {number}");
         assert!(rt; !ends_operation(other), "of {number}");
     }
     Ok(())

@@ -1,10 +1,12 @@
+//! Lists against a plain reader of the format, each fault with its offset, and a list of the greatest length.
+
 use crate::{AuthList, ListFault};
 use std::alloc::Global;
 use std::test::Fail;
 use tags::{Param, ParamValue, Tag};
 
 // The format's tags, as its description lists them: the 28 low bits and the type.
-const TAGS: [(u32, u32); 28] = [
+static TAGS: [(u32, u32); 28] = [
     (1, 2),
     (2, 1),
     (3, 3),
@@ -71,9 +73,9 @@ fn plain_value(kind: u32, at: usize, bytes: &[u8]) -> Option<&[u8]> {
 
 // The type of the tag of these 28 low bits, or 0.
 fn plain_kind(low: u32) -> u32 {
-    for (known, kind) in TAGS {
-        if known == low {
-            return kind;
+    for (known, kind) in &TAGS {
+        if *known == low {
+            return *kind;
         }
     }
     0
@@ -211,10 +213,10 @@ fn random_bytes_read_as_a_plain_reader_reads_them(rt: HostRuntime) -> Result<(),
         let bytes = made_up(alloc, &mut state)?;
         match (again(alloc, &bytes), plain_spelling(alloc, &bytes)) {
             (Ok(read), Ok(plain)) => {
-                assert_eq!(rt; read.as_slice(), plain.as_slice(), "in round {round}");
+                assert!(rt; read.as_slice() == plain.as_slice(), "in round {round}");
                 lists = lists.saturating_add(1);
             }
-            (Err(read), Err(plain)) => assert_eq!(rt; read, plain, "in round {round}"),
+            (Err(read), Err(plain)) => assert!(rt; read == plain, "in round {round}"),
             _ => assert!(rt; false, "one reads and one does not in round {round}"),
         }
     }
@@ -222,93 +224,95 @@ fn random_bytes_read_as_a_plain_reader_reads_them(rt: HostRuntime) -> Result<(),
     Ok(())
 }
 
+// Bytes, and the fault of least offset.
+static FAULTS: [(&[u8], ListFault); 25] = [
+    (b"", ListFault::Truncated { at: 0 }),
+    (b"\x00", ListFault::Truncated { at: 0 }),
+    (b"\x00\x01", ListFault::Truncated { at: 2 }),
+    (b"\x00\x01\x20\x00\x00", ListFault::Truncated { at: 2 }),
+    (
+        b"\x00\x01\x20\x00\x00\x01\x00\x00",
+        ListFault::Truncated { at: 2 },
+    ),
+    (
+        b"\x00\x01\x70\x00\x09\x99\x01",
+        ListFault::UnknownTag { at: 2 },
+    ),
+    (b"\x00\x01\x00\x00\x00\x00", ListFault::UnknownTag { at: 2 }),
+    (
+        b"\x00\x01\x10\x00\x00\x01\x00\x00\x00\x02",
+        ListFault::WrongKind { at: 2 },
+    ),
+    (
+        b"\x00\x01\x80\x00\x02\x59\x00\x00",
+        ListFault::WrongKind { at: 2 },
+    ),
+    (
+        b"\x00\x01\x70\x00\x01\xf7\x02",
+        ListFault::WrongKind { at: 2 },
+    ),
+    (
+        b"\x00\x01\x70\x00\x01\xf7\x00",
+        ListFault::WrongKind { at: 2 },
+    ),
+    (b"\x00\x01\x70\x00\x01\xf7", ListFault::Truncated { at: 2 }),
+    (
+        b"\x00\x02\x70\x00\x01\xf7\x01\x70\x00\x01\xf7\x01",
+        ListFault::Repeated { at: 7 },
+    ),
+    (
+        b"\x00\x02\x70\x00\x01\xf7\x01\x70\x00\x01\xf7\x02",
+        ListFault::WrongKind { at: 7 },
+    ),
+    (
+        b"\x00\x02\x70\x00\x01\xf7\x01\x70\x00\x01\xf7",
+        ListFault::Repeated { at: 7 },
+    ),
+    (
+        b"\x00\x02\x30\x00\x00\x03\x00\x00\x00\x80\x30\x00\x00\x03\x00\x00\x01\x00",
+        ListFault::Repeated { at: 10 },
+    ),
+    (
+        b"\x00\x02\x30\x00\x00\x03\x00\x00\x00\x80\x30\x00\x00\x03\x00\x00",
+        ListFault::Repeated { at: 10 },
+    ),
+    (
+        b"\x00\x02\x90\x00\x02\x59\x00\x01\xaa\x90\x00\x02\x59\x00\x01\xbb",
+        ListFault::Repeated { at: 9 },
+    ),
+    (
+        b"\x00\x01\x90\x00\x02\x59\x00\x02\xaa",
+        ListFault::Truncated { at: 2 },
+    ),
+    (
+        b"\x00\x01\x90\x00\x02\x59\x00",
+        ListFault::Truncated { at: 2 },
+    ),
+    (
+        b"\x00\x02\x70\x00\x09\x99\x01\x70\x00\x01\xf7\x02",
+        ListFault::UnknownTag { at: 2 },
+    ),
+    (
+        b"\x00\x01\x70\x00\x01\xf7\x01\x00",
+        ListFault::Trailing { at: 7 },
+    ),
+    (b"\x00\x00\xff", ListFault::Trailing { at: 2 }),
+    (
+        b"\x00\x02\x70\x00\x01\xf7\x01",
+        ListFault::Truncated { at: 7 },
+    ),
+    (
+        b"\xff\xff\x20\x00\x00\x01\x00\x00\x00\x02\x70\x00\x01\xf7\x01",
+        ListFault::Truncated { at: 15 },
+    ),
+];
+
 #[test]
 fn each_fault_has_its_offset(rt: HostRuntime) {
-    let cases: [(&[u8], ListFault); 25] = [
-        (b"", ListFault::Truncated { at: 0 }),
-        (b"\x00", ListFault::Truncated { at: 0 }),
-        (b"\x00\x01", ListFault::Truncated { at: 2 }),
-        (b"\x00\x01\x20\x00\x00", ListFault::Truncated { at: 2 }),
-        (
-            b"\x00\x01\x20\x00\x00\x01\x00\x00",
-            ListFault::Truncated { at: 2 },
-        ),
-        (
-            b"\x00\x01\x70\x00\x09\x99\x01",
-            ListFault::UnknownTag { at: 2 },
-        ),
-        (b"\x00\x01\x00\x00\x00\x00", ListFault::UnknownTag { at: 2 }),
-        (
-            b"\x00\x01\x10\x00\x00\x01\x00\x00\x00\x02",
-            ListFault::WrongKind { at: 2 },
-        ),
-        (
-            b"\x00\x01\x80\x00\x02\x59\x00\x00",
-            ListFault::WrongKind { at: 2 },
-        ),
-        (
-            b"\x00\x01\x70\x00\x01\xf7\x02",
-            ListFault::WrongKind { at: 2 },
-        ),
-        (
-            b"\x00\x01\x70\x00\x01\xf7\x00",
-            ListFault::WrongKind { at: 2 },
-        ),
-        (b"\x00\x01\x70\x00\x01\xf7", ListFault::Truncated { at: 2 }),
-        (
-            b"\x00\x02\x70\x00\x01\xf7\x01\x70\x00\x01\xf7\x01",
-            ListFault::Repeated { at: 7 },
-        ),
-        (
-            b"\x00\x02\x70\x00\x01\xf7\x01\x70\x00\x01\xf7\x02",
-            ListFault::WrongKind { at: 7 },
-        ),
-        (
-            b"\x00\x02\x70\x00\x01\xf7\x01\x70\x00\x01\xf7",
-            ListFault::Repeated { at: 7 },
-        ),
-        (
-            b"\x00\x02\x30\x00\x00\x03\x00\x00\x00\x80\x30\x00\x00\x03\x00\x00\x01\x00",
-            ListFault::Repeated { at: 10 },
-        ),
-        (
-            b"\x00\x02\x30\x00\x00\x03\x00\x00\x00\x80\x30\x00\x00\x03\x00\x00",
-            ListFault::Repeated { at: 10 },
-        ),
-        (
-            b"\x00\x02\x90\x00\x02\x59\x00\x01\xaa\x90\x00\x02\x59\x00\x01\xbb",
-            ListFault::Repeated { at: 9 },
-        ),
-        (
-            b"\x00\x01\x90\x00\x02\x59\x00\x02\xaa",
-            ListFault::Truncated { at: 2 },
-        ),
-        (
-            b"\x00\x01\x90\x00\x02\x59\x00",
-            ListFault::Truncated { at: 2 },
-        ),
-        (
-            b"\x00\x02\x70\x00\x09\x99\x01\x70\x00\x01\xf7\x02",
-            ListFault::UnknownTag { at: 2 },
-        ),
-        (
-            b"\x00\x01\x70\x00\x01\xf7\x01\x00",
-            ListFault::Trailing { at: 7 },
-        ),
-        (b"\x00\x00\xff", ListFault::Trailing { at: 2 }),
-        (
-            b"\x00\x02\x70\x00\x01\xf7\x01",
-            ListFault::Truncated { at: 7 },
-        ),
-        (
-            b"\xff\xff\x20\x00\x00\x01\x00\x00\x00\x02\x70\x00\x01\xf7\x01",
-            ListFault::Truncated { at: 15 },
-        ),
-    ];
-    for (bytes, fault) in cases {
+    for (bytes, fault) in &FAULTS {
         match AuthList::read(rt.alloc(), bytes) {
             Ok(_) => assert!(rt; false, "{bytes:?} was read"),
-            Err(found) => assert_eq!(rt; found, fault, "of {bytes:?}"),
+            Err(found) => assert!(rt; found == *fault, "{found:?} of {bytes:?}"),
         }
     }
 }
@@ -325,15 +329,15 @@ fn two_parameters_read_alike_in_either_order(rt: HostRuntime) -> Result<(), Fail
             assert!(rt; false, "{bytes:?} was not read");
             continue;
         };
-        assert_eq!(rt; list.params().len(), 2);
+        assert!(rt; list.params().len() == 2);
         assert!(rt; list.has(Tag::Purpose, 2) && !list.has(Tag::Purpose, 3));
         assert!(rt; list.one(Tag::NoAuthRequired).is_some() && list.one(Tag::KeySize).is_none());
-        assert_eq!(rt; list.all(Tag::Purpose).len(), 1);
+        assert!(rt; list.all(Tag::Purpose).len() == 1);
         let Ok(written) = list.write(alloc) else {
             assert!(rt; false, "no memory");
             continue;
         };
-        assert_eq!(rt; written.as_slice(), canonical.as_slice());
+        assert!(rt; written.as_slice() == canonical.as_slice());
     }
     assert!(rt; AuthList::empty(alloc).params().is_empty());
     Ok(())
@@ -352,7 +356,7 @@ fn the_longest_list_is_sorted(rt: HostRuntime) -> Result<(), Fail> {
         assert!(rt; false, "the list was not read");
         return Ok(());
     };
-    assert_eq!(rt; list.params().len(), 65535);
+    assert!(rt; list.params().len() == 65535);
     assert!(rt; list.has(Tag::UserSecureId, 1) && list.has(Tag::UserSecureId, 65535));
     assert!(rt; !list.has(Tag::UserSecureId, 0) && !list.has(Tag::UserSecureId, 65536));
     Ok(())
@@ -384,9 +388,9 @@ fn a_parameter_takes_the_place_of_its_tags_others(rt: HostRuntime) -> Result<(),
         assert!(rt; false, "no memory");
         return Ok(());
     };
-    assert_eq!(rt;
-        written.as_slice(),
-        b"\x00\x02\x30\x00\x00\x03\x00\x00\x01\x00\x70\x00\x01\xf7\x01".as_slice()
+    assert!(rt;
+        written.as_slice()
+            == b"\x00\x02\x30\x00\x00\x03\x00\x00\x01\x00\x70\x00\x01\xf7\x01".as_slice()
     );
     Ok(())
 }

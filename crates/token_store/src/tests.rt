@@ -1,3 +1,5 @@
+//! Which keys a token fits and opens in time, and a store that is full.
+
 use crate::{TokenStore, TokensFull, fits};
 use auth_tokens::AuthToken;
 use std::alloc::Global;

@@ -1,6 +1,6 @@
 -- What holds of the plan and of the nonce where the lists agree.
-use Rattle.std.proofs.Common.{◌≡◌, ℕ, ◌*◌, ◌/◌, ◌%◌, ◌≤◌, Bool, true, false, ◌&&◌, ◌||◌, not, ◌==◌, if◌then◌else◌, cond, List, [], ◌∷◌, length, Option, Some, None, refl, sym, subst, arith, inl, inr}
-use Rattle.std.specs.Prelude.{nat_le, find, slice_get, is_some, unwrap_or, MatchOption}
+use Rattle.std.proofs.Common.{◌≡◌, ℕ, ◌*◌, ◌/◌, ◌≤◌, Bool, true, false, ◌&&◌, ◌||◌, not, ◌==◌, if◌then◌else◌, cond, List, [], ◌∷◌, length, Option, Some, None, refl, sym, subst, arith, inl, inr}
+use Rattle.std.specs.Prelude.{find, slice_get, is_some, unwrap_or, MatchOption}
 use Rattle.std.specs.List.{filter}
 use Rattle.std.specs.Option.{option_and_then, option_or}
 use Rattle.std.proofs.lemmas.Bool.Decides.{nat_tests}
@@ -11,7 +11,7 @@ use Rattle.tags.specs.declared.plan.Plan.TheVariants.{Ecb, Cbc, Ctr, Gcm, HmacSi
 use Rattle.tags.specs.declared.tag.Tag.TheVariants.{Purpose, BlockMode, Digest, Padding, Nonce, MacLength}
 use Rattle.tags.specs.Param.{as_number}
 use Rattle.tags.specs.Plan.{IsWorkable, is_aes_size, nonce_bytes, takes_key}
-use Rattle.tags.specs.Values.{AES_PURPOSES, CBC, CTR, DECRYPT, DIGESTS, ECB, ENCRYPT, GCM, HMAC_PURPOSES, MODES, PKCS7, digest_bits, implies, is_whole_bytes, one_in, passes}
+use Rattle.tags.specs.Values.{AES_PURPOSES, CBC, CTR, DIGESTS, ECB, ENCRYPT, HMAC_PURPOSES, MODES, PKCS7, digest_bits, implies, is_whole_bytes, one_in, passes}
 use Rattle.tag_lists.specs.Lookups.{IsKey, all_of, bytes_of, is_aes, is_hmac, is_of, is_only, number_alone, number_of, only_number, stands}
 use Rattle.use_rules.specs.Rules.{is_sign, names_known_digest, digest_of, least_bits, has_size}
 use Rattle.use_rules.specs.Plans.{byte, cipher_plan, mac_plan, plan_of, length_bytes, NonceFits, nonce_given, nonce_wanted}

@@ -1,6 +1,6 @@
 -- The rules of a begin: each part says whether it holds over the facts, over the operation's list (`asked`) and over the
 -- key's list (`key`). Where a part names AES or HMAC, it holds for the other.
-use Rattle.std.specs.Prelude.{◌≡◌, ℕ, Bool, true, ◌&&◌, ◌||◌, not, ◌==◌, nat_le, List, Option, Some, None, if◌then◌else◌, is_some, unwrap_or, length}
+use Rattle.std.specs.Prelude.{ℕ, Bool, true, ◌&&◌, ◌||◌, ◌==◌, nat_le, List, Option, Some, None, if◌then◌else◌, is_some, unwrap_or, length}
 use Rattle.std.specs.Option.{option_or}
 use Rattle.tags.specs.declared.descriptor.Descriptor.{Descriptor}
 use Rattle.tags.specs.declared.param.Param.{Param}

@@ -7,13 +7,9 @@
 #![tactic(auto)]
 
 mod facts;
-#[cfg(test)]
-mod fixtures;
 mod plans;
 mod rules;
 mod table;
-#[cfg(test)]
-mod tests;
 
 pub use facts::BeginFacts;
 pub use plans::{nonce_given, nonce_wanted};

@@ -10,7 +10,7 @@ use key_rules::{read_asked, usable};
 use std::alloc::Global;
 use std::test::Fail;
 use tag_lists::AuthList;
-use tags::Tag::{BlockMode, MacLength, Padding, Purpose};
+use tags::Tag::{Algorithm, BlockMode, Digest, MacLength, MinMacLength, Padding, Purpose};
 use tags::{Code, Plan, RuleTable};
 use use_rules::BeginFacts;
 
@@ -24,13 +24,13 @@ fn facts_of(
 ) -> Result<BeginFacts, Fail>
     ensures { IfOk result (λ facts. facts.fits ≡ true → IsKey (key_of facts) size) }
 {
-    let params = encoded(alloc, asked, nonce)?;
+    let params = encoded(alloc, asked, &[], nonce)?;
     let asked = read_asked(alloc, &params).map_err(|_| "memory")?;
-    let key = AuthList::read(alloc, &encoded(alloc, key, None)?).map_err(|_| "a list")?;
+    let key = AuthList::read(alloc, &encoded(alloc, key, &[], None)?).map_err(|_| "a list")?;
     let fits = usable(&key, size);
     Ok(BeginFacts {
         connected: true,
-        descriptor: app_key(alloc)?,
+        descriptor: app_key(alloc, b"a")?,
         found: true,
         asked,
         opened: Some(key),
@@ -74,7 +74,25 @@ const BLOCK: Option<&[u8]> = Some(
 
 const TWELVE: Option<&[u8]> = Some(b"\x00\x01\x02\x03\x04\x05\x06\x07\x08\x09\x0a\x0b");
 
-static ROWS: [Row; 14] = [
+const THREE: Option<&[u8]> = Some(b"\x00\x01\x02");
+
+// An AES key for encryption in GCM alone, with tags of 120 bits and drawn nonces, and an HMAC-SHA512 key that verifies.
+const SHORT_TAG_KEY: Pairs = &[
+    (Purpose, 0),
+    (Algorithm, 32),
+    (BlockMode, 32),
+    (Padding, 1),
+    (MinMacLength, 120),
+];
+
+const VERIFYING_KEY: Pairs = &[
+    (Purpose, 3),
+    (Algorithm, 128),
+    (Digest, 6),
+    (MinMacLength, 512),
+];
+
+static ROWS: [Row; 28] = [
     (
         &[(Purpose, 0), (BlockMode, 1), (Padding, 64)],
         BLOCK,
@@ -199,6 +217,200 @@ static ROWS: [Row; 14] = [
             Plan::HmacVerify {
                 digest: 4,
                 least: 8,
+            },
+            0,
+        )),
+    ),
+    // numbers that the lists ask for, and nonces that are given
+    (
+        &[
+            (Purpose, 0),
+            (BlockMode, 32),
+            (Padding, 1),
+            (MacLength, 120),
+        ],
+        None,
+        SHORT_TAG_KEY,
+        16,
+        Ok((
+            Plan::Gcm {
+                seal: true,
+                tag: 15,
+            },
+            12,
+        )),
+    ),
+    (
+        &[
+            (Purpose, 0),
+            (BlockMode, 32),
+            (Padding, 1),
+            (MacLength, 120),
+        ],
+        TWELVE,
+        AES_KEY,
+        16,
+        Ok((
+            Plan::Gcm {
+                seal: true,
+                tag: 15,
+            },
+            0,
+        )),
+    ),
+    (
+        &[
+            (Purpose, 1),
+            (BlockMode, 32),
+            (Padding, 1),
+            (MacLength, 128),
+        ],
+        TWELVE,
+        AES_KEY,
+        16,
+        Ok((
+            Plan::Gcm {
+                seal: false,
+                tag: 16,
+            },
+            0,
+        )),
+    ),
+    (
+        &[(Purpose, 0), (BlockMode, 2), (Padding, 64)],
+        None,
+        AES_KEY,
+        16,
+        Ok((
+            Plan::Cbc {
+                seal: true,
+                padded: true,
+            },
+            16,
+        )),
+    ),
+    (
+        &[(Purpose, 0), (BlockMode, 2), (Padding, 64)],
+        BLOCK,
+        AES_KEY,
+        16,
+        Ok((
+            Plan::Cbc {
+                seal: true,
+                padded: true,
+            },
+            0,
+        )),
+    ),
+    (
+        &[(Purpose, 1), (BlockMode, 1), (Padding, 1)],
+        None,
+        AES_KEY,
+        16,
+        Ok((
+            Plan::Ecb {
+                seal: false,
+                padded: false,
+            },
+            0,
+        )),
+    ),
+    (
+        &[(Purpose, 3)],
+        None,
+        VERIFYING_KEY,
+        8,
+        Ok((
+            Plan::HmacVerify {
+                digest: 6,
+                least: 64,
+            },
+            0,
+        )),
+    ),
+    // what no rule looks at
+    (
+        &[(Purpose, 0), (BlockMode, 1), (Padding, 64)],
+        THREE,
+        AES_KEY,
+        16,
+        Ok((
+            Plan::Ecb {
+                seal: true,
+                padded: true,
+            },
+            0,
+        )),
+    ),
+    (
+        &[(Purpose, 0), (BlockMode, 1), (Padding, 1), (Digest, 9)],
+        None,
+        AES_KEY,
+        16,
+        Ok((
+            Plan::Ecb {
+                seal: true,
+                padded: false,
+            },
+            0,
+        )),
+    ),
+    (
+        &[(Purpose, 2), (BlockMode, 32), (MacLength, 256)],
+        THREE,
+        MAC_KEY,
+        20,
+        Ok((
+            Plan::HmacSign {
+                digest: 4,
+                size: 32,
+            },
+            0,
+        )),
+    ),
+    (
+        &[(Purpose, 2), (MacLength, 128)],
+        BLOCK,
+        MAC_KEY,
+        20,
+        Ok((
+            Plan::HmacSign {
+                digest: 4,
+                size: 16,
+            },
+            0,
+        )),
+    ),
+    (
+        &[(Purpose, 3), (MacLength, 3), (Padding, 9)],
+        None,
+        MAC_KEY,
+        20,
+        Ok((
+            Plan::HmacVerify {
+                digest: 4,
+                least: 8,
+            },
+            0,
+        )),
+    ),
+    // repeated parameters are one, and the key's digest may be named
+    (
+        &[(Purpose, 2), (Purpose, 2), (MacLength, 64)],
+        None,
+        MAC_KEY,
+        20,
+        Ok((Plan::HmacSign { digest: 4, size: 8 }, 0)),
+    ),
+    (
+        &[(Purpose, 2), (Digest, 4), (MacLength, 256)],
+        None,
+        MAC_KEY,
+        20,
+        Ok((
+            Plan::HmacSign {
+                digest: 4,
+                size: 32,
             },
             0,
         )),

@@ -1,5 +1,5 @@
 use Rattle.std.proofs.Common.{◌≡◌, take, ◌↔◌}
-use Rattle.hmac_core.proofs.compare.same_bytes.Given as goal
+use Rattle.byte_strings.proofs.compare.same_bytes.Given as goal
 
 abbrev pub invariant-bytes : goal.invariant-bytes
 invariant-bytes l = (l.difference ≡ 0) ↔ (take l.i l.a ≡ take l.i l.b)

@@ -2,7 +2,7 @@
 ghost use Rattle.std.specs.Prelude.{◌≡◌, ◌<◌};
 ghost use Rattle.operation_slots.specs.Table.{IsLater};
 
-use crate::{OpId, Slots, Steps, Taken};
+use operation_slots::{OpId, Slots, Steps, Taken};
 use std::marker::Brand;
 use std::process::Abort;
 use std::sync::ledger::{Blank, Ledger};
@@ -71,28 +71,28 @@ fn a_value_goes_out_and_comes_back(rt: HostRuntime) -> Result<(), Fail> {
     desk.begin(&rt, 3, 20, vec![in rt.alloc(); 30]?);
     desk.begin(&rt, 9, 10, vec![in rt.alloc(); 90]?);
     assert!(rt; !desk.slots.has_room());
-    assert_eq!(rt; desk.slots.open_count(), 3);
-    assert_eq!(rt; desk.slots.open_of(10), 2);
-    assert_eq!(rt; desk.slots.idle_owners(), 2);
-    assert_eq!(rt; oldest_of(&desk.slots, 10), Some((7, 1)));
+    assert!(rt; desk.slots.open_count() == 3);
+    assert!(rt; desk.slots.open_of(10) == 2);
+    assert!(rt; desk.slots.idle_owners() == 2);
+    assert!(rt; oldest_of(&desk.slots, 10) == Some((7, 1)));
     let Taken::Found(value) = desk.slots.take(7) else {
         panic!(rt; "7 is idle");
     };
-    assert_eq!(rt; value.as_slice(), [70].as_slice());
-    assert_eq!(rt; oldest_of(&desk.slots, 10), Some((9, 3)));
-    assert_eq!(rt; desk.slots.open_of(10), 2);
+    assert!(rt; value.as_slice() == [70].as_slice());
+    assert!(rt; oldest_of(&desk.slots, 10) == Some((9, 3)));
+    assert!(rt; desk.slots.open_of(10) == 2);
     desk.give(&rt, 7, value);
-    assert_eq!(rt; oldest_of(&desk.slots, 10), Some((9, 3)));
+    assert!(rt; oldest_of(&desk.slots, 10) == Some((9, 3)));
     let closed = desk.slots.close(9);
     assert!(rt; closed.is_some_and(|value| value.as_slice() == [90].as_slice()));
-    assert_eq!(rt; oldest_of(&desk.slots, 10), Some((7, 4)));
+    assert!(rt; oldest_of(&desk.slots, 10) == Some((7, 4)));
     let held = desk.slots.take(3);
     assert!(rt; matches!(held, Taken::Found(_)));
     assert!(rt; desk.slots.close(3).is_none());
-    assert_eq!(rt; desk.slots.idle_owner(0), Some(10));
-    assert_eq!(rt; desk.slots.idle_owner(1), None);
+    assert!(rt; desk.slots.idle_owner(0) == Some(10));
+    assert!(rt; desk.slots.idle_owner(1) == None);
     desk.end(&rt, 3);
-    assert_eq!(rt; desk.slots.open_count(), 1);
-    assert_eq!(rt; oldest_of(&desk.slots, 20), None);
+    assert!(rt; desk.slots.open_count() == 1);
+    assert!(rt; oldest_of(&desk.slots, 20) == None);
     Ok(())
 }

@@ -1,8 +1,11 @@
--- Two bytes are equal where no bit of theirs differs.
-use Rattle.std.proofs.Common.{◌≡◌, ℕ, ◌+◌, ◌<◌, List, take, length, get_or, bit_or, bit_xor, ap, sym, ◌∙◌, ◌↔◌, arith}
+-- Two bytes are equal where no bit of theirs differs, and two strings where no byte does.
+use Rattle.std.proofs.Common.{◌≡◌, ℕ, ◌+◌, ◌<◌, ◌≤◌, ◌==◌, List, take, length, get_or, bit_or, bit_xor, ap, sym, ◌∙◌, ◌↔◌, arith}
 use Rattle.std.proofs.lemmas.Nat.{le_or_l, le_or_r}
 use Rattle.std.specs.Int.Bits.{xor_assoc, xor_self, xor_zero_l, xor_zero_r}
-use Rattle.std.proofs.lemmas.List.{take_more_same, take-take, get_or-take}
+use Rattle.std.specs.Str.{bytes_eq}
+use Rattle.std.proofs.lemmas.Bool.Decides.{Decides-eqb, same_from_decides}
+use Rattle.std.proofs.lemmas.List.{take_all, take_more_same, take-take, get_or-take}
+use Rattle.std.proofs.lemmas.Slice.Eq.{bytes_eq-Decides}
 
 pub no_bits_differ : (a b : ℕ) → bit_xor a b ≡ 0 → a ≡ b
 no_bits_differ a b none =
@@ -31,3 +34,9 @@ same_more a b i d within same_length so_far =
           sym (get_or-take (i + 1) a i 0 (omega arith)) ∙ ap (λ m. get_or m i 0) same ∙ get_or-take (i + 1) b i 0 (omega arith) in
           ap (λ n. bit_or n (bit_xor x y)) (so_far.1 front) ∙ xor_same x y last,
     )
+
+-- where all were looked at, no bit differs exactly where the strings are the same
+pub all_looked_at : (a b : List ℕ) (i d : ℕ) → length a ≤ i → length b ≤ i → ((d ≡ 0) ↔ (take i a ≡ take i b)) → (d == 0) ≡ bytes_eq a b
+all_looked_at a b i d whole_a whole_b so_far =
+    let same : (d ≡ 0) ↔ (a ≡ b) = rw (take_all i a whole_a, take_all i b whole_b) at so_far in
+    same_from_decides (d == 0) (bytes_eq a b) (λ none. same.0 ((Decides-eqb d 0).0 none), λ e. (Decides-eqb d 0).1 (same.1 e)) (bytes_eq-Decides a b)

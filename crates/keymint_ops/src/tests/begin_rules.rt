@@ -1,0 +1,77 @@
+//! What no script of the gate shows of a begin: a blob that does not open, a key that is not usable, an alias that is no
+//! UTF-8, and lists that no key has. The other rules are in `checks/begins.jsonl` and `checks/begin-lists.jsonl`, the plans
+//! with their nonces in `beginnings.rt`.
+
+use super::{MAC_KEY, Pairs, app_key, encoded};
+use std::alloc::{AllocError, Global};
+use std::test::Fail;
+use tag_lists::AuthList;
+use tags::{Code, Plan, Rule, RuleTable, Tag};
+use use_rules::{BeginFacts, check_begin, nonce_given, nonce_wanted};
+
+// Facts whose lists are these.
+fn begin(alloc: Global, asked: Pairs, key: Pairs) -> Result<BeginFacts, AllocError> {
+    let asked = encoded(alloc, asked, &[], None)?;
+    let key = encoded(alloc, key, &[], None)?;
+    Ok(BeginFacts {
+        connected: true,
+        descriptor: app_key(alloc, b"a")?,
+        found: true,
+        asked: AuthList::read(alloc, &asked).map_err(|_| Code::InvalidTag),
+        opened: AuthList::read(alloc, &key).ok(),
+        fits: true,
+    })
+}
+
+// Whether the begin breaks this rule first, with this code.
+fn breaks(facts: &BeginFacts, number: u8, code: Code) -> bool {
+    let table = RuleTable::B;
+    check_begin(facts) == Err((Rule { table, number }, code))
+}
+
+#[test]
+fn a_call_breaks_the_rules_before_its_lists(rt: HostRuntime) -> Result<(), Fail> {
+    let alloc = rt.alloc();
+    let mut facts = begin(alloc, &[(Tag::Purpose, 2), (Tag::MacLength, 256)], MAC_KEY)?;
+    let sign = Plan::HmacSign {
+        digest: 4,
+        size: 32,
+    };
+    assert_eq!(rt; check_begin(&facts), Ok(sign));
+    facts.fits = false;
+    assert!(rt; breaks(&facts, 8, Code::InvalidKeyBlob));
+    facts.opened = None;
+    assert!(rt; breaks(&facts, 7, Code::InvalidKeyBlob));
+    assert!(rt; nonce_given(&facts).is_none() && nonce_wanted(&facts) == 0);
+    for code in [
+        Code::InvalidInputLength,
+        Code::InvalidTag,
+        Code::InvalidKeyArgument,
+    ] {
+        facts.asked = Err(code);
+        assert!(rt; breaks(&facts, 6, code));
+    }
+    facts.found = false;
+    assert!(rt; breaks(&facts, 4, Code::KeyNotFound));
+    for alias in [b"\xff".as_slice(), b"\xed\xa0\x80"] {
+        facts.descriptor = app_key(alloc, alias)?;
+        assert!(rt;
+            breaks(&facts, 2, Code::InvalidArgument),
+            "of alias {alias:?}"
+        );
+    }
+    facts.connected = false;
+    assert!(rt; breaks(&facts, 1, Code::InvalidArgument));
+    Ok(())
+}
+
+#[test]
+fn a_key_without_an_algorithm_or_purposes_has_no_operation(rt: HostRuntime) -> Result<(), Fail> {
+    let alloc = rt.alloc();
+    let asked = &[(Tag::Purpose, 0), (Tag::BlockMode, 1), (Tag::Padding, 1)];
+    let facts = begin(alloc, asked, &[(Tag::Purpose, 0)])?;
+    assert!(rt; breaks(&facts, 9, Code::UnsupportedPurpose));
+    let facts = begin(alloc, &[], &[(Tag::Algorithm, 128)])?;
+    assert!(rt; breaks(&facts, 9, Code::UnsupportedPurpose));
+    Ok(())
+}

@@ -1,0 +1,214 @@
+//! The calls of the rules of a new key that no script shows: the kept list, a material that no line spells, and keys that
+//! are not made. What a script shows is in `checks/new-keys.jsonl` and `checks/new-key-lists.jsonl`.
+
+use super::{AES_KEY, GCM_KEY, MAC_KEY, Pairs, app_key, encoded};
+use key_rules::{
+    ImportFacts, KeyPlan, NewFacts, NewFault, check_new, material_size, read_asked, usable,
+};
+use std::alloc::{AllocError, Global};
+use std::test::Fail;
+use tag_lists::AuthList;
+use tags::{Bytes, Code, RuleTable, Tag};
+
+// What a call of making a key is asked: the alias, the list, the length of an imported material, and the wall reading.
+fn asked(
+    alloc: Global,
+    alias: &[u8],
+    list: Pairs,
+    length: Option<u64>,
+    wall: u64,
+) -> Result<NewFacts, AllocError> {
+    let import = match length {
+        None => None,
+        Some(length) => Some(ImportFacts { format: 3, length }),
+    };
+    Ok(NewFacts {
+        connected: true,
+        descriptor: app_key(alloc, alias)?,
+        params: Bytes::of(encoded(alloc, list, &[], None)?),
+        import,
+        wall,
+    })
+}
+
+// A list, the length of an import, the wall reading, the kept list, and the bytes of the material.
+type Kept = (Pairs, Option<u64>, u64, &'static [u8], usize);
+
+static KEPT: [Kept; 4] = [
+    (
+        GCM_KEY,
+        None,
+        1000,
+        b"\x00\x0a\x20\x00\x00\x01\x00\x00\x00\x00\x20\x00\x00\x01\x00\x00\x00\x01\x10\x00\x00\x02\x00\x00\x00\x20\x30\x00\x00\x03\x00\x00\x01\x00\x20\x00\x00\x04\x00\x00\x00\x20\x20\x00\x00\x06\x00\x00\x00\x01\x30\x00\x00\x08\x00\x00\x00\x80\x70\x00\x01\xf7\x01\x60\x00\x02\xbd\x00\x00\x00\x00\x00\x00\x03\xe8\x10\x00\x02\xbe\x00\x00\x00\x00",
+        32,
+    ),
+    (
+        &[
+            (Tag::Purpose, 2),
+            (Tag::Purpose, 3),
+            (Tag::Algorithm, 128),
+            (Tag::Digest, 4),
+            (Tag::MinMacLength, 64),
+            (Tag::NoAuthRequired, 1),
+            (Tag::OsVersion, 1),
+            (Tag::OsPatchlevel, 2),
+        ],
+        Some(20),
+        1000,
+        b"\x00\x09\x20\x00\x00\x01\x00\x00\x00\x02\x20\x00\x00\x01\x00\x00\x00\x03\x10\x00\x00\x02\x00\x00\x00\x80\x30\x00\x00\x03\x00\x00\x00\xa0\x20\x00\x00\x05\x00\x00\x00\x04\x30\x00\x00\x08\x00\x00\x00\x40\x70\x00\x01\xf7\x01\x60\x00\x02\xbd\x00\x00\x00\x00\x00\x00\x03\xe8\x10\x00\x02\xbe\x00\x00\x00\x02",
+        20,
+    ),
+    (
+        &[
+            (Tag::Purpose, 2),
+            (Tag::Purpose, 3),
+            (Tag::Algorithm, 128),
+            (Tag::Digest, 4),
+            (Tag::MinMacLength, 64),
+            (Tag::NoAuthRequired, 1),
+            (Tag::KeySize, 160),
+            (Tag::Origin, 4),
+            (Tag::Nonce, 3),
+            (Tag::MacLength, 64),
+            (Tag::CreationDatetime, 5),
+        ],
+        Some(20),
+        1000,
+        b"\x00\x09\x20\x00\x00\x01\x00\x00\x00\x02\x20\x00\x00\x01\x00\x00\x00\x03\x10\x00\x00\x02\x00\x00\x00\x80\x30\x00\x00\x03\x00\x00\x00\xa0\x20\x00\x00\x05\x00\x00\x00\x04\x30\x00\x00\x08\x00\x00\x00\x40\x70\x00\x01\xf7\x01\x60\x00\x02\xbd\x00\x00\x00\x00\x00\x00\x00\x05\x10\x00\x02\xbe\x00\x00\x00\x02",
+        20,
+    ),
+    (
+        &[
+            (Tag::Purpose, 0),
+            (Tag::Purpose, 1),
+            (Tag::Algorithm, 32),
+            (Tag::KeySize, 256),
+            (Tag::BlockMode, 32),
+            (Tag::Padding, 1),
+            (Tag::MinMacLength, 128),
+            (Tag::NoAuthRequired, 1),
+            (Tag::Origin, 2),
+        ],
+        None,
+        18446744073709551615,
+        b"\x00\x0a\x20\x00\x00\x01\x00\x00\x00\x00\x20\x00\x00\x01\x00\x00\x00\x01\x10\x00\x00\x02\x00\x00\x00\x20\x30\x00\x00\x03\x00\x00\x01\x00\x20\x00\x00\x04\x00\x00\x00\x20\x20\x00\x00\x06\x00\x00\x00\x01\x30\x00\x00\x08\x00\x00\x00\x80\x70\x00\x01\xf7\x01\x60\x00\x02\xbd\xff\xff\xff\xff\xff\xff\xff\xff\x10\x00\x02\xbe\x00\x00\x00\x00",
+        32,
+    ),
+];
+
+#[test]
+fn the_kept_list_has_what_is_set_and_not_what_is_dropped(rt: HostRuntime) -> Result<(), Fail> {
+    let alloc = rt.alloc();
+    for (row, (list, length, wall, expected, size)) in KEPT.iter().enumerate() {
+        let Ok(plan) = check_new(alloc, &asked(alloc, b"k", list, *length, *wall)?) else {
+            assert!(rt; false, "no key in row {row}");
+            continue;
+        };
+        assert!(rt; plan.limit == 0);
+        assert!(rt; material_size(&plan.list) == *size, "in row {row}");
+        let Ok(written) = plan.list.write(alloc) else {
+            assert!(rt; false, "no memory in row {row}");
+            continue;
+        };
+        assert!(rt; written.as_slice() == *expected, "in row {row}");
+    }
+    assert!(rt; material_size(&AuthList::empty(alloc)) == 0);
+    Ok(())
+}
+
+// Whether this rule of table K is broken, with this code.
+fn breaks(answer: &Result<KeyPlan, NewFault>, number: u8, code: Code) -> bool {
+    match answer {
+        Err(NewFault::Broken(rule, own)) => {
+            rule.table == RuleTable::K && rule.number == number && *own == code
+        }
+        _ => false,
+    }
+}
+
+// Eight times a length is counted without a wrap, and an alias is UTF-8.
+#[test]
+fn what_no_line_spells_is_refused(rt: HostRuntime) -> Result<(), Fail> {
+    let alloc = rt.alloc();
+    for length in [2305843009213693968, u64::MAX] {
+        let answer = check_new(alloc, &asked(alloc, b"k", AES_KEY, Some(length), 1000)?);
+        assert!(rt;
+            breaks(&answer, 7, Code::UnsupportedKeySize),
+            "of {length} bytes"
+        );
+    }
+    let answer = check_new(alloc, &asked(alloc, b"\xc3", MAC_KEY, Some(20), 1000)?);
+    assert!(rt; breaks(&answer, 2, Code::InvalidArgument));
+    Ok(())
+}
+
+// A list, the tags that are taken out of it, the material's length, and whether that is a key's.
+type Use = (Pairs, &'static [Tag], usize, bool);
+
+static USED: [Use; 9] = [
+    (MAC_KEY, &[], 20, true),
+    (MAC_KEY, &[], 7, false),
+    (
+        &[
+            (Tag::Purpose, 2),
+            (Tag::Purpose, 3),
+            (Tag::Algorithm, 128),
+            (Tag::Digest, 4),
+            (Tag::MinMacLength, 64),
+            (Tag::NoAuthRequired, 1),
+            (Tag::KeySize, 160),
+        ],
+        &[],
+        20,
+        true,
+    ),
+    (
+        &[
+            (Tag::Purpose, 2),
+            (Tag::Purpose, 3),
+            (Tag::Algorithm, 128),
+            (Tag::Digest, 4),
+            (Tag::MinMacLength, 64),
+            (Tag::NoAuthRequired, 1),
+            (Tag::KeySize, 168),
+        ],
+        &[],
+        20,
+        false,
+    ),
+    (MAC_KEY, &[Tag::Digest], 20, false),
+    (
+        &[
+            (Tag::Purpose, 2),
+            (Tag::Purpose, 3),
+            (Tag::Algorithm, 128),
+            (Tag::Digest, 4),
+            (Tag::MinMacLength, 64),
+            (Tag::NoAuthRequired, 1),
+            (Tag::UserSecureId, 7),
+            (Tag::UsageCountLimit, 0),
+        ],
+        &[],
+        20,
+        true,
+    ),
+    (AES_KEY, &[], 32, true),
+    (AES_KEY, &[Tag::MinMacLength], 32, false),
+    (AES_KEY, &[], 64, false),
+];
+
+#[test]
+fn a_list_and_a_length_are_a_keys_or_not(rt: HostRuntime) -> Result<(), Fail> {
+    let alloc = rt.alloc();
+    for (row, (params, dropped, length, expected)) in USED.iter().enumerate() {
+        let Ok(Ok(list)) = read_asked(alloc, &encoded(alloc, params, dropped, None)?) else {
+            assert!(rt; false, "no list in row {row}");
+            continue;
+        };
+        assert!(rt; list.has(Tag::Purpose, 3) || list.is_aes(), "in row {row}");
+        assert!(rt; usable(&list, *length) == *expected, "in row {row}");
+    }
+    let cut = read_asked(alloc, b"\x00");
+    assert!(rt; matches!(cut, Ok(Err(Code::InvalidTag))));
+    Ok(())
+}
