@@ -7,7 +7,7 @@ use Rattle.turn_lock.specs.declared.view.View.{View}
 use Rattle.turn_lock.specs.Views.{view, hand}
 use Rattle.turn_lock.specs.Steps.{recorded, held}
 use Rattle.turn_lock.specs.Rule.{own}
-use Rattle.turn_lock.specs.Passes.{AllMade, IsFrontOf, Extends}
+use Rattle.turn_lock.specs.Fronts.{AllMade, IsFrontOf, Extends}
 use Rattle.turn_lock.proofs.Prefixes.{prefix_self, prefix_trans, own_append}
 use Rattle.turn_lock.proofs.Posing.{counted_one}
 

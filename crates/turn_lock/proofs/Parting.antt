@@ -31,12 +31,12 @@ module _ {T E K : Type 0} (entries : T → List E) (maker : E → ℕ) (fits : K
       let no_turn : turns v ≡ 0 = ap turns_of is in
       let wide : length (set s.views id l) ≡ length s.views = length-set s.views id l in
       let cut : ViewsAre maker name f' (set s.views id l) = views_set maker name f f' s.views id v l at r.views refl (omega arith)
-          record { may = omega arith; stands = tt; hold = known.hold }
-          (λ j u ne o. record {
-            may = o.may;
-            stands = stands_by f f' j (λ _ _ z. absurd (ne (z ∙ sym stands.1))) (λ _ a b c. (a, b, c)) (λ _ a b c. (a, b, c, refl)) u.stage o.stands;
-            hold = o.hold;
-          }) in
+      record { may = omega arith; stands = tt; hold = known.hold }
+      (λ j u ne o. record {
+        may = o.may;
+        stands = stands_by f f' j (λ _ _ z. absurd (ne (z ∙ sym stands.1))) (λ _ a b c. (a, b, c)) (λ _ a b c. (a, b, c, refl)) u.stage o.stands;
+        hold = o.hold;
+      }) in
       let at_last : Stands f' (length (set s.views id l)) (Makes k) = (stands.0, wide) in
       record {
         tally = f';
@@ -111,14 +111,14 @@ module _ {T E K : Type 0} (entries : T → List E) (maker : E → ℕ) (fits : K
           each = λ j u e. ⊎_elim
               (λ (t : (j ≡ other) × (n ≡ u)). subst (λ (x : ℕ × V). Knows maker name f' x.0 x.1) (λ i. (sym t.0 i, t.1 i)) spent)
               (λ (t : (j ≢ other) × (get_elem? vs j ≡ some u)). ⊎_elim
-                  (λ (t2 : (j ≡ id) × (b ≡ u)). subst (λ (x : ℕ × V). Knows maker name f' x.0 x.1) (λ i. (sym t2.0 i, t2.1 i)) whole)
-                  (λ (t2 : (j ≢ id) × (get_elem? s.views j ≡ some u)).
-                  let o = r.views.each j u t2.1 in record {
-                    may = o.may;
-                    stands = stay j u.stage o.stands;
-                    hold = holds_by maker name f f' j j (λ _ p. p) (λ m _ p a c d. (a, moved_else f.holder other id m (λ z. t.0 (sym c ∙ z)) ∙ c, d)) u.hands o.hold;
-                  })
-                  (at_set s.views id j b u t.1))
+              (λ (t2 : (j ≡ id) × (b ≡ u)). subst (λ (x : ℕ × V). Knows maker name f' x.0 x.1) (λ i. (sym t2.0 i, t2.1 i)) whole)
+              (λ (t2 : (j ≢ id) × (get_elem? s.views j ≡ some u)).
+              let o = r.views.each j u t2.1 in record {
+                may = o.may;
+                stands = stay j u.stage o.stands;
+                hold = holds_by maker name f f' j j (λ _ p. p) (λ m _ p a c d. (a, moved_else f.holder other id m (λ z. t.0 (sym c ∙ z)) ∙ c, d)) u.hands o.hold;
+              })
+              (at_set s.views id j b u t.1))
               (at_set vs other j n u e);
         };
         slot = kept_by entries fits name f.log s.homes vs other w n there (λ z. absurd (subst IsServing is z)) (kept_by entries fits name f.log s.homes s.views id v b at (λ z. z) r.slot);

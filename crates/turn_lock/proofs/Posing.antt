@@ -77,10 +77,6 @@ module _ {T E K : Type 0} where
   pub all_named : (m : Sat T E K) (stage : Stage E) (h : Hand E K) (carried : List (ℕ × Option T)) → m ≡ (view stage (h ∷ []), carried) → AllNamed h.name m.0.hands
   all_named m stage h carried e = subst (λ (m : Sat T E K). AllNamed h.name m.0.hands) (sym e) (refl, tt)
 
-  pub pose_closing : (s : Seat (Option T) (View E K)) (t : ℕ) (hs : List (Hand E K)) → s.me ≡ (view (Closes t) hs, []) → s ≡ posed s (view (Closes (turn_in s.me.0.stage)) s.me.0.hands) []
-  pose_closing s t hs e =
-      is_posed s (view (Closes (turn_in s.me.0.stage)) s.me.0.hands) [] (e ∙ (λ i. (view (Closes (turn_in (sym e i).0.stage)) (sym e i).0.hands, [])))
-
   -- the seat has the slot
   pub has_slot : (m : Sat T E K) (v : View E K) (y : Option T) → m ≡ (v, (0, y) ∷ []) → m.1 ≡ (0, y) ∷ rest m.1
   has_slot m v y e = ap (λ (z : Sat T E K). z.1) e ∙ (λ i. (0, y) ∷ rest (sym e i).1)

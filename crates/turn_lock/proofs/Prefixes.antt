@@ -5,7 +5,7 @@ use Rattle.std.proofs.lemmas.List.Elements.{filter-append}
 use mathlib.Core.List.{IsPrefix}
 use Rattle.turn_lock.specs.Rule.{own}
 use Rattle.turn_lock.specs.Steps.{longer}
-use Rattle.turn_lock.specs.Passes.{AllMade}
+use Rattle.turn_lock.specs.Fronts.{AllMade}
 
 module _ {A : Type 0} where
   pub prefix_self : (xs : List A) → IsPrefix xs xs

@@ -13,10 +13,11 @@ use Rattle.turn_lock.specs.declared.view.Hand.{Hand}
 use Rattle.turn_lock.specs.declared.view.View.{View}
 use Rattle.turn_lock.specs.Views.{turns_of, IsServing, turn_in, hand, view, turns}
 use Rattle.turn_lock.specs.Rule.{own, Tally, Stands, AllHold, IsSound}
+use Rattle.turn_lock.specs.Endings.{serving_one, same_at}
 use Rattle.turn_lock.specs.Steps.{AllSee, held, recorded, looked, counted}
 use Rattle.turn_lock.proofs.Prefixes.{prefix_self, prefix_more, prefix_trans, take_next, own_other}
-use Rattle.turn_lock.proofs.Sums.{at_inside, same_at}
-use Rattle.turn_lock.proofs.Standing.{serving_one, stands_by, holds_by, views_set, waiting_few, words_again, owned_of}
+use Rattle.turn_lock.proofs.Sums.{at_inside}
+use Rattle.turn_lock.proofs.Standing.{stands_by, holds_by, views_set, waiting_few, words_again, owned_of}
 
 module _ {T E K : Type 0} (entries : T → List E) (maker : E → ℕ) (fits : K → T → Type 0) (name : K) where
   -- each hand begins the history of the value
@@ -76,7 +77,7 @@ module _ {T E K : Type 0} (entries : T → List E) (maker : E → ℕ) (fits : K
       r.slot)
       (λ miss.
       let same : s ≡ record { words = set s.words 2 n; homes = s.homes; views = set s.views id v } =
-          λ k. record { words = sym (set-get_or s.words 2 0) k; homes = s.homes; views = sym (set_again s.views id v at) k } in
+      λ k. record { words = sym (set-get_or s.words 2 0) k; homes = s.homes; views = sym (set_again s.views id v at) k } in
       (v, keeps, tt, subst (IsSound entries maker fits name) same r, ((λ hit. absurd (miss hit)), λ _. refl)))
 
   -- kind 6: an entry of the value in the slot is counted

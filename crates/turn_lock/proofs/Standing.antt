@@ -16,15 +16,8 @@ use Rattle.turn_lock.specs.declared.view.View.{View}
 use Rattle.turn_lock.specs.Views.{IsServing, hand, view, turns, numbers, unnumbered, numbers_in, first_view}
 use Rattle.turn_lock.specs.Rule.{own, total, Tally, Stands, Owns, AllHold, Knows, WordsAre, ViewsAre, IsKept, IsSound}
 use Rattle.turn_lock.specs.Steps.{IsOwned}
-use Rattle.turn_lock.proofs.Sums.{total_set, total_snoc, total_le, at_snoc_where, at_inside, same_at}
-
--- the seat whose turn is served
-pub serving_one : {E : Type 0} (f : Tally E) (j : ℕ) (st : Stage E) → Stands f j st → IsServing st → f.server f.passed ≡ j
-serving_one f j Idle h s = absurd s
-serving_one f j (Makes k) h s = absurd s
-serving_one f j (Waits t) h s = absurd s
-serving_one f j (Serves t log) h s = ap f.server (sym h.0) ∙ h.2
-serving_one f j (Closes t) h s = absurd s
+use Rattle.turn_lock.specs.Endings.{same_at}
+use Rattle.turn_lock.proofs.Sums.{total_set, total_snoc, total_le, at_snoc_where, at_inside}
 
 -- what a seat knows of where it stands, by another tally
 pub stands_by : {E : Type 0} (f f' : Tally E) (j : ℕ) → ((k : ℕ) → k ≡ f.drawn → j ≡ f.drawer → (k ≡ f'.drawn) × (j ≡ f'.drawer))

@@ -32,9 +32,6 @@ module _ {A : Type 0} where
   at_inside (x ∷ xs) zero a e = omega arith
   at_inside (x ∷ xs) (suc j) a e = let h = at_inside xs j a e in omega arith
 
-  pub same_at : (l : List A) (j : ℕ) (a b : A) → get_elem? l j ≡ some a → get_elem? l j ≡ some b → a ≡ b
-  same_at l j a b p q = some-injective a b (sym p ∙ q)
-
 abbrev pick : {P : Type 0} → Dec P → ℕ → ℕ → ℕ
 pick (yes _) a b = a
 pick (no _) a b = b

@@ -1,16 +1,16 @@
 -- What contracts say of a lock, its passes and its turns. Clauses of other crates have these words and no field.
-use Rattle.std.specs.Prelude.{◌≡◌, ◌⊎◌, ℕ, ◌++◌, List, [], ◌∷◌, Some, length}
-use mathlib.Core.List.{IsPrefix}
+use Rattle.std.specs.Prelude.{◌≡◌, ℕ, List, Option}
 use Rattle.atomic_table.specs.Seated.{TableId}
 use Rattle.turn_lock.specs.declared.lock.Locked.{Locked}
 use Rattle.turn_lock.specs.declared.lock.Pass.{Pass}
 use Rattle.turn_lock.specs.declared.lock.Turn.{Turn}
 use Rattle.turn_lock.specs.declared.lock.Note.{Note}
-use Rattle.turn_lock.specs.declared.lock.Closing.{Closing}
+use Rattle.turn_lock.specs.declared.lock.LastTurn.{LastTurn}
 use Rattle.turn_lock.specs.declared.lock.Maker.{Maker}
-use Rattle.turn_lock.specs.declared.view.Hand.{Hand}
+use Rattle.turn_lock.specs.declared.view.View.{View}
 use Rattle.turn_lock.specs.Views.{front_in, log_in, AllNamed}
-use Rattle.turn_lock.specs.Rule.{own}
+use Rattle.turn_lock.specs.Rule.{IsClosing}
+use Rattle.turn_lock.specs.Fronts.{IsFrontOf, HasHand}
 
 -- ---- a lock
 
@@ -22,6 +22,18 @@ module _ {S V K P : Type 0} where
   -- the name that it was opened with
   abbrev pub name_of : Locked S V K P → K
   name_of lock = lock.name
+
+-- the last turn of a lock, of which `Closing` is an alias
+abbrev pub Closing : Type 0 → Type 0 → Type 0 → Type 0
+Closing T E K = LastTurn (Option T) (View E K)
+
+-- what the seat of a last turn knows, and which lock it is of
+module _ {S V : Type 0} where
+  abbrev pub view_of : LastTurn S V → V
+  view_of closing = closing.seat.me.0
+
+  abbrev pub lock_of : LastTurn S V → TableId
+  lock_of closing = closing.seat.table_id
 
 -- ---- what was seen
 
@@ -51,36 +63,7 @@ module _ {T E K : Type 0} where
   abbrev pub made_of : Maker T E K → ℕ
   made_of maker = maker.made
 
--- ---- what a pass knows of its front
-
--- the front f begins g, and has all that the pass n made in g
-pub record IsFrontOf {E : Type 0} (maker : E → ℕ) (n : ℕ) (f g : List E) : Type 0 where
-  pub begins : IsPrefix f g
-  pub owned : own maker n f ≡ own maker n g
-
--- the front f begins g, and what the pass n made in g is what it made in f, and then these
-pub record Extends {E : Type 0} (maker : E → ℕ) (n : ℕ) (f g more : List E) : Type 0 where
-  pub begins : IsPrefix f g
-  pub grown : own maker n g ≡ own maker n f ++ more
-
--- the pass n made all of these
-abbrev pub AllMade : {E : Type 0} → (E → ℕ) → ℕ → List E → Type 0
-AllMade maker n [] = Unit {0}
-AllMade maker n (e ∷ es) = (maker e ≡ n) × AllMade maker n es
-
--- a history has so many entries more, which the pass n made
-pub record Appends {E : Type 0} (maker : E → ℕ) (n count : ℕ) (old now : List E) : Type 0 where
-  pub more : List E
-  pub grown : now ≡ old ++ more
-  pub long : length more ≡ count
-  pub made : AllMade maker n more
-
 -- ---- which lock they are of
-
--- a hand with this number has this front
-abbrev pub HasHand : {E K : Type 0} → List (Hand E K) → ℕ → List E → Type 0
-HasHand [] n front = ⊥
-HasHand (h ∷ hs) n front = ((h.number ≡ Some n) × (h.front ≡ front)) ⊎ HasHand hs n front
 
 module _ {T E K : Type 0} where
   -- of the lock with this identity and name
@@ -101,8 +84,10 @@ module _ {T E K : Type 0} where
     pub named : AllNamed name turn.seat.me.0.hands
     pub before : IsFrontOf maker turn.number (front_before turn) (seen turn)
 
+  -- the last turn of that lock
   pub record IsClosingAt (lock : TableId) (closing : Closing T E K) : Type 0 where
     pub here : closing.seat.table_id ≡ lock
+    pub closes : IsClosing closing.seat.me.0
 
   -- the closing has taken the pass in
   abbrev pub Took : Closing T E K → Pass T E K → Type 0

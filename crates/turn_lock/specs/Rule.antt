@@ -11,7 +11,7 @@ use Rattle.turn_lock.specs.declared.view.Stage.{Stage}
 use Rattle.turn_lock.specs.declared.view.Stage.TheVariants.{Idle, Makes, Waits, Serves, Closes}
 use Rattle.turn_lock.specs.declared.view.Hand.{Hand}
 use Rattle.turn_lock.specs.declared.view.View.{View}
-use Rattle.turn_lock.specs.Views.{turns_of, IsServing, numbers_in, turns, numbers}
+use Rattle.turn_lock.specs.Views.{turns_of, turn_in, IsServing, numbers_in, turns, numbers}
 
 -- the entries that the pass n made, in their order
 abbrev pub own : {E : Type 0} → (E → ℕ) → ℕ → List E → List E
@@ -91,3 +91,7 @@ pub record IsSound {T E K : Type 0} (entries : T → List E) (maker : E → ℕ)
   pub later : (n : ℕ) → tally.drawn ≤ n → own maker n tally.log ≡ []
   pub views : ViewsAre maker name tally s.views
   pub slot : IsKept entries fits name tally.log s.homes s.views
+
+-- the seat's turn is served for good
+abbrev pub IsClosing : {E K : Type 0} → View E K → Type 0
+IsClosing v = v.stage ≡ Closes (turn_in v.stage)

@@ -92,7 +92,7 @@ module _ {T E K : Type 0} where
   abbrev pub looked : (T → List E) → (E → ℕ) → (K → T → Type 0) → At T → Sat T E K → ℕ → Sat T E K → Type 0
   looked entries maker fits st m n m' =
       (n ≡ turn_in m.0.stage % 2 ^ 64
-        → (x : T) × (m' ≡ (view (Serves (turn_in m.0.stage) (entries x)) m.0.hands, (0, Some x) ∷ m.1)) × AllSee entries maker fits x m.0.hands)
+      → (x : T) × (m' ≡ (view (Serves (turn_in m.0.stage) (entries x)) m.0.hands, (0, Some x) ∷ m.1)) × AllSee entries maker fits x m.0.hands)
       × (n ≢ turn_in m.0.stage % 2 ^ 64 → m' ≡ m)
 
   -- one entry more of the value in the slot is in the history

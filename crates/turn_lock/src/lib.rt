@@ -15,10 +15,9 @@ mod history;
 mod lock;
 mod plays;
 mod rule;
-
 mod view;
 
 pub use history::History;
-pub use lock::{Closing, Locked, Maker, Note, Pass, Turn, TurnLock};
-pub use rule::{Place, Turns};
+pub use lock::{Closing, LastTurn, Locked, Maker, Note, Pass, Turn, TurnLock};
+pub use rule::{EndRule, Place, Turns};
 pub use view::{Hand, Stage, View};

@@ -1,11 +1,11 @@
 //! The lock, its passes and its turns.
 ghost use Rattle.std.specs.Prelude.{◌≡◌, [], ◌∷◌, None, length};
 ghost use Rattle.turn_lock.specs.Views.{view, number_to, unnumbered, blank, turn_in, log_in, posed};
-ghost use Rattle.turn_lock.specs.declared.view.Stage.TheVariants.{Idle, Makes, Serves, Closes};
+ghost use Rattle.turn_lock.specs.declared.view.Stage.TheVariants.{Idle, Makes, Serves};
 
 use crate::rule::{Place, Turns};
 use crate::view::View;
-use atomic_table::{Table, TableRule};
+use atomic_table::{Seat, Table, TableRule};
 use std::alloc::Global;
 
 mod ending;
@@ -60,9 +60,11 @@ pub struct Turn<T, E, K> {
     ghost single: { length seat.me.0.hands ≡ 1 },
 }
 
-/// The last turn, which is not passed on. It takes in the passes.
+/// The last turn of a lock, which is not passed on. It takes in the passes.
+pub type Closing<T, E, K> = LastTurn<Option<T>, View<E, K>>;
+
+/// A seat that may end its table.
 #[derive(Drop)]
-pub struct Closing<T, E, K> {
-    seat: Place<T, E, K>,
-    ghost closes: { seat ≡ posed seat (view (Closes (turn_in seat.me.0.stage)) seat.me.0.hands) [] },
+pub struct LastTurn<S, V> {
+    seat: Seat<S, V>,
 }

@@ -1,11 +1,11 @@
 //! Taking the value out of the lock for good.
-ghost use Rattle.std.specs.Prelude.{◌≡◌, ℕ, ◌≤◌, []};
-ghost use Rattle.turn_lock.specs.Rule.{own};
-ghost use Rattle.turn_lock.specs.Passes.{front, number_of, name_of, IsPassOf, IsClosingOf, IsFrontOf, Took};
+ghost use Rattle.std.specs.Prelude.{◌≡◌};
+ghost use Rattle.turn_lock.specs.Passes.{id_of, name_of, view_of, lock_of, IsPassOf, IsClosingOf, Took};
 
-use super::{Closing, Locked, Pass, Turn, TurnLock};
+use super::{Closing, LastTurn, Locked, Pass, Turn, TurnLock};
 use crate::history::History;
 use crate::plays::{Close, Gather};
+use crate::rule::EndRule;
 use std::sync::Wait;
 
 impl<T: History<E, K>, E, K> TurnLock<T, E, K> {
@@ -16,12 +16,15 @@ impl<T: History<E, K>, E, K> TurnLock<T, E, K> {
         ensures taken { Took result pass }
     {
         let (turn, value) = self.enter(rt, pass);
-        let Turn { mut seat, number: _ } = turn;
+        let Turn {
+            mut seat,
+            number: _,
+        } = turn;
         let shared = &self.table.shared;
         let before = shared.exchange(&mut seat, 0, Some(value));
         let None = before else { unreachable!() };
         shared.load::<Close>(&mut seat, 0);
-        Closing { seat }
+        LastTurn { seat }
     }
 
     /// Takes a pass in, which ends.
@@ -39,22 +42,20 @@ impl<T: History<E, K>, E, K> TurnLock<T, E, K> {
     }
 }
 
-impl<T: History<E, K>, E, K: Drop> TurnLock<T, E, K> {
-    /// The lock ends. It gives the value with its whole history, and how many numbers were drawn. The front of each pass that
-    /// was taken in begins the history and has all that this pass made, and no entry has a number that was not drawn.
-    pub fn end(self, closing: Closing<T, E, K>) -> (T, u64)
-        requires closing { IsClosingOf self closing }
-        ensures fits { T.fits (name_of self) result.0 }
-        ensures all { (pass : Pass T E K) → Took closing pass → IsFrontOf T.maker (number_of pass) (front pass) (T.entries result.0) }
-        ensures none { (n : ℕ) → result.1 ≤ n → own T.maker n (T.entries result.0) ≡ [] }
+impl<S, V, K: Drop, P: EndRule<S, V, K>> Locked<S, V, K, P> {
+    /// The lock ends. It gives its slot, with the value and its whole history, and how many passes were made. A value need not
+    /// be `Drop`.
+    pub fn end(self, closing: LastTurn<S, V>) -> (S, u64)
+        requires ours { lock_of closing ≡ id_of self }
+        requires last { P.may_end (view_of closing) }
+        ensures { P.ended (name_of self) (view_of closing) result.1 result.0 }
     {
         let Locked { table, name: _ } = self;
-        let Closing { seat } = closing;
+        let LastTurn { seat } = closing;
         let mut closed = table.close_with(seat);
-        let drawn = closed.word(0);
+        let made = closed.word(0);
         let slot = closed.take(0);
-        let Some(value) = slot else { unreachable!() };
         closed.free();
-        (value, drawn)
+        (slot, made)
     }
 }

@@ -11,11 +11,7 @@ use std::mem;
 
 impl<T: History<E, K>, E, K: Drop> TurnLock<T, E, K> {
     /// A lock over a value with no entry yet, and what makes its passes. Where memory is wanting the value comes back.
-    pub fn open(
-        alloc: Global,
-        value: T,
-        name: K,
-    ) -> Result<(TurnLock<T, E, K>, Maker<T, E, K>), T>
+    pub fn open(alloc: Global, value: T, name: K) -> Result<(TurnLock<T, E, K>, Maker<T, E, K>), T>
         requires empty { T.entries value ≡ [] }
         requires fits { T.fits name value }
         ensures lock { IfOk result (λ r. name_of r.0 ≡ name) }

@@ -1,7 +1,8 @@
 //! What one pass tells another.
 ghost use Rattle.std.specs.Prelude.{◌≡◌, ◌⊎◌};
 ghost use mathlib.Core.List.{IsPrefix};
-ghost use Rattle.turn_lock.specs.Passes.{front, note_front, number_of, IsPassOf, IsNoteOf, IsFrontOf};
+ghost use Rattle.turn_lock.specs.Passes.{front, note_front, number_of, IsPassOf, IsNoteOf};
+ghost use Rattle.turn_lock.specs.Fronts.{IsFrontOf};
 
 use super::{Note, Pass, TurnLock};
 use crate::history::History;

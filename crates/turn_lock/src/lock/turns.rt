@@ -1,6 +1,7 @@
 //! Taking a turn and passing it on.
 ghost use Rattle.std.specs.Prelude.{◌≡◌, ◌^◌, ◌<◌, ◌++◌, List, length};
-ghost use Rattle.turn_lock.specs.Passes.{front, front_before, seen, number_of, turn_number, name_of, IsPassOf, IsTurnOf, IsFrontOf, Extends, Appends};
+ghost use Rattle.turn_lock.specs.Passes.{front, front_before, seen, number_of, turn_number, name_of, IsPassOf, IsTurnOf};
+ghost use Rattle.turn_lock.specs.Fronts.{IsFrontOf, Extends, Appends};
 
 use super::{Pass, Turn, TurnLock};
 use crate::history::History;

@@ -1,20 +1,14 @@
-use Rattle.std.proofs.Common.{rules, ◌++◌, ap, ◌∙◌, sym, subst}
-use Rattle.turn_lock.specs.Views.{view, turn_in, front_in}
-use Rattle.turn_lock.specs.Passes.{HasHand}
-use Rattle.turn_lock.proofs.Posing.{open_pass, pose_closing, pose_of}
+use Rattle.std.proofs.Common.{rules, ap, sym, subst}
+use Rattle.turn_lock.specs.Views.{front_in}
+use Rattle.turn_lock.specs.Rule.{IsClosing}
+use Rattle.turn_lock.specs.Fronts.{HasHand}
+use Rattle.turn_lock.proofs.Posing.{open_pass}
 use Rattle.turn_lock.proofs.Closings.{has_before, has_behind}
 use Rattle.turn_lock.proofs.Parting.{gathers}
 use Rattle.turn_lock.proofs.lock.ending.TurnLock+T+E+K.absorb.Goals as goal
 
 pub join_seat-requires : goal.join_seat-requires
 join_seat-requires g c = (search rules, search rules, ap (λ s. s.me.1) c.args.pass.rests, search rules, gathers g.T.History.entries g.T.History.maker g.T.History.fits _ _ _ _ _ (ap (λ s. s.me.0.stage) c.args.pass.rests))
-
-pub invariant_of-closing : goal.invariant_of-closing
-invariant_of-closing g c =
-    let was = pose_of _ _ _ c.args.closing.now.closes in
-    let u = c.args.closing.now.seat.me.0 in
-    let more = c.args.pass.seat.me.0.hands in
-    record { closes = pose_closing _ (turn_in u.stage) (u.hands ++ more) (c.join_seat.ensures.2 ∙ (λ i. (view (was i).0.stage ((was i).0.hands ++ more), (was i).1))) }
 
 pub returns-clause-taken : goal.returns-clause-taken
 returns-clause-taken g c =
@@ -29,3 +23,7 @@ returns-clause-kept g c other took =
     let p = c.args.pass in
     let u = c.args.closing.now.seat.me.0 in
     subst (λ m. HasHand m.0.hands other.number (front_in other.seat.me.0.hands)) (sym c.join_seat.ensures.2) (has_before u.hands p.seat.me.0.hands _ _ took)
+
+pub returns-clause-closing : goal.returns-clause-closing
+returns-clause-closing g c =
+    record { here = search rules; closes = subst (λ m. IsClosing m.0) (sym c.join_seat.ensures.2) c.requires.closing.closes }

@@ -2,8 +2,9 @@ use Rattle.std.proofs.Common.{rules, ◌≡◌, [], ◌∷◌, ap, sym, ◌∙�
 use Rattle.atomic_table.specs.Table.{rest}
 use Rattle.turn_lock.specs.declared.view.Stage.TheVariants.{Closes}
 use Rattle.turn_lock.specs.Views.{view, hand, front_in, turn_in, log_in}
-use Rattle.turn_lock.specs.Passes.{HasHand}
-use Rattle.turn_lock.proofs.Posing.{open_turn, pose_closing, put_in}
+use Rattle.turn_lock.specs.Rule.{IsClosing}
+use Rattle.turn_lock.specs.Fronts.{HasHand}
+use Rattle.turn_lock.proofs.Posing.{open_turn, put_in}
 use Rattle.turn_lock.proofs.Passing.{closes}
 use Rattle.turn_lock.proofs.lock.ending.TurnLock+T+E+K.last_turn.Goals as goal
 
@@ -18,16 +19,15 @@ load-requires g c =
     let now = put_in _ _ _ (Some value) None was c.exchange-before.ensures.3 in
     (search rules, search rules, closes g.T.History.entries g.T.History.maker g.T.History.fits _ _ _ _ (turn_in u.stage) (log_in u.stage) name (Some turn.number) (front_in u.hands) value (search rules) now (sym e.value) e.fits)
 
-pub invariant_of-result : goal.invariant_of-result
-invariant_of-result g c =
+pub returns-clause-closing : goal.returns-clause-closing
+returns-clause-closing g c =
     let e = c.enter-turn.ensures in
     let turn = c.enter-turn.result.0 in
-    let u = turn.seat.me.0 in
     let name = c.args.self.now.name in
     let was = open_turn _ name turn.number turn.serves turn.single e.turn.named in
     let now = put_in _ _ _ (Some c.enter-turn.result.1) None was c.exchange-before.ensures.3 in
     let end = c.load.ensures.2 ∙ (λ i. (view (Closes (turn_in (now i).0.stage)) (now i).0.hands, rest (now i).1)) in
-    record { closes = pose_closing _ (turn_in u.stage) (hand name (Some turn.number) (front_in u.hands) ∷ []) end }
+    record { here = search rules; closes = subst (λ m. IsClosing m.0) (sym end) refl }
 
 pub returns-clause-taken : goal.returns-clause-taken
 returns-clause-taken g c =

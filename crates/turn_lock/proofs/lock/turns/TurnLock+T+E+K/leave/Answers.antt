@@ -2,7 +2,7 @@ use Rattle.std.proofs.Common.{rules, [], ◌∷◌, ◌++◌, refl, sym, ap, ◌
 use Rattle.atomic_table.specs.Table.{rest}
 use Rattle.turn_lock.specs.declared.view.Stage.TheVariants.{Idle}
 use Rattle.turn_lock.specs.Views.{view, hand, front_in, turn_in, log_in}
-use Rattle.turn_lock.specs.Passes.{Extends}
+use Rattle.turn_lock.specs.Fronts.{Extends}
 use Rattle.turn_lock.proofs.Posing.{open_turn, pose_pass, single, put_in}
 use Rattle.turn_lock.proofs.Serving.{counts_entry}
 use Rattle.turn_lock.proofs.Passing.{passes_turn}
@@ -107,4 +107,4 @@ returns-clause-own g c more is =
     let end = c.fetch_add-2.ensures.2 ∙ (λ i. (view Idle (done.posed i).0.hands, rest (done.posed i).1)) in
     let grown = c.requires.grown in
     subst (λ m. Extends g.T.History.maker n front (front_in m.0.hands) more) (sym end)
-        (goes_on g.T.History.maker n log front done.past grown.more more c.requires.ours.before grown.made (sym whole ∙ grown.grown) (sym whole ∙ is))
+    (goes_on g.T.History.maker n log front done.past grown.more more c.requires.ours.before grown.made (sym whole ∙ grown.grown) (sym whole ∙ is))
