@@ -1,9 +1,8 @@
 -- The passes of a run, by their numbers.
 use Rattle.std.specs.Prelude.{◌≡◌, ℕ, []}
 use Rattle.turn_lock.specs.declared.lock.Pass.{Pass}
-use Rattle.turn_lock.specs.declared.lock.Closing.{Closing}
 use Rattle.turn_lock.specs.Rule.{own}
-use Rattle.turn_lock.specs.Passes.{front, number_of, Took}
+use Rattle.turn_lock.specs.Passes.{Closing, front, number_of, Took}
 use Rattle.turn_list.specs.declared.list.PlainList.{PlainList}
 use Rattle.turn_list.specs.declared.list.Entry.{Entry}
 use Rattle.turn_list.specs.Lists.{by, counted}

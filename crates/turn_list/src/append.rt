@@ -1,7 +1,8 @@
 //! What one thread does: it appends items under one pass, a turn for each.
 ghost use Rattle.std.specs.Prelude.{◌≡◌, ◌++◌, ◌∷◌, [], IfOk, IfErr};
 ghost use Rattle.turn_lock.specs.Rule.{own};
-ghost use Rattle.turn_lock.specs.Passes.{front, number_of, IsPassOf, Extends};
+ghost use Rattle.turn_lock.specs.Passes.{front, number_of, IsPassOf};
+ghost use Rattle.turn_lock.specs.Fronts.{Extends};
 ghost use Rattle.turn_list.specs.Lists.{by, entry, counted};
 
 use crate::list::{Entry, ListLock, ListPass};

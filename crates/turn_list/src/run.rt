@@ -34,39 +34,26 @@ fn new_passes(
     Ok(passes)
 }
 
-/// Takes the last turn, with all passes, of which there is one at least.
-fn take_in<R: Wait>(rt: &R, lock: &ListLock, passes: Vec<ListPass>, items: u64) -> ListClosing
-    requires some { 0 < length passes.items }
-    requires ours { (k : ℕ) (d : _) → k < length passes.items → IsPassOf lock.now (slice_index_or passes.items k d) }
-    requires all { (k : ℕ) (d : _) → k < length passes.items → HasAppended items k (slice_index_or passes.items k d) }
-    ensures closing { IsClosingOf lock.now result }
-    ensures taken { (k : ℕ) → k < length passes.items → TookIts items result k }
+/// Takes the last turn, with the passes that have appended their items, of which there is one at least.
+fn take_in<R: Wait>(
+    rt: &R,
+    lock: &ListLock,
+    results: Vec<Result<ListPass, AllocError>>,
+) -> Result<ListClosing, AllocError>
+    requires some { 0 < length results.items }
+    requires ours { (k : ℕ) (d : _) → k < length results.items → IfOk (slice_index_or results.items k d) (IsPassOf lock.now) }
+    ensures closing { IfOk result (IsClosingOf lock.now) }
+    ensures taken { IfOk result (λ c. (items k : ℕ) → k < length results.items → ((d : _) → IfOk (slice_index_or results.items k d) (HasAppended items k)) → TookIts items c k) }
 {
-    let _items = items;
-    let mut passes = passes;
-    let Some(last) = passes.pop() else {
+    let mut results = results;
+    let Some(last) = results.pop() else {
         unreachable!()
     };
-    let mut closing = lock.last_turn(rt, last);
-    while let Some(next) = passes.pop() {
-        lock.absorb(&mut closing, next);
+    let mut closing = lock.last_turn(rt, last?);
+    while let Some(next) = results.pop() {
+        lock.absorb(&mut closing, next?);
     }
-    closing
-}
-
-/// The passes, where none met want of memory.
-fn all_of(
-    alloc: Global,
-    results: Vec<Result<ListPass, AllocError>>,
-) -> Result<Vec<ListPass>, AllocError>
-    ensures count { IfOk result (λ v. length v.items ≡ length results.items) }
-    ensures same { IfOk result (λ v. (k : ℕ) (d : _) → k < length v.items → slice_index_or results.items k (Ok d) ≡ Ok (slice_index_or v.items k d)) }
-{
-    let mut passes = Vec::new(alloc);
-    for result in results {
-        passes.push(result?)?;
-    }
-    Ok(passes)
+    Ok(closing)
 }
 
 /// Has each pass append its items, in a thread of its own where one can be made.
@@ -98,8 +85,9 @@ fn list_of(lock: ListLock, closing: ListClosing) -> (Vec<Entry>, u64)
     ensures all { (items k : ℕ) → TookIts items closing k → own by k result.0.items ≡ counted k items }
     ensures none { (k : ℕ) → result.1 ≤ k → own by k result.0.items ≡ [] }
 {
-    let (list, drawn) = lock.end(closing);
-    (list.entries, drawn)
+    let (slot, made) = lock.end(closing);
+    let Some(list) = slot else { unreachable!() };
+    (list.entries, made)
 }
 
 /// The list to which so many threads appended so many items each, and how many passes there were. Each pass's own entries
@@ -121,7 +109,6 @@ pub fn appended<R: Threads + Wait + Sync>(
     };
     let passes = new_passes(alloc, &lock, maker, threads)?;
     let results = append_each(rt, &lock, passes, items)?;
-    let ended = all_of(alloc, results)?;
-    let closing = take_in(rt, &lock, ended, items);
+    let closing = take_in(rt, &lock, results)?;
     Ok(list_of(lock, closing))
 }

@@ -1,5 +1,5 @@
 -- What contracts say of a lock, its passes and its turns. Clauses of other crates have these words and no field.
-use Rattle.std.specs.Prelude.{◌≡◌, ℕ, List, Option}
+use Rattle.std.specs.Prelude.{◌≡◌, ℕ, List, [], ◌∷◌, Option, Some}
 use Rattle.atomic_table.specs.Seated.{TableId}
 use Rattle.turn_lock.specs.declared.lock.Locked.{Locked}
 use Rattle.turn_lock.specs.declared.lock.Pass.{Pass}
@@ -8,7 +8,9 @@ use Rattle.turn_lock.specs.declared.lock.Note.{Note}
 use Rattle.turn_lock.specs.declared.lock.LastTurn.{LastTurn}
 use Rattle.turn_lock.specs.declared.lock.Maker.{Maker}
 use Rattle.turn_lock.specs.declared.view.View.{View}
-use Rattle.turn_lock.specs.Views.{front_in, log_in, AllNamed}
+use Rattle.atomic_table.specs.declared.shared.Seat.{Seat}
+use Rattle.turn_lock.specs.declared.view.Stage.TheVariants.{Serves}
+use Rattle.turn_lock.specs.Views.{hand, view, front_in, turn_in, log_in, AllNamed}
 use Rattle.turn_lock.specs.Rule.{IsClosing}
 use Rattle.turn_lock.specs.Fronts.{IsFrontOf, HasHand}
 
@@ -83,6 +85,11 @@ module _ {T E K : Type 0} where
     pub here : turn.seat.table_id ≡ lock
     pub named : AllNamed name turn.seat.me.0.hands
     pub before : IsFrontOf maker turn.number (front_before turn) (seen turn)
+
+  -- the seat of a turn that is still served, with the value in its slot
+  abbrev pub HasPutBack : K → Turn T E K → T → Seat (Option T) (View E K) → Type 0
+  HasPutBack name turn value seat =
+      seat.me ≡ (view (Serves (turn_in turn.seat.me.0.stage) (seen turn)) (hand name (Some turn.number) (front_before turn) ∷ []), (0, Some value) ∷ [])
 
   -- the last turn of that lock
   pub record IsClosingAt (lock : TableId) (closing : Closing T E K) : Type 0 where

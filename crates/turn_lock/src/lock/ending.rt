@@ -2,7 +2,7 @@
 ghost use Rattle.std.specs.Prelude.{◌≡◌};
 ghost use Rattle.turn_lock.specs.Passes.{id_of, name_of, view_of, lock_of, IsPassOf, IsClosingOf, Took};
 
-use super::{Closing, LastTurn, Locked, Pass, Turn, TurnLock};
+use super::{Closing, LastTurn, Locked, Pass, TurnLock};
 use crate::history::History;
 use crate::plays::{Close, Gather};
 use crate::rule::EndRule;
@@ -16,14 +16,8 @@ impl<T: History<E, K>, E, K> TurnLock<T, E, K> {
         ensures taken { Took result pass }
     {
         let (turn, value) = self.enter(rt, pass);
-        let Turn {
-            mut seat,
-            number: _,
-        } = turn;
-        let shared = &self.table.shared;
-        let before = shared.exchange(&mut seat, 0, Some(value));
-        let None = before else { unreachable!() };
-        shared.load::<Close>(&mut seat, 0);
+        let mut seat = self.put_back(turn, value);
+        self.table.shared.load::<Close>(&mut seat, 0);
         LastTurn { seat }
     }
 

@@ -1,11 +1,12 @@
 //! Taking a turn and passing it on.
 ghost use Rattle.std.specs.Prelude.{◌≡◌, ◌^◌, ◌<◌, ◌++◌, List, length};
-ghost use Rattle.turn_lock.specs.Passes.{front, front_before, seen, number_of, turn_number, name_of, IsPassOf, IsTurnOf};
+ghost use Rattle.turn_lock.specs.Passes.{front, front_before, seen, number_of, turn_number, id_of, name_of, IsPassOf, IsTurnOf, HasPutBack};
 ghost use Rattle.turn_lock.specs.Fronts.{IsFrontOf, Extends, Appends};
 
 use super::{Pass, Turn, TurnLock};
 use crate::history::History;
 use crate::plays::{Count, DrawTurn, Leave, LeaveSeeing, Look};
+use crate::rule::Place;
 use std::sync::Wait;
 use std::thread;
 
@@ -53,6 +54,21 @@ impl<T: History<E, K>, E, K> TurnLock<T, E, K> {
         unreachable!()
     }
 
+    /// Puts the value back into the slot, while the turn is still served.
+    pub(super) fn put_back(&self, turn: Turn<T, E, K>, value: T) -> Place<T, E, K>
+        requires ours { IsTurnOf T.maker self.now turn }
+        ensures here { result.table_id ≡ id_of self.now }
+        ensures full { HasPutBack (name_of self.now) turn value result }
+    {
+        let Turn {
+            mut seat,
+            number: _,
+        } = turn;
+        let before = self.table.shared.exchange(&mut seat, 0, Some(value));
+        let None = before else { unreachable!() };
+        seat
+    }
+
     /// Gives the value back with so many entries more, each made by the pass, and passes the turn. Where there are some, the
     /// pass has then seen the whole history.
     pub fn leave(&self, turn: Turn<T, E, K>, value: T, added: u64) -> Pass<T, E, K>
@@ -66,10 +82,9 @@ impl<T: History<E, K>, E, K> TurnLock<T, E, K> {
         ensures same { added ≡ 0 → front result ≡ front_before turn }
         ensures own { (more : List E) → T.entries value ≡ seen turn ++ more → Extends T.maker (turn_number turn) (front_before turn) (front result) more }
     {
-        let Turn { mut seat, number } = turn;
+        let number = turn.number;
+        let mut seat = self.put_back(turn, value);
         let shared = &self.table.shared;
-        let before = shared.exchange(&mut seat, 0, Some(value));
-        let None = before else { unreachable!() };
         for _counted in 0..added {
             shared.fetch_add::<Count>(&mut seat, 3, 1);
         }
@@ -88,10 +103,9 @@ impl<T: History<E, K>, E, K> TurnLock<T, E, K> {
         ensures front { front result ≡ seen turn }
         ensures own { IsFrontOf T.maker (turn_number turn) (front_before turn) (front result) }
     {
-        let Turn { mut seat, number } = turn;
+        let number = turn.number;
+        let mut seat = self.put_back(turn, value);
         let shared = &self.table.shared;
-        let before = shared.exchange(&mut seat, 0, Some(value));
-        let None = before else { unreachable!() };
         shared.fetch_add::<LeaveSeeing>(&mut seat, SERVED, 1);
         shared.wake_all(SERVED);
         Pass { seat, number }

@@ -4,7 +4,6 @@ use Rattle.turn_lock.specs.declared.view.Stage.TheVariants.{Closes}
 use Rattle.turn_lock.specs.Views.{view, hand, front_in, turn_in, log_in}
 use Rattle.turn_lock.specs.Rule.{IsClosing}
 use Rattle.turn_lock.specs.Fronts.{HasHand}
-use Rattle.turn_lock.proofs.Posing.{open_turn, put_in}
 use Rattle.turn_lock.proofs.Passing.{closes}
 use Rattle.turn_lock.proofs.lock.ending.TurnLock+T+E+K.last_turn.Goals as goal
 
@@ -15,8 +14,7 @@ load-requires g c =
     let value = c.enter-turn.result.1 in
     let u = turn.seat.me.0 in
     let name = c.args.self.now.name in
-    let was = open_turn _ name turn.number turn.serves turn.single e.turn.named in
-    let now = put_in _ _ _ (Some value) None was c.exchange-before.ensures.3 in
+    let now = c.put_back-seat.ensures.full in
     (search rules, search rules, closes g.T.History.entries g.T.History.maker g.T.History.fits _ _ _ _ (turn_in u.stage) (log_in u.stage) name (Some turn.number) (front_in u.hands) value (search rules) now (sym e.value) e.fits)
 
 pub returns-clause-closing : goal.returns-clause-closing
@@ -24,8 +22,7 @@ returns-clause-closing g c =
     let e = c.enter-turn.ensures in
     let turn = c.enter-turn.result.0 in
     let name = c.args.self.now.name in
-    let was = open_turn _ name turn.number turn.serves turn.single e.turn.named in
-    let now = put_in _ _ _ (Some c.enter-turn.result.1) None was c.exchange-before.ensures.3 in
+    let now = c.put_back-seat.ensures.full in
     let end = c.load.ensures.2 ∙ (λ i. (view (Closes (turn_in (now i).0.stage)) (now i).0.hands, rest (now i).1)) in
     record { here = search rules; closes = subst (λ m. IsClosing m.0) (sym end) refl }
 
@@ -35,7 +32,6 @@ returns-clause-taken g c =
     let turn = c.enter-turn.result.0 in
     let u = turn.seat.me.0 in
     let name = c.args.self.now.name in
-    let was = open_turn _ name turn.number turn.serves turn.single e.turn.named in
-    let now = put_in _ _ _ (Some c.enter-turn.result.1) None was c.exchange-before.ensures.3 in
+    let now = c.put_back-seat.ensures.full in
     let end = c.load.ensures.2 ∙ (λ i. (view (Closes (turn_in (now i).0.stage)) (now i).0.hands, rest (now i).1)) in
     subst (λ m. HasHand m.0.hands c.args.pass.number (front_in c.args.pass.seat.me.0.hands)) (sym end) (inl (ap Some e.number, e.front))

@@ -3,7 +3,7 @@ use Rattle.atomic_table.specs.Table.{rest}
 use Rattle.turn_lock.specs.declared.view.Stage.TheVariants.{Idle}
 use Rattle.turn_lock.specs.Views.{view, hand, front_in, turn_in, log_in}
 use Rattle.turn_lock.specs.Fronts.{Extends}
-use Rattle.turn_lock.proofs.Posing.{open_turn, pose_pass, single, put_in}
+use Rattle.turn_lock.proofs.Posing.{pose_pass, single}
 use Rattle.turn_lock.proofs.Serving.{counts_entry}
 use Rattle.turn_lock.proofs.Passing.{passes_turn}
 use Rattle.turn_lock.proofs.Counting.{front_after, next_of, counts_on, all_counted, counted_none, after_some, after_none, goes_on}
@@ -14,8 +14,7 @@ loop-counted-init g c =
     let u = c.args.turn.seat.me.0 in
     let name = c.args.self.now.name in
     let n = c.args.turn.number in
-    let was = open_turn _ name n c.args.turn.serves c.args.turn.single c.requires.ours.named in
-    let now = put_in _ _ _ (Some c.args.value) None was c.exchange-before.ensures.3 in
+    let now = c.put_back-seat.ensures.full in
     let grown = c.requires.grown in
     record {
       here = refl;

@@ -2,7 +2,7 @@ use Rattle.std.proofs.Common.{rules, [], refl, ap, ◌∙◌, Some, None}
 use Rattle.atomic_table.specs.Table.{rest}
 use Rattle.turn_lock.specs.declared.view.Stage.TheVariants.{Idle}
 use Rattle.turn_lock.specs.Views.{view, hand, front_in, turn_in, log_in, front_to}
-use Rattle.turn_lock.proofs.Posing.{open_turn, pose_pass, single, put_in}
+use Rattle.turn_lock.proofs.Posing.{pose_pass, single}
 use Rattle.turn_lock.proofs.Passing.{passes_turn_seeing}
 use Rattle.turn_lock.proofs.lock.turns.TurnLock+T+E+K.leave_seeing.Goals as goal
 
@@ -11,8 +11,7 @@ fetch_add-requires g c =
     let u = c.args.turn.seat.me.0 in
     let name = c.args.self.now.name in
     let n = c.args.turn.number in
-    let was = open_turn _ name n c.args.turn.serves c.args.turn.single c.requires.ours.named in
-    let now = put_in _ _ _ (Some c.args.value) None was c.exchange-before.ensures.3 in
+    let now = c.put_back-seat.ensures.full in
     (search rules, search rules, passes_turn_seeing g.T.History.entries g.T.History.maker g.T.History.fits _ _ _ _ (turn_in u.stage) n (log_in u.stage) (front_in u.hands) name c.args.value (search rules) now c.requires.same c.requires.fits)
 
 pub invariant_of-result : goal.invariant_of-result
@@ -20,7 +19,6 @@ invariant_of-result g c =
     let u = c.args.turn.seat.me.0 in
     let name = c.args.self.now.name in
     let n = c.args.turn.number in
-    let was = open_turn _ name n c.args.turn.serves c.args.turn.single c.requires.ours.named in
-    let now = put_in _ _ _ (Some c.args.value) None was c.exchange-before.ensures.3 in
+    let now = c.put_back-seat.ensures.full in
     let end = c.fetch_add.ensures.2 ∙ (λ i. (view Idle (front_to (log_in (now i).0.stage) (now i).0.hands), rest (now i).1)) in
     record { rests = pose_pass _ name n (log_in u.stage) end; single = single _ Idle (hand name (Some n) (log_in u.stage)) [] end }
