@@ -10,8 +10,14 @@ use crate::rule::Place;
 use std::sync::Wait;
 use std::thread;
 
-/// The word that tells which turn is served, which a thread that waits sleeps on.
+/// The word of the next turn.
+const NEXT: usize = 1;
+
+/// The word of the turn that is served, on which a thread that waits sleeps.
 const SERVED: usize = 2;
+
+/// The word that counts the entries.
+const ENTRIES: usize = 3;
 
 /// How often a thread that waits lets others run before it sleeps.
 const YIELDS: u32 = 64;
@@ -28,6 +34,15 @@ impl<T: History<E, K>, E, K> TurnLock<T, E, K> {
         }
     }
 
+    /// Wakes the threads that sleep, where a turn behind the one that was served is drawn. A thread that draws its turn later
+    /// reads the word after it has changed.
+    fn wake_others(&self, served: u64) {
+        let shared = &self.table.shared;
+        if shared.peek(NEXT) != served.wrapping_add(1) {
+            shared.wake_all(SERVED);
+        }
+    }
+
     /// Waits for a turn, and takes the value. Its history begins with the pass's front, and has no more of the pass's own.
     pub fn enter<R: Wait>(&self, rt: &R, pass: Pass<T, E, K>) -> (Turn<T, E, K>, T)
         requires ours { IsPassOf self.now pass }
@@ -40,7 +55,7 @@ impl<T: History<E, K>, E, K> TurnLock<T, E, K> {
     {
         let Pass { mut seat, number } = pass;
         let shared = &self.table.shared;
-        let mine = shared.fetch_add::<DrawTurn>(&mut seat, 1, 1);
+        let mine = shared.fetch_add::<DrawTurn>(&mut seat, NEXT, 1);
         let mut rounds = 0u32;
         for _ in rt.forever() {
             let served = shared.load::<Look>(&mut seat, SERVED);
@@ -86,10 +101,10 @@ impl<T: History<E, K>, E, K> TurnLock<T, E, K> {
         let mut seat = self.put_back(turn, value);
         let shared = &self.table.shared;
         for _counted in 0..added {
-            shared.fetch_add::<Count>(&mut seat, 3, 1);
+            shared.fetch_add::<Count>(&mut seat, ENTRIES, 1);
         }
-        shared.fetch_add::<Leave>(&mut seat, SERVED, 1);
-        shared.wake_all(SERVED);
+        let served = shared.fetch_add::<Leave>(&mut seat, SERVED, 1);
+        self.wake_others(served);
         Pass { seat, number }
     }
 
@@ -106,8 +121,8 @@ impl<T: History<E, K>, E, K> TurnLock<T, E, K> {
         let number = turn.number;
         let mut seat = self.put_back(turn, value);
         let shared = &self.table.shared;
-        shared.fetch_add::<LeaveSeeing>(&mut seat, SERVED, 1);
-        shared.wake_all(SERVED);
+        let served = shared.fetch_add::<LeaveSeeing>(&mut seat, SERVED, 1);
+        self.wake_others(served);
         Pass { seat, number }
     }
 }
