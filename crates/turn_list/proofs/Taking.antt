@@ -50,7 +50,7 @@ module _ {F : Type 0} where
         took = λ items k ge lt h. dite (ℕ_discrete k (length left'))
             (λ at.
             let here : get_or all k (Ok p) ≡ Ok p = t.same k (Ok p) (omega arith)
-                    ∙ (ap (λ (l : List (Result P F)). get_or l k (Ok p)) e ∙ (ap (λ (n : ℕ). get_or (left' ++ Ok p ∷ []) n (Ok p)) at ∙ get_or-append_seam left' (Ok p) [] (Ok p))) in
+            ∙ (ap (λ (l : List (Result P F)). get_or l k (Ok p)) e ∙ (ap (λ (n : ℕ). get_or (left' ++ Ok p ∷ []) n (Ok p)) at ∙ get_or-append_seam left' (Ok p) [] (Ok p))) in
             let it : TookIts items closing' k = record { pass = p; took = took; its = its items k p _ here (h (Ok p)) } in it)
             (λ ne.
             let before = t.took items k (omega arith) lt h in

@@ -1,11 +1,19 @@
 -- The passes of a run, by their numbers.
-use Rattle.std.specs.Prelude.{◌≡◌, ℕ, []}
+use Rattle.std.specs.Prelude.{◌≡◌, ◌<◌, ℕ, List, [], length, slice_index_or, Result, IfOk}
 use Rattle.turn_lock.specs.declared.lock.Pass.{Pass}
 use Rattle.turn_lock.specs.Rule.{own}
 use Rattle.turn_lock.specs.Passes.{Closing, front, number_of, Took}
 use Rattle.turn_list.specs.declared.list.PlainList.{PlainList}
 use Rattle.turn_list.specs.declared.list.Entry.{Entry}
 use Rattle.turn_list.specs.Lists.{by, counted}
+
+-- a fact of each of these and of its place
+abbrev pub Each : {A : Type 0} → (ℕ → A → Type 0) → List A → Type 0
+Each {A} P xs = (k : ℕ) (d : A) → k < length xs → P k (slice_index_or xs k d)
+
+-- the same of those that are no errors
+abbrev pub EachOk : {A F : Type 0} → (ℕ → A → Type 0) → List (Result A F) → Type 0
+EachOk P = Each (λ k r. IfOk r (P k))
 
 abbrev ListPass : Type 0
 ListPass = Pass PlainList Entry (Unit {0})

@@ -18,7 +18,8 @@ pub fn append<R: Wait>(
 ) -> Result<ListPass, ListPass>
     requires { IsPassOf lock.now pass }
     ensures ours { IfOk result (λ p. IsPassOf lock.now p × (number_of p ≡ number_of pass)) }
-    ensures added { IfOk result (λ p. Extends by (number_of pass) (front pass) (front p) (entry (number_of pass) item ∷ [])) }
+    ensures added { IfOk result (λ p.
+        Extends by (number_of pass) (front pass) (front p) (entry (number_of pass) item ∷ [])) }
     ensures back { IfErr result (λ p. IsPassOf lock.now p × (number_of p ≡ number_of pass) × (front p ≡ front pass)) }
 {
     let number = pass.number();

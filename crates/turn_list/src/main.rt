@@ -1,12 +1,13 @@
 //! `turn_list`: threads that append to one plain list, behind the turn lock or, to compare, behind a `Mutex`.
 //!
-//! Its one contract is that of `appended` (`src/run.rt`): each thread's entries stand in the list in their order, and no
-//! other entry does. The program runs it and looks at the list once more:
+//! Its one contract is that of `appended` (`src/run.rt`): each pass's own entries stand in the list in their order, and
+//! nothing else does. The program runs it, and looks at the list once more:
 //!
 //!     turn_list lock ITEMS THREADS..
 //!     turn_list mutex ITEMS THREADS..
 //!
-//! For each of the numbers THREADS (1 to 64) it starts so many threads, of which each appends ITEMS items, and prints a line.
+//! For each of the numbers THREADS (1 to 64) it starts so many threads, of which each appends ITEMS items, and prints a
+//! line.
 #![tactic(auto)]
 
 mod append;
@@ -14,6 +15,8 @@ mod list;
 mod order;
 mod plain;
 mod run;
+#[cfg(test)]
+mod tests;
 mod words;
 
 use crate::list::Entry;

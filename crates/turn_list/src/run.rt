@@ -1,9 +1,9 @@
 //! Threads that append to a list behind the turn lock.
-ghost use Rattle.std.specs.Prelude.{◌≡◌, ℕ, ◌+◌, ◌^◌, ◌<◌, ◌≤◌, [], length, slice_index_or, IfOk, Ok};
+ghost use Rattle.std.specs.Prelude.{◌≡◌, ℕ, ◌+◌, ◌^◌, ◌<◌, ◌≤◌, [], length, IfOk};
 ghost use Rattle.turn_lock.specs.Rule.{own};
 ghost use Rattle.turn_lock.specs.Passes.{front, number_of, made_of, IsPassOf, IsMakerOf, IsClosingOf};
 ghost use Rattle.turn_list.specs.Lists.{by, counted};
-ghost use Rattle.turn_list.specs.Runs.{IsNew, HasAppended, TookIts};
+ghost use Rattle.turn_list.specs.Runs.{Each, EachOk, IsNew, HasAppended, TookIts};
 
 use crate::append::append_all;
 use crate::list::{Entry, ListClosing, ListLock, ListMaker, ListPass, PlainList};
@@ -23,8 +23,8 @@ fn new_passes(
     requires ours { IsMakerOf lock.now maker }
     requires first { made_of maker ≡ 0 }
     ensures count { IfOk result (λ v. length v.items ≡ threads) }
-    ensures ours { IfOk result (λ v. (k : ℕ) (d : _) → k < length v.items → IsPassOf lock.now (slice_index_or v.items k d)) }
-    ensures new { IfOk result (λ v. (k : ℕ) (d : _) → k < length v.items → IsNew k (slice_index_or v.items k d)) }
+    ensures ours { IfOk result (λ v. Each (λ _. IsPassOf lock.now) v.items) }
+    ensures new { IfOk result (λ v. Each IsNew v.items) }
 {
     let mut maker = maker;
     let mut passes = Vec::new(alloc);
@@ -41,9 +41,10 @@ fn take_in<R: Wait>(
     results: Vec<Result<ListPass, AllocError>>,
 ) -> Result<ListClosing, AllocError>
     requires some { 0 < length results.items }
-    requires ours { (k : ℕ) (d : _) → k < length results.items → IfOk (slice_index_or results.items k d) (IsPassOf lock.now) }
+    requires ours { EachOk (λ _. IsPassOf lock.now) results.items }
     ensures closing { IfOk result (IsClosingOf lock.now) }
-    ensures taken { IfOk result (λ c. (items k : ℕ) → k < length results.items → ((d : _) → IfOk (slice_index_or results.items k d) (HasAppended items k)) → TookIts items c k) }
+    ensures taken { IfOk result (λ c. (items : ℕ) → EachOk (HasAppended items) results.items
+        → (k : ℕ) → k < length results.items → TookIts items c k) }
 {
     let mut results = results;
     let Some(last) = results.pop() else {
@@ -63,11 +64,11 @@ fn append_each<R: Threads + Wait + Sync>(
     passes: Vec<ListPass>,
     items: u64,
 ) -> Result<Vec<Result<ListPass, AllocError>>, AllocError>
-    requires ours { (k : ℕ) (d : _) → k < length passes.items → IsPassOf lock.now (slice_index_or passes.items k d) }
-    requires new { (k : ℕ) (d : _) → k < length passes.items → IsNew k (slice_index_or passes.items k d) }
+    requires ours { Each (λ _. IsPassOf lock.now) passes.items }
+    requires new { Each IsNew passes.items }
     ensures count { IfOk result (λ v. length v.items ≡ length passes.items) }
-    ensures ours { IfOk result (λ v. (k : ℕ) (d : _) → k < length v.items → IfOk (slice_index_or v.items k d) (IsPassOf lock.now)) }
-    ensures all { IfOk result (λ v. (k : ℕ) (d : _) → k < length v.items → IfOk (slice_index_or v.items k d) (HasAppended items k)) }
+    ensures ours { IfOk result (λ v. EachOk (λ _. IsPassOf lock.now) v.items) }
+    ensures all { IfOk result (λ v. EachOk (HasAppended items) v.items) }
 {
     thread::map_vec(
         rt,
@@ -83,6 +84,7 @@ fn append_each<R: Threads + Wait + Sync>(
 fn list_of(lock: ListLock, closing: ListClosing) -> (Vec<Entry>, u64)
     requires { IsClosingOf lock closing }
     ensures all { (items k : ℕ) → TookIts items closing k → own by k result.0.items ≡ counted k items }
+    ensures below { (items k : ℕ) → TookIts items closing k → k < result.1 }
     ensures none { (k : ℕ) → result.1 ≤ k → own by k result.0.items ≡ [] }
 {
     let (slot, made) = lock.end(closing);
@@ -90,8 +92,8 @@ fn list_of(lock: ListLock, closing: ListClosing) -> (Vec<Entry>, u64)
     (list.entries, made)
 }
 
-/// The list to which so many threads appended so many items each, and how many passes there were. Each pass's own entries
-/// stand in it in their order, and nothing else does.
+/// The list to which so many threads appended so many items each, and how many passes there were. Each pass's own
+/// entries stand in it in their order, and nothing else does.
 pub fn appended<R: Threads + Wait + Sync>(
     rt: &R,
     alloc: Global,
@@ -99,6 +101,7 @@ pub fn appended<R: Threads + Wait + Sync>(
     items: u64,
 ) -> Result<(Vec<Entry>, u64), AllocError>
     ensures own { IfOk result (λ r. (k : ℕ) → k < threads → own by k r.0.items ≡ counted k items) }
+    ensures made { IfOk result (λ r. (k : ℕ) → k < threads → k < r.1) }
     ensures none { IfOk result (λ r. (k : ℕ) → r.1 ≤ k → own by k r.0.items ≡ []) }
 {
     if threads == 0 {

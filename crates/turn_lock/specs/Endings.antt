@@ -19,6 +19,7 @@ pub record Ended {T E K : Type 0} (entries : T → List E) (maker : E → ℕ) (
   pub fit : fits name value
   -- the front of each pass that was taken in begins the history, and has all that this pass made
   pub all : (n : ℕ) (front : List E) → HasHand v.hands n front → IsFrontOf maker n front (entries value)
+  pub below : (n : ℕ) (front : List E) → HasHand v.hands n front → n < drawn
   -- no entry has a number that was not drawn
   pub none : (n : ℕ) → drawn ≤ n → own maker n (entries value) ≡ []
 
@@ -34,14 +35,14 @@ serving_one f j (Waits t) h s = absurd s
 serving_one f j (Serves t log) h s = ap f.server (sym h.0) ∙ h.2
 serving_one f j (Closes t) h s = absurd s
 
--- a hand that the rule holds of has a front of the history
+-- a hand that the rule holds of has a front of the history, and a number that was drawn
 front_held : {E K : Type 0} (maker : E → ℕ) (log : List E) (drawn : ℕ) (holder : ℕ → ℕ) (seat : ℕ) (name : K) (hs : List (Hand E K)) (n : ℕ) (front : List E)
-    → AllHold maker log drawn holder seat name hs → HasHand hs n front → IsFrontOf maker n front log
+    → AllHold maker log drawn holder seat name hs → HasHand hs n front → IsFrontOf maker n front log × (n < drawn)
 front_held {E} maker log drawn holder seat name [] n front all h = absurd h
 front_held {E} maker log drawn holder seat name (x ∷ hs) n front all h = ⊎_elim
     (λ (a : (x.number ≡ Some n) × (x.front ≡ front)).
     let owns : Owns maker log drawn holder seat front (Some n) = subst (λ (p : List E × Option ℕ). Owns maker log drawn holder seat p.0 p.1) (λ i. (a.1 i, a.0 i)) all.2 in
-    let it : IsFrontOf maker n front log = record { begins = subst (λ (l : List E). IsPrefix l log) a.1 all.1; owned = owns.2 } in it)
+    let it : IsFrontOf maker n front log = record { begins = subst (λ (l : List E). IsPrefix l log) a.1 all.1; owned = owns.2 } in (it, owns.0))
     (λ a. front_held maker log drawn holder seat name hs n front all.3 a) h
 
 word_at : (ws : List ℕ) (d : ℕ) → get_elem? ws 0 ≡ some d → get_or ws 0 0 ≡ d
@@ -65,7 +66,8 @@ module _ {T E K : Type 0} (entries : T → List E) (maker : E → ℕ) (fits : K
         value = h.0;
         is = some-injective slot (Some h.0) (sym taken ∙ fin.4 0 (Some h.0) h.1);
         fit = h.3;
-        all = λ n front a. subst (IsFrontOf maker n front) (sym h.2) (front_held maker f.log f.drawn f.holder id name v.hands n front known.hold a);
+        all = λ n front a. subst (IsFrontOf maker n front) (sym h.2) (front_held maker f.log f.drawn f.holder id name v.hands n front known.hold a).0;
+        below = λ n front a. let inside = (front_held maker f.log f.drawn f.holder id name v.hands n front known.hold a).1 in omega arith;
         none = λ n le. ap (own maker n) h.2 ∙ r.later n (omega arith);
       } in out)
       (λ (h : (j : ℕ) × (u : View E K) × (get_elem? s.views j ≡ some u) × IsServing u.stage).

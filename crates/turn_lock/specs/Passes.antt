@@ -43,6 +43,10 @@ module _ {T E K : Type 0} where
   abbrev pub number_of : Pass T E K → ℕ
   number_of pass = pass.number
 
+  -- the lock that a pass is of, as `id_of` tells it
+  abbrev pub lock_id : Pass T E K → TableId
+  lock_id pass = pass.seat.table_id
+
   -- the front of the history that a pass has seen
   abbrev pub front : Pass T E K → List E
   front pass = front_in pass.seat.me.0.hands

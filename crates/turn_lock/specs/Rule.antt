@@ -1,6 +1,7 @@
 -- The one rule of a lock's table.
--- Word 0 counts the numbers of passes that were drawn, word 1 is the next turn, word 2 the turn that is served, and word 3
--- counts the entries of the history. Slot 0 has the value. Turns go on without a bound, and their words go round at 2^64.
+-- Word 0 counts the numbers of passes that were drawn, word 1 is the next turn, word 2 the turn that is served, and
+-- word 3 counts the entries of the history. Slot 0 has the value. Turns go on without a bound, and their words go round
+-- at 2^64.
 use Rattle.std.specs.Prelude.{◌≡◌, ◌⊎◌, ℕ, ◌+◌, ◌%◌, ◌^◌, ◌<◌, ◌≤◌, List, [], ◌∷◌, length, slice_index, filter, eqb, Option, Some, None}
 use mathlib.Core.Option.{some}
 use mathlib.Core.Option as maybe

@@ -1,8 +1,8 @@
 //! The value behind a lock.
 ghost use Rattle.std.specs.Prelude.{ℕ, List};
 
-/// A value with a history: a list of entries `E`, the oldest first. `K` is a name, which the value keeps while it is behind a
-/// lock, and by which a holder of the lock knows which value it is.
+/// A value with a history: a list of entries `E`, the oldest first. `K` is a name, which the value keeps while it is
+/// behind a lock, and by which a holder of the lock knows which value it is.
 pub trait History<E, K> {
     ghost entries: { Self → List E };
 

@@ -16,8 +16,8 @@ mod turns;
 /// A ticket lock over a value of type `T`, whose history has entries `E` and whose name is a `K`.
 pub type TurnLock<T, E, K> = Locked<Option<T>, View<E, K>, K, Turns>;
 
-/// A table with the name that it was made with. Its type names the slots, the views and the rule and not the value, so that a
-/// generic type can hold a lock.
+/// A table with the name that it was made with. Its type names the slots, the views and the rule and not the value, so
+/// that a generic type can hold a lock.
 #[derive(Drop)]
 pub struct Locked<S, V, K, P: TableRule<S, V, K>> {
     table: Table<S, V, K, P, Global>,

@@ -17,7 +17,9 @@ pub trait EndRule<S, V, K>: TableRule<S, V, K> {
     /// What is known, of the name, the view, word 0 and slot 0.
     ghost ended: { K → V → ℕ → S → Type 0 };
 
-    ghost ends: { (name : K) (seat word : ℕ) (v : V) (ws : List ℕ) (xs : List S) (slot : S) → may_end v → Final (Seen (Self.holds name) seat v) ws xs → get_elem? ws 0 ≡ some word → get_elem? xs 0 ≡ some slot → ended name v word slot };
+    ghost ends: { (name : K) (seat word : ℕ) (v : V) (ws : List ℕ) (xs : List S) (slot : S)
+        → may_end v → Final (Seen (Self.holds name) seat v) ws xs
+        → get_elem? ws 0 ≡ some word → get_elem? xs 0 ≡ some slot → ended name v word slot };
 }
 
 /// The rule of the table (`specs/Rule.antt`).

@@ -15,7 +15,8 @@ pub enum Stage<E> {
     Closes(u64),
 }
 
-/// What one pass knows: the name of the value, its own number where it has one, and the front of the history that it has seen.
+/// What one pass knows: the name of the value, its own number where it has one, and the front of the history that it
+/// has seen.
 pub struct Hand<E, K> {
     pub name: K,
     pub number: Option<u64>,

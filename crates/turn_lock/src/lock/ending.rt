@@ -37,8 +37,8 @@ impl<T: History<E, K>, E, K> TurnLock<T, E, K> {
 }
 
 impl<S, V, K: Drop, P: EndRule<S, V, K>> Locked<S, V, K, P> {
-    /// The lock ends. It gives its slot, with the value and its whole history, and how many passes were made. A value need not
-    /// be `Drop`.
+    /// The lock ends. It gives its slot, which has the value with its whole history, and how many passes were made
+    /// (`Ended` in `specs/Endings.antt`). The value need not be `Drop`.
     pub fn end(self, closing: LastTurn<S, V>) -> (S, u64)
         requires ours { lock_of closing ≡ id_of self }
         requires last { P.may_end (view_of closing) }

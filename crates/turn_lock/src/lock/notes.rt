@@ -21,7 +21,7 @@ impl<T: History<E, K>, E, K> TurnLock<T, E, K> {
         }
     }
 
-    /// The pass with the longer of both fronts, which has both at its beginning. The pass made no more of it than before.
+    /// The pass with the longer of both fronts, which has both at its beginning, and no more of the pass's own.
     pub fn meet(&self, pass: Pass<T, E, K>, note: Note<T, E, K>) -> Pass<T, E, K>
         requires ours { IsPassOf self.now pass }
         requires note { IsNoteOf self.now note }

@@ -34,8 +34,8 @@ impl<T: History<E, K>, E, K> TurnLock<T, E, K> {
         }
     }
 
-    /// Wakes the threads that sleep, where a turn behind the one that was served is drawn. A thread that draws its turn later
-    /// reads the word after it has changed.
+    /// Wakes the threads that sleep, where a turn behind the one that was served is drawn. A thread that draws its turn
+    /// later reads the word after it has changed.
     fn wake_others(&self, served: u64) {
         let shared = &self.table.shared;
         if shared.peek(NEXT) != served.wrapping_add(1) {
@@ -43,7 +43,8 @@ impl<T: History<E, K>, E, K> TurnLock<T, E, K> {
         }
     }
 
-    /// Waits for a turn, and takes the value. Its history begins with the pass's front, and has no more of the pass's own.
+    /// Waits for a turn, and takes the value. Its history begins with the pass's front, and has no more of the pass's
+    /// own.
     pub fn enter<R: Wait>(&self, rt: &R, pass: Pass<T, E, K>) -> (Turn<T, E, K>, T)
         requires ours { IsPassOf self.now pass }
         ensures turn { IsTurnOf T.maker self.now result.0 }
@@ -84,8 +85,8 @@ impl<T: History<E, K>, E, K> TurnLock<T, E, K> {
         seat
     }
 
-    /// Gives the value back with so many entries more, each made by the pass, and passes the turn. Where there are some, the
-    /// pass has then seen the whole history.
+    /// Gives the value back with so many entries more, each made by the pass, and passes the turn. Where there are
+    /// some, the pass has then seen the whole history.
     pub fn leave(&self, turn: Turn<T, E, K>, value: T, added: u64) -> Pass<T, E, K>
         requires ours { IsTurnOf T.maker self.now turn }
         requires room { length (T.entries value) < 2 ^ 64 }
@@ -95,7 +96,8 @@ impl<T: History<E, K>, E, K> TurnLock<T, E, K> {
         ensures number { number_of result ≡ turn_number turn }
         ensures front { 0 < added → front result ≡ T.entries value }
         ensures same { added ≡ 0 → front result ≡ front_before turn }
-        ensures own { (more : List E) → T.entries value ≡ seen turn ++ more → Extends T.maker (turn_number turn) (front_before turn) (front result) more }
+        ensures own { (more : List E) → T.entries value ≡ seen turn ++ more
+            → Extends T.maker (turn_number turn) (front_before turn) (front result) more }
     {
         let number = turn.number;
         let mut seat = self.put_back(turn, value);

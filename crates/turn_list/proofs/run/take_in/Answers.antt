@@ -14,6 +14,6 @@ loop-next-preserved g c =
     record { closing = c.absorb.ensures.closing; taking = takes_on c.args.results.items c.loop-next.results.items c.pop-in-loop-next.new.self.items _ c.loop-next.closing c.absorb.new.closing t e c.absorb.ensures.taken c.absorb.ensures.kept }
 
 pub returns-clause-taken : goal.returns-clause-taken
-returns-clause-taken g c items k lt h =
+returns-clause-taken g c items each k lt =
     let none : length c.loop-next.results.items ≡ 0 = search rules in
-    c.loop-next.invariant.taking.took items k (omega arith) lt h
+    c.loop-next.invariant.taking.took items k (omega arith) lt (λ d. each k d lt)
