@@ -1,0 +1,54 @@
+//! A plain list with a history.
+ghost use Rattle.std.specs.Prelude.{◌≡◌, ◌++◌, ◌∷◌, [], OnOk, OnErr};
+
+use std::alloc::{AllocError, Global};
+use turn_lock::{Closing, History, Maker, Pass, TurnLock};
+
+/// An item, with the number of the pass that appended it.
+#[derive(Clone, Copy, Debug, PartialEq, Eq)]
+pub struct Entry {
+    pub by: u64,
+    pub item: u64,
+}
+
+/// Entries, the oldest first.
+#[derive(Drop)]
+pub struct PlainList {
+    pub entries: Vec<Entry>,
+}
+
+impl History<Entry, ()> for PlainList {
+    ghost entries = { λ list. list.entries.items };
+
+    ghost maker = { λ e. e.by };
+
+    ghost fits = { λ _ _. Unit {0} };
+}
+
+/// A list behind the turn lock. It needs no name, since any list will do.
+pub type ListLock = TurnLock<PlainList, Entry, ()>;
+
+pub type ListPass = Pass<PlainList, Entry, ()>;
+
+pub type ListMaker = Maker<PlainList, Entry, ()>;
+
+pub type ListClosing = Closing<PlainList, Entry, ()>;
+
+impl PlainList {
+    pub fn new(alloc: Global) -> PlainList
+        ensures { result.entries.items ≡ [] }
+    {
+        PlainList {
+            entries: Vec::new(alloc),
+        }
+    }
+
+    /// Appends an entry.
+    pub fn push(&mut self, entry: Entry) -> Result<(), AllocError>
+        ensures ok { OnOk result (self.new.entries.items ≡ self.old.entries.items ++ entry ∷ []) }
+        ensures err { OnErr result (self.new.entries.items ≡ self.old.entries.items) }
+    {
+        self.entries.push(entry)?;
+        Ok(())
+    }
+}

@@ -1,0 +1,59 @@
+//! `turn_list`: threads that append to one plain list, behind the turn lock or, to compare, behind a `Mutex`.
+//!
+//! Its one contract is that of `appended` (`src/run.rt`): each pass's own entries stand in the list in their order, and
+//! nothing else does. The program runs it, and looks at the list once more:
+//!
+//!     turn_list lock ITEMS THREADS..
+//!     turn_list mutex ITEMS THREADS..
+//!
+//! For each of the numbers THREADS (1 to 64) it starts so many threads, of which each appends ITEMS items, and prints a
+//! line.
+#![tactic(auto)]
+
+mod append;
+mod list;
+mod order;
+mod plain;
+mod run;
+#[cfg(test)]
+mod tests;
+mod words;
+
+use crate::list::Entry;
+use crate::words::{Kind, Words};
+use std::alloc::{AllocError, Global};
+use std::io;
+use std::process::ExitCode;
+use std::sync::Wait;
+use std::thread::Threads;
+
+/// The entries of one run.
+fn listed<R: Threads + Wait + Sync>(
+    rt: &R,
+    alloc: Global,
+    words: &Words,
+    threads: u32,
+) -> Result<Vec<Entry>, AllocError> {
+    match words.kind {
+        Kind::Lock => Ok(run::appended(rt, alloc, threads, words.items)?.0),
+        Kind::Mutex => plain::appended(rt, alloc, threads, words.items),
+    }
+}
+
+fn main(rt: HostRuntime) -> io::Result<ExitCode> {
+    let Some(words) = Words::read(&rt)? else {
+        println!(rt; "turn_list: lock or mutex, ITEMS, then numbers of threads from 1 to 64")?;
+        return Ok(ExitCode::from(2));
+    };
+    for threads in words.threads.iter() {
+        let entries = listed(&rt, rt.alloc(), &words, *threads)?;
+        let found = entries.len();
+        if order::is_in_order(rt.alloc(), entries.as_slice(), *threads, words.items)? {
+            println!(rt; "{threads} threads: {found} entries, each thread's own in their order")?;
+        } else {
+            println!(rt; "{threads} threads: {found} entries, out of order")?;
+            return Ok(ExitCode::from(1));
+        }
+    }
+    Ok(ExitCode::SUCCESS)
+}

@@ -1,0 +1,62 @@
+//! The words of the command line.
+
+use std::{env, io};
+
+/// What the list lies behind.
+#[derive(Clone, Copy, Debug, PartialEq, Eq)]
+pub enum Kind {
+    Lock,
+    Mutex,
+}
+
+/// `KIND ITEMS THREADS..`
+#[derive(Drop)]
+pub struct Words {
+    pub kind: Kind,
+    pub items: u64,
+    pub threads: Vec<u32>,
+}
+
+const MOST_THREADS: u32 = 64;
+
+fn kind_of(word: &str) -> Option<Kind> {
+    match word {
+        "lock" => Some(Kind::Lock),
+        "mutex" => Some(Kind::Mutex),
+        _ => None,
+    }
+}
+
+impl Words {
+    /// The words behind the program's name, where they are of this form.
+    pub fn read(rt: &HostRuntime) -> io::Result<Option<Words>> {
+        let mut args = env::args(rt)?.skip(1);
+        let Some(first) = args.next() else {
+            return Ok(None);
+        };
+        let Some(kind) = kind_of(&first) else {
+            return Ok(None);
+        };
+        let Some(second) = args.next() else {
+            return Ok(None);
+        };
+        let Ok(items) = second.parse::<u64>() else {
+            return Ok(None);
+        };
+        let mut threads = Vec::new(rt.alloc());
+        for word in args {
+            let Ok(count) = word.parse::<u32>() else {
+                return Ok(None);
+            };
+            if count == 0 || count > MOST_THREADS {
+                return Ok(None);
+            }
+            threads.push(count)?;
+        }
+        Ok(Some(Words {
+            kind,
+            items,
+            threads,
+        }))
+    }
+}

@@ -1,0 +1,10 @@
+pub mod Prefixes
+pub mod Sums
+pub mod Standing
+pub mod Drawing
+pub mod Serving
+pub mod Passing
+pub mod Parting
+pub mod Posing
+pub mod Counting
+pub mod Closings

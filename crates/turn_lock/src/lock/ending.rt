@@ -1,0 +1,55 @@
+//! Taking the value out of the lock for good.
+ghost use Rattle.std.specs.Prelude.{◌≡◌};
+ghost use Rattle.turn_lock.specs.Passes.{id_of, name_of, view_of, lock_of, IsPassOf, IsClosingOf, Took};
+
+use super::{Closing, LastTurn, Locked, Pass, TurnLock};
+use crate::history::History;
+use crate::plays::{Close, Gather};
+use crate::rule::EndRule;
+use std::sync::Wait;
+
+impl<T: History<E, K>, E, K> TurnLock<T, E, K> {
+    /// Waits for a turn, which is not passed on, and takes its own pass in.
+    pub fn last_turn<R: Wait>(&self, rt: &R, pass: Pass<T, E, K>) -> Closing<T, E, K>
+        requires ours { IsPassOf self.now pass }
+        ensures closing { IsClosingOf self.now result }
+        ensures taken { Took result pass }
+    {
+        let (turn, value) = self.enter(rt, pass);
+        let mut seat = self.put_back(turn, value);
+        self.table.shared.load::<Close>(&mut seat, 0);
+        LastTurn { seat }
+    }
+
+    /// Takes a pass in, which ends.
+    pub fn absorb(&self, closing: &mut Closing<T, E, K>, pass: Pass<T, E, K>)
+        requires closing { IsClosingOf self.now closing.old }
+        requires ours { IsPassOf self.now pass }
+        ensures closing { IsClosingOf self.now closing.new }
+        ensures taken { Took closing.new pass }
+        ensures kept { (other : Pass T E K) → Took closing.old other → Took closing.new other }
+    {
+        let Pass { seat, number: _ } = pass;
+        self.table
+            .shared
+            .join_seat::<Gather>(&mut closing.seat, seat);
+    }
+}
+
+impl<S, V, K: Drop, P: EndRule<S, V, K>> Locked<S, V, K, P> {
+    /// The lock ends. It gives its slot, which has the value with its whole history, and how many passes were made
+    /// (`Ended` in `specs/Endings.antt`). The value need not be `Drop`.
+    pub fn end(self, closing: LastTurn<S, V>) -> (S, u64)
+        requires ours { lock_of closing ≡ id_of self }
+        requires last { P.may_end (view_of closing) }
+        ensures { P.ended (name_of self) (view_of closing) result.1 result.0 }
+    {
+        let Locked { table, name: _ } = self;
+        let LastTurn { seat } = closing;
+        let mut closed = table.close_with(seat);
+        let made = closed.word(0);
+        let slot = closed.take(0);
+        closed.free();
+        (slot, made)
+    }
+}

@@ -1,0 +1,43 @@
+#!/usr/bin/env python3
+"""How many turns a second the turn lock gives, beside a `Mutex` round the same list.
+
+    python3 tools/turns.py [TURNS]
+
+It runs the program of `crates/turn_list`, which `rt run` leaves there, with 1, 2, 4 and 8 threads that make TURNS turns
+together (800,000 without the word), under the lock and under the mutex by turns, three times each. It prints, as Markdown,
+the turns a second of the fastest run of each and their ratio. The time of a run without a turn is taken off."""
+import pathlib
+import subprocess
+import sys
+import time
+
+PROGRAM = pathlib.Path(__file__).resolve().parent.parent / "crates" / "turn_list" / "out" / "turn_list"
+THREADS = (1, 2, 4, 8)
+RUNS = 3
+
+
+def seconds(kind, items, threads):
+    """The wall time of a run, which has to end well."""
+    start = time.perf_counter()
+    subprocess.run([PROGRAM, kind, str(items), str(threads)], check=True, stdout=subprocess.DEVNULL)
+    return time.perf_counter() - start
+
+
+def main():
+    turns = int(sys.argv[1]) if len(sys.argv) > 1 else 800_000
+    if not PROGRAM.exists():
+        sys.exit("tools/turns.py: there is no program yet: run `rt run` in crates/turn_list")
+    print("| Threads | Turn lock | Mutex | Ratio |")
+    print("|---|---|---|---|")
+    for threads in THREADS:
+        items, best = turns // threads, {}
+        for _run in range(RUNS):
+            for kind in ("lock", "mutex"):
+                took = seconds(kind, items, threads) - seconds(kind, 0, threads)
+                best[kind] = min(took, best.get(kind, took))
+        rate = {kind: items * threads / max(took, 1e-6) for kind, took in best.items()}
+        print(f"| {threads} | {rate['lock']:,.0f} | {rate['mutex']:,.0f} | {rate['lock'] / rate['mutex']:.3f} |", flush=True)
+
+
+if __name__ == "__main__":
+    main()
