@@ -11,6 +11,8 @@ mod changes;
 mod fault;
 mod reading;
 mod record;
+#[cfg(test)]
+mod tests;
 mod writing;
 
 pub use change::Change;

@@ -80,10 +80,7 @@ fn created_in(alloc: Global, bytes: &[u8]) -> Result<Change, RecordFault>
     let (blob, rest) = counted_at(rest)?;
     let (list, rest) = counted_at(rest)?;
     let (limit, rest) = short_at(rest)?;
-    if !rest.is_empty() {
-        return Err(RecordFault::Bad);
-    }
-    Ok(Change::Create {
+    let change = Change::Create {
         id,
         domain,
         nspace,
@@ -91,7 +88,8 @@ fn created_in(alloc: Global, bytes: &[u8]) -> Result<Change, RecordFault>
         blob: Bytes::copy_of(alloc, blob)?,
         list: Bytes::copy_of(alloc, list)?,
         limit,
-    })
+    };
+    ended(change, rest)
 }
 
 #[tactic(auto, unfolding(crate::specs::Reading::granted_in))]
