@@ -36,7 +36,14 @@ granted None row part = record part { grants = part.grants ++ row ∷ []; next_g
 -- the lasting part after a change
 abbrev pub after : Lasting → Change → Lasting
 after part (Create id domain nspace alias blob list limit) = with_key (record {
-  id = id; domain = domain; nspace = nspace; alias = alias; blob = blob; list = list; limit = limit; left = limit;
+  id = id;
+  domain = domain;
+  nspace = nspace;
+  alias = alias;
+  blob = blob;
+  list = list;
+  limit = limit;
+  left = limit;
 }) part
 after part (Delete id) = without_keys (has_id id) part
 after part (Use id) = used id part

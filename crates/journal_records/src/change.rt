@@ -24,15 +24,28 @@ pub enum Change {
         limit: u32,
     },
     /// The end of a key.
-    Delete { id: u64 },
+    Delete {
+        id: u64,
+    },
     /// One use of a key; the last one ends it.
-    Use { id: u64 },
+    Use {
+        id: u64,
+    },
     /// A grant, or other bits for the one that the row's key and uid have.
-    Grant { row: GrantRow },
+    Grant {
+        row: GrantRow,
+    },
     /// The end of a grant.
-    Ungrant { grant: u64 },
+    Ungrant {
+        grant: u64,
+    },
     /// The end of all keys of an owner.
-    Clear { domain: u8, nspace: u64 },
+    Clear {
+        domain: u8,
+        nspace: u64,
+    },
     /// The end of all app keys of a user.
-    Removed { user: u32 },
+    Removed {
+        user: u32,
+    },
 }

@@ -59,21 +59,34 @@ fn records_of_each_kind(rt: HostRuntime) {
 
 #[test]
 fn the_fields_of_a_new_key(rt: HostRuntime) -> Result<(), Fail> {
-    let Ok(Change::Create {
-        id,
-        domain,
-        nspace,
-        alias,
-        blob,
-        list,
-        limit,
-    }) = parse(rt.alloc(), RECORDS[0])
+    let Ok(
+        Change::Create {
+            id,
+            domain,
+            nspace,
+            alias,
+            blob,
+            list,
+            limit,
+        },
+    ) = parse(rt.alloc(), RECORDS[0])
     else {
         return Err("no new key".into());
     };
-    assert_eq!(rt; (id, domain, nspace, limit), (0xd1fb_af7f_728d_2eae, 0xae, 0x16df_9d6a_c76b_d322, 0x2a5a_9fa2));
+    assert_eq!(rt;
+        (id, domain, nspace, limit),
+        (
+            0xd1fb_af7f_728d_2eae,
+            0xae,
+            0x16df_9d6a_c76b_d322,
+            0x2a5a_9fa2
+        )
+    );
     assert_eq!(rt; alias.as_slice(), b"\x11\x74\x2b\x44\x58\xc8".as_slice());
-    assert_eq!(rt; blob.as_slice(), b"\x43\xaf\xd8\x48\xed\xb6\xf8\xdd".as_slice());
+    assert_eq!(rt;
+        blob.as_slice(),
+        b"\x43\xaf\xd8\x48\xed\xb6\xf8\xdd".as_slice()
+    );
     assert_eq!(rt; list.as_slice(), b"\x61\x59\xbd\xae\x4d\x92".as_slice());
     Ok(())
 }

@@ -66,7 +66,10 @@ fn body_length(change: &Change) -> usize
 {
     match change {
         Change::Create {
-            alias, blob, list, ..
+            alias,
+            blob,
+            list,
+            ..
         } => 34 + alias.len() + blob.len() + list.len(),
         Change::Delete { .. } => 9,
         Change::Use { .. } => 9,

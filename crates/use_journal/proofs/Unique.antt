@@ -72,6 +72,7 @@ all_reversed past fit = reversed past fit
     pushed : (xs : List Change) (x : Change) → AllByRecursion IsChange xs → IsChange x → AllByRecursion IsChange (xs ++ x ∷ [])
     pushed [] x all fits = (fits, tt)
     pushed (y ∷ xs) x all fits = (all.0, pushed xs x all.1 fits)
+
     reversed : (xs : List Change) → AllByRecursion IsChange xs → AllByRecursion IsChange (reverse xs)
     reversed [] all = tt
     reversed (x ∷ xs) all = subst (AllByRecursion IsChange) (sym (reverse-append (x ∷ []) xs)) (pushed (reverse xs) x (reversed xs all.1) all.0)

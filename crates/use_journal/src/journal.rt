@@ -1,19 +1,18 @@
 //! Writing a journal, and settling what failed.
 
-ghost use Rattle.std.specs.Prelude.{◌≡◌, ◌≤◌, ◌<◌, ◌+◌, ◌∷◌, [], ℕ, List, length, true, false, IsErrOf, IsTrue, OnOk, OnErr, IfOk, is_err, ◌↔◌};
+ghost use Rattle.std.specs.Prelude.{◌≡◌, ◌≤◌, ◌<◌, ◌+◌, ◌∷◌, [], ℕ, List, length, true, false, IsErrOf, not, OnOk, OnErr, IfOk, is_err, ◌↔◌};
 ghost use Rattle.std.specs.Option.{ForSome};
 ghost use Rattle.ks_outside.specs.Images.{AllImages, Passes, TornFrom, tells};
 ghost use Rattle.journal_records.specs.declared.change.Change.{Change};
 ghost use Rattle.journal_records.specs.declared.fault.StoreFault.TheVariants as faults;
 ghost use Rattle.journal_records.specs.Spelling.{closed_of, IsChange};
 
+use crate::opening::read_disk;
 use gated_records::{is_published, publish};
 use journal_records::{Changes, StoreFault};
 use ks_outside::{Disk, write_synced};
 use std::alloc::Global;
 use tags::Settled;
-
-use crate::opening::read_disk;
 
 /// The header of a journal, and a gate that is shut.
 const FRESH: [u8; 9] = *b"KSJRNL01\0";
@@ -79,9 +78,16 @@ impl Journal {
 
     /// Whether no change waits to be settled. It takes no memory.
     pub fn is_settled(&self) -> bool
-        ensures { IsTrue result ↔ (is_waiting self.now ≡ false) }
+        ensures { result ≡ not (is_waiting self.now) }
     {
         self.pending.is_none()
+    }
+
+    /// The place of the gate behind the records, and so how many bytes the header and the records have. It takes no memory.
+    pub fn end(&self) -> u64
+        ensures { result ≡ end_of self.now }
+    {
+        self.end
     }
 
     /// Adds a change by its framed record with a byte 00 behind it: writes behind the gate, syncs, opens the gate, syncs. These are four

@@ -10,6 +10,8 @@
 mod journal;
 mod law;
 mod opening;
+#[cfg(test)]
+mod tests;
 
 pub use journal::Journal;
 pub use law::one_reading;
