@@ -4,7 +4,7 @@
 //! of its calls; and `image_after` takes one such image, which can be opened again. Beyond the trait, a write of theirs that fails writes nothing.
 #![tactic(auto)]
 
-mod call;
+mod calls;
 mod image;
 mod memory;
 mod pages;
@@ -12,7 +12,6 @@ mod stopped;
 #[cfg(test)]
 mod tests;
 
-pub use call::Call;
 pub use image::Choice;
-pub use memory::MemoryDisk;
+pub use memory::{MemoryDisk, Room};
 pub use stopped::StoppedDisk;

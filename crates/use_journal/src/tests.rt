@@ -3,7 +3,7 @@ ghost use Rattle.journal_records.specs.Spelling.{IsShort};
 ghost use Rattle.ks_outside.specs.Telling.{none_is_some};
 
 use crate::Journal;
-use disk_model::{Choice, MemoryDisk};
+use disk_model::{Choice, MemoryDisk, Room};
 use grants::GrantRow;
 use journal_records::{Change, StoreFault, frame};
 use key_domains::Permissions;
@@ -20,6 +20,13 @@ static GRANT: &[u8] =
     b"\x4b\x00\x00\x00\x19\x04\x00\x00\x00\x00\x00\x00\x00\x01\x00\x00\x00\x00\x00\x00\x00\x01\x00\x00\x27\x12\x00\x00\x01\x00\x00";
 
 static USE: &[u8] = b"\x4b\x00\x00\x00\x09\x03\x00\x00\x00\x00\x00\x00\x00\x01\x00";
+
+/// Room for the tests.
+const ROOM: Room = Room {
+    calls: 64,
+    bytes: 1024,
+    pages: 2,
+};
 
 /// Adds a record; a journal that waits, or a record of no bytes, is answered with Memory.
 fn add<D: Disk>(journal: &mut Journal, disk: &mut D, closed: &[u8]) -> Result<(), StoreFault> {
@@ -39,7 +46,7 @@ fn settle<D: Disk>(journal: &mut Journal, disk: &mut D) -> Result<Settled, Store
 
 /// A disk with an empty journal, and the journal.
 fn fresh<'a>(alloc: Global, failing: &'a [u64]) -> Result<(MemoryDisk<'a>, Journal), StoreFault> {
-    let Ok(mut disk) = MemoryDisk::with_room(alloc, 64, failing) else {
+    let Ok(mut disk) = MemoryDisk::with_room(alloc, ROOM, failing) else {
         return Err(StoreFault::Memory);
     };
     Journal::format(&mut disk)?;
@@ -153,7 +160,7 @@ fn changes_left(
     calls: usize,
     choices: &[Choice],
 ) -> Result<usize, StoreFault> {
-    let Ok(mut image) = disk.image_after(calls.min(disk.calls().len()), choices) else {
+    let Ok(mut image) = disk.image_after(calls.min(disk.count()), choices) else {
         return Err(StoreFault::Memory);
     };
     count(alloc, &mut image)
@@ -206,7 +213,7 @@ static CUT: &[u8] =
 
 /// A disk with these bytes.
 fn disk_of(alloc: Global, bytes: &[u8]) -> Result<MemoryDisk<'static>, StoreFault> {
-    let Ok(mut disk) = MemoryDisk::with_room(alloc, 8, &[]) else {
+    let Ok(mut disk) = MemoryDisk::with_room(alloc, ROOM, &[]) else {
         return Err(StoreFault::Memory);
     };
     match write_synced(&mut disk, 0, bytes) {
