@@ -1,11 +1,16 @@
 -- Areas of gated records, in words of places.
-use Rattle.std.specs.Prelude.{◌≡◌, ◌≢◌, ◌⊎◌, ℕ, ◌+◌, Bool, true, false, List, [], ◌∷◌, ◌++◌, length, take, drop}
+use Rattle.std.specs.Prelude.{◌≡◌, ◌≢◌, ◌⊎◌, ◌<◌, ◌≤◌, ℕ, ◌+◌, Bool, true, false, List, [], ◌∷◌, ◌++◌, length, take, drop}
 use Rattle.ks_outside.specs.declared.disk.Disk.{Ghosts}
 use Rattle.ks_outside.specs.Images.{AllImages}
 
 -- these bytes stand at this place
 abbrev pub HoldsAt : ℕ → List ℕ → List ℕ → Type 0
 HoldsAt at bytes image = take (length bytes) (drop at image) ≡ bytes
+
+-- some bytes at a place stand outside the n bytes from another place on
+pub record IsOutside (place : ℕ) (bytes : List ℕ) (at n : ℕ) : Type 0 where
+  pub some : 0 < length bytes
+  pub apart : (place + length bytes ≤ at) ⊎ (at + n ≤ place)
 
 -- an area that begins here holds these records, and behind them a gate that is shut; what follows the gate is anything
 pub record IsArea (start : ℕ) (records image : List ℕ) : Type 0 where

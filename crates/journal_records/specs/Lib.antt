@@ -3,3 +3,4 @@ pub mod LastingPart
 pub mod Needs
 pub mod Reading
 pub mod Spelling
+pub mod Worked

@@ -1,3 +1,5 @@
+ghost use Rattle.journal_records.specs.Worked.{WorkedExamples};
+
 use crate::{Change, RecordFault, frame, frame_into, framed_length, parse};
 use std::alloc::Global;
 use std::test::Fail;
@@ -89,4 +91,15 @@ fn the_fields_of_a_new_key(rt: HostRuntime) -> Result<(), Fail> {
     );
     assert_eq!(rt; list.as_slice(), b"\x61\x59\xbd\xae\x4d\x92".as_slice());
     Ok(())
+}
+
+/// What a few changes leave of the lasting part, by its definitions.
+fn worked_examples()
+    ensures { WorkedExamples }
+{}
+
+// The examples are proved; the call is here so that they are.
+#[test]
+fn what_a_few_changes_leave() {
+    worked_examples();
 }
