@@ -16,7 +16,8 @@ abbrev pub laid : Choice → Call → List ℕ → List ℕ
 laid choice (Wrote at piece) old = chosen choice at piece old
 laid choice Synced old = old
 
--- the image after these calls, the newest first, with a choice for each call by its number from 0; where no choice is given, the range holds what was written
+-- the image after these calls, the newest first, with a choice for each call by its number from 0; where no choice
+-- is given, the range holds what was written
 abbrev pub image_of : List Choice → List Call → List ℕ
 image_of choices [] = []
 image_of choices (Wrote at piece ∷ earlier) = chosen (get_or choices (length earlier) New) at piece (image_of choices earlier)

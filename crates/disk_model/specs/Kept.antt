@@ -13,7 +13,8 @@ content_of [] = []
 content_of (Wrote at piece ∷ earlier) = overwritten at piece (content_of earlier)
 content_of (Synced ∷ earlier) = content_of earlier
 
--- what a crash after these calls may leave: after a sync what a read gives, and after a write what a crash before it might have left, torn by the write
+-- what a crash after these calls may leave: after a sync what a read gives, and after a write what a crash before
+-- it might have left, torn by the write
 abbrev pub IsImage : List Call → List ℕ → Type 0
 IsImage [] c = c ≡ []
 IsImage (Wrote at piece ∷ earlier) c = (b : List ℕ) × IsImage earlier b × Torn at (length piece) b c

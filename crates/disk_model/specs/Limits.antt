@@ -1,4 +1,5 @@
--- What no crash can do, said place by place: bytes that no write since the newest sync touched stay, and the length stays within what was written.
+-- What no crash can do, said place by place: bytes that no write since the newest sync touched stay, and the length
+-- stays within what was written.
 use Rattle.std.specs.Prelude.{◌≡◌, ◌⊎◌, ℕ, ◌+◌, ◌<◌, ◌≤◌, max, List, [], ◌∷◌, length, get_or}
 use Rattle.disk_model.specs.Calls.{Call, Wrote, Synced}
 use Rattle.disk_model.specs.Kept.{content_of}

@@ -14,8 +14,8 @@ enum Made {
     Synced,
 }
 
-/// Writes and syncs in the order in which they were made. Their pieces stand one behind the other in one text, so that room for a number
-/// of calls and of bytes is taken at once.
+/// Writes and syncs in the order in which they were made. Their pieces stand one behind the other in one text, so
+/// that room for a number of calls and of bytes is taken at once.
 #[derive(Drop)]
 pub struct CallList {
     made: Vec<Made>,
@@ -109,7 +109,8 @@ impl CallList {
     /// The place and the piece of a write; None for a sync.
     pub fn piece_at(&self, number: usize) -> Option<(u64, &[u8])>
         requires { number < length self.now.made }
-        ensures { MatchOption result (get_or self.now.made number Synced ≡ Synced) (λ write. get_or self.now.made number Synced ≡ Wrote write.0 write.1.now) }
+        ensures { MatchOption result (get_or self.now.made number Synced ≡ Synced)
+            (λ write. get_or self.now.made number Synced ≡ Wrote write.0 write.1.now) }
     {
         match self.made[number] {
             Made::Wrote { at, start, size } => Some((at, &self.text[start..start + size])),

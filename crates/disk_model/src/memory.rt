@@ -28,10 +28,11 @@ pub struct Room {
     pub pages: usize,
 }
 
-/// A disk in memory, empty at first. It keeps each write and sync that it made, in order, and the pages of 4,096 bytes that were written; a
-/// place that was never written reads 00. It carries the numbers of the calls that are to fail. A write or sync for which there is room fails only
-/// where it is to fail; where the room is used up and no more memory is found, or a write would pass the place 2^64 - 1, it fails too. A call that
-/// fails changes nothing but the count of faults.
+/// A disk in memory, empty at first. It keeps each write and sync that it made, in order, and the pages of 4,096
+/// bytes that were written; a place that was never written reads 00. It carries the numbers of the calls that are
+/// to fail. A write or sync for which there is room fails only where it is to fail; where the room is used up and
+/// no more memory is found, or a write would pass the place 2^64 - 1, it fails too. A call that fails changes
+/// nothing but the count of faults.
 #[derive(Drop)]
 pub struct MemoryDisk<'a> {
     alloc: Global,
@@ -45,7 +46,8 @@ pub struct MemoryDisk<'a> {
 }
 
 impl<'a> MemoryDisk<'a> {
-    ghost use Rattle.disk_model.specs.Words.{made_by, first_made_by, count_of, reads, SameCalls, failing, asked_of, WasToFail, faults_of, HasRoom, HasRoomToWrite, TakesRoom};
+    ghost use Rattle.disk_model.specs.Words.{made_by, first_made_by, count_of, reads, SameCalls};
+    ghost use Rattle.disk_model.specs.Words.{failing, asked_of, WasToFail, faults_of, HasRoom, HasRoomToWrite, TakesRoom};
 
     /// An empty disk with this room. The calls with the numbers `to_fail`, counted from 1, are to fail.
     pub fn with_room(
@@ -76,15 +78,16 @@ impl<'a> MemoryDisk<'a> {
         self.calls.len()
     }
 
-    /// What no crash can do: each image of each moment has every byte that no write since the newest sync before it touched, and ends
-    /// where that sync ended, or at most where those writes end.
+    /// What no crash can do: each image of each moment has every byte that no write since the newest sync before it
+    /// touched, and ends where that sync ended, or at most where those writes end.
     pub fn images_keep(&self)
-        ensures { (calls : ℕ) (c : List ℕ) → IsImage (first_made_by calls self.now) c → IsWithin (first_made_by calls self.now) c }
+        ensures { (calls : ℕ) (c : List ℕ) → IsImage (first_made_by calls self.now) c
+            → IsWithin (first_made_by calls self.now) c }
     {}
 
-    /// The disk as a crash after the first `calls` of its writes and syncs may leave it, opened again. The choice with a write's number among
-    /// them, counted from 0, says what its range holds, where no sync came behind it; where there is no such choice it holds what was written.
-    /// No call of the new disk is to fail.
+    /// The disk as a crash after the first `calls` of its writes and syncs may leave it, opened again. The choice
+    /// with a write's number among them, counted from 0, says what its range holds, where no sync came behind it;
+    /// where there is no such choice it holds what was written. No call of the new disk is to fail.
     pub fn image_after(
         &self,
         calls: usize,
@@ -190,7 +193,8 @@ impl<'a> MemoryDisk<'a> {
 }
 
 impl Disk for MemoryDisk<'_> {
-    ghost use Rattle.disk_model.specs.Words.{made_by, count_of, reads, SameCalls, failing, asked_of, WasToFail, faults_of, HasRoom, HasRoomToWrite, TakesRoom};
+    ghost use Rattle.disk_model.specs.Words.{made_by, count_of, reads, SameCalls};
+    ghost use Rattle.disk_model.specs.Words.{failing, asked_of, WasToFail, faults_of, HasRoom, HasRoomToWrite, TakesRoom};
 
     ghost content = { λ d. Some (reads d) };
 
@@ -213,7 +217,8 @@ impl Disk for MemoryDisk<'_> {
         ensures bytes { IfOk result (λ n. Gives (Some (reads self.old)) at n (length out.old) out.new) }
         ensures content { Some (reads self.new) ≡ Some (reads self.old) }
         ensures images { (c : List ℕ) → IsImage (made_by self.new) c → IsImage (made_by self.old) c }
-        ensures time { Elapses (count_of self.old) (count_of self.new) (WasImage (made_by self.old)) (WasImage (made_by self.new)) (IsImage (made_by self.new)) }
+        ensures time { Elapses (count_of self.old) (count_of self.new) (WasImage (made_by self.old))
+            (WasImage (made_by self.new)) (IsImage (made_by self.new)) }
         ensures cause { HasCause (faults_of self.old) (faults_of self.new) result }
         ensures planned { IsErr result ↔ WasToFail self.new }
         ensures whole { IfOk result (λ n. n ≡ min (length out.old) (length (reads self.old) - at)) }
@@ -234,7 +239,8 @@ impl Disk for MemoryDisk<'_> {
         ensures images { Follows (Torn at (length piece.now)) (IsImage (made_by self.old)) (IsImage (made_by self.new)) }
         ensures nothing { OnErr result ((Some (reads self.new) ≡ Some (reads self.old))
             × ((c : List ℕ) → IsImage (made_by self.new) c → IsImage (made_by self.old) c)) }
-        ensures time { Elapses (count_of self.old) (count_of self.new) (WasImage (made_by self.old)) (WasImage (made_by self.new)) (IsImage (made_by self.new)) }
+        ensures time { Elapses (count_of self.old) (count_of self.new) (WasImage (made_by self.old))
+            (WasImage (made_by self.new)) (IsImage (made_by self.new)) }
         ensures cause { HasCause (faults_of self.old) (faults_of self.new) result }
         ensures planned { WasToFail self.new → IsErr result }
         ensures made { OnOk result (made_by self.new ≡ Wrote at piece.now ∷ made_by self.old) }
@@ -258,7 +264,8 @@ impl Disk for MemoryDisk<'_> {
         ensures bytes { IfOk result (λ n. (c : List ℕ) → Some (reads self.old) ≡ Some c → n ≡ length c) }
         ensures content { Some (reads self.new) ≡ Some (reads self.old) }
         ensures images { (c : List ℕ) → IsImage (made_by self.new) c → IsImage (made_by self.old) c }
-        ensures time { Elapses (count_of self.old) (count_of self.new) (WasImage (made_by self.old)) (WasImage (made_by self.new)) (IsImage (made_by self.new)) }
+        ensures time { Elapses (count_of self.old) (count_of self.new) (WasImage (made_by self.old))
+            (WasImage (made_by self.new)) (IsImage (made_by self.new)) }
         ensures cause { HasCause (faults_of self.old) (faults_of self.new) result }
         ensures planned { IsErr result ↔ WasToFail self.new }
         ensures same { SameCalls self.old self.new }
@@ -277,7 +284,8 @@ impl Disk for MemoryDisk<'_> {
         ensures content { Some (reads self.new) ≡ Some (reads self.old) }
         ensures images { (c : List ℕ) → IsImage (made_by self.new) c → IsImage (made_by self.old) c }
         ensures never { ⊥ → IsOk result }
-        ensures time { Elapses (count_of self.old) (count_of self.new) (WasImage (made_by self.old)) (WasImage (made_by self.new)) (IsImage (made_by self.new)) }
+        ensures time { Elapses (count_of self.old) (count_of self.new) (WasImage (made_by self.old))
+            (WasImage (made_by self.new)) (IsImage (made_by self.new)) }
         ensures cause { HasCause (faults_of self.old) (faults_of self.new) result }
         ensures planned { WasToFail self.new → IsErr result }
         ensures made { OnOk result (made_by self.new ≡ Synced ∷ made_by self.old) }

@@ -69,7 +69,8 @@ impl Pages {
     fn add(&mut self, number: u64) -> Result<(), AllocError>
         ensures bytes { (place : ℕ) → byte_in self.new.rows place ≡ byte_in self.old.rows place }
         ensures held { OnOk result (is_some (get nat_eq self.new.rows number) ≡ true) }
-        ensures kept { (other : ℕ) → is_some (get nat_eq self.old.rows other) ≡ true → is_some (get nat_eq self.new.rows other) ≡ true }
+        ensures kept { (other : ℕ) → is_some (get nat_eq self.old.rows other) ≡ true
+            → is_some (get nat_eq self.new.rows other) ≡ true }
         ensures succeeds { 0 < spare self.old.rows → IsOk result }
         ensures room { spare self.old.rows ≤ spare self.new.rows + 1 }
     {
@@ -83,7 +84,8 @@ impl Pages {
     /// Holds the pages from one number up to below another from now on. No byte changes.
     fn add_all(&mut self, first: u64, end: u64) -> Result<(), AllocError>
         ensures bytes { (place : ℕ) → byte_in self.new.rows place ≡ byte_in self.old.rows place }
-        ensures held { OnOk result ((number : ℕ) → first ≤ number → number < end → is_some (get nat_eq self.new.rows number) ≡ true) }
+        ensures held { OnOk result ((number : ℕ) → first ≤ number → number < end
+            → is_some (get nat_eq self.new.rows number) ≡ true) }
         ensures succeeds { end - first ≤ spare self.old.rows → IsOk result }
         ensures room { spare self.old.rows ≤ spare self.new.rows + (end - first) }
     {
@@ -97,7 +99,8 @@ impl Pages {
     pub fn hold(&mut self, at: u64, count: usize) -> Result<(), AllocError>
         requires { at + count < 2 ^ 64 }
         ensures bytes { (place : ℕ) → byte_in self.new.rows place ≡ byte_in self.old.rows place }
-        ensures held { OnOk result ((place : ℕ) → at ≤ place → place < at + count → is_some (get nat_eq self.new.rows (place / 4096)) ≡ true) }
+        ensures held { OnOk result ((place : ℕ) → at ≤ place → place < at + count
+            → is_some (get nat_eq self.new.rows (place / 4096)) ≡ true) }
         ensures succeeds { pages_over at count ≤ spare self.old.rows → IsOk result }
         ensures room { spare self.old.rows ≤ spare self.new.rows + pages_over at count }
     {
@@ -107,8 +110,10 @@ impl Pages {
     /// Sets the byte at a place whose page is held.
     fn set(&mut self, place: u64, byte: u8)
         requires { is_some (get nat_eq self.old.rows (place / 4096)) ≡ true }
-        ensures bytes { (other : ℕ) → byte_in self.new.rows other ≡ (if other == place then byte else byte_in self.old.rows other) }
-        ensures held { (other : ℕ) → is_some (get nat_eq self.new.rows other) ≡ is_some (get nat_eq self.old.rows other) }
+        ensures bytes { (other : ℕ)
+            → byte_in self.new.rows other ≡ (if other == place then byte else byte_in self.old.rows other) }
+        ensures held { (other : ℕ)
+            → is_some (get nat_eq self.new.rows other) ≡ is_some (get nat_eq self.old.rows other) }
         ensures room { spare self.new.rows ≡ spare self.old.rows }
     {
         match self.rows.get_mut(&(place / PAGE)) {
@@ -120,7 +125,8 @@ impl Pages {
     /// Writes a piece where all pages are held.
     pub fn write(&mut self, at: u64, piece: &[u8])
         requires within { at + length piece.now < 2 ^ 64 }
-        requires held { (place : ℕ) → at ≤ place → place < at + length piece.now → is_some (get nat_eq self.old.rows (place / 4096)) ≡ true }
+        requires held { (place : ℕ) → at ≤ place → place < at + length piece.now
+            → is_some (get nat_eq self.old.rows (place / 4096)) ≡ true }
         ensures bytes { Overlaid (byte_in self.old.rows) (byte_in self.new.rows) at (length piece.now) piece.now }
         ensures room { spare self.new.rows ≡ spare self.old.rows }
     {

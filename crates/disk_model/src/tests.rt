@@ -260,8 +260,8 @@ fn what_was_synced_is_read(rt: HostRuntime) -> Result<(), Fail> {
     Ok(())
 }
 
-/// Some images that a crash may leave, and some that it may not: of five bytes (also after a write that failed), of three bytes over them (also
-/// after a sync that failed), of two past their end, of both, and after a sync.
+/// Some images that a crash may leave, and some that it may not: of five bytes (also after a write that failed), of
+/// three bytes over them (also after a sync that failed), of two past their end, of both, and after a sync.
 fn listed_images()
     ensures five { AreImages five of_five }
     ensures not_five { AreNoImages five not_of_five }

@@ -56,7 +56,8 @@ after part (Removed user) = without_keys (is_of_user user) part
 abbrev pub changed : Lasting → Change → Option Lasting
 changed part change = if is_met part change then Some (after part change) else None
 
--- What changes leave, the newest first: made in turn from the empty lasting part, each with its need met; None where a need is not.
+-- What changes leave, the newest first: made in turn from the empty lasting part, each with its need met; None
+-- where a need is not.
 abbrev pub lasting_of : List Change → Option Lasting
 lasting_of [] = Some empty_lasting
 lasting_of (change ∷ past) = option_and_then (λ part. changed part change) (lasting_of past)

@@ -5,7 +5,8 @@ use Rattle.std.specs.Str.{bytes_eq}
 use Rattle.grants.specs.declared.row.GrantRow.{GrantRow}
 use Rattle.journal_records.specs.declared.record.KeyRecord.{KeyRecord}
 
--- the live keys in the order of their numbers, the grants in the order of theirs, and the numbers that the next key and the next grant take
+-- the live keys in the order of their numbers, the grants in the order of theirs, and the numbers that the next key
+-- and the next grant take
 pub record Lasting : Type 0 where
   pub keys : List KeyRecord
   pub grants : List GrantRow

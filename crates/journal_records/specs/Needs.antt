@@ -25,10 +25,12 @@ has_place_for domain nspace alias part = nat_lt (length (without_keys (is_named 
 abbrev pub has_uses : ℕ → KeyRecord → Bool
 has_uses id key = has_id id key && nat_lt 0 key.left
 
--- a grant keeps the number of the one that its key and uid have; where there is none it takes the next one, and at most 65,536 are held
+-- a grant keeps the number of the one that its key and uid have; where there is none it takes the next one, and at
+-- most 65,536 are held
 abbrev pub is_grant_numbered : Option GrantRow → GrantRow → Lasting → Bool
 is_grant_numbered (Some held) row part = row.grant == held.grant
-is_grant_numbered None row part = (row.grant == part.next_grant) && (is_number_left row.grant && nat_lt (length part.grants) 65536)
+is_grant_numbered None row part =
+    (row.grant == part.next_grant) && (is_number_left row.grant && nat_lt (length part.grants) 65536)
 
 -- whether the need of a change is met
 abbrev pub is_met : Lasting → Change → Bool
@@ -41,7 +43,8 @@ is_met part (Create id domain nspace alias blob list limit) =
     && has_place_for domain nspace alias part))))
 is_met part (Delete id) = some_has_id id part.keys
 is_met part (Use id) = list_any (has_uses id) part.keys
-is_met part (Grant row) = some_has_id row.key part.keys && is_grant_numbered (find (is_for row.key row.uid) part.grants) row part
+is_met part (Grant row) =
+    some_has_id row.key part.keys && is_grant_numbered (find (is_for row.key row.uid) part.grants) row part
 is_met part (Ungrant grant) = list_any (is_numbered grant) part.grants
 is_met part (Clear domain nspace) = (domain == 0) || (domain == 2)
 is_met part (Removed user) = nat_le user 42949

@@ -31,8 +31,10 @@ unfoldable pub counted_at : List ℕ → Option (List ℕ × List ℕ)
 counted_at bytes = option_and_then (λ n. front_at n.0 n.1) (number_at 4 bytes)
 
 -- one field, and then others
-abbrev pub both : {A B : Type 0} → (List ℕ → Option (A × List ℕ)) → (List ℕ → Option (B × List ℕ)) → List ℕ → Option ((A × B) × List ℕ)
-both first second bytes = option_and_then (λ a. option_and_then (λ b. Some ((a.0, b.0), b.1)) (second a.1)) (first bytes)
+abbrev pub both : {A B : Type 0} → (List ℕ → Option (A × List ℕ)) → (List ℕ → Option (B × List ℕ)) → List ℕ
+    → Option ((A × B) × List ℕ)
+both first second bytes =
+    option_and_then (λ a. option_and_then (λ b. Some ((a.0, b.0), b.1)) (second a.1)) (first bytes)
 
 -- the change that the fields make, where nothing stands behind them
 abbrev pub ended : {X : Type 0} → (X → Change) → Option (X × List ℕ) → Option Change
@@ -42,7 +44,8 @@ ended make (Some x) = if length x.1 == 0 then Some (make x.0) else None
 unfoldable pub created_in : List ℕ → Option Change
 created_in bytes =
     ended (λ x. Create x.0 x.1.0 x.1.1.0 x.1.1.1.0 x.1.1.1.1.0 x.1.1.1.1.1.0 x.1.1.1.1.1.1)
-    (both (number_at 8) (both byte_at (both (number_at 8) (both counted_at (both counted_at (both counted_at (number_at 4)))))) bytes)
+    (both (number_at 8) (both byte_at (both (number_at 8)
+    (both counted_at (both counted_at (both counted_at (number_at 4)))))) bytes)
 
 unfoldable pub granted_in : List ℕ → Option Change
 granted_in bytes =
@@ -67,8 +70,10 @@ change_in body = option_and_then (λ kind. fields_in kind.0 kind.1) (byte_at bod
 
 -- the change whose record stands at the front, behind its gate, and the bytes after it
 unfoldable pub record_at : List ℕ → Option (Change × List ℕ)
-record_at bytes = option_and_then (λ body. option_and_then (λ change. Some (change, body.1)) (change_in body.0)) (counted_at bytes)
+record_at bytes =
+    option_and_then (λ body. option_and_then (λ change. Some (change, body.1)) (change_in body.0)) (counted_at bytes)
 
 -- the change that these bytes are the record of
 unfoldable pub record_in : List ℕ → Option Change
-record_in bytes = option_and_then (λ gate. if gate.0 == 75 then ended (λ change. change) (record_at gate.1) else None) (byte_at bytes)
+record_in bytes =
+    option_and_then (λ gate. if gate.0 == 75 then ended (λ change. change) (record_at gate.1) else None) (byte_at bytes)

@@ -12,14 +12,24 @@ abbrev pub create : ℕ → ℕ → Change
 create id limit = Create id 0 10001 (109 ∷ []) (170 ∷ []) (0 ∷ 0 ∷ []) limit
 
 abbrev pub key : ℕ → ℕ → ℕ → KeyRecord
-key id limit left = record { id = id; domain = 0; nspace = 10001; alias = 109 ∷ []; blob = 170 ∷ []; list = 0 ∷ 0 ∷ []; limit = limit; left = left }
+key id limit left = record {
+  id = id;
+  domain = 0;
+  nspace = 10001;
+  alias = 109 ∷ [];
+  blob = 170 ∷ [];
+  list = 0 ∷ 0 ∷ [];
+  limit = limit;
+  left = left;
+}
 
 -- a grant of key 1 to uid 10002
 abbrev pub row : ℕ → ℕ → GrantRow
 row number bits = record { grant = number; key = 1; uid = 10002; bits = bits }
 
 abbrev pub left_by : List KeyRecord → List GrantRow → ℕ → ℕ → Option Lasting
-left_by keys grants next_key next_grant = Some (record { keys = keys; grants = grants; next_key = next_key; next_grant = next_grant })
+left_by keys grants next_key next_grant =
+    Some (record { keys = keys; grants = grants; next_key = next_key; next_grant = next_grant })
 
 pub record WorkedExamples : Type 0 where
   pub nothing : lasting_of [] ≡ left_by [] [] 1 1
@@ -46,10 +56,12 @@ pub record WorkedExamples : Type 0 where
   pub no_such_user : lasting_of (Removed 42950 ∷ []) ≡ None
   -- grants
   pub granted : lasting_of (Grant (row 1 256) ∷ create 1 2 ∷ []) ≡ left_by (key 1 2 2 ∷ []) (row 1 256 ∷ []) 2 2
-  pub granted_again : lasting_of (Grant (row 1 260) ∷ Grant (row 1 256) ∷ create 1 2 ∷ []) ≡ left_by (key 1 2 2 ∷ []) (row 1 260 ∷ []) 2 2
+  pub granted_again : lasting_of (Grant (row 1 260) ∷ Grant (row 1 256) ∷ create 1 2 ∷ [])
+      ≡ left_by (key 1 2 2 ∷ []) (row 1 260 ∷ []) 2 2
   pub other_number : lasting_of (Grant (row 2 260) ∷ Grant (row 1 256) ∷ create 1 2 ∷ []) ≡ None
   pub number_ahead : lasting_of (Grant (row 2 256) ∷ create 1 2 ∷ []) ≡ None
   pub no_key_granted : lasting_of (Grant (row 1 256) ∷ []) ≡ None
   pub ungranted : lasting_of (Ungrant 1 ∷ Grant (row 1 256) ∷ create 1 2 ∷ []) ≡ left_by (key 1 2 2 ∷ []) [] 2 2
-  pub granted_anew : lasting_of (Grant (row 2 256) ∷ Ungrant 1 ∷ Grant (row 1 256) ∷ create 1 2 ∷ []) ≡ left_by (key 1 2 2 ∷ []) (row 2 256 ∷ []) 2 3
+  pub granted_anew : lasting_of (Grant (row 2 256) ∷ Ungrant 1 ∷ Grant (row 1 256) ∷ create 1 2 ∷ [])
+      ≡ left_by (key 1 2 2 ∷ []) (row 2 256 ∷ []) 2 3
   pub no_such_grant : lasting_of (Ungrant 1 ∷ create 1 2 ∷ []) ≡ None

@@ -161,7 +161,8 @@ fn record_at(alloc: Global, bytes: &[u8]) -> Result<(Change, &[u8]), RecordFault
     Ok((change, rest))
 }
 
-/// The change whose record stands at the front, behind its gate, and the bytes after it. Bad comes exactly where no record stands there.
+/// The change whose record stands at the front, behind its gate, and the bytes after it. Bad comes exactly where no
+/// record stands there.
 pub fn read_record(alloc: Global, bytes: &[u8]) -> Result<(Change, &[u8]), RecordFault>
     ensures exact { Says (λ x. (x.0, x.1.now)) result (spec.record_at bytes.now) }
     ensures found { IfOk result (λ x. (bytes.now ≡ tail_of x.0 ++ x.1.now) × IsChange x.0) }
@@ -186,12 +187,13 @@ fn record_in(alloc: Global, bytes: &[u8]) -> Result<Change, RecordFault>
     ended(change, rest)
 }
 
-/// The change that these bytes are the record of: the gate byte, the body's length and the body, and nothing more. Bad comes exactly
-/// where they are the record of none.
+/// The change that these bytes are the record of: the gate byte, the body's length and the body, and nothing more.
+/// Bad comes exactly where they are the record of none.
 pub fn parse(alloc: Global, bytes: &[u8]) -> Result<Change, RecordFault>
     ensures exact { Says (λ x. x) result (spec.record_in bytes.now) }
     ensures found { IfOk result (λ change. (bytes.now ≡ framed change) × IsChange change) }
-    ensures again { (change : Change) → IsChange change → bytes.now ≡ framed change → Says (λ x. x) result (Some change) }
+    ensures again { (change : Change) → IsChange change → bytes.now ≡ framed change
+        → Says (λ x. x) result (Some change) }
 {
     let read = record_in(alloc, bytes);
     read

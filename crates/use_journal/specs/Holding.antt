@@ -20,7 +20,8 @@ end_of journal = journal.end
 abbrev pub is_waiting : Journal → Bool
 is_waiting journal = is_some journal.pending
 
--- settled: each image is a journal of these changes. That the journal knows their end does not rest on what the disk tells.
+-- settled: each image is a journal of these changes. That the journal knows their end does not rest on what the
+-- disk tells.
 pub record IsSettledOn {D : Type 0} (g : Ghosts D) (journal : Journal) (disk : D) (past : List Change) : Type 0 where
   pub idle : journal.pending ≡ None
   pub place : journal.end ≡ length (written past)
@@ -28,7 +29,8 @@ pub record IsSettledOn {D : Type 0} (g : Ghosts D) (journal : Journal) (disk : D
   pub images : AllImages g disk (IsJournal past)
 
 -- unsettled: each image is a journal of these changes, or of those with one more
-pub record IsUnsettledOn {D : Type 0} (g : Ghosts D) (journal : Journal) (disk : D) (past : List Change) (change : Change) : Type 0 where
+pub record IsUnsettledOn {D : Type 0} (g : Ghosts D) (journal : Journal) (disk : D) (past : List Change) (change : Change)
+    : Type 0 where
   pub waits : journal.pending ≡ Some (length (written (change ∷ past)))
   pub place : journal.end ≡ length (written past)
   pub changes : AreChanges (change ∷ past)
@@ -69,7 +71,8 @@ abbrev pub waits_after : {T : Type 0} → Result T StoreFault → Bool
 waits_after (Err faults.Device) = true
 waits_after _ = false
 
--- The answers of calls that take no memory, and what each says of the disk's count of faults: Device comes where it rose, and any other where it stayed.
+-- The answers of calls that take no memory, and what each says of the disk's count of faults: Device comes where it
+-- rose, and any other where it stayed.
 abbrev pub FormatCause : {T : Type 0} → ℕ → ℕ → Result T StoreFault → Type 0
 FormatCause before now (Ok done) = now ≡ before
 FormatCause before now (Err faults.Device) = (before ≤ now) × Rises before now

@@ -15,8 +15,8 @@ abbrev pub written : List Change → List ℕ
 written [] = header
 written (change ∷ past) = written past ++ framed change
 
--- The image is a journal of these changes: the header and their records, and behind them, before the place 268,435,456, a gate that is
--- shut. What follows that gate is anything.
+-- The image is a journal of these changes: the header and their records, and behind them, before the place
+-- 268,435,456, a gate that is shut. What follows that gate is anything.
 pub record IsJournal (past : List Change) (image : List ℕ) : Type 0 where
   pub area : IsArea 0 (written past) image
   pub within : length (written past) < 268435456
@@ -38,16 +38,19 @@ abbrev pub HasNoRecord : List ℕ → Type 0
 HasNoRecord [] = ⊤
 HasNoRecord (gate ∷ rest) = (gate ≡ 75) × (record_at rest ≡ None)
 
--- the bytes have the header and the records of these changes, and at the next gate's place no record and no gate that is shut
+-- the bytes have the header and the records of these changes, and at the next gate's place no record and no gate
+-- that is shut
 pub record IsBrokenOff (past : List Change) (image : List ℕ) : Type 0 where
   pub left : List ℕ
   pub is : up_to_end image ≡ written past ++ left
   pub broken : HasNoRecord left
 
--- the image is no journal, and this is the place of what is wrong first: 0 where the header is not there, and else the gate's place
+-- the image is no journal, and this is the place of what is wrong first: 0 where the header is not there, and else
+-- the gate's place
 pub data IsCorrupted (image : List ℕ) (offset : ℕ) : Type 0 where
   NoHeader : take 8 image ≢ header → offset ≡ 0 → IsCorrupted image offset
-  BrokenOff : (past : List Change) → AreChanges past → IsBrokenOff past image → offset ≡ length (written past) → IsCorrupted image offset
+  BrokenOff : (past : List Change) → AreChanges past → IsBrokenOff past image → offset ≡ length (written past)
+      → IsCorrupted image offset
 
 -- the changes of a list that has them with their places, the oldest first
 abbrev pub past_of : List (ℕ × Change) → List Change

@@ -14,10 +14,12 @@ use tags::{Bytes, Settled};
 
 /// The records of a key with two uses, of a grant of it, and of one use, each with a closing byte.
 static KEY: &[u8] =
-    b"\x4b\x00\x00\x00\x28\x01\x00\x00\x00\x00\x00\x00\x00\x01\x00\x00\x00\x00\x00\x00\x00\x27\x11\x00\x00\x00\x01m\x00\x00\x00\x03\xaa\xbb\xcc\x00\x00\x00\x02\x00\x00\x00\x00\x00\x02\x00";
+    b"\x4b\x00\x00\x00\x28\x01\x00\x00\x00\x00\x00\x00\x00\x01\x00\x00\x00\x00\x00\x00\x00\x27\x11\
+\x00\x00\x00\x01m\x00\x00\x00\x03\xaa\xbb\xcc\x00\x00\x00\x02\x00\x00\x00\x00\x00\x02\x00";
 
 static GRANT: &[u8] =
-    b"\x4b\x00\x00\x00\x19\x04\x00\x00\x00\x00\x00\x00\x00\x01\x00\x00\x00\x00\x00\x00\x00\x01\x00\x00\x27\x12\x00\x00\x01\x00\x00";
+    b"\x4b\x00\x00\x00\x19\x04\x00\x00\x00\x00\x00\x00\x00\x01\x00\x00\x00\x00\x00\x00\x00\x01\
+\x00\x00\x27\x12\x00\x00\x01\x00\x00";
 
 static USE: &[u8] = b"\x4b\x00\x00\x00\x09\x03\x00\x00\x00\x00\x00\x00\x00\x01\x00";
 
@@ -60,8 +62,8 @@ fn count<D: Disk>(alloc: Global, disk: &mut D) -> Result<usize, StoreFault> {
     Ok(changes.as_slice().len())
 }
 
-/// A use is added to a key with these calls of the disk failing: 1 to 5 format and open it, 6 to 9 add the key, 10 to 13 the use, and the later
-/// ones settle.
+/// A use is added to a key with these calls of the disk failing: 1 to 5 format and open it, 6 to 9 add the key, 10
+/// to 13 the use, and the later ones settle.
 struct Fault {
     failing: &'static [u64],
     /// how many settlings fail before one succeeds
@@ -112,8 +114,8 @@ static FAULTS: [Fault; 8] = [
     },
 ];
 
-/// Whether the use is refused, settles as the row says, and is in the journal that is opened then exactly where it was kept; and whether the
-/// journal goes on.
+/// Whether the use is refused, settles as the row says, and is in the journal that is opened then exactly where it
+/// was kept; and whether the journal goes on.
 fn is_settled_so(alloc: Global, fault: &Fault) -> Result<bool, StoreFault> {
     let (mut disk, mut journal) = fresh(alloc, fault.failing)?;
     add(&mut journal, &mut disk, KEY)?;
@@ -145,7 +147,8 @@ fn each_call_of_an_append_fails(rt: HostRuntime) {
     }
 }
 
-/// What a crash leaves of each write that no sync followed, and how many changes there are after each write and sync from the opening on.
+/// What a crash leaves of each write that no sync followed, and how many changes there are after each write and
+/// sync from the opening on.
 static MOMENTS: [([Choice; 11], [usize; 9]); 4] = [
     ([Choice::New; 11], [0, 0, 0, 1, 1, 1, 1, 2, 2]),
     ([Choice::Old; 11], [0, 0, 0, 0, 1, 1, 1, 1, 2]),
@@ -186,12 +189,14 @@ fn an_image_of_each_moment_opens(rt: HostRuntime) {
 
 /// A store of three records, `THREE` of `tools/read_store.py`; its gates stand at 8, 53, 83 and 97.
 static STORE: [u8; 98] = *b"KSJRNL01\
-\x4b\x00\x00\x00\x28\x01\x00\x00\x00\x00\x00\x00\x00\x01\x00\x00\x00\x00\x00\x00\x00\x27\x11\x00\x00\x00\x01m\x00\x00\x00\x03\xaa\xbb\xcc\x00\x00\x00\x02\x00\x00\x00\x00\x00\x02\
-\x4b\x00\x00\x00\x19\x04\x00\x00\x00\x00\x00\x00\x00\x01\x00\x00\x00\x00\x00\x00\x00\x01\x00\x00\x27\x12\x00\x00\x01\x00\
+\x4b\x00\x00\x00\x28\x01\x00\x00\x00\x00\x00\x00\x00\x01\x00\x00\x00\x00\x00\x00\x00\x27\x11\
+\x00\x00\x00\x01m\x00\x00\x00\x03\xaa\xbb\xcc\x00\x00\x00\x02\x00\x00\x00\x00\x00\x02\
+\x4b\x00\x00\x00\x19\x04\x00\x00\x00\x00\x00\x00\x00\x01\x00\x00\x00\x00\x00\x00\x00\x01\
+\x00\x00\x27\x12\x00\x00\x01\x00\
 \x4b\x00\x00\x00\x09\x03\x00\x00\x00\x00\x00\x00\x00\x01\x00";
 
-/// What is read where one byte of that store is changed to this one, by its place, as `tools/read_store.py --damage` says: `.` where the bytes
-/// are a journal, `h` for offset 0, and `a` to `d` for the offset of a gate.
+/// What is read where one byte of that store is changed to this one, by its place, as `tools/read_store.py
+/// --damage` says: `.` where the bytes are a journal, `h` for offset 0, and `a` to `d` for the offset of a gate.
 static DAMAGED: [(u8, &[u8]); 3] = [
     (
         0x00,
@@ -252,8 +257,8 @@ fn a_damaged_store_is_refused_at_the_place_of_the_damage(rt: HostRuntime) {
     }
 }
 
-/// A disk that reads as a journal of one key, with the alias `a`, a list of two bytes 00 and a blob of bytes 00. It tells nothing, keeps no
-/// write and counts its calls.
+/// A disk that reads as a journal of one key, with the alias `a`, a list of two bytes 00 and a blob of bytes 00. It
+/// tells nothing, keeps no write and counts its calls.
 #[derive(Drop)]
 struct LargeDisk {
     /// the bytes up to the blob
@@ -264,11 +269,11 @@ struct LargeDisk {
 }
 
 /// The bytes up to a blob of 268,435,391 bytes, and up to one of a byte more.
-static LAST_HEAD: &[u8] =
-    b"KSJRNL01\x4b\x0f\xff\xff\xe4\x01\x00\x00\x00\x00\x00\x00\x00\x01\x00\x00\x00\x00\x00\x00\x00\x27\x11\x00\x00\x00\x01a\x0f\xff\xff\xbf";
+static LAST_HEAD: &[u8] = b"KSJRNL01\x4b\x0f\xff\xff\xe4\
+\x01\x00\x00\x00\x00\x00\x00\x00\x01\x00\x00\x00\x00\x00\x00\x00\x27\x11\x00\x00\x00\x01a\x0f\xff\xff\xbf";
 
-static PAST_HEAD: &[u8] =
-    b"KSJRNL01\x4b\x0f\xff\xff\xe5\x01\x00\x00\x00\x00\x00\x00\x00\x01\x00\x00\x00\x00\x00\x00\x00\x27\x11\x00\x00\x00\x01a\x0f\xff\xff\xc0";
+static PAST_HEAD: &[u8] = b"KSJRNL01\x4b\x0f\xff\xff\xe5\
+\x01\x00\x00\x00\x00\x00\x00\x00\x01\x00\x00\x00\x00\x00\x00\x00\x27\x11\x00\x00\x00\x01a\x0f\xff\xff\xc0";
 
 impl LargeDisk {
     fn call(&mut self) {
@@ -475,7 +480,8 @@ fn reading(alloc: Global, disk: &mut MemoryDisk) -> (u64, u64) {
     }
 }
 
-/// Makes a store of drawn changes, changes one byte of it and reads it, and goes on with the digest of the store and of what was read.
+/// Makes a store of drawn changes, changes one byte of it and reads it, and goes on with the digest of the store
+/// and of what was read.
 fn digest_of_store(alloc: Global, draws: &mut Draws, state: u64) -> Result<u64, StoreFault> {
     let (mut disk, mut journal) = fresh(alloc, &[])?;
     for _ in 0..draws.next() % 8 {
