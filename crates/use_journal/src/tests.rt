@@ -147,13 +147,30 @@ fn each_call_of_an_append_fails(rt: HostRuntime) {
     }
 }
 
-/// What a crash leaves of each write that no sync followed, and how many changes there are after each write and
-/// sync from the opening on.
-static MOMENTS: [([Choice; 11], [usize; 9]); 4] = [
-    ([Choice::New; 11], [0, 0, 0, 1, 1, 1, 1, 2, 2]),
-    ([Choice::Old; 11], [0, 0, 0, 0, 1, 1, 1, 1, 2]),
-    ([Choice::Filled(0x4b); 11], [0, 0, 0, 1, 1, 1, 1, 2, 2]),
-    ([Choice::Filled(0x00); 11], [0, 0, 0, 0, 1, 1, 1, 1, 2]),
+/// A crash: what it leaves of each write that no sync followed, and how many changes there are then, by the writes and
+/// syncs since the opening, from none on.
+struct Crash {
+    choice: Choice,
+    changes: &'static [usize],
+}
+
+static CRASHES: [Crash; 4] = [
+    Crash {
+        choice: Choice::New,
+        changes: &[0, 0, 0, 1, 1, 1, 1, 2, 2],
+    },
+    Crash {
+        choice: Choice::Old,
+        changes: &[0, 0, 0, 0, 1, 1, 1, 1, 2],
+    },
+    Crash {
+        choice: Choice::Filled(0x4b),
+        changes: &[0, 0, 0, 1, 1, 1, 1, 2, 2],
+    },
+    Crash {
+        choice: Choice::Filled(0x00),
+        changes: &[0, 0, 0, 0, 1, 1, 1, 1, 2],
+    },
 ];
 
 /// How many changes an image has, opened again.
@@ -177,12 +194,11 @@ fn an_image_of_each_moment_opens(rt: HostRuntime) {
     };
     assert_eq!(rt; add(&mut journal, &mut disk, KEY), Ok(()));
     assert_eq!(rt; add(&mut journal, &mut disk, USE), Ok(()));
-    for (choices, left) in &MOMENTS {
-        for moment in 0..left.len() {
-            assert_eq!(rt;
-                changes_left(alloc, &disk, 3 + moment, choices),
-                Ok(left[moment])
-            );
+    for crash in &CRASHES {
+        let choices = [crash.choice; 11];
+        for moment in 0..crash.changes.len() {
+            let left = changes_left(alloc, &disk, 3 + moment, &choices);
+            assert_eq!(rt; left, Ok(crash.changes[moment]));
         }
     }
 }
