@@ -1,11 +1,10 @@
 -- How time goes on in a disk in memory, and what a read of its pages is.
-use Rattle.std.proofs.Common.{◌≡◌, inl, inr, ⊎_elim, ℕ, ◌+◌, ◌<◌, ◌≤◌, List, ◌∷◌, length, take, drop, get_or, reverse, length-take, length-drop, subst, sym, ap, ◌∙◌, arith, Vec, Global}
+use Rattle.std.proofs.Common.{◌≡◌, inl, inr, ⊎_elim, ℕ, ◌+◌, ◌<◌, ◌≤◌, List, ◌∷◌, length, take, drop, get_or, reverse, length-take, length-drop, [], ◌++◌, subst, sym, ap, ◌∙◌, arith}
 use Rattle.std.proofs.lemmas.Bool.{cases_lt}
-use Rattle.std.proofs.lemmas.List.{ext_get_or, get_or-take, get_or-drop}
+use Rattle.std.proofs.lemmas.List.{ext_get_or, get_or-take, get_or-drop, reverse-append}
 use Rattle.ks_outside.specs.Moments.{Elapses}
 use Rattle.ks_outside.specs.Ranges.{Holds}
-use Rattle.disk_model.specs.declared.call.Call.{Call}
-use Rattle.disk_model.specs.declared.call.Call.TheVariants.{Wrote, Synced}
+use Rattle.disk_model.specs.Calls.{Call, Wrote, Synced}
 use Rattle.disk_model.specs.Kept.{content_of, IsImage, WasImage}
 use Rattle.disk_model.specs.Laws.{held, content_may_stay}
 
@@ -44,10 +43,14 @@ synced_image old mid new same is c now =
     let left : c ≡ content_of (reverse mid) = subst (λ (l : List Call). IsImage l c) is now in
     rw (left, same) (content_may_stay (reverse old))
 
-pub write_holds : (old mid new : List Call) (at : ℕ) (piece : List ℕ) (copy : Vec ℕ Global) → mid ≡ old → copy.items ≡ piece → reverse new ≡ Wrote at copy ∷ reverse mid
-    → Holds at piece (content_of (reverse old)) (content_of (reverse new))
-write_holds old mid new at piece copy same items is = rw (is, same, ← items) (held at copy.items (content_of (reverse old)))
+-- the newest call stands behind the others
+pub newest : (old mid new : List Call) (call : Call) → mid ≡ old → new ≡ mid ++ call ∷ [] → reverse new ≡ call ∷ reverse old
+newest old mid new call same is = ap reverse is ∙ reverse-append mid (call ∷ []) ∙ ap (λ (l : List Call). call ∷ reverse l) same
 
-pub write_elapses : (old mid new : List Call) (at : ℕ) (piece : List ℕ) (copy : Vec ℕ Global) → mid ≡ old → copy.items ≡ piece → reverse new ≡ Wrote at copy ∷ reverse mid → length new ≡ length mid + 1
+pub write_holds : (old mid new : List Call) (at : ℕ) (piece : List ℕ) → mid ≡ old → reverse new ≡ Wrote at piece ∷ reverse mid
+    → Holds at piece (content_of (reverse old)) (content_of (reverse new))
+write_holds old mid new at piece same is = rw (is, same) (held at piece (content_of (reverse old)))
+
+pub write_elapses : (old mid new : List Call) (at : ℕ) (piece : List ℕ) → mid ≡ old → reverse new ≡ Wrote at piece ∷ reverse mid → length new ≡ length mid + 1
     → Elapses (length old) (length new) (WasImage (reverse old)) (WasImage (reverse new)) (IsImage (reverse new))
-write_elapses old mid new at piece copy same items is size = elapses_to (Wrote at copy) old new (is ∙ ap (λ (l : List Call). Wrote at copy ∷ reverse l) same) (size ∙ ap (λ (l : List Call). length l + 1) same)
+write_elapses old mid new at piece same is size = elapses_to (Wrote at piece) old new (is ∙ ap (λ (l : List Call). Wrote at piece ∷ reverse l) same) (size ∙ ap (λ (l : List Call). length l + 1) same)

@@ -3,8 +3,7 @@ use Rattle.std.proofs.Common.{◌≡◌, ◌⊎◌, inl, inr, ℕ, ◌+◌, ◌-
 use Rattle.std.proofs.lemmas.Bool.{cases_lt}
 use Rattle.std.proofs.lemmas.List.{get_or-take, get_or-drop}
 use Rattle.ks_outside.specs.Ranges.{Torn}
-use Rattle.disk_model.specs.declared.call.Call.{Call}
-use Rattle.disk_model.specs.declared.call.Call.TheVariants.{Wrote, Synced}
+use Rattle.disk_model.specs.Calls.{Call, Wrote, Synced}
 use Rattle.disk_model.specs.Kept.{IsImage}
 use Rattle.disk_model.specs.Limits.{IsWithin}
 
@@ -28,11 +27,11 @@ images_within (Wrote at piece ∷ earlier) c image =
       no_shorter = omega (arith, was.no_shorter, torn.no_shorter);
       no_longer = omega (arith, was.no_longer, was.no_shorter, torn.no_longer);
       stays = λ place within free.
-          let there : (place < at) ⊎ (at + length piece.items ≤ place) = elim (cases_lt place at) [
+          let there : (place < at) ⊎ (at + length piece ≤ place) = elim (cases_lt place at) [
             | inl below ↦ inl below
-            | inr from ↦ elim (cases_lt place (at + length piece.items)) [ inl inside ↦ absurd (free (inl (from, inside))) | inr past ↦ inr past ]
+            | inr from ↦ elim (cases_lt place (at + length piece)) [ inl inside ↦ absurd (free (inl (from, inside))) | inr past ↦ inr past ]
           ] in
-          torn_outside at (length piece.items) b c torn place (omega (arith, within, was.no_shorter)) there
+          torn_outside at (length piece) b c torn place (omega (arith, within, was.no_shorter)) there
           ∙ was.stays place within (λ pending. free (inr pending));
     }
 images_within (Synced ∷ earlier) c image = rw image record { no_shorter = omega arith; no_longer = omega arith; stays = λ place within free. refl }

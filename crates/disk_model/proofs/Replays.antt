@@ -4,8 +4,7 @@ use Rattle.std.proofs.lemmas.Bool.{cases_lt}
 use Rattle.std.proofs.lemmas.List.{take_more, reverse-append, length-reverse, length-replicate}
 use Rattle.std.proofs.Common.{zero, length-take}
 use Rattle.ks_outside.specs.Ranges.{Torn}
-use Rattle.disk_model.specs.declared.call.Call.{Call}
-use Rattle.disk_model.specs.declared.call.Call.TheVariants.{Wrote, Synced}
+use Rattle.disk_model.specs.Calls.{Call, Wrote, Synced}
 use Rattle.disk_model.specs.declared.image.Choice.{Choice}
 use Rattle.disk_model.specs.declared.image.Choice.TheVariants.{New, Old, Filled}
 use Rattle.disk_model.specs.Kept.{overwritten, content_of, IsImage}
@@ -22,7 +21,7 @@ laid_new Synced earlier = refl
 
 laid_chosen : (choices : List Choice) (call : Call) (earlier : List Call) (i : ℕ) → IsWrite call → length earlier ≡ i
     → laid (get_or choices i New) call (image_of choices earlier) ≡ image_of choices (call ∷ earlier)
-laid_chosen choices (Wrote at piece) earlier i write size = ap (λ (k : ℕ). chosen (get_or choices k New) at piece.items (image_of choices earlier)) (sym size)
+laid_chosen choices (Wrote at piece) earlier i write size = ap (λ (k : ℕ). chosen (get_or choices k New) at piece (image_of choices earlier)) (sym size)
 laid_chosen choices Synced earlier i write size = absurd write
 
 settled_image : (choices : List Choice) (calls : List Call) → IsSettled calls → content_of calls ≡ image_of choices calls
@@ -33,11 +32,11 @@ settled_image choices (Synced ∷ earlier) settled = refl
 pub replay_none : (choices : List Choice) (calls : List Call) (start : ℕ) → IsReplayed choices calls start 0 []
 replay_none choices calls start = record { written = λ le. refl; as_chosen = λ le. refl }
 
-pub replay_more : (choices : List Choice) (calls : List Call) (start i : ℕ) (choice : Choice) (bytes later : List ℕ)
-    → IsSettled (reverse (take start calls)) → ((k : ℕ) → start ≤ k → k < length calls → IsWrite (get_or calls k Synced)) → i < length calls
+pub replay_more : (choices : List Choice) (calls : List Call) (start stop i : ℕ) (choice : Choice) (bytes later : List ℕ)
+    → IsSettled (reverse (take start calls)) → ((k : ℕ) → start ≤ k → k < stop → IsWrite (get_or calls k Synced)) → i < stop → stop ≤ length calls
     → (i < start → choice ≡ New) → (start ≤ i → choice ≡ get_or choices i New)
     → IsReplayed choices calls start i bytes → later ≡ laid choice (get_or calls i Synced) bytes → IsReplayed choices calls start (i + 1) later
-replay_more choices calls start i choice bytes later settled pending within before after r is = elim (cases_lt i start) [
+replay_more choices calls start stop i choice bytes later settled pending below fits before after r is = let within : i < length calls = omega (arith, below, fits) in elim (cases_lt i start) [
   | inl sooner ↦
       let new = before sooner in
       let was = r.written (omega (arith, sooner)) in
@@ -54,7 +53,7 @@ replay_more choices calls start i choice bytes later settled pending within befo
       let size : length (reverse (take i calls)) ≡ i = omega (arith, length-reverse (take i calls), length-take i calls, within) in
       record {
         written = λ le. absurd (omega (arith, le, from));
-        as_chosen = λ le. rw (is, picked, was, next_call calls i within) (laid_chosen choices (get_or calls i Synced) (reverse (take i calls)) i (pending i from within) size);
+        as_chosen = λ le. rw (is, picked, was, next_call calls i within) (laid_chosen choices (get_or calls i Synced) (reverse (take i calls)) i (pending i from below) size);
       }
 ]
 
@@ -69,7 +68,7 @@ torn_same at n bytes = record { front = take_front at bytes; after = refl; no_sh
 -- what is chosen is one of the images
 pub chosen_image : (choices : List Choice) (calls : List Call) → IsImage calls (image_of choices calls)
 chosen_image choices [] = refl
-chosen_image choices (Wrote at piece ∷ earlier) = (image_of choices earlier, chosen_image choices earlier, torn_by (get_or choices (length earlier) New) at piece.items (image_of choices earlier))
+chosen_image choices (Wrote at piece ∷ earlier) = (image_of choices earlier, chosen_image choices earlier, torn_by (get_or choices (length earlier) New) at piece (image_of choices earlier))
   where
     torn_by : (choice : Choice) (at : ℕ) (piece old : List ℕ) → Torn at (length piece) old (chosen choice at piece old)
     torn_by New at piece old = torn_as_held at piece old (overwritten at piece old) (held at piece old)
@@ -92,3 +91,21 @@ pub record IsLast (calls : List Call) (count i : ℕ) : Type 0 where
 
 pub last_none : (calls : List Call) → IsLast calls 0 0
 last_none calls = record { within = omega arith; last = tt; pending = λ k le below. absurd (omega (arith, below)) }
+
+-- one more call
+pub last_sync : (calls : List Call) (count i : ℕ) → i < length calls → get_or calls i Synced ≡ Synced → IsLast calls (i + 1) (i + 1)
+last_sync calls count i within is = record {
+  within = omega arith;
+  last = rw (next_call calls i within, is) tt;
+  pending = λ k le below. absurd (omega (arith, le, below));
+}
+
+pub last_write : (calls : List Call) (count i at : ℕ) (piece : List ℕ) → get_or calls i Synced ≡ Wrote at piece → IsLast calls count i → IsLast calls count (i + 1)
+last_write calls count i at piece is l = record {
+  within = omega (arith, l.within);
+  last = l.last;
+  pending = λ k le below. elim (cases_lt k i) [
+    | inl sooner ↦ l.pending k le sooner
+    | inr from ↦ (let here : k ≡ i = omega (arith, from, below) in rw (here, is) tt)
+  ];
+}

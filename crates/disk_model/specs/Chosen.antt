@@ -1,7 +1,6 @@
 -- One image of those that a crash may leave, chosen write by write.
 use Rattle.std.specs.Prelude.{◌≡◌, ℕ, ◌≤◌, List, [], ◌∷◌, length, take, replicate, reverse, get_or, ⊤}
-use Rattle.disk_model.specs.declared.call.Call.{Call}
-use Rattle.disk_model.specs.declared.call.Call.TheVariants.{Wrote, Synced}
+use Rattle.disk_model.specs.Calls.{Call, Wrote, Synced}
 use Rattle.disk_model.specs.declared.image.Choice.{Choice}
 use Rattle.disk_model.specs.declared.image.Choice.TheVariants.{New, Old, Filled}
 use Rattle.disk_model.specs.Kept.{overwritten, content_of}
@@ -14,13 +13,14 @@ chosen (Filled byte) at piece old = overwritten at (replicate (length piece) byt
 
 -- the bytes after one more call
 abbrev pub laid : Choice → Call → List ℕ → List ℕ
-laid choice (Wrote at piece) old = chosen choice at piece.items old
+laid choice (Wrote at piece) old = chosen choice at piece old
 laid choice Synced old = old
 
--- the image after these calls, the newest first, with a choice for each call by its number from 0; where no choice is given, the range holds what was written
+-- the image after these calls, the newest first, with a choice for each call by its number from 0; where no choice
+-- is given, the range holds what was written
 abbrev pub image_of : List Choice → List Call → List ℕ
 image_of choices [] = []
-image_of choices (Wrote at piece ∷ earlier) = chosen (get_or choices (length earlier) New) at piece.items (image_of choices earlier)
+image_of choices (Wrote at piece ∷ earlier) = chosen (get_or choices (length earlier) New) at piece (image_of choices earlier)
 image_of choices (Synced ∷ earlier) = content_of earlier
 
 -- nothing is pending after these calls, the newest first

@@ -3,8 +3,7 @@ use Rattle.std.specs.Prelude.{◌≡◌, ℕ, ◌+◌, ◌-◌, ◌≤◌, List,
 use Rattle.std.proofs.Common.{inl, inr, sym, ap, ◌∙◌, subst, arith, length-append, length-take, length-drop, append_assoc}
 use Rattle.std.proofs.lemmas.List.{take_at, drop_at, length-replicate, length-reverse}
 use Rattle.ks_outside.specs.Ranges.{Holds, Torn}
-use Rattle.disk_model.specs.declared.call.Call.{Call}
-use Rattle.disk_model.specs.declared.call.Call.TheVariants.{Wrote, Synced}
+use Rattle.disk_model.specs.Calls.{Call, Wrote, Synced}
 use Rattle.disk_model.specs.Kept.{overwritten, content_of, IsImage, WasImage}
 
 pub torn_as_held : (at : ℕ) (piece old new : List ℕ) → Holds at piece old new → Torn at (length piece) old new
@@ -36,7 +35,7 @@ module _ (at : ℕ) (piece old : List ℕ) where
 pub content_may_stay : (calls : List Call) → IsImage calls (content_of calls)
 content_may_stay [] = refl
 content_may_stay (Wrote at piece ∷ earlier) =
-    (content_of earlier, content_may_stay earlier, torn_as_held at piece.items (content_of earlier) (overwritten at piece.items (content_of earlier)) (held at piece.items (content_of earlier)))
+    (content_of earlier, content_may_stay earlier, torn_as_held at piece (content_of earlier) (overwritten at piece (content_of earlier)) (held at piece (content_of earlier)))
 content_may_stay (Synced ∷ earlier) = refl
 
 pub content_is_image : (calls : List Call) (c : List ℕ) → Some (content_of calls) ≡ Some c → IsImage calls c

@@ -1,6 +1,9 @@
+pub mod Calls
 pub mod Chosen
 pub mod Kept
 pub mod Laws
 pub mod Limits
+pub mod Listed
 pub mod Pages
+pub mod Texts
 pub mod Words

@@ -1,7 +1,7 @@
--- What no crash can do, said place by place: bytes that no write since the newest sync touched stay, and the length stays within what was written.
+-- What no crash can do, said place by place: bytes that no write since the newest sync touched stay, and the length
+-- stays within what was written.
 use Rattle.std.specs.Prelude.{◌≡◌, ◌⊎◌, ℕ, ◌+◌, ◌<◌, ◌≤◌, max, List, [], ◌∷◌, length, get_or}
-use Rattle.disk_model.specs.declared.call.Call.{Call}
-use Rattle.disk_model.specs.declared.call.Call.TheVariants.{Wrote, Synced}
+use Rattle.disk_model.specs.Calls.{Call, Wrote, Synced}
 use Rattle.disk_model.specs.Kept.{content_of}
 
 -- what the newest sync of these calls, the newest first, made last
@@ -13,13 +13,13 @@ made_last (Synced ∷ earlier) = content_of earlier
 -- a write since the newest sync touched the place
 abbrev pub IsPending : List Call → ℕ → Type 0
 IsPending [] place = ⊥
-IsPending (Wrote at piece ∷ earlier) place = ((at ≤ place) × (place < at + length piece.items)) ⊎ IsPending earlier place
+IsPending (Wrote at piece ∷ earlier) place = ((at ≤ place) × (place < at + length piece)) ⊎ IsPending earlier place
 IsPending (Synced ∷ earlier) place = ⊥
 
 -- how far the writes since the newest sync reach
 abbrev pub reach : List Call → ℕ
 reach [] = 0
-reach (Wrote at piece ∷ earlier) = max (reach earlier) (at + length piece.items)
+reach (Wrote at piece ∷ earlier) = max (reach earlier) (at + length piece)
 reach (Synced ∷ earlier) = 0
 
 pub record IsWithin (calls : List Call) (image : List ℕ) : Type 0 where

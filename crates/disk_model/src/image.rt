@@ -1,13 +1,13 @@
 //! One image that a crash may leave, as a disk that can be opened again.
 
-ghost use Rattle.std.specs.Prelude.{◌≡◌, ℕ, ◌+◌, ◌<◌, ◌≤◌, List, length, take, reverse, get_or, replicate, IfOk, OnOk};
-ghost use Rattle.disk_model.specs.Kept.{content_of, IsImage};
-ghost use Rattle.disk_model.specs.Chosen.{chosen, laid, image_of, IsSettled, IsWrite};
-ghost use Rattle.disk_model.specs.declared.call.Call.TheVariants.{Wrote, Synced};
+ghost use Rattle.std.specs.Prelude.{◌≡◌, ℕ, ◌+◌, ◌<◌, ◌≤◌, List, length, take, reverse, get_or, IfOk, OnOk};
+ghost use Rattle.disk_model.specs.Calls.{Synced};
+ghost use Rattle.disk_model.specs.Chosen.{laid, image_of, IsSettled, IsWrite};
+ghost use Rattle.disk_model.specs.Words.{made_by, reads};
 ghost use Rattle.disk_model.specs.declared.image.Choice.TheVariants.{New};
 
-use crate::call::Call;
-use crate::memory::MemoryDisk;
+use crate::calls::CallList;
+use crate::memory::{MemoryDisk, Room};
 use std::alloc::{AllocError, Global};
 
 /// What the range of a write that no sync followed holds after a crash.
@@ -31,16 +31,18 @@ fn choice_at(choices: &[Choice], number: usize) -> Choice
     }
 }
 
-/// How many calls there are up to the newest sync, and with it.
-fn settled(calls: &[Call]) -> usize
-    ensures within { result ≤ length calls.now }
-    ensures last { IsSettled (reverse (take result calls.now)) }
-    ensures pending { (i : ℕ) → result ≤ i → i < length calls.now → IsWrite (get_or calls.now i Synced) }
+/// How many of the first `end` calls there are up to the newest sync, and with it.
+fn settled(calls: &CallList, end: usize) -> usize
+    requires { end ≤ length calls.now.made }
+    ensures within { result ≤ end }
+    ensures last { IsSettled (reverse (take result calls.now.made)) }
+    ensures pending { (i : ℕ) → result ≤ i → i < end → IsWrite (get_or calls.now.made i Synced) }
 {
     let mut count = 0;
-    'calls: for i in 0..calls.len() {
-        if matches!(&calls[i], Call::Synced) {
-            count = i + 1;
+    'calls: for i in 0..end {
+        match calls.piece_at(i) {
+            None => count = i + 1,
+            Some(_) => {}
         }
     }
     count
@@ -58,19 +60,42 @@ fn choice_for(choices: &[Choice], start: usize, number: usize) -> Choice
     }
 }
 
-/// A disk whose bytes are those of one image that a crash after these calls may leave, and synced.
+/// Makes the call with this number again, as it is chosen.
+fn replay(
+    disk: &mut MemoryDisk,
+    calls: &CallList,
+    number: usize,
+    choice: Choice,
+) -> Result<(), AllocError>
+    requires { number < length calls.now.made }
+    ensures { OnOk result (reads disk.new ≡ laid choice (get_or calls.now.made number Synced) (reads disk.old)) }
+{
+    match calls.piece_at(number) {
+        Some((at, piece)) => disk.replay(at, piece, choice),
+        None => Ok(()),
+    }
+}
+
+/// A disk whose bytes are those of one image that a crash after the first `end` of these calls may leave, and synced.
 pub fn replayed(
     alloc: Global,
-    calls: &[Call],
+    calls: &CallList,
+    end: usize,
     choices: &[Choice],
 ) -> Result<MemoryDisk<'static>, AllocError>
-    ensures image { IfOk result (λ d. content_of (reverse d.calls.items) ≡ image_of choices.now (reverse calls.now)) }
-    ensures settled { IfOk result (λ d. IsSettled (reverse d.calls.items)) }
+    requires { end ≤ length calls.now.made }
+    ensures image { IfOk result (λ d. reads d ≡ image_of choices.now (reverse (take end calls.now.made))) }
+    ensures settled { IfOk result (λ d. IsSettled (made_by d)) }
 {
-    let start = settled(calls);
-    let mut disk = MemoryDisk::with_room(alloc, calls.len(), &[])?;
-    'calls: for i in 0..calls.len() {
-        disk.replay(&calls[i], choice_for(choices, start, i))?;
+    let start = settled(calls, end);
+    let room = Room {
+        calls: end,
+        bytes: 0,
+        pages: 0,
+    };
+    let mut disk = MemoryDisk::with_room(alloc, room, &[])?;
+    'calls: for i in 0..end {
+        replay(&mut disk, calls, i, choice_for(choices, start, i))?;
     }
     disk.make_sync()?;
     Ok(disk)

@@ -4,6 +4,7 @@ pub mod Faults
 pub mod Images
 pub mod Moments
 pub mod Places
+pub mod Plans
 pub mod Ranges
 pub mod Seeded
 pub mod Shown

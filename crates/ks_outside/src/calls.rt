@@ -11,19 +11,21 @@ pub struct FailingCalls<'a> {
 }
 
 impl<'a> FailingCalls<'a> {
+    ghost use Rattle.ks_outside.specs.Plans.{failing_in, asked_in};
+
     /// Before the first call.
     pub fn new(numbers: &'a [u64]) -> FailingCalls<'a>
-        ensures numbers { result.numbers.now ≡ numbers.now }
-        ensures calls { result.calls ≡ 0 }
+        ensures failing { failing_in result ≡ numbers.now }
+        ensures none { asked_in result ≡ 0 }
     {
         FailingCalls { numbers, calls: 0 }
     }
 
     /// Counts one more call, and says whether it is to fail.
     pub fn next_fails(&mut self) -> bool
-        ensures numbers { self.new.numbers.now ≡ self.old.numbers.now }
-        ensures calls { self.new.calls ≡ one_more self.old.calls }
-        ensures fails { IsTrue result ↔ Contains self.old.numbers.now self.new.calls }
+        ensures failing { failing_in self.new ≡ failing_in self.old }
+        ensures asked { asked_in self.new ≡ one_more (asked_in self.old) }
+        ensures fails { IsTrue result ↔ Contains (failing_in self.old) (asked_in self.new) }
     {
         self.calls = self.calls.saturating_add(1);
         self.numbers.contains(&self.calls)

@@ -3,6 +3,7 @@
 ghost use Rattle.std.specs.Prelude.{◌≡◌, ◌↔◌, Some, IsOk, IsErr, OnErr, Contains, []};
 ghost use Rattle.ks_outside.specs.Draws.{DrawGives, counting_from};
 ghost use Rattle.ks_outside.specs.Faults.{HasCause, one_more};
+ghost use Rattle.ks_outside.specs.Plans.{failing_in, asked_in};
 
 use crate::calls::FailingCalls;
 use crate::endless;
@@ -66,8 +67,8 @@ impl<'a> MemoryEntropy<'a> {
     /// The next byte is 00; no draw is to fail.
     pub fn counting() -> MemoryEntropy<'static>
         ensures next { result.bytes.next ≡ 0 }
-        ensures numbers { result.plan.numbers.now ≡ [] }
-        ensures calls { result.plan.calls ≡ 0 }
+        ensures failing { failing_in result.plan ≡ [] }
+        ensures asked { asked_in result.plan ≡ 0 }
         ensures faults { result.faults.count ≡ 0 }
     {
         MemoryEntropy::failing(&[])
@@ -76,8 +77,8 @@ impl<'a> MemoryEntropy<'a> {
     /// The next byte is 00; the draws with the numbers `failing`, counted from 1, are to fail.
     pub fn failing(failing: &'a [u64]) -> MemoryEntropy<'a>
         ensures next { result.bytes.next ≡ 0 }
-        ensures numbers { result.plan.numbers.now ≡ failing.now }
-        ensures calls { result.plan.calls ≡ 0 }
+        ensures failing { failing_in result.plan ≡ failing.now }
+        ensures asked { asked_in result.plan ≡ 0 }
         ensures faults { result.faults.count ≡ 0 }
     {
         MemoryEntropy {
@@ -96,9 +97,9 @@ impl Entropy for MemoryEntropy<'_> {
     fn draw(&mut self, out: &mut [u8]) -> Result<(), Failed>
         ensures bytes { DrawGives (Some (counting_from self.old.bytes.next)) (Some (counting_from self.new.bytes.next)) result out.new }
         ensures cause { HasCause self.old.faults.count self.new.faults.count result }
-        ensures numbers { self.new.plan.numbers.now ≡ self.old.plan.numbers.now }
-        ensures calls { self.new.plan.calls ≡ one_more self.old.plan.calls }
-        ensures planned { IsErr result ↔ Contains self.old.plan.numbers.now self.new.plan.calls }
+        ensures failing { failing_in self.new.plan ≡ failing_in self.old.plan }
+        ensures asked { asked_in self.new.plan ≡ one_more (asked_in self.old.plan) }
+        ensures planned { IsErr result ↔ Contains (failing_in self.old.plan) (asked_in self.new.plan) }
         ensures same { OnErr result (out.new ≡ out.old) }
     {
         if self.plan.next_fails() {

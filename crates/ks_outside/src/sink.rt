@@ -3,6 +3,7 @@
 ghost use Rattle.std.specs.Prelude.{◌≡◌, ◌↔◌, ℕ, ◌+◌, ◌<◌, ◌≤◌, ◌++◌, ◌∷◌, [], List, length, Option, Some, IfOk, IsOk, IsErr, OnOk, OnErr, Contains, vec_capacity};
 ghost use Rattle.std.specs.Io.KnownBytes.{WriteAppends};
 ghost use Rattle.ks_outside.specs.Faults.{HasCause, one_more};
+ghost use Rattle.ks_outside.specs.Plans.{failing_in, asked_in};
 
 use crate::calls::FailingCalls;
 use crate::faults::{Failed, FaultCount};
@@ -45,8 +46,8 @@ impl<'a> MemorySink<'a> {
         ensures pieces { IfOk result (λ s. s.pieces.items ≡ []) }
         ensures bytes { IfOk result (λ s. bytes ≤ vec_capacity s.written) }
         ensures calls { IfOk result (λ s. calls ≤ vec_capacity s.pieces) }
-        ensures numbers { IfOk result (λ s. s.plan.numbers.now ≡ failing.now) }
-        ensures none { IfOk result (λ s. s.plan.calls ≡ 0) }
+        ensures failing { IfOk result (λ s. failing_in s.plan ≡ failing.now) }
+        ensures none { IfOk result (λ s. asked_in s.plan ≡ 0) }
         ensures faults { IfOk result (λ s. s.faults.count ≡ 0) }
     {
         Ok(MemorySink {
@@ -111,10 +112,10 @@ impl Sink for MemorySink<'_> {
         ensures whole { IfOk result (λ n. n ≡ length piece.now) }
         ensures pieces { OnOk result (self.new.pieces.items ≡ self.old.pieces.items ++ length piece.now ∷ []) }
         ensures same { OnErr result (self.new.pieces.items ≡ self.old.pieces.items) }
-        ensures planned { Contains self.old.plan.numbers.now self.new.plan.calls → IsErr result }
-        ensures room { ¬ Contains self.old.plan.numbers.now self.new.plan.calls → length self.old.pieces.items < vec_capacity self.old.pieces → length self.old.written.items + length piece.now ≤ vec_capacity self.old.written → IsOk result }
-        ensures numbers { self.new.plan.numbers.now ≡ self.old.plan.numbers.now }
-        ensures calls { self.new.plan.calls ≡ one_more self.old.plan.calls }
+        ensures planned { Contains (failing_in self.old.plan) (asked_in self.new.plan) → IsErr result }
+        ensures room { ¬ Contains (failing_in self.old.plan) (asked_in self.new.plan) → length self.old.pieces.items < vec_capacity self.old.pieces → length self.old.written.items + length piece.now ≤ vec_capacity self.old.written → IsOk result }
+        ensures failing { failing_in self.new.plan ≡ failing_in self.old.plan }
+        ensures asked { asked_in self.new.plan ≡ one_more (asked_in self.old.plan) }
         ensures bytes_room { vec_capacity self.old.written ≤ vec_capacity self.new.written }
         ensures calls_room { vec_capacity self.old.pieces ≤ vec_capacity self.new.pieces }
     {

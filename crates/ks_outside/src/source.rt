@@ -3,6 +3,7 @@
 ghost use Rattle.std.specs.Prelude.{◌≡◌, ◌↔◌, ℕ, ◌≤◌, min, List, length, take, drop, Option, Some, IfOk, IsOk, IsErr, IsSome, OnErr, Contains};
 ghost use Rattle.std.specs.Io.KnownBytes.{ReadConsumes};
 ghost use Rattle.ks_outside.specs.Faults.{HasCause, one_more};
+ghost use Rattle.ks_outside.specs.Plans.{failing_in, asked_in};
 
 use crate::calls::FailingCalls;
 use crate::faults::{Failed, FaultCount};
@@ -84,8 +85,8 @@ impl<'a> MemorySource<'a> {
     /// All of `bytes` is left; the reads with the numbers `failing`, counted from 1, are to fail.
     pub fn new(bytes: &'a [u8], failing: &'a [u64]) -> MemorySource<'a>
         ensures left { result.source.left.now ≡ bytes.now }
-        ensures numbers { result.plan.numbers.now ≡ failing.now }
-        ensures calls { result.plan.calls ≡ 0 }
+        ensures failing { failing_in result.plan ≡ failing.now }
+        ensures asked { asked_in result.plan ≡ 0 }
         ensures faults { result.faults.count ≡ 0 }
     {
         MemorySource {
@@ -120,9 +121,9 @@ impl Source for MemorySource<'_> {
         ensures bytes { ReadConsumes (Some self.old.source.left.now) (Some self.new.source.left.now) result out.new }
         ensures rest { IsSome (Some self.old.source.left.now) → IfOk result (λ n. drop n out.new ≡ drop n out.old) }
         ensures cause { HasCause self.old.faults.count self.new.faults.count result }
-        ensures numbers { self.new.plan.numbers.now ≡ self.old.plan.numbers.now }
-        ensures calls { self.new.plan.calls ≡ one_more self.old.plan.calls }
-        ensures planned { IsErr result ↔ Contains self.old.plan.numbers.now self.new.plan.calls }
+        ensures failing { failing_in self.new.plan ≡ failing_in self.old.plan }
+        ensures asked { asked_in self.new.plan ≡ one_more (asked_in self.old.plan) }
+        ensures planned { IsErr result ↔ Contains (failing_in self.old.plan) (asked_in self.new.plan) }
         ensures whole { IfOk result (λ n. n ≡ min (length out.old) (length self.old.source.left.now)) }
         ensures same { OnErr result (out.new ≡ out.old) }
     {

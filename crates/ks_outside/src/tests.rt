@@ -216,43 +216,108 @@ fn mode_of(rt: &HostRuntime, path: &str) -> io::Result<u32> {
     Ok(fs::metadata(rt, path)?.permissions().mode() % 0o1000)
 }
 
+/// A call of a disk.
+enum Ask {
+    /// so many bytes from a place on
+    Read { at: u64, count: usize },
+    Write { at: u64, piece: &'static [u8] },
+    Len,
+    Sync,
+}
+
+/// What a disk answers: how many bytes were read, or are there, and else 0.
+fn answer<D: Disk>(disk: &mut D, ask: &Ask) -> Result<u64, Failed> {
+    match ask {
+        Ask::Read { at, count } => {
+            let mut out = [9; 8];
+            let end = (*count).min(out.len());
+            let read = disk.read(*at, &mut out[..end])?;
+            Ok(read as u64)
+        }
+        Ask::Write { at, piece } => {
+            disk.write_at(*at, piece)?;
+            Ok(0)
+        }
+        Ask::Len => disk.len(),
+        Ask::Sync => {
+            disk.sync()?;
+            Ok(0)
+        }
+    }
+}
+
+static FILE_CALLS: [(Ask, Result<u64, Failed>); 8] = [
+    (Ask::Len, Ok(0)),
+    (
+        Ask::Write {
+            at: 2,
+            piece: b"abc",
+        },
+        Ok(0),
+    ),
+    (Ask::Sync, Ok(0)),
+    (Ask::Read { at: 1, count: 4 }, Ok(4)),
+    (Ask::Len, Ok(5)),
+    (Ask::Read { at: 5, count: 4 }, Ok(0)),
+    (
+        Ask::Write {
+            at: 1 << 63,
+            piece: b"a",
+        },
+        Err(Failed),
+    ),
+    (
+        Ask::Read {
+            at: 1 << 63,
+            count: 4,
+        },
+        Err(Failed),
+    ),
+];
+
 #[test]
 fn a_store_in_a_file(rt: HostRuntime) -> Result<(), Fail> {
     let path = "a_store_in_a_file.ks";
-    let mut out = [9; 4];
     let mut disk = open_store(&rt, path);
     assert!(rt; fs::metadata(&rt, path).is_err());
-    assert_eq!(rt; disk.len(), Ok(0));
-    assert_eq!(rt; mode_of(&rt, path)?, 0o600);
-    assert_eq!(rt; disk.write_at(2, b"abc"), Ok(()));
-    assert_eq!(rt; disk.sync(), Ok(()));
-    assert_eq!(rt; (disk.read(1, &mut out), disk.len()), (Ok(4), Ok(5)));
-    assert_eq!(rt; out, [0, b'a', b'b', b'c']);
-    assert_eq!(rt; disk.read(5, &mut out), Ok(0));
-    assert_eq!(rt; disk.faults(), 0);
-    assert_eq!(rt; disk.write_at(1 << 63, b"a"), Err(Failed));
-    assert_eq!(rt; disk.read(1 << 63, &mut out), Err(Failed));
-    assert_eq!(rt; disk.faults(), 2);
+    for (ask, wanted) in &FILE_CALLS {
+        assert_eq!(rt; &answer(&mut disk, ask), wanted);
+    }
+    let mut out = [9; 4];
+    assert_eq!(rt; (disk.read(1, &mut out), disk.faults()), (Ok(4), 2));
+    assert_eq!(rt; (out, mode_of(&rt, path)?), ([0, b'a', b'b', b'c'], 0o600));
     fs::remove_file(&rt, path)?;
 
     let mut missing = open_store(&rt, "no_such_folder/store.ks");
-    assert_eq!(rt; (missing.len(), missing.sync()), (Err(Failed), Err(Failed)));
-    assert_eq!(rt; missing.faults(), 2);
+    assert_eq!(rt;
+        (missing.len(), missing.sync(), missing.faults()),
+        (Err(Failed), Err(Failed), 2)
+    );
     Ok(())
 }
+
+/// The calls of a second handle while the first has the store.
+static SECOND_CALLS: [Ask; 4] = [
+    Ask::Write {
+        at: 0,
+        piece: b"xyz",
+    },
+    Ask::Len,
+    Ask::Sync,
+    Ask::Read { at: 0, count: 3 },
+];
 
 // As long as one handle has the store, each call of another fails, and harms nothing.
 #[test]
 fn two_handles_of_one_store(rt: HostRuntime) -> Result<(), Fail> {
     let path = "two_handles_of_one_store.ks";
-    let mut out = [9; 3];
     let mut first = open_store(&rt, path);
     let mut second = open_store(&rt, path);
     assert_eq!(rt; first.write_at(0, b"abc"), Ok(()));
-    assert_eq!(rt; second.write_at(0, b"xyz"), Err(Failed));
-    assert_eq!(rt; (second.len(), second.sync()), (Err(Failed), Err(Failed)));
-    assert_eq!(rt; second.read(0, &mut out), Err(Failed));
-    assert_eq!(rt; (second.faults(), out), (4, [9; 3]));
+    for ask in &SECOND_CALLS {
+        assert_eq!(rt; answer(&mut second, ask), Err(Failed));
+    }
+    let mut out = [9; 3];
     assert_eq!(rt; (first.read(0, &mut out), first.faults()), (Ok(3), 0));
     assert_eq!(rt; out, [b'a', b'b', b'c']);
     drop(first);

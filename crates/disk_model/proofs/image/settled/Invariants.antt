@@ -3,4 +3,4 @@ use Rattle.disk_model.proofs.Replays.{IsLast}
 use Rattle.disk_model.proofs.image.settled.Given as goal
 
 abbrev pub invariant-calls : goal.invariant-calls
-invariant-calls l = IsLast l.calls l.count l.i
+invariant-calls l = IsLast l.calls.made l.count l.i

@@ -4,5 +4,4 @@ use Rattle.disk_model.proofs.Replays.{chosen_image}
 use Rattle.disk_model.proofs.memory.MemoryDisk.image_after.Goals as goal
 
 pub returns-clause-possible : goal.returns-clause-possible
-returns-clause-possible c =
-    rw (c.in_ok-disk.ensures.image, c.deref.ensures.value) (chosen_image c.args.choices.now (reverse (take c.args.calls c.args.self.now.calls.items)))
+returns-clause-possible c = rw c.in_ok-disk.ensures.image (chosen_image c.args.choices.now (reverse (take c.args.calls c.args.self.now.calls.made)))

@@ -1,0 +1,6 @@
+pub mod Effects
+pub mod LastingPart
+pub mod Needs
+pub mod Reading
+pub mod Spelling
+pub mod Worked

@@ -1,0 +1,50 @@
+-- What a change needs of the lasting part before it.
+use Rattle.std.specs.Prelude.{ℕ, suc, ◌+◌, ◌^◌, Bool, true, false, ◌&&◌, ◌||◌, ◌==◌, not, nat_lt, nat_le, List, length, filter, find, Option, None, Some, is_some, if◌then◌else◌}
+use Rattle.std.specs.List.{list_any}
+use Rattle.tags.specs.Descriptor.{is_alias}
+use Rattle.grants.specs.declared.row.GrantRow.{GrantRow}
+use Rattle.grants.specs.Rows.{is_numbered, is_for}
+use Rattle.journal_records.specs.declared.change.Change.{Change}
+use Rattle.journal_records.specs.declared.change.Change.TheVariants.{Create, Delete, Use, Grant, Ungrant, Clear, Removed}
+use Rattle.journal_records.specs.declared.record.KeyRecord.{KeyRecord}
+use Rattle.journal_records.specs.LastingPart.{Lasting, has_id, some_has_id, is_named, without_keys}
+
+-- numbers of keys and grants stay below 2^63
+abbrev pub is_number_left : ℕ → Bool
+is_number_left number = nat_lt number (2 ^ 63)
+
+-- an owner is an app's uid of 32 bits, or a namespace
+abbrev pub is_owner : ℕ → ℕ → Bool
+is_owner domain nspace = (domain == 2) || ((domain == 0) && nat_lt nspace (2 ^ 32))
+
+-- at most 65,536 keys are live, and the key under the same name makes place for a new one
+abbrev pub has_place_for : ℕ → ℕ → List ℕ → Lasting → Bool
+has_place_for domain nspace alias part = nat_lt (length (without_keys (is_named domain nspace alias) part).keys) 65536
+
+-- a live key that has this number, with uses left; a key without a limit has none
+abbrev pub has_uses : ℕ → KeyRecord → Bool
+has_uses id key = has_id id key && nat_lt 0 key.left
+
+-- a grant keeps the number of the one that its key and uid have; where there is none it takes the next one, and at
+-- most 65,536 are held
+abbrev pub is_grant_numbered : Option GrantRow → GrantRow → Lasting → Bool
+is_grant_numbered (Some held) row part = row.grant == held.grant
+is_grant_numbered None row part =
+    (row.grant == part.next_grant) && (is_number_left row.grant && nat_lt (length part.grants) 65536)
+
+-- whether the need of a change is met
+abbrev pub is_met : Lasting → Change → Bool
+is_met part (Create id domain nspace alias blob list limit) =
+    ((id == part.next_key) && is_number_left id)
+    && (is_owner domain nspace
+    && (is_alias alias
+    && (nat_le (length blob) 6327
+    && (nat_le (length list) 4140
+    && has_place_for domain nspace alias part))))
+is_met part (Delete id) = some_has_id id part.keys
+is_met part (Use id) = list_any (has_uses id) part.keys
+is_met part (Grant row) =
+    some_has_id row.key part.keys && is_grant_numbered (find (is_for row.key row.uid) part.grants) row part
+is_met part (Ungrant grant) = list_any (is_numbered grant) part.grants
+is_met part (Clear domain nspace) = (domain == 0) || (domain == 2)
+is_met part (Removed user) = nat_le user 42949

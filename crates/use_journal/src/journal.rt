@@ -1,0 +1,158 @@
+//! Writing a journal, and settling what failed.
+
+ghost use Rattle.std.specs.Prelude.{◌≡◌, ◌≤◌, ◌<◌, ◌+◌, ◌∷◌, [], ℕ, List, length, true, false, IsErrOf, not, OnOk, OnErr, IfOk, is_err, ◌↔◌};
+ghost use Rattle.std.specs.Option.{ForSome};
+ghost use Rattle.ks_outside.specs.Images.{AllImages, Passes, TornFrom, tells};
+ghost use Rattle.journal_records.specs.declared.change.Change.{Change};
+ghost use Rattle.journal_records.specs.declared.fault.StoreFault.TheVariants as faults;
+ghost use Rattle.journal_records.specs.Spelling.{closed_of, IsChange};
+
+use crate::opening::read_disk;
+use gated_records::{is_published, publish};
+use journal_records::{Changes, StoreFault};
+use ks_outside::{Disk, write_synced};
+use std::alloc::Global;
+use tags::Settled;
+
+/// The header of a journal, and a gate that is shut.
+const FRESH: [u8; 9] = *b"KSJRNL01\0";
+
+/// How many bytes a journal may have.
+pub(crate) const JOURNAL_BYTES: u64 = 268_435_456;
+
+/// Where the records of a journal end: the place of the gate behind them. While a change whose writing failed waits
+/// to be settled, also where they end with it.
+#[derive(Clone, Copy, Debug)]
+pub struct Journal {
+    end: u64,
+    pending: Option<u64>,
+    ghost before_end: { end < 268435456 },
+    ghost pending_before_end: { ForSome pending (λ next. next < 268435456) },
+}
+
+impl Journal {
+    ghost use Rattle.use_journal.specs.Journal.{IsJournal, IsBeforeOrAfter, AreChanges, past_of, placed};
+    ghost use Rattle.use_journal.specs.Holding.{is_waiting, end_of, IsSettledOn, IsUnsettledOn, Appended, SettlesTo};
+    ghost use Rattle.use_journal.specs.Holding.{Reads, Finds, waits_after, FormatCause, AppendCause, OpenCause};
+
+    /// Writes an empty journal, and syncs. Device alone is its refusal. It takes no memory.
+    pub fn format<D: Disk>(disk: &mut D) -> Result<(), StoreFault>
+        ensures formatted { OnOk result (AllImages D.Disk disk.new (IsJournal [])) }
+        ensures passes { Passes D.Disk disk.old disk.new (TornFrom D.Disk disk.old 0 9) }
+        ensures torn { AllImages D.Disk disk.new (TornFrom D.Disk disk.old 0 9) }
+        ensures nothing { D.is_sure disk.old → OnErr result (AllImages D.Disk disk.new (D.images disk.old)) }
+        ensures sure { D.is_sure disk.old → D.is_sure disk.new }
+        ensures telling { tells D.Disk disk.new ≡ tells D.Disk disk.old }
+        ensures cause { FormatCause (D.fault_count disk.old) (D.fault_count disk.new) result }
+    {
+        let Ok(()) = write_synced(disk, 0, &FRESH) else {
+            return Err(StoreFault::Device);
+        };
+        Ok(())
+    }
+
+    /// Syncs, and reads the journal that the disk holds: the changes of its records, each with the place of its
+    /// gate. Corrupted has the place of what is wrong first, as it is read from left to right.
+    pub fn open<D: Disk>(alloc: Global, disk: &mut D) -> Result<(Journal, Changes), StoreFault>
+        ensures settled { IfOk result (λ opened. IsSettledOn D.Disk opened.0 disk.new (past_of opened.1)) }
+        ensures places { IfOk result (λ opened. opened.1 ≡ placed (past_of opened.1)) }
+        ensures reads { AllImages D.Disk disk.new (λ image. Reads image result) }
+        ensures told { (bytes : List ℕ) → D.content disk.old ≡ Some bytes → Reads bytes result }
+        ensures stands { (past : List Change) → AreChanges past → AllImages D.Disk disk.old (IsJournal past)
+            → tells D.Disk disk.old ≡ true → Finds past result }
+        ensures images { AllImages D.Disk disk.new (D.images disk.old) }
+        ensures passes { Passes D.Disk disk.old disk.new (D.images disk.old) }
+        ensures content { D.content disk.new ≡ D.content disk.old }
+        ensures sure { D.is_sure disk.old → D.is_sure disk.new }
+        ensures cause { OpenCause (D.fault_count disk.old) (D.fault_count disk.new) result }
+    {
+        read_disk(alloc, disk)
+    }
+
+    /// A settled journal whose records end at a place.
+    pub(crate) fn at(end: u64) -> Journal
+        requires { end < 268435456 }
+        ensures end { end_of result ≡ end }
+        ensures idle { result.pending ≡ None }
+    {
+        Journal { end, pending: None }
+    }
+
+    /// Whether no change waits to be settled. It takes no memory.
+    pub fn is_settled(&self) -> bool
+        ensures { result ≡ not (is_waiting self.now) }
+    {
+        self.pending.is_none()
+    }
+
+    /// The place of the gate behind the records, and so how many bytes the header and the records have. It takes no
+    /// memory.
+    pub fn end(&self) -> u64
+        ensures { result ≡ end_of self.now }
+    {
+        self.end
+    }
+
+    /// Adds a change by its framed record with a byte 00 behind it: writes behind the gate, syncs, opens the gate,
+    /// syncs. These are four calls of the disk, unless one fails. It takes no memory.
+    ///
+    /// Full comes where the record and its closing byte would pass the journal's end, and no call is made then.
+    pub fn append<D: Disk>(&mut self, disk: &mut D, closed: &[u8]) -> Result<(), StoreFault>
+        requires settled { is_waiting self.old ≡ false }
+        requires some { 2 ≤ length closed.now }
+        ensures appended { (past : List Change) (change : Change) → IsSettledOn D.Disk self.old disk.old past
+            → IsChange change → closed.now ≡ closed_of change
+            → Appended D.Disk self.new disk.new past change result }
+        ensures passes { (past : List Change) (change : Change) → IsSettledOn D.Disk self.old disk.old past
+            → IsChange change → closed.now ≡ closed_of change
+            → Passes D.Disk disk.old disk.new (IsBeforeOrAfter past change) }
+        ensures nothing { (past : List Change) (change : Change) → IsSettledOn D.Disk self.old disk.old past
+            → IsChange change → closed.now ≡ closed_of change
+            → D.is_sure disk.old → OnErr result (AllImages D.Disk disk.new (IsJournal past)) }
+        ensures waiting { is_waiting self.new ≡ waits_after result }
+        ensures full { IsErrOf result StoreFault.Full ↔ (268435456 < end_of self.old + length closed.now) }
+        ensures same { IsErrOf result StoreFault.Full → (disk.new ≡ disk.old) × (self.new ≡ self.old) }
+        ensures sure { D.is_sure disk.old → D.is_sure disk.new }
+        ensures telling { tells D.Disk disk.new ≡ tells D.Disk disk.old }
+        ensures cause { AppendCause (D.fault_count disk.old) (D.fault_count disk.new) result }
+    {
+        let length = closed.len() as u64;
+        if length > JOURNAL_BYTES - self.end {
+            return Err(StoreFault::Full);
+        }
+        let next = self.end + (length - 1);
+        let Ok(()) = publish(disk, self.end, closed) else {
+            self.pending = Some(next);
+            return Err(StoreFault::Device);
+        };
+        self.end = next;
+        Ok(())
+    }
+
+    /// Finds out what became of a change whose writing failed: syncs, and reads its gate. Device alone is its
+    /// refusal. It takes no memory.
+    pub fn settle<D: Disk>(&mut self, disk: &mut D) -> Result<Settled, StoreFault>
+        requires { is_waiting self.old ≡ true }
+        ensures settles { (past : List Change) (change : Change) → IsUnsettledOn D.Disk self.old disk.old past change
+            → SettlesTo D.Disk self.new disk.new past change result }
+        ensures images { AllImages D.Disk disk.new (D.images disk.old) }
+        ensures passes { Passes D.Disk disk.old disk.new (D.images disk.old) }
+        ensures waiting { is_waiting self.new ≡ is_err result }
+        ensures sure { D.is_sure disk.old → D.is_sure disk.new }
+        ensures telling { tells D.Disk disk.new ≡ tells D.Disk disk.old }
+        ensures cause { FormatCause (D.fault_count disk.old) (D.fault_count disk.new) result }
+    {
+        let Some(next) = self.pending else {
+            unreachable!()
+        };
+        let Ok(published) = is_published(disk, self.end) else {
+            return Err(StoreFault::Device);
+        };
+        self.pending = None;
+        if published {
+            self.end = next;
+            return Ok(Settled::Kept);
+        }
+        Ok(Settled::Lost)
+    }
+}

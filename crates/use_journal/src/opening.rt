@@ -1,0 +1,88 @@
+//! Reading a journal.
+
+ghost use Rattle.std.specs.Prelude.{◌≡◌, ◌<◌, ◌≤◌, ℕ, List, length, IfOk, IsErrOf};
+ghost use Rattle.ks_outside.specs.Images.{AllImages, Passes};
+ghost use Rattle.journal_records.specs.declared.change.Change.{Change};
+ghost use Rattle.use_journal.specs.Journal.{written, IsJournal, AreChanges, past_of, placed};
+ghost use Rattle.use_journal.specs.Holding.{end_of, is_waiting, IsSettledOn, Reads, Finds, OpenCause};
+
+use crate::journal::{JOURNAL_BYTES, Journal};
+use gated_records::OPEN;
+use journal_records::{Changes, RecordFault, StoreFault, read_record};
+use ks_outside::{Disk, ReadFault, read_synced};
+use std::alloc::Global;
+
+/// The journal that these bytes are, up to their end.
+fn walk(alloc: Global, bytes: &[u8]) -> Result<(Journal, Changes), StoreFault>
+    requires { length bytes.now ≤ 268435456 }
+    ensures reads { Reads bytes.now result }
+    ensures places { IfOk result (λ opened. opened.1 ≡ placed (past_of opened.1)) }
+    ensures end { IfOk result (λ opened. end_of opened.0 ≡ length (written (past_of opened.1))) }
+    ensures idle { IfOk result (λ opened. opened.0.pending ≡ None) }
+    ensures changes { IfOk result (λ opened. AreChanges (past_of opened.1)) }
+    ensures device { ¬ IsErrOf result StoreFault.Device }
+{
+    if bytes.len() < 8 {
+        return Err(StoreFault::Corrupted { offset: 0 });
+    }
+    let (front, behind) = bytes.split_at(8);
+    if front != b"KSJRNL01".as_slice() {
+        return Err(StoreFault::Corrupted { offset: 0 });
+    }
+    let mut changes = Changes::empty(alloc);
+    let mut rest = behind;
+    'records: while let [gate, after @ ..] = rest {
+        let at = (bytes.len() - rest.len()) as u64;
+        if *gate != OPEN {
+            return Ok((Journal::at(at), changes));
+        }
+        match read_record(alloc, after) {
+            Ok((change, left)) => {
+                let Ok(()) = changes.push(at, change) else {
+                    return Err(StoreFault::Memory);
+                };
+                rest = left;
+            }
+            Err(RecordFault::Bad) => return Err(StoreFault::Corrupted { offset: at }),
+            Err(RecordFault::Memory) => return Err(StoreFault::Memory),
+        }
+    }
+    Err(StoreFault::Corrupted {
+        offset: bytes.len() as u64,
+    })
+}
+
+/// The journal that these bytes are.
+fn read_bytes(alloc: Global, bytes: &[u8]) -> Result<(Journal, Changes), StoreFault>
+    ensures reads { Reads bytes.now result }
+    ensures places { IfOk result (λ opened. opened.1 ≡ placed (past_of opened.1)) }
+    ensures end { IfOk result (λ opened. end_of opened.0 ≡ length (written (past_of opened.1))) }
+    ensures idle { IfOk result (λ opened. opened.0.pending ≡ None) }
+    ensures changes { IfOk result (λ opened. AreChanges (past_of opened.1)) }
+    ensures device { ¬ IsErrOf result StoreFault.Device }
+{
+    let end = bytes.len().min(JOURNAL_BYTES as usize);
+    walk(alloc, &bytes[..end])
+}
+
+/// Syncs, and reads the journal that the disk holds.
+pub(crate) fn read_disk<D: Disk>(
+    alloc: Global,
+    disk: &mut D,
+) -> Result<(Journal, Changes), StoreFault>
+    ensures settled { IfOk result (λ opened. IsSettledOn D.Disk opened.0 disk.new (past_of opened.1)) }
+    ensures places { IfOk result (λ opened. opened.1 ≡ placed (past_of opened.1)) }
+    ensures reads { AllImages D.Disk disk.new (λ image. Reads image result) }
+    ensures told { (bytes : List ℕ) → D.content disk.old ≡ Some bytes → Reads bytes result }
+    ensures images { AllImages D.Disk disk.new (D.images disk.old) }
+    ensures passes { Passes D.Disk disk.old disk.new (D.images disk.old) }
+    ensures content { D.content disk.new ≡ D.content disk.old }
+    ensures sure { D.is_sure disk.old → D.is_sure disk.new }
+    ensures cause { OpenCause (D.fault_count disk.old) (D.fault_count disk.new) result }
+{
+    match read_synced(alloc, disk) {
+        Ok(bytes) => read_bytes(alloc, bytes.as_slice()),
+        Err(ReadFault::Device) => Err(StoreFault::Device),
+        Err(ReadFault::Memory) => Err(StoreFault::Memory),
+    }
+}
