@@ -6,14 +6,10 @@ use Rattle.std.proofs.lemmas.Nat.{from_be_bytes-to_be_bytes_4}
 use Rattle.std.specs.Int.{w32, from_be_bytes, to_be_bytes}
 use Rattle.std.specs.Int.RustNames.{bit_xor}
 use Rattle.gcm_mode.specs.Blocks.{first_blocks}
+use Rattle.gcm_mode.specs.Bytewise.{xor_by}
 use Rattle.gcm_mode.specs.Counter.{inc32, xor_bytes, gctr_blocks, gctr}
 use Rattle.gcm_mode.specs.Gcm.{pre_counter, raw, seal_given}
 use Rattle.gcm_mode.specs.Parts.{counter_block, key_byte}
-
--- a string that begins at a place, with what f gives at each byte's place added to it
-abbrev pub xor_by : (ℕ → ℕ) → ℕ → List ℕ → List ℕ
-xor_by f at [] = []
-xor_by f at (b ∷ bs) = bit_xor b (f at) ∷ xor_by f (at + 1) bs
 
 pub length-xor_by : (f : ℕ → ℕ) (at : ℕ) (xs : List ℕ) → length (xor_by f at xs) ≡ length xs
 length-xor_by f at [] = refl

@@ -1,7 +1,8 @@
 -- One more byte was added, and all were.
 use Rattle.std.proofs.Common.{ℕ, get_or, zero-add, sym, ◌∙◌, rules}
 use Rattle.std.proofs.lemmas.List.{take_all, drop_all, append-nil}
-use Rattle.gcm_mode.proofs.KeyStream.{xor_by, xor_by_more, xor_bytes_is}
+use Rattle.gcm_mode.specs.Bytewise.{xor_by}
+use Rattle.gcm_mode.proofs.KeyStream.{xor_by_more, xor_bytes_is}
 use Rattle.gcm_mode.proofs.bytes.xor_blocks.Goals as goal
 
 pub bytes-preserved : goal.bytes-preserved

@@ -1,6 +1,6 @@
 -- The bytes so far were added.
 use Rattle.std.proofs.Common.{◌≡◌, ◌++◌, take, drop, get_or}
-use Rattle.gcm_mode.proofs.KeyStream.{xor_by}
+use Rattle.gcm_mode.specs.Bytewise.{xor_by}
 use Rattle.gcm_mode.proofs.bytes.xor_blocks.Given as goal
 
 abbrev pub invariant-bytes : goal.invariant-bytes

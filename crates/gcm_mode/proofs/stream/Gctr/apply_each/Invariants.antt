@@ -1,8 +1,8 @@
 -- The bytes so far were changed, and the stream went on with them.
 use Rattle.std.proofs.Common.{◌≡◌, ℕ, ◌+◌, List, ◌++◌, take, drop}
 use Rattle.gcm_mode.specs.Parts.{Streams, key_byte}
-use Rattle.gcm_mode.proofs.KeyStream.{xor_by}
-use Rattle.gcm_mode.proofs.stream.Gctr.apply.Given as goal
+use Rattle.gcm_mode.specs.Bytewise.{xor_by}
+use Rattle.gcm_mode.proofs.stream.Gctr.apply_each.Given as goal
 
 abbrev pub invariant-bytes : goal.invariant-bytes
 invariant-bytes g l = record {
