@@ -7,3 +7,4 @@ pub mod GroupLemmas
 pub mod UnboxLemmas
 pub mod UnmixLemmas
 pub mod BackLemmas
+pub mod SingleLemmas
