@@ -10,7 +10,7 @@ use block_modes::Blocks;
 use gcm_mode::GcmSeal;
 use ghash::Ghash;
 use hmac_core::Hmac;
-use std::io;
+use std::{env, io};
 use std::rt::Clock;
 use std::time::Instant;
 use tags::Plan;
@@ -135,32 +135,43 @@ fn macs(rt: &(impl Print + Clock), rounds: u32) -> io::Result<()> {
     report(rt, "hmac-sha256", 16, start, rounds, out[0])
 }
 
-fn main(rt: HostRuntime) -> io::Result<()> {
-    mode(&rt, "ctr", Plan::Ctr, 4000)?;
+/// One part, by its name.
+fn part(rt: &(impl Print + Clock), name: &str) -> io::Result<()> {
     let seal = Plan::Cbc {
         seal: true,
         padded: false,
     };
-    mode(&rt, "cbc-seal", seal, 1000)?;
     let open = Plan::Cbc {
         seal: false,
         padded: false,
     };
-    mode(&rt, "cbc-open", open, 3000)?;
     let ecb = Plan::Ecb {
         seal: true,
         padded: false,
     };
-    mode(&rt, "ecb-seal", ecb, 4000)?;
-    gcm(&rt, 3000)?;
-    hash(&rt, 16384, 8000)?;
-    hash(&rt, 4096, 20000)?;
-    hash(&rt, 1024, 60000)?;
-    hash(&rt, 512, 60000)?;
-    hash(&rt, 256, 100000)?;
-    new_hash(&rt, 300000)?;
-    lanes(&rt, 40000)?;
-    plain(&rt, 10000)?;
-    new_key(&rt, 100000)?;
-    macs(&rt, 300000)
+    match name {
+        "ctr" => mode(rt, "ctr", Plan::Ctr, 8000),
+        "cbc-seal" => mode(rt, "cbc-seal", seal, 4000),
+        "cbc-open" => mode(rt, "cbc-open", open, 6000),
+        "ecb-seal" => mode(rt, "ecb-seal", ecb, 8000),
+        "gcm-seal" => gcm(rt, 5000),
+        "ghash-16384" => hash(rt, 16384, 16000),
+        "ghash-4096" => hash(rt, 4096, 50000),
+        "ghash-1024" => hash(rt, 1024, 100000),
+        "ghash-768" => hash(rt, 768, 100000),
+        "ghash-512" => hash(rt, 512, 150000),
+        "ghash-256" => hash(rt, 256, 250000),
+        "ghash-new" => new_hash(rt, 1000000),
+        "lanes" => lanes(rt, 100000),
+        "plain" => plain(rt, 20000),
+        "new-key" => new_key(rt, 300000),
+        _ => macs(rt, 600000),
+    }
+}
+
+fn main(rt: HostRuntime) -> io::Result<()> {
+    for word in env::args(&rt)?.skip(1) {
+        part(&rt, word.as_str())?;
+    }
+    Ok(())
 }

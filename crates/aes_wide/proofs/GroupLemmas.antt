@@ -25,7 +25,7 @@ pub record IsGoing (schedule : List ℕ) (n : ℕ) (x state : List (List ℕ)) :
   pub whole : IsWhole 8 state
   pub blocks : (b : ℕ) → b < 8 → block state b ≡ rounds schedule n (add_round_key (block x b) (round_key schedule 0))
 
-rounds_more : (w : List ℕ) (n : ℕ) (start : List ℕ) → rounds w (n + 1) start ≡ add_round_key (mix_columns (shift_rows (sub_bytes (rounds w n start)))) (round_key w (n + 1))
+pub rounds_more : (w : List ℕ) (n : ℕ) (start : List ℕ) → rounds w (n + 1) start ≡ add_round_key (mix_columns (shift_rows (sub_bytes (rounds w n start)))) (round_key w (n + 1))
 unfolding rounds
 rounds_more w n start =
     ap (λ m. rounds w m start) (add-one n)

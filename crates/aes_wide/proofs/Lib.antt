@@ -8,3 +8,4 @@ pub mod UnboxLemmas
 pub mod UnmixLemmas
 pub mod BackLemmas
 pub mod SingleLemmas
+pub mod RowLemmas

@@ -1,5 +1,5 @@
 -- A round on one block in the tower is the standard's round.
-use Rattle.std.proofs.Common.{◌≡◌, ◌≢◌, ℕ, ◌+◌, ◌-◌, ◌*◌, ◌%◌, ◌<◌, ◌≤◌, ◌==◌, true, List, [], ◌∷◌, map, set, get_or, length, refl, sym, ◌∙◌, ap, subst, arith, add-one, below_more, Fits, w8}
+use Rattle.std.proofs.Common.{◌≡◌, ◌≢◌, ℕ, ◌+◌, ◌-◌, ◌*◌, ◌%◌, ◌<◌, ◌≤◌, ◌==◌, true, List, [], ◌∷◌, map, set, get_or, length, replicate, refl, sym, ◌∙◌, ap, subst, arith, add-one, below_more, Fits, w8}
 use Rattle.std.specs.Int.Bits.{bit_xor, xor_assoc, xor_self, xor_zero_r}
 use Rattle.std.specs.Simd.Lanes.{Each1}
 use Rattle.std.proofs.lemmas.Nat.{xor_comm}
@@ -113,6 +113,14 @@ round_byte a b c d k la lb lc ld lk =
     ∙ ap to_tower (moved ∙ ap (λ t. bit_xor t k) constants)
 
 -- ---- blocks
+
+pub constant_row : replicate 16 0x63 ≡ constant
+unfolding constant state_of
+constant_row = refl
+
+pub summed_long : (a b : List ℕ) → length (add_round_key a b) ≡ 16
+unfolding add_round_key state_of
+summed_long a b = refl
 
 pub map_towered : (s : List ℕ) → length s ≡ 16 → map to_tower s ≡ towered s
 unfolding towered state_of

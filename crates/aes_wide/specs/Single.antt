@@ -1,5 +1,5 @@
 -- One block in the tower, and the round keys that are added to it there.
-use Rattle.std.specs.Prelude.{ℕ, ◌≡◌, ◌≤◌, ◌==◌, if◌then◌else◌, nat_lt, List, [], slice_index_or}
+use Rattle.std.specs.Prelude.{ℕ, zero, suc, ◌≡◌, ◌≤◌, if◌then◌else◌, nat_lt, List, [], slice_index_or}
 use Rattle.aes_core.specs.Tower.{to_tower}
 use Rattle.aes_core.specs.State.{byte_at, state_of, add_round_key}
 use Rattle.aes_core.specs.Expansion.{key_expansion, round_key, rounds_of}
@@ -12,10 +12,10 @@ towered s = state_of (λ r c. to_tower (byte_at s r c))
 
 -- a round key as it is added: in the tower but for the last, and with the S-box's constant but for the first
 abbrev pub added_key : List ℕ → ℕ → List ℕ
-added_key key r =
-    if r == 0 then towered (round_key (key_expansion key) r)
-    else if nat_lt r (rounds_of key) then towered (add_round_key (round_key (key_expansion key) r) constant)
-    else add_round_key (round_key (key_expansion key) r) constant
+added_key key zero = towered (round_key (key_expansion key) 0)
+added_key key (suc r) =
+    if nat_lt (suc r) (rounds_of key) then towered (add_round_key (round_key (key_expansion key) (suc r)) constant)
+    else add_round_key (round_key (key_expansion key) (suc r)) constant
 
 -- the bytes of the row at an index
 abbrev pub row_at : List RoundKey → ℕ → List ℕ

@@ -3,7 +3,7 @@
 //! Between the rounds the bytes stay in the tower of `aes_core`. The constant of the S-box is added with the round keys.
 
 ghost use Rattle.std.specs.Prelude.{◌≡◌, ℕ, ◌≤◌, List};
-ghost use Rattle.aes_core.specs.Block.{IsBlock};
+ghost use Rattle.aes_core.specs.Block.{IsBytes};
 ghost use Rattle.aes_core.specs.Expansion.{rounds_of};
 ghost use Rattle.aes_core.specs.KeyOf.{key_of};
 ghost use Rattle.aes_core.specs.State.{sub_bytes, shift_rows, mix_columns, add_round_key};
@@ -54,7 +54,7 @@ pub(crate) fn sum(a: u8x16, b: u8x16) -> u8x16
 /// A round on a block in the tower.
 #[inline(always)]
 pub(crate) fn tower_round(y: u8x16, key: u8x16) -> u8x16
-    ensures { (s k : List ℕ) → IsBlock s → IsBlock k → y ≡ towered s → key ≡ towered (add_round_key k constant) →
+    ensures { (s k : List ℕ) → IsBytes s → IsBytes k → y ≡ towered s → key ≡ towered (add_round_key k constant) →
         result ≡ towered (add_round_key (mix_columns (shift_rows (sub_bytes s))) k) }
 {
     let (once, twice) = sub_in_tower(rows_shifted(y));
@@ -66,7 +66,7 @@ pub(crate) fn tower_round(y: u8x16, key: u8x16) -> u8x16
 /// The last round, out of the tower.
 #[inline(always)]
 pub(crate) fn last_tower_round(y: u8x16, key: u8x16) -> u8x16
-    ensures { (s k : List ℕ) → IsBlock s → y ≡ towered s → key ≡ add_round_key k constant →
+    ensures { (s k : List ℕ) → IsBytes s → y ≡ towered s → key ≡ add_round_key k constant →
         result ≡ add_round_key (shift_rows (sub_bytes s)) k }
 {
     sum(sub_out_of_tower(rows_shifted(y)), key)
