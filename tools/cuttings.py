@@ -1,8 +1,10 @@
 #!/usr/bin/env python3
 """Writes checks/cuttings.jsonl and its expected replies: each mode, both ways, over a text that is cut where blocks begin to go
-through the cipher together (128 bytes and 1,024), around these, and into single bytes.
+through the cipher together (128 bytes and 1,024), around these, and into single bytes; and macs of texts in two pieces, verified
+with signatures of every length, with a changed one and with none.
 
 The cipher texts are made by the Python package `cryptography`, and the replies by `tools/second_model.py`, which calls it too."""
+import hmac
 import json
 import pathlib
 import subprocess
@@ -23,6 +25,7 @@ NO_PADDING, PKCS7 = 1, 64
 SHORT = [127, 1, 128, 129]
 LONG = [1023, 1024, 1, 1025]
 SINGLE = [1] * 40
+DIGESTS = {3: "sha224", 4: "sha256", 5: "sha384", 6: "sha512"}
 
 
 def text_of(size):
@@ -78,6 +81,25 @@ def cases():
     yield 32, GCM, NO_PADDING, False, LONG
 
 
+def macs(number):
+    """The lines of the macs, whose operations are numbered from here on."""
+    for digest, name in DIGESTS.items():
+        params = [["PURPOSE", 2], ["PURPOSE", 3], ["ALGORITHM", 128], ["DIGEST", digest], ["MIN_MAC_LENGTH", 128], ["NO_AUTH_REQUIRED", True]]
+        key = {"domain": 0, "alias": f"m{digest}"}
+        yield call("importKey", key=key, params=params, format=3, material=KEYS[32].hex())
+        for size in (0, 1, 15, 16, 17, 33, 200):
+            text = text_of(size)
+            mac = hmac.digest(KEYS[32], text, name)[:28]
+            signatures = [None] if size != 17 else [None, *(mac[:end] for end in range(29)), mac[:27] + bytes([mac[27] ^ 1])]
+            for purpose, signature in [(2, None), *((3, it) for it in signatures)]:
+                asked = [["PURPOSE", purpose]] + ([["MAC_LENGTH", 224]] if purpose == 2 else [])
+                yield call("createOperation", key=key, params=asked)
+                yield call("update", op=number, input=text[: size // 2].hex())
+                given = {} if signature is None else {"signature": signature.hex()}
+                yield call("finish", op=number, input=text[size // 2 :].hex(), **given)
+                number += 1
+
+
 def lines():
     yield {"t": [0, 1000], "do": "connect", "uid": 10001}
     for size, key in KEYS.items():
@@ -86,6 +108,7 @@ def lines():
         yield call("importKey", key={"domain": 0, "alias": f"k{size}"}, params=params, format=3, material=key.hex())
     for number, case in enumerate(cases(), 1):
         yield from operation(number, *case)
+    yield from macs(len(list(cases())) + 1)
 
 
 if __name__ == "__main__":

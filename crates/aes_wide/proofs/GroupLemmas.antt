@@ -16,7 +16,7 @@ use Rattle.aes_core.specs.declared.aes_key.AesKey.{AesKey}
 use Rattle.aes_wide.specs.declared.wide_aes.KeyPlanes.{KeyPlanes}
 use Rattle.aes_wide.specs.Held.{HasKeys, planes_in, planes_at}
 use Rattle.aes_wide.specs.Planes.{IsWhole, block}
-use Rattle.aes_wide.proofs.SwapLemmas.{back_0, back_1, back_2, back_3, back_4, back_5, back_6, back_7}
+use Rattle.aes_wide.proofs.TwiceLemmas.{back_0, back_1, back_2, back_3, back_4, back_5, back_6, back_7}
 
 -- ---- the rounds
 

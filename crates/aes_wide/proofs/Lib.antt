@@ -3,6 +3,9 @@ pub mod Wires
 pub mod BoxLemmas
 pub mod StepLemmas
 pub mod SwapLemmas
+pub mod TurnLemmas
+pub mod TwiceLemmas
+pub mod TransposeLemmas
 pub mod GroupLemmas
 pub mod UnboxLemmas
 pub mod UnmixLemmas

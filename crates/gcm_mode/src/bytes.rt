@@ -5,15 +5,13 @@ ghost use Rattle.std.specs.Str.{bytes_eq};
 ghost use Rattle.gcm_mode.specs.Bytewise.{xor_by, stream_byte};
 ghost use Rattle.gcm_mode.specs.Counter.{xor_bytes};
 
+use std::simd::prelude::*;
+
 /// A block and another, added bit by bit.
 pub(crate) fn xor_blocks(block: [u8; 16], key: &[u8; 16]) -> [u8; 16]
     ensures { result ≡ xor_bytes block key.now }
 {
-    let mut out = block;
-    'bytes: for i in 0..16usize {
-        out[i] ^= key[i];
-    }
-    out
+    (u8x16::from_array(block) ^ u8x16::from_array(*key)).to_array()
 }
 
 /// Adds a key stream of whole blocks to as many bytes, in place.
