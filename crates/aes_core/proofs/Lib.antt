@@ -4,3 +4,4 @@ pub mod MixLemmas
 mod ScheduleLemmas
 mod RoundLemmas
 mod KeyLemmas
+mod TowerLemmas

@@ -6,3 +6,4 @@ pub mod Cipher
 pub mod Held
 pub mod KeyOf
 pub mod Laws
+pub mod Tower

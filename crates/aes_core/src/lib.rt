@@ -13,6 +13,8 @@ mod schedule;
 mod state;
 #[cfg(test)]
 mod tests;
+mod tower;
 
 pub use aes_key::AesKey;
 pub use block_cipher::{BlockCipher, ManyBlocks};
+pub use tower::{sub_bytes, sub_in_tower, sub_out_of_tower, to_tower};

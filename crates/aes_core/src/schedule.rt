@@ -4,8 +4,9 @@ ghost use Rattle.std.specs.Prelude.{◌≡◌, ℕ, ◌+◌, ◌*◌, ◌/◌, �
 ghost use Rattle.aes_core.specs.Expansion.{word, add_words, rot_word, sub_word, power_of_x, changed, next_word, expanded, round_key, key_expansion};
 ghost use Rattle.aes_core.specs.Cipher.{is_key_size};
 
-use crate::boxes::sub_byte;
+use crate::tower::sub_bytes;
 use std::marker::Model;
+use std::simd::prelude::*;
 
 /// The powers of x that key expansion adds, from x^0 on.
 static POWERS: [u8; 10] = [0x01, 0x02, 0x04, 0x08, 0x10, 0x20, 0x40, 0x80, 0x1b, 0x36];
@@ -93,12 +94,9 @@ fn add_words(v: [u8; 4], w: [u8; 4]) -> [u8; 4]
 fn sub_word(w: [u8; 4]) -> [u8; 4]
     ensures { result ≡ sub_word w }
 {
-    [
-        sub_byte(w[0]),
-        sub_byte(w[1]),
-        sub_byte(w[2]),
-        sub_byte(w[3]),
-    ]
+    let bytes = [w[0], w[1], w[2], w[3], 0, 0, 0, 0, 0, 0, 0, 0, 0, 0, 0, 0];
+    let out = sub_bytes(u8x16::from_array(bytes)).to_array();
+    [out[0], out[1], out[2], out[3]]
 }
 
 #[tactic(auto, unfolding(crate::specs::Expansion::rot_word))]

@@ -16,7 +16,7 @@ use Rattle.aes_core.specs.declared.aes_key.AesKey.{AesKey}
 use Rattle.aes_wide.specs.declared.wide_aes.KeyPlanes.{KeyPlanes}
 use Rattle.aes_wide.specs.Held.{HasKeys, planes_in, planes_at}
 use Rattle.aes_wide.specs.Planes.{IsWhole, block}
-use Rattle.aes_wide.proofs.SwapLemmas.{back_0, back_1, back_2, back_3, back_4, back_5, back_6, back_7}
+use Rattle.aes_wide.proofs.TwiceLemmas.{back_0, back_1, back_2, back_3, back_4, back_5, back_6, back_7}
 
 -- ---- the rounds
 
@@ -25,7 +25,7 @@ pub record IsGoing (schedule : List ℕ) (n : ℕ) (x state : List (List ℕ)) :
   pub whole : IsWhole 8 state
   pub blocks : (b : ℕ) → b < 8 → block state b ≡ rounds schedule n (add_round_key (block x b) (round_key schedule 0))
 
-rounds_more : (w : List ℕ) (n : ℕ) (start : List ℕ) → rounds w (n + 1) start ≡ add_round_key (mix_columns (shift_rows (sub_bytes (rounds w n start)))) (round_key w (n + 1))
+pub rounds_more : (w : List ℕ) (n : ℕ) (start : List ℕ) → rounds w (n + 1) start ≡ add_round_key (mix_columns (shift_rows (sub_bytes (rounds w n start)))) (round_key w (n + 1))
 unfolding rounds
 rounds_more w n start =
     ap (λ m. rounds w m start) (add-one n)

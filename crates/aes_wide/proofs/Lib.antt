@@ -3,7 +3,12 @@ pub mod Wires
 pub mod BoxLemmas
 pub mod StepLemmas
 pub mod SwapLemmas
+pub mod TurnLemmas
+pub mod TwiceLemmas
+pub mod TransposeLemmas
 pub mod GroupLemmas
 pub mod UnboxLemmas
 pub mod UnmixLemmas
 pub mod BackLemmas
+pub mod SingleLemmas
+pub mod RowLemmas

@@ -3,6 +3,7 @@ pub mod Planes
 pub mod Gates
 pub mod Boxes
 pub mod Steps
+pub mod Single
 pub mod Swaps
 pub mod Held
 pub mod WideKey

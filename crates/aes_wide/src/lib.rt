@@ -7,6 +7,7 @@
 
 mod circuit;
 mod planes;
+mod single;
 #[cfg(test)]
 mod tests;
 mod transpose;

@@ -5,10 +5,12 @@ ghost use Rattle.aes_core.specs.Cipher.{cipher};
 ghost use Rattle.aes_core.specs.KeyOf.{key_of};
 ghost use Rattle.aes_wide.specs.Held.{HasAllKeys};
 ghost use Rattle.aes_wide.specs.Planes.{IsWhole, block};
+ghost use Rattle.aes_wide.specs.Single.{HasRows};
 
 use crate::planes::{added, last_round, last_unround, round, unround};
+use crate::single::{RoundKey, key_rows, last_tower_round, sum, tower_round};
 use crate::transpose::transposed;
-use aes_core::{AesKey, BlockCipher, ManyBlocks};
+use aes_core::{AesKey, BlockCipher, ManyBlocks, to_tower};
 use std::simd::prelude::*;
 
 /// A round key in planes, as each of eight blocks.
@@ -61,7 +63,9 @@ impl KeyPlanes {
 pub struct WideAes {
     plain: AesKey,
     keys: [KeyPlanes; 15],
+    rows: [RoundKey; 15],
     ghost has_keys: { HasAllKeys keys (key_of plain) },
+    ghost has_rows: { HasRows rows (key_of plain) },
 }
 
 /// A block, as each of eight, in planes.
@@ -99,7 +103,21 @@ impl WideAes {
     {
         let plain = AesKey::new(key)?;
         let keys = key_planes(&plain);
-        Some(WideAes { plain, keys })
+        let rows = key_rows(&plain);
+        Some(WideAes { plain, keys, rows })
+    }
+
+    /// The cipher of one block.
+    fn encrypt_one(&self, x: u8x16) -> u8x16
+        ensures { result ≡ cipher (wide_key_of self.now) x }
+    {
+        let count = self.plain.rounds();
+        let mut state = sum(to_tower(x), self.rows[0].bytes);
+        'rounds: for done in 0..count - 1 {
+            let next = tower_round(state, self.rows[done + 1].bytes);
+            state = next;
+        }
+        last_tower_round(state, self.rows[count].bytes)
     }
 
     /// The cipher of eight blocks in planes.
@@ -255,18 +273,20 @@ impl BlockCipher for WideAes {
 
     ghost inverse = { λ aes. inverse_cipher (wide_key_of aes) };
 
-    /// The cipher of a block, by the plain code.
+    /// The cipher of a block, in a vector of its own.
     fn encrypt(&self, block: [u8; 16]) -> [u8; 16]
         ensures { result ≡ cipher (wide_key_of self.now) block }
     {
-        self.plain.encrypt(block)
+        self.encrypt_one(u8x16::from_array(block)).to_array()
     }
 
-    /// The inverse cipher of a block, by the plain code.
+    /// The inverse cipher of a block, by that of eight.
     fn decrypt(&self, block: [u8; 16]) -> [u8; 16]
         ensures { result ≡ inverse_cipher (wide_key_of self.now) block }
     {
-        self.plain.decrypt(block)
+        let mut one = [block];
+        self.decrypt_few(&mut one);
+        one[0]
     }
 
     ghost cipher_keeps = { wide_keeps };

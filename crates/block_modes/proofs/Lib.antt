@@ -1,7 +1,9 @@
 pub mod XorLemmas
 pub mod PieceLemmas
 pub mod StepLemmas
+pub mod LaneLemmas
 pub mod GoingLemmas
+pub mod RunLemmas
 pub mod SettleLemmas
 pub mod Taking
 pub mod UpdateLoop

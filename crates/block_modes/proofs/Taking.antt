@@ -1,10 +1,11 @@
 -- The loop of an update: how much of the input is taken, and what was given.
-use Rattle.std.proofs.Common.{◌≡◌, ℕ, ◌+◌, ◌-◌, ◌<◌, ◌≤◌, List, [], ◌++◌, length, take, drop, sym, ◌∙◌, ap, subst, arith, append_assoc, append-nil, length-drop}
+use Rattle.std.proofs.Common.{◌≡◌, ℕ, ◌+◌, ◌-◌, ◌<◌, ◌≤◌, true, List, [], ◌++◌, length, take, drop, sym, ◌∙◌, ap, subst, arith, append_assoc, append-nil, length-drop}
 use Rattle.std.proofs.lemmas.List.{take_all}
 use Rattle.std.proofs.Math.Seq.{take-add}
 use Rattle.tags.specs.declared.plan.Plan.{Plan}
 use Rattle.block_modes.specs.declared.engine.Blocks.{Blocks}
 use Rattle.block_modes.specs.Output.{raw, front}
+use Rattle.block_modes.specs.Steps.{holds_back}
 use Rattle.block_modes.specs.Holds.{Going, IsLazy, Settled, shown, Holds}
 use Rattle.block_modes.proofs.GoingLemmas.{going_fill}
 
@@ -50,24 +51,29 @@ taking_start {C = C} cipher_of inverse_of s input out skip is_skip = record {
   lazy = λ c i plan nonce text holds on empty. ap length (sym (none_yet text input)) ∙ holds.lazy on empty;
 }
 
--- after room was made, some bytes are held
-pub taking_more : {C : Type 0} (cipher_of inverse_of : C → List ℕ → List ℕ) (start s t n : Blocks C) (input rest new out made : List ℕ) (at end skip part taken : ℕ) →
+-- after room was made, blocks of the input went through, and some bytes behind them are held
+pub taking_more : {C : Type 0} (cipher_of inverse_of : C → List ℕ → List ℕ) (start s t n : Blocks C) (input rest mid new out made : List ℕ) (at end skip part passed taken : ℕ) →
     Taking cipher_of inverse_of start s input rest out at skip →
     ((c i : List ℕ → List ℕ) (plan : Plan) (nonce text before : List ℕ) → Going cipher_of inverse_of s c i plan nonce text skip (before ++ take at out) →
-    Going cipher_of inverse_of t c i plan nonce text part (before ++ take end made)) →
-    part ≤ length t.held → n ≡ record t { held = t.held ++ take taken rest } → 0 < length n.held →
-    rest ≡ drop (length input - length rest) input → length rest ≤ length input → new ≡ drop taken rest → taken ≤ length rest →
+    Going cipher_of inverse_of t c i plan nonce (text ++ take passed rest) part (before ++ take end made)) →
+    part ≤ length t.held → n ≡ record t { held = t.held ++ take taken mid } → (holds_back t.plan ≡ true → 0 < length n.held) →
+    rest ≡ drop (length input - length rest) input → length rest ≤ length input → mid ≡ drop passed rest → passed ≤ length rest →
+    mid ≡ drop (length input - length mid) input → length mid ≤ length input → new ≡ drop taken mid → taken ≤ length mid →
     Taking cipher_of inverse_of start n input new made end part
-taking_more {C = C} cipher_of inverse_of start s t n input rest new out made at end skip part taken old room within is_n some is_rest few is_new fits = record {
+taking_more {C = C} cipher_of inverse_of start s t n input rest mid new out made at end skip part passed taken old room within is_n some is_rest few is_mid went is_left left is_new fits = record {
   goes = λ c i plan nonce text holds.
       let given = take (front plan text) (raw c i plan nonce text) in
       let P : List ℕ → Type 0 = λ u. Going cipher_of inverse_of n c i plan nonce u part (given ++ take end made) in
-      let Q : Blocks C → Type 0 = λ u. Going cipher_of inverse_of u c i plan nonce (so_far text input rest ++ take taken rest) part (given ++ take end made) in
-      subst P (more_taken text input rest new taken is_rest few is_new fits)
+      let Q : Blocks C → Type 0 = λ u. Going cipher_of inverse_of u c i plan nonce (so_far text input mid ++ take taken mid) part (given ++ take end made) in
+      let R : List ℕ → Type 0 = λ u. Going cipher_of inverse_of t c i plan nonce u part (given ++ take end made) in
+      subst P (more_taken text input mid new taken is_left left is_new fits)
       (subst Q (sym is_n)
-      (going_fill cipher_of inverse_of t c i plan nonce (so_far text input rest) part (given ++ take end made) (take taken rest)
-      (room c i plan nonce (so_far text input rest) given (old.goes c i plan nonce text holds)) within));
-  lazy = λ c i plan nonce text holds on empty. absurd (omega (arith, some, empty));
+      (going_fill cipher_of inverse_of t c i plan nonce (so_far text input mid) part (given ++ take end made) (take taken mid)
+      (subst R (more_taken text input rest mid passed is_rest few is_mid went) (room c i plan nonce (so_far text input rest) given (old.goes c i plan nonce text holds))) within));
+  lazy = λ c i plan nonce text holds on empty.
+      let given = take (front plan text) (raw c i plan nonce text) in
+      let now = room c i plan nonce (so_far text input rest) given (old.goes c i plan nonce text holds) in
+      absurd (omega (arith, some (ap holds_back now.plan_is ∙ on), empty));
 }
 
 -- the end of the input

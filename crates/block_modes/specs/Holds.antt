@@ -59,6 +59,15 @@ abbrev pub after_block : {C : Type 0} (cipher_of inverse_of : C → List ℕ →
 after_block cipher_of inverse_of state =
     record state { chain = step_chain (cipher_of state.cipher) (inverse_of state.cipher) state.plan state.chain state.held; held = [] }
 
+-- the engine after some blocks that went through while none was held
+abbrev pub after_blocks : {C : Type 0} (cipher_of inverse_of : C → List ℕ → List ℕ) → Blocks C → List (List ℕ) → Blocks C
+after_blocks cipher_of inverse_of state blocks =
+    record state { chain = chain_after (cipher_of state.cipher) (inverse_of state.cipher) state.plan state.chain blocks }
+
+-- what comes out of the engine for them
+abbrev pub outs_of : {C : Type 0} (cipher_of inverse_of : C → List ℕ → List ℕ) → Blocks C → List (List ℕ) → List ℕ
+outs_of cipher_of inverse_of state blocks = through (cipher_of state.cipher) (inverse_of state.cipher) state.plan state.chain blocks
+
 -- From text a to text b these bytes were given: those of what the mode makes of b, from the front after a to the front after b.
 pub record Gives (made : List ℕ → List ℕ) (front_of : List ℕ → ℕ) (a b given : List ℕ) : Type 0 where
   pub joined : take (front_of a) (made a) ++ given ≡ take (front_of b) (made b)

@@ -1,5 +1,5 @@
 -- The modes as steps of one block: what comes out, and what is chained to the next block.
-use Rattle.std.specs.Prelude.{ℕ, Bool, true, false, not, ◌&&◌, List, [], ◌∷◌, ◌++◌}
+use Rattle.std.specs.Prelude.{ℕ, zero, suc, Bool, true, false, not, ◌&&◌, List, [], ◌∷◌, ◌++◌}
 use Rattle.tags.specs.declared.plan.Plan.{Plan}
 use Rattle.tags.specs.declared.plan.Plan.TheVariants.{Ecb, Cbc, Ctr}
 use Rattle.block_modes.specs.Texts.{xor_bytes}
@@ -25,6 +25,11 @@ abbrev pub through : (cipher inverse : List ℕ → List ℕ) → Plan → List 
 through cipher inverse plan chain [] = []
 through cipher inverse plan chain (block ∷ blocks) = step_out cipher inverse plan chain block ++ through cipher inverse plan (step_chain cipher inverse plan chain block) blocks
 
+-- the same, each by itself
+abbrev pub outs : (cipher inverse : List ℕ → List ℕ) → Plan → List ℕ → List (List ℕ) → List (List ℕ)
+outs cipher inverse plan chain [] = []
+outs cipher inverse plan chain (block ∷ blocks) = step_out cipher inverse plan chain block ∷ outs cipher inverse plan (step_chain cipher inverse plan chain block) blocks
+
 -- what is chained after them
 abbrev pub chain_after : (cipher inverse : List ℕ → List ℕ) → Plan → List ℕ → List (List ℕ) → List ℕ
 chain_after cipher inverse plan chain [] = chain
@@ -40,3 +45,21 @@ abbrev pub holds_back : Plan → Bool
 holds_back (Ecb seal padded) = padded && not seal
 holds_back (Cbc seal padded) = padded && not seal
 holds_back _ = false
+
+-- so many counter blocks from a first one on, and the one behind them
+abbrev pub counter_blocks : ℕ → List ℕ → List (List ℕ)
+counter_blocks zero counter = []
+counter_blocks (suc n) counter = counter ∷ counter_blocks n (next_counter counter)
+
+abbrev pub counter_after : ℕ → List ℕ → List ℕ
+counter_after zero counter = counter
+counter_after (suc n) counter = counter_after n (next_counter counter)
+
+-- what stands before each of some blocks of cipher text, and before the block that follows them
+abbrev pub before_each : List ℕ → List (List ℕ) → List (List ℕ)
+before_each before [] = []
+before_each before (block ∷ blocks) = before ∷ before_each block blocks
+
+abbrev pub before_next : List ℕ → List (List ℕ) → List ℕ
+before_next before [] = before
+before_next before (block ∷ blocks) = before_next block blocks

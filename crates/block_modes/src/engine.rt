@@ -1,13 +1,15 @@
 //! The streaming engine: it gathers blocks and lets each through the mode.
 
-ghost use Rattle.std.specs.Prelude.{◌≡◌, ℕ, ◌+◌, ◌<◌, ◌≤◌, true, List, [], ◌++◌, length, take, drop};
+ghost use Rattle.std.specs.Prelude.{◌≡◌, ℕ, ◌+◌, ◌*◌, ◌<◌, ◌≤◌, true, List, [], ◌++◌, length, take, drop};
+ghost use Rattle.std.specs.List.{concat};
 ghost use Rattle.block_modes.specs.Steps.{is_counter, holds_back};
 
 use crate::fault::ModeFault;
+use crate::lanes::pass_all;
 use crate::padding::text_size;
 use crate::partial::Partial;
 use crate::step::step;
-use aes_core::BlockCipher;
+use aes_core::ManyBlocks;
 use tags::Plan;
 
 /// A text in ECB, CBC or CTR (SP 800-38A section 6), as far as it has come.
@@ -33,13 +35,27 @@ fn put(out: &mut [u8], at: usize, bytes: &[u8]) -> usize
     end
 }
 
-impl<C: BlockCipher + Drop> Blocks<C> {
-    ghost use Rattle.std.specs.Prelude.{◌≡◌, ℕ, ◌+◌, ◌<◌, ◌≤◌, true, false, List, [], ◌++◌, length, take, drop, MatchResult, IfOk, Ok, Err};
+/// Puts the blocks into `out` from `at` on, and says where they end.
+fn put_blocks(out: &mut [u8], at: usize, blocks: &[[u8; 16]]) -> usize
+    requires { at + 16 * length blocks.now ≤ length out.old }
+    ensures front { take result out.new ≡ take at out.old ++ concat blocks.now }
+    ensures rest { drop result out.new ≡ drop result out.old }
+    ensures count { result ≡ at + 16 * length blocks.now }
+{
+    let mut end = at;
+    'each: for i in 0..blocks.len() {
+        end = put(out, end, &blocks[i]);
+    }
+    end
+}
+
+impl<C: ManyBlocks + Drop> Blocks<C> {
+    ghost use Rattle.std.specs.Prelude.{◌≡◌, ℕ, ◌+◌, ◌*◌, ◌<◌, ◌≤◌, true, false, List, [], ◌++◌, length, take, drop, MatchResult, IfOk, Ok, Err};
     ghost use Rattle.tags.specs.declared.plan.Plan.{Plan};
     ghost use Rattle.block_modes.specs.Texts.{xor_bytes};
     ghost use Rattle.block_modes.specs.Output.{is_served, raw, front, whole};
     ghost use Rattle.block_modes.specs.Steps.{is_counter, holds_back};
-    ghost use Rattle.block_modes.specs.Holds.{Going, IsLazy, shown, Settled, Holds, out_of, after_block, Gives, Finishes, last};
+    ghost use Rattle.block_modes.specs.Holds.{Going, IsLazy, shown, Settled, Holds, out_of, after_block, outs_of, after_blocks, Gives, Finishes, last};
 
     /// The empty text under a cipher, a plan of ECB, CBC or CTR, and a nonce of 16 bytes: the initialization vector of CBC,
     /// the first counter block of CTR, and not looked at in ECB.
@@ -156,6 +172,82 @@ impl<C: BlockCipher + Drop> Blocks<C> {
         }
     }
 
+    /// How many whole blocks of an input can go through before its last bytes are held.
+    fn whole_blocks(&self, size: usize) -> usize
+        ensures within { 16 * result ≤ size }
+        ensures behind { holds_back self.now.plan ≡ true → 0 < size → 16 * result < size }
+    {
+        if self.holds_back() {
+            size.saturating_sub(1) / 16
+        } else {
+            size / 16
+        }
+    }
+
+    /// Lets at most 64 blocks through, and puts what comes out.
+    fn pass(&mut self, texts: &[[u8; 16]], out: &mut [u8], at: usize) -> usize
+        requires few { length texts.now ≤ 64 }
+        requires room { at + 16 * length texts.now ≤ length out.old }
+        ensures state { self.new ≡ after_blocks C.cipher C.inverse self.old texts.now }
+        ensures front { take result out.new ≡ take at out.old ++ outs_of C.cipher C.inverse self.old texts.now }
+        ensures rest { drop result out.new ≡ drop result out.old }
+        ensures count { result ≡ at + 16 * length texts.now }
+    {
+        let mut room = [[0u8; 16]; 64];
+        let made = &mut room[..texts.len()];
+        self.chain = pass_all(&self.cipher, self.plan, self.chain, texts, made);
+        put_blocks(out, at, made)
+    }
+
+    /// Lets blocks through while none is held, 64 at a time, and puts what comes out.
+    fn run(&mut self, texts: &[[u8; 16]], out: &mut [u8], at: usize) -> usize
+        requires room { at + 16 * length texts.now ≤ length out.old }
+        ensures state { self.new ≡ after_blocks C.cipher C.inverse self.old texts.now }
+        ensures front { take result out.new ≡ take at out.old ++ outs_of C.cipher C.inverse self.old texts.now }
+        ensures rest { drop result out.new ≡ drop result out.old }
+        ensures count { result ≡ at + 16 * length texts.now }
+    {
+        let mut end = at;
+        let mut done = 0;
+        'groups: while done < texts.len() {
+            let count = (texts.len() - done).min(64);
+            end = self.pass(&texts[done..done + count], out, end);
+            done += count;
+        }
+        end
+    }
+
+    /// Lets a whole block through before more is held, and where none is held then, the next blocks, if they are eight or
+    /// more. Says where the output ends, how much of the next block is out, and how much of the input went through.
+    fn make_way(
+        &mut self,
+        input: &[u8],
+        out: &mut [u8],
+        at: usize,
+        skip: usize,
+    ) -> (usize, usize, usize)
+        requires part { skip ≤ length self.old.held }
+        requires room { at + length self.old.held + length input.now ≤ length out.old }
+        ensures goes { (cipher inverse : List ℕ → List ℕ) (plan : Plan) (nonce text before : List ℕ) →
+            Going C.cipher C.inverse self.old cipher inverse plan nonce text skip (before ++ take at out.old) →
+            Going C.cipher C.inverse self.new cipher inverse plan nonce (text ++ take result.2 input.now) result.1 (before ++ take result.0 out.new) }
+        ensures part { result.1 ≤ length self.new.held }
+        ensures space { length self.new.held < 16 }
+        ensures rest { drop result.0 out.new ≡ drop result.0 out.old }
+        ensures count { result.0 + length self.new.held ≤ at + length self.old.held + result.2 }
+        ensures within { at ≤ result.0 }
+        ensures taken { result.2 ≤ length input.now }
+        ensures behind { holds_back self.new.plan ≡ true → 0 < length input.now → result.2 < length input.now }
+    {
+        let (end, part) = self.make_room(out, at, skip);
+        let count = self.whole_blocks(input.len());
+        if self.held.len() != 0 || count < 8 {
+            return (end, part, 0);
+        }
+        let (blocks, _) = input.as_chunks::<16>();
+        (self.run(&blocks[..count], out, end), 0, 16 * count)
+    }
+
     /// Takes the next piece of the text, puts the bytes that are out by now at the front of `out`, and says how many.
     ///
     /// `out` has room for 16 bytes more than the piece; what stands behind the bytes stays. After CTR all bytes are out,
@@ -175,9 +267,10 @@ impl<C: BlockCipher + Drop> Blocks<C> {
         let mut at = 0;
         let mut skip = self.shown();
         'pieces: while !rest.is_empty() {
-            let (end, part) = self.make_room(out, at, skip);
+            let (end, part, passed) = self.make_way(rest, out, at, skip);
             at = end;
             skip = part;
+            rest = &rest[passed..];
             let taken = self.held.fill(rest);
             rest = &rest[taken..];
         }

@@ -6,6 +6,7 @@
 
 mod engine;
 mod fault;
+mod lanes;
 mod padding;
 mod partial;
 mod step;

@@ -4,8 +4,8 @@ use Rattle.tags.specs.declared.plan.Plan.{Plan}
 use Rattle.tags.specs.declared.plan.Plan.TheVariants.{Gcm, HmacSign, HmacVerify}
 use Rattle.tags.specs.Plan.{IsWorkable}
 use Rattle.aes_core.specs.Cipher.{cipher}
-use Rattle.aes_core.specs.KeyOf.{key_of}
-use Rattle.aes_core.specs.declared.aes_key.AesKey.{AesKey}
+use Rattle.aes_wide.specs.WideKey.{wide_key_of}
+use Rattle.aes_wide.specs.declared.wide_aes.WideAes.{WideAes}
 use Rattle.block_modes.specs.Holds as blocks
 use Rattle.block_modes.specs.declared.engine.Blocks.{Blocks}
 use Rattle.gcm_mode.specs.Holds.{Seals, Opens}
@@ -23,19 +23,19 @@ use Rattle.cipher_ops.proofs.GoingOn.{modes_hold}
 within_none : (plan : Plan) (key nonce : List ℕ) → length (given plan key nonce []) ≡ full_front plan []
 within_none plan key nonce = ap length (given_none plan key nonce) ∙ sym (front_none plan)
 
-pub modes_begin : (state : Blocks AesKey) (aes_key : AesKey) (plan : Plan) (key nonce block : List ℕ) → key_of aes_key ≡ key → block ≡ first_block plan nonce
+pub modes_begin : (state : Blocks WideAes) (aes_key : WideAes) (plan : Plan) (key nonce block : List ℕ) → wide_key_of aes_key ≡ key → block ≡ first_block plan nonce
     → blocks.Holds aes aes_inverse state (aes aes_key) (aes_inverse aes_key) plan block [] → Holds (Modes state) plan key nonce [] []
 modes_begin state aes_key plan key nonce block key_is block_is holds =
     modes_hold state plan key nonce [] [] (rw (← key_is, ← block_is) holds)
 
-pub seal_begin : (state : GcmSeal AesKey) (aes_key : AesKey) (plan : Plan) (tag : ℕ) (key nonce block : List ℕ) → plan ≡ Gcm true tag → key_of aes_key ≡ key → block ≡ nonce
+pub seal_begin : (state : GcmSeal WideAes) (aes_key : WideAes) (plan : Plan) (tag : ℕ) (key nonce block : List ℕ) → plan ≡ Gcm true tag → wide_key_of aes_key ≡ key → block ≡ nonce
     → Seals aes state (aes aes_key) block tag [] [] → Holds (Seal state) plan key nonce [] []
 seal_begin state aes_key plan tag key nonce block plan_is key_is block_is seals = record {
   transform_is = record { tag = tag; plan_is = plan_is; seals = rw (← key_is, ← block_is) seals };
   within = within_none plan key nonce;
 }
 
-pub open_begin : (state : GcmOpen AesKey) (aes_key : AesKey) (plan : Plan) (tag : ℕ) (key nonce block : List ℕ) → plan ≡ Gcm false tag → key_of aes_key ≡ key → block ≡ nonce
+pub open_begin : (state : GcmOpen WideAes) (aes_key : WideAes) (plan : Plan) (tag : ℕ) (key nonce block : List ℕ) → plan ≡ Gcm false tag → wide_key_of aes_key ≡ key → block ≡ nonce
     → Opens aes state (aes aes_key) block tag [] [] → Holds (Open state) plan key nonce [] []
 open_begin state aes_key plan tag key nonce block plan_is key_is block_is opens = record {
   transform_is = record { tag = tag; plan_is = plan_is; opens = rw (← key_is, ← block_is) opens };
@@ -69,7 +69,7 @@ verify_begin mac plan digest least key nonce plan_is holds = record {
   within = within_none plan key nonce;
 }
 
-pub seal_aad : (old new : GcmSeal AesKey) (plan : Plan) (key nonce aad input : List ℕ) → Holds (Seal old) plan key nonce aad []
+pub seal_aad : (old new : GcmSeal WideAes) (plan : Plan) (key nonce aad input : List ℕ) → Holds (Seal old) plan key nonce aad []
     → ((tag : ℕ) → Seals aes old (cipher key) nonce tag aad [] → Seals aes new (cipher key) nonce tag (aad ++ input) [])
     → Holds (Seal new) plan key nonce (aad ++ input) []
 seal_aad old new plan key nonce aad input holds more =
@@ -79,7 +79,7 @@ seal_aad old new plan key nonce aad input holds more =
       within = holds.within;
     }
 
-pub open_aad : (old new : GcmOpen AesKey) (plan : Plan) (key nonce aad input : List ℕ) → Holds (Open old) plan key nonce aad []
+pub open_aad : (old new : GcmOpen WideAes) (plan : Plan) (key nonce aad input : List ℕ) → Holds (Open old) plan key nonce aad []
     → ((tag : ℕ) → Opens aes old (cipher key) nonce tag aad [] → Opens aes new (cipher key) nonce tag (aad ++ input) [])
     → Holds (Open new) plan key nonce (aad ++ input) []
 open_aad old new plan key nonce aad input holds more =

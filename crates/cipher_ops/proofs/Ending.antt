@@ -8,7 +8,7 @@ use Rattle.tags.specs.declared.plan.Plan.TheVariants.{Gcm, HmacSign, HmacVerify}
 use Rattle.tags.specs.declared.code.Code.{Code}
 use Rattle.tags.specs.declared.code.Code.TheVariants.{VerificationFailed}
 use Rattle.aes_core.specs.Cipher.{cipher, inverse_cipher}
-use Rattle.aes_core.specs.declared.aes_key.AesKey.{AesKey}
+use Rattle.aes_wide.specs.declared.wide_aes.WideAes.{WideAes}
 use Rattle.block_modes.specs.Output as modes
 use Rattle.block_modes.specs.declared.engine.Blocks.{Blocks}
 use Rattle.block_modes.specs.declared.fault.ModeFault.{ModeFault}
@@ -27,7 +27,7 @@ use Rattle.cipher_ops.proofs.GivenLemmas.{served_whole, served_given, seal_given
 abbrev done : List ℕ → Result (List ℕ) Code
 done bytes = Ok bytes
 
-pub modes_end : (state : Blocks AesKey) (plan : Plan) (key nonce aad text bytes : List ℕ) (signature : Option (List ℕ)) → Holds (Modes state) plan key nonce aad text
+pub modes_end : (state : Blocks WideAes) (plan : Plan) (key nonce aad text bytes : List ℕ) (signature : Option (List ℕ)) → Holds (Modes state) plan key nonce aad text
     → modes.whole (cipher key) (inverse_cipher key) plan (first_block plan nonce) text
     ≡ Ok (take (modes.front plan text) (modes.raw (cipher key) (inverse_cipher key) plan (first_block plan nonce) text) ++ bytes)
     → whole plan key nonce aad text signature ≡ Ok (given plan key nonce text ++ bytes)
@@ -36,7 +36,7 @@ modes_end state plan key nonce aad text bytes signature holds ends =
     served_whole plan key nonce aad text signature served ∙ ap coded ends
     ∙ ap (λ (l : List ℕ). done (l ++ bytes)) (sym (served_given plan key nonce text served))
 
-pub modes_fault : (state : Blocks AesKey) (plan : Plan) (key nonce aad text : List ℕ) (signature : Option (List ℕ)) (fault : ModeFault) → Holds (Modes state) plan key nonce aad text
+pub modes_fault : (state : Blocks WideAes) (plan : Plan) (key nonce aad text : List ℕ) (signature : Option (List ℕ)) (fault : ModeFault) → Holds (Modes state) plan key nonce aad text
     → modes.whole (cipher key) (inverse_cipher key) plan (first_block plan nonce) text ≡ Err fault
     → whole plan key nonce aad text signature ≡ Err (mode_code fault)
 modes_fault state plan key nonce aad text signature fault holds ends =
@@ -47,7 +47,7 @@ seal_whole : (plan : Plan) (tag : ℕ) (key nonce aad text : List ℕ) (signatur
 unfolding whole
 seal_whole plan tag key nonce aad text signature plan_is = rw plan_is refl
 
-pub seal_end : (state : GcmSeal AesKey) (plan : Plan) (key nonce aad text bytes : List ℕ) (signature : Option (List ℕ)) → Holds (Seal state) plan key nonce aad text
+pub seal_end : (state : GcmSeal WideAes) (plan : Plan) (key nonce aad text bytes : List ℕ) (signature : Option (List ℕ)) → Holds (Seal state) plan key nonce aad text
     → ((tag : ℕ) → Seals aes state (cipher key) nonce tag aad text → seal_given (cipher key) nonce text ++ bytes ≡ gcm_seal (cipher key) nonce tag aad text)
     → whole plan key nonce aad text signature ≡ Ok (given plan key nonce text ++ bytes)
 seal_end state plan key nonce aad text bytes signature holds ends =
@@ -60,7 +60,7 @@ open_whole : (plan : Plan) (tag : ℕ) (key nonce aad text : List ℕ) (signatur
 unfolding whole
 open_whole plan tag key nonce aad text signature plan_is = rw plan_is refl
 
-pub open_end : (state : GcmOpen AesKey) (plan : Plan) (key nonce aad text : List ℕ) (signature : Option (List ℕ)) → Holds (Open state) plan key nonce aad text
+pub open_end : (state : GcmOpen WideAes) (plan : Plan) (key nonce aad text : List ℕ) (signature : Option (List ℕ)) → Holds (Open state) plan key nonce aad text
     → ((tag : ℕ) → Opens aes state (cipher key) nonce tag aad text → gcm_open (cipher key) nonce tag aad text ≡ Some (open_given (cipher key) nonce tag text))
     → whole plan key nonce aad text signature ≡ Ok (given plan key nonce text ++ [])
 open_end state plan key nonce aad text signature holds ends =
@@ -69,7 +69,7 @@ open_end state plan key nonce aad text signature holds ends =
     ∙ ap (λ (o : Option (List ℕ)). ok_or o VerificationFailed) (ends is.tag is.opens)
     ∙ ap done (sym (open_given_is plan is.tag key nonce text is.plan_is) ∙ sym (append-nil (given plan key nonce text)))
 
-pub open_fault : (state : GcmOpen AesKey) (plan : Plan) (key nonce aad text : List ℕ) (signature : Option (List ℕ)) → Holds (Open state) plan key nonce aad text
+pub open_fault : (state : GcmOpen WideAes) (plan : Plan) (key nonce aad text : List ℕ) (signature : Option (List ℕ)) → Holds (Open state) plan key nonce aad text
     → ((tag : ℕ) → Opens aes state (cipher key) nonce tag aad text → gcm_open (cipher key) nonce tag aad text ≡ None)
     → whole plan key nonce aad text signature ≡ Err VerificationFailed
 open_fault state plan key nonce aad text signature holds ends =

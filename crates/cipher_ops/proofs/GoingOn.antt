@@ -3,7 +3,7 @@ use Rattle.std.proofs.Common.{◌≡◌, ℕ, ◌+◌, List, [], ◌++◌, lengt
 use Rattle.std.proofs.lemmas.List.{append-nil}
 use Rattle.tags.specs.declared.plan.Plan.{Plan}
 use Rattle.aes_core.specs.Cipher.{cipher, inverse_cipher}
-use Rattle.aes_core.specs.declared.aes_key.AesKey.{AesKey}
+use Rattle.aes_wide.specs.declared.wide_aes.WideAes.{WideAes}
 use Rattle.block_modes.specs.Output as modes
 use Rattle.block_modes.specs.Holds as blocks
 use Rattle.block_modes.specs.declared.engine.Blocks.{Blocks}
@@ -24,14 +24,14 @@ pub record GoesOn (transform : Transform) (plan : Plan) (key nonce aad text inpu
   pub holds : Holds transform plan key nonce aad (text ++ input)
   pub joined : given plan key nonce text ++ piece ≡ given plan key nonce (text ++ input)
 
-pub modes_hold : (state : Blocks AesKey) (plan : Plan) (key nonce aad text : List ℕ)
+pub modes_hold : (state : Blocks WideAes) (plan : Plan) (key nonce aad text : List ℕ)
     → blocks.Holds aes aes_inverse state (cipher key) (inverse_cipher key) plan (first_block plan nonce) text → Holds (Modes state) plan key nonce aad text
 modes_hold state plan key nonce aad text holds = record {
   transform_is = holds;
   within = ap length (served_given plan key nonce text holds.going.served) ∙ sym holds.within ∙ sym (served_front plan text holds.going.served);
 }
 
-pub modes_more : (old new : Blocks AesKey) (plan : Plan) (key nonce aad text input piece : List ℕ) → Holds (Modes old) plan key nonce aad text
+pub modes_more : (old new : Blocks WideAes) (plan : Plan) (key nonce aad text input piece : List ℕ) → Holds (Modes old) plan key nonce aad text
     → blocks.Holds aes aes_inverse new (cipher key) (inverse_cipher key) plan (first_block plan nonce) (text ++ input)
     → blocks.Gives (modes.raw (cipher key) (inverse_cipher key) plan (first_block plan nonce)) (modes.front plan) text (text ++ input) piece
     → GoesOn (Modes new) plan key nonce aad text input piece
@@ -42,7 +42,7 @@ modes_more old new plan key nonce aad text input piece holds later gives =
       joined = ap (λ (l : List ℕ). l ++ piece) (served_given plan key nonce text served) ∙ gives.joined ∙ sym (served_given plan key nonce (text ++ input) served);
     }
 
-pub seal_more : (old new : GcmSeal AesKey) (plan : Plan) (key nonce aad text input piece : List ℕ) → Holds (Seal old) plan key nonce aad text
+pub seal_more : (old new : GcmSeal WideAes) (plan : Plan) (key nonce aad text input piece : List ℕ) → Holds (Seal old) plan key nonce aad text
     → length piece ≡ length input
     → ((tag : ℕ) → Seals aes old (cipher key) nonce tag aad text → Seals aes new (cipher key) nonce tag aad (text ++ input))
     → ((tag : ℕ) → Seals aes old (cipher key) nonce tag aad text → seal_given (cipher key) nonce text ++ piece ≡ seal_given (cipher key) nonce (text ++ input))
@@ -62,7 +62,7 @@ seal_more old new plan key nonce aad text input piece holds count seals gives =
       joined = joined;
     }
 
-pub open_more : (old new : GcmOpen AesKey) (plan : Plan) (key nonce aad text input piece : List ℕ) → Holds (Open old) plan key nonce aad text
+pub open_more : (old new : GcmOpen WideAes) (plan : Plan) (key nonce aad text input piece : List ℕ) → Holds (Open old) plan key nonce aad text
     → ((tag : ℕ) → Opens aes old (cipher key) nonce tag aad text → open_front tag text + length piece ≡ open_front tag (text ++ input))
     → ((tag : ℕ) → Opens aes old (cipher key) nonce tag aad text → Opens aes new (cipher key) nonce tag aad (text ++ input))
     → ((tag : ℕ) → Opens aes old (cipher key) nonce tag aad text → open_given (cipher key) nonce tag text ++ piece ≡ open_given (cipher key) nonce tag (text ++ input))

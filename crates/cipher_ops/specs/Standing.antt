@@ -5,8 +5,8 @@ use Rattle.tags.specs.declared.plan.Plan.TheVariants.{Gcm, HmacSign, HmacVerify}
 use Rattle.tags.specs.declared.code.Code.{Code}
 use Rattle.tags.specs.Plan.{may_end}
 use Rattle.aes_core.specs.Cipher.{cipher, inverse_cipher}
-use Rattle.aes_core.specs.KeyOf.{key_of}
-use Rattle.aes_core.specs.declared.aes_key.AesKey.{AesKey}
+use Rattle.aes_wide.specs.WideKey.{wide_key_of}
+use Rattle.aes_wide.specs.declared.wide_aes.WideAes.{WideAes}
 use Rattle.block_modes.specs.Holds as modes
 use Rattle.gcm_mode.specs.declared.seal.GcmSeal.{GcmSeal}
 use Rattle.gcm_mode.specs.declared.open.GcmOpen.{GcmOpen}
@@ -21,20 +21,20 @@ use Rattle.cipher_ops.specs.Sizes.{piece_room, end_room}
 use Rattle.cipher_ops.specs.Output.{first_block, raw, full_front}
 
 -- AES under a key, and its inverse
-abbrev pub aes : AesKey → List ℕ → List ℕ
-aes key = cipher (key_of key)
+abbrev pub aes : WideAes → List ℕ → List ℕ
+aes key = cipher (wide_key_of key)
 
-abbrev pub aes_inverse : AesKey → List ℕ → List ℕ
-aes_inverse key = inverse_cipher (key_of key)
+abbrev pub aes_inverse : WideAes → List ℕ → List ℕ
+aes_inverse key = inverse_cipher (wide_key_of key)
 
 -- a sealing by GCM that has taken this additional data and this text
-pub record IsSeal (state : GcmSeal AesKey) (plan : Plan) (key nonce aad text : List ℕ) : Type 0 where
+pub record IsSeal (state : GcmSeal WideAes) (plan : Plan) (key nonce aad text : List ℕ) : Type 0 where
   pub tag : ℕ
   pub plan_is : plan ≡ Gcm true tag
   pub seals : Seals aes state (cipher key) nonce tag aad text
 
 -- an opening by GCM that has taken this additional data and this text
-pub record IsOpen (state : GcmOpen AesKey) (plan : Plan) (key nonce aad text : List ℕ) : Type 0 where
+pub record IsOpen (state : GcmOpen WideAes) (plan : Plan) (key nonce aad text : List ℕ) : Type 0 where
   pub tag : ℕ
   pub plan_is : plan ≡ Gcm false tag
   pub opens : Opens aes state (cipher key) nonce tag aad text

@@ -3,11 +3,11 @@
 ghost use Rattle.std.specs.Prelude.{◌≡◌, ℕ, ◌+◌, ◌-◌, ◌≤◌, Bool, true, List, [], ◌++◌, length, take, MatchResult, IfOk, Option};
 ghost use Rattle.tags.specs.declared.plan.Plan.{Plan};
 ghost use Rattle.aes_core.specs.Cipher.{is_key_size};
-ghost use Rattle.aes_core.specs.KeyOf.{key_of};
+ghost use Rattle.aes_wide.specs.WideKey.{wide_key_of};
 ghost use Rattle.cipher_ops.specs.Output.{mode_code};
 
 use crate::mac::{put_mac, verify};
-use aes_core::AesKey;
+use aes_wide::WideAes;
 use block_modes::{Blocks, ModeFault};
 use gcm_mode::{GcmOpen, GcmSeal, TagWrong};
 use hmac_core::Hmac;
@@ -17,11 +17,11 @@ use tags::{Bytes, Code, Plan};
 #[derive(Drop)]
 pub(crate) enum Transform {
     /// ECB, CBC or CTR
-    Modes(Blocks<AesKey>),
+    Modes(Blocks<WideAes>),
     /// GCM, sealing
-    Seal(GcmSeal<AesKey>),
+    Seal(GcmSeal<WideAes>),
     /// GCM, opening
-    Open(GcmOpen<AesKey>),
+    Open(GcmOpen<WideAes>),
     /// HMAC, of which so many bytes are given
     Sign { mac: Hmac, size: usize },
     /// HMAC, against a signature of at least so many bytes
@@ -29,11 +29,11 @@ pub(crate) enum Transform {
 }
 
 /// The cipher of a key of 16, 24 or 32 bytes.
-fn aes_of(key: &[u8]) -> AesKey
+fn aes_of(key: &[u8]) -> WideAes
     requires { is_key_size (length key.now) ≡ true }
-    ensures { key_of result ≡ key.now }
+    ensures { wide_key_of result ≡ key.now }
 {
-    match AesKey::new(key) {
+    match WideAes::new(key) {
         Some(aes) => aes,
         None => unreachable!(),
     }

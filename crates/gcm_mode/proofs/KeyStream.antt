@@ -3,17 +3,14 @@ use Rattle.std.proofs.Common.{◌≡◌, ℕ, zero, suc, ◌+◌, ◌*◌, ◌/�
 use Rattle.std.proofs.lemmas.List.{take-append-drop, take_at, drop_at, drop-drop, drop_all, get_or-drop, nil_from_length, length-take-le, take_all, append-nil}
 use Rattle.std.proofs.lemmas.Bool.{cases_lt}
 use Rattle.std.proofs.lemmas.Nat.{from_be_bytes-to_be_bytes_4}
+use Rattle.std.specs.Simd.Lanes.{zip2}
 use Rattle.std.specs.Int.{w32, from_be_bytes, to_be_bytes}
 use Rattle.std.specs.Int.RustNames.{bit_xor}
 use Rattle.gcm_mode.specs.Blocks.{first_blocks}
+use Rattle.gcm_mode.specs.Bytewise.{xor_by}
 use Rattle.gcm_mode.specs.Counter.{inc32, xor_bytes, gctr_blocks, gctr}
 use Rattle.gcm_mode.specs.Gcm.{pre_counter, raw, seal_given}
 use Rattle.gcm_mode.specs.Parts.{counter_block, key_byte}
-
--- a string that begins at a place, with what f gives at each byte's place added to it
-abbrev pub xor_by : (ℕ → ℕ) → ℕ → List ℕ → List ℕ
-xor_by f at [] = []
-xor_by f at (b ∷ bs) = bit_xor b (f at) ∷ xor_by f (at + 1) bs
 
 pub length-xor_by : (f : ℕ → ℕ) (at : ℕ) (xs : List ℕ) → length (xor_by f at xs) ≡ length xs
 length-xor_by f at [] = refl
@@ -46,6 +43,12 @@ xor_bytes_from key j (b ∷ bs) =
 
 pub xor_bytes_is : (xs key : List ℕ) → xor_bytes xs key ≡ xor_by (λ i. get_or key i 0) 0 xs
 xor_bytes_is xs key = xor_bytes_from key 0 xs
+
+-- two vectors added lane by lane
+pub xor_bytes_zip : (xs ys : List ℕ) → length xs ≤ length ys → zip2 bit_xor xs ys ≡ xor_bytes xs ys
+xor_bytes_zip [] ys h = refl
+xor_bytes_zip (x ∷ xs) [] h = absurd (omega arith)
+xor_bytes_zip (x ∷ xs) (y ∷ ys) h = ap (λ (l : List ℕ). bit_xor x y ∷ l) (xor_bytes_zip xs ys (omega arith))
 
 -- the next number in a counter block
 pub inc32_next : (nonce : List ℕ) (k : ℕ) → length nonce ≡ 12 → inc32 (counter_block nonce k) ≡ counter_block nonce (k + 1)

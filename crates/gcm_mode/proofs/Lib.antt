@@ -3,6 +3,7 @@ pub mod Cutting
 pub mod Feeding
 pub mod KeyStream
 pub mod Plain
+pub mod Blockwise
 pub mod Streaming
 pub mod Tagging
 pub mod Opening

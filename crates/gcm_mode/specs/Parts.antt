@@ -1,5 +1,5 @@
 -- What the parts of a sealing or an opening hold.
-use Rattle.std.specs.Prelude.{◌≡◌, ℕ, ◌+◌, ◌*◌, ◌/◌, ◌%◌, ◌^◌, ◌<◌, List, ◌++◌, length, take, drop, slice_index, nat_lt, if◌then◌else◌}
+use Rattle.std.specs.Prelude.{◌≡◌, ℕ, zero, suc, ◌+◌, ◌*◌, ◌/◌, ◌%◌, ◌^◌, ◌<◌, List, [], ◌∷◌, ◌++◌, length, take, drop, slice_index, nat_lt, if◌then◌else◌}
 use Rattle.std.specs.Int.{w32, to_be_bytes}
 use Rattle.ghash.specs.Hash.{Holds}
 use Rattle.gcm_mode.specs.Blocks.{first_blocks, padded}
@@ -10,6 +10,11 @@ use Rattle.gcm_mode.specs.declared.authenticator.Authenticator.{Authenticator}
 -- the nonce and a number in 32 bits, modulo 2^32
 unfoldable pub counter_block : List ℕ → ℕ → List ℕ
 counter_block nonce k = nonce ++ to_be_bytes w32 (k % 2 ^ 32)
+
+-- so many counter blocks from number k on
+abbrev pub counter_blocks : List ℕ → ℕ → ℕ → List (List ℕ)
+counter_blocks nonce k zero = []
+counter_blocks nonce k (suc n) = counter_block nonce k ∷ counter_blocks nonce (k + 1) n
 
 -- byte n of the key stream of a text, whose first counter block has the number 2
 abbrev pub key_byte : (List ℕ → List ℕ) → List ℕ → ℕ → ℕ

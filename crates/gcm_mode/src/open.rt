@@ -8,7 +8,7 @@ use crate::authenticator::Authenticator;
 use crate::bytes::xor_blocks;
 use crate::held::Held;
 use crate::stream::Gctr;
-use aes_core::BlockCipher;
+use aes_core::ManyBlocks;
 use byte_strings::same_bytes;
 
 /// The tag is not that of the additional data and the ciphertext.
@@ -24,7 +24,7 @@ pub struct GcmOpen<C> {
     held: Held,
 }
 
-impl<C: BlockCipher + Drop> GcmOpen<C> {
+impl<C: ManyBlocks + Drop> GcmOpen<C> {
     /// Begins an opening under a cipher and a nonce of 12 bytes, for a tag of 12 to 16 bytes.
     pub fn new(cipher: C, nonce: [u8; 12], tag: usize) -> GcmOpen<C>
         requires least { 12 ≤ tag }

@@ -8,7 +8,7 @@ use crate::authenticator::Authenticator;
 use crate::bytes::xor_blocks;
 use crate::stream::Gctr;
 use crate::tag_size::TagSize;
-use aes_core::BlockCipher;
+use aes_core::ManyBlocks;
 
 /// A sealing under way: additional data in any pieces, then text in any pieces, then the tag.
 #[derive(Drop)]
@@ -18,7 +18,7 @@ pub struct GcmSeal<C> {
     tag: TagSize,
 }
 
-impl<C: BlockCipher + Drop> GcmSeal<C> {
+impl<C: ManyBlocks + Drop> GcmSeal<C> {
     /// Begins a sealing under a cipher and a nonce of 12 bytes, for a tag of 12 to 16 bytes.
     pub fn new(cipher: C, nonce: [u8; 12], tag: usize) -> GcmSeal<C>
         requires least { 12 ≤ tag }

@@ -1,11 +1,13 @@
 // GCTR (SP 800-38D section 6.5), a text in any pieces.
 
-ghost use Rattle.std.specs.Prelude.{◌≡◌, ℕ, ◌+◌, ◌<◌, ◌++◌, List, length};
+ghost use Rattle.std.specs.Prelude.{◌≡◌, ℕ, ◌+◌, ◌*◌, ◌/◌, ◌%◌, ◌^◌, ◌<◌, ◌≤◌, ◌++◌, List, length};
 ghost use Rattle.std.specs.Int.{w32, to_be_bytes};
+ghost use Rattle.gcm_mode.specs.Bytewise.{xor_by};
 ghost use Rattle.gcm_mode.specs.Gcm.{hash_subkey, pre_counter, raw};
-ghost use Rattle.gcm_mode.specs.Parts.{IsReady, Streams, key_byte};
+ghost use Rattle.gcm_mode.specs.Parts.{IsReady, Streams, counter_blocks, key_byte};
 
-use aes_core::BlockCipher;
+use crate::bytes::add_blocks;
+use aes_core::ManyBlocks;
 
 /// The key stream of a text under a nonce, and how far it was used.
 #[derive(Drop)]
@@ -28,7 +30,7 @@ fn counter_block(nonce: &[u8; 12], counter: u32) -> [u8; 16]
     block
 }
 
-impl<C: BlockCipher> Gctr<C> {
+impl<C: ManyBlocks> Gctr<C> {
     /// The stream of an empty text.
     pub(crate) fn new(cipher: C, nonce: [u8; 12]) -> Gctr<C>
         ensures { Streams C.cipher result (C.cipher cipher) nonce 0 }
@@ -56,15 +58,24 @@ impl<C: BlockCipher> Gctr<C> {
         self.cipher.encrypt(counter_block(&self.nonce, 1))
     }
 
+    // The next counter block, whose number goes up in 32 bits.
+    fn next_counter(&mut self) -> [u8; 16]
+        ensures block { result ≡ self.old.nonce ++ to_be_bytes w32 self.old.counter }
+        ensures counter { self.new ≡ record self.old { counter = (self.old.counter + 1) % 2 ^ 32 } }
+    {
+        let block = counter_block(&self.nonce, self.counter);
+        self.counter = self.counter.wrapping_add(1);
+        block
+    }
+
     // Makes the next block of the key stream where it is due.
     fn make_ready(&mut self)
         ensures { (cipher : List ℕ → List ℕ) (nonce : List ℕ) (n : ℕ)
             → Streams C.cipher self.old cipher nonce n → IsReady C.cipher self.new cipher nonce n }
     {
         if self.used == 0 {
-            let block = counter_block(&self.nonce, self.counter);
+            let block = self.next_counter();
             self.key_block = self.cipher.encrypt(block);
-            self.counter = self.counter.wrapping_add(1);
         }
     }
 
@@ -82,11 +93,10 @@ impl<C: BlockCipher> Gctr<C> {
         byte
     }
 
-    /// Goes on with the next bytes of the text, in place.
-    pub(crate) fn apply(&mut self, bytes: &mut [u8])
-        ensures raw { (cipher : List ℕ → List ℕ) (nonce text : List ℕ)
-            → Streams C.cipher self.old cipher nonce (length text)
-            → raw cipher nonce text ++ bytes.new ≡ raw cipher nonce (text ++ bytes.old) }
+    // Goes on with a few bytes, one by one.
+    fn apply_each(&mut self, bytes: &mut [u8])
+        ensures bytes { (cipher : List ℕ → List ℕ) (nonce : List ℕ) (n : ℕ)
+            → Streams C.cipher self.old cipher nonce n → bytes.new ≡ xor_by (key_byte cipher nonce) n bytes.old }
         ensures stream { (cipher : List ℕ → List ℕ) (nonce : List ℕ) (n : ℕ)
             → Streams C.cipher self.old cipher nonce n → Streams C.cipher self.new cipher nonce (n + length bytes.old) }
     {
@@ -94,5 +104,71 @@ impl<C: BlockCipher> Gctr<C> {
             let key = self.next_byte();
             bytes[i] ^= key;
         }
+    }
+
+    // Puts the next counter blocks, where a block is due.
+    fn put_counters(&mut self, out: &mut [[u8; 16]])
+        ensures blocks { (cipher : List ℕ → List ℕ) (nonce : List ℕ) (n : ℕ)
+            → Streams C.cipher self.old cipher nonce n → n % 16 ≡ 0 → out.new ≡ counter_blocks nonce (2 + n / 16) (length out.old) }
+        ensures stream { (cipher : List ℕ → List ℕ) (nonce : List ℕ) (n : ℕ)
+            → Streams C.cipher self.old cipher nonce n → n % 16 ≡ 0 → Streams C.cipher self.new cipher nonce (n + 16 * length out.old) }
+    {
+        'each: for i in 0..out.len() {
+            let block = self.next_counter();
+            out[i] = block;
+        }
+    }
+
+    // Goes on with at most 64 whole blocks, where a block is due: one call of the cipher makes their key stream.
+    fn apply_group(&mut self, bytes: &mut [u8])
+        requires few { length bytes.old ≤ 1024 }
+        requires whole { length bytes.old % 16 ≡ 0 }
+        ensures bytes { (cipher : List ℕ → List ℕ) (nonce : List ℕ) (n : ℕ)
+            → Streams C.cipher self.old cipher nonce n → n % 16 ≡ 0 → bytes.new ≡ xor_by (key_byte cipher nonce) n bytes.old }
+        ensures stream { (cipher : List ℕ → List ℕ) (nonce : List ℕ) (n : ℕ)
+            → Streams C.cipher self.old cipher nonce n → n % 16 ≡ 0 → Streams C.cipher self.new cipher nonce (n + length bytes.old) }
+    {
+        let mut room = [[0u8; 16]; 64];
+        let keys = &mut room[..bytes.len() / 16];
+        self.put_counters(keys);
+        self.cipher.encrypt_all(keys);
+        add_blocks(bytes, keys);
+    }
+
+    // Goes on with whole blocks, where a block is due, 64 at a time.
+    fn apply_blocks(&mut self, bytes: &mut [u8])
+        requires { length bytes.old % 16 ≡ 0 }
+        ensures bytes { (cipher : List ℕ → List ℕ) (nonce : List ℕ) (n : ℕ)
+            → Streams C.cipher self.old cipher nonce n → n % 16 ≡ 0 → bytes.new ≡ xor_by (key_byte cipher nonce) n bytes.old }
+        ensures stream { (cipher : List ℕ → List ℕ) (nonce : List ℕ) (n : ℕ)
+            → Streams C.cipher self.old cipher nonce n → n % 16 ≡ 0 → Streams C.cipher self.new cipher nonce (n + length bytes.old) }
+    {
+        let mut done = 0;
+        'groups: while done < bytes.len() {
+            let count = (bytes.len() - done).min(1024);
+            self.apply_group(&mut bytes[done..done + count]);
+            done += count;
+        }
+    }
+
+    /// Goes on with the next bytes of the text, in place. The whole blocks among them go through the cipher together
+    /// where they are eight or more.
+    pub(crate) fn apply(&mut self, bytes: &mut [u8])
+        ensures raw { (cipher : List ℕ → List ℕ) (nonce text : List ℕ)
+            → Streams C.cipher self.old cipher nonce (length text)
+            → raw cipher nonce text ++ bytes.new ≡ raw cipher nonce (text ++ bytes.old) }
+        ensures stream { (cipher : List ℕ → List ℕ) (nonce : List ℕ) (n : ℕ)
+            → Streams C.cipher self.old cipher nonce n → Streams C.cipher self.new cipher nonce (n + length bytes.old) }
+    {
+        let first = (16 - self.used % 16) % 16;
+        if bytes.len() < first + 128 {
+            self.apply_each(bytes);
+            return;
+        }
+        let (front, back) = bytes.split_at_mut(first);
+        self.apply_each(front);
+        let (blocks, rest) = back.split_at_mut(back.len() / 16 * 16);
+        self.apply_blocks(blocks);
+        self.apply_each(rest);
     }
 }

@@ -62,8 +62,8 @@ fn added(a: &[u8x16; 16], b: &[u8x16; 16]) -> [u8x16; 16]
     out
 }
 
-// The subkey to the power 16.
-fn power_16(table: &[u128; 16], subkey: u128) -> u128
+/// The subkey to the power 16.
+pub(crate) fn power_16(table: &[u128; 16], subkey: u128) -> u128
     requires { IsProducts table.now subkey }
     ensures { result ≡ repeated subkey 15 subkey }
 {
@@ -99,19 +99,20 @@ fn end_of(table: &[u128; 16], subkey: u128, last: &[u8x16; 16]) -> u128
     total
 }
 
-/// The hash of whole groups of sixteen blocks, from `sum` on.
+/// The hash of whole groups of sixteen blocks, from `sum` on, with the subkey to the power 16.
 pub(crate) fn hash_of_groups(
     table: &[u128; 16],
     subkey: u128,
+    power: u128,
     sum: u128,
     blocks: &[[u8; 16]],
 ) -> u128
     requires table { IsProducts table.now subkey }
+    requires power { power ≡ repeated subkey 15 subkey }
     requires some { 16 ≤ length blocks.now }
     requires whole { length blocks.now % 16 ≡ 0 }
     ensures { result ≡ hash_after subkey sum blocks.now }
 {
-    let power = power_16(table, subkey);
     let entries = products_with(power);
     let high = grid_of(&entries);
     let lower_entries = lower(&entries);

@@ -1,15 +1,17 @@
 // The functions of GHASH (SP 800-38D section 6.4).
 
 ghost use Rattle.std.specs.Prelude.{◌≡◌, ℕ, List, [], ◌∷◌, ◌++◌, ◌%◌, ◌≤◌, length};
+ghost use Rattle.ghash.specs.Chains.{repeated};
 ghost use Rattle.ghash.specs.Hash.{Holds, ghash};
 
-use crate::chains::hash_of_groups;
+use crate::chains::{hash_of_groups, power_16};
 use crate::field::{block_of, element};
 use crate::state::Ghash;
 use crate::table::{product_by, products_with};
 
-// From how many blocks on the chains are worth their tables.
-const MANY: usize = 64;
+// From how many blocks on the chains are worth their tables, and the power of the subkey besides, as measured.
+const MANY: usize = 32;
+const MANY_AT_FIRST: usize = 48;
 
 impl Ghash {
     /// GHASH of no blocks, under the hash subkey `h`: 16 bytes, in GCM the block cipher of 16 zero bytes.
@@ -22,6 +24,7 @@ impl Ghash {
             subkey,
             table: products_with(subkey),
             sum: 0,
+            power: None,
         }
     }
 
@@ -42,20 +45,37 @@ impl Ghash {
         }
     }
 
+    // The subkey to the power 16, as it was kept or made now.
+    fn raised(&self) -> u128
+        ensures { result ≡ repeated self.now.subkey 15 self.now.subkey }
+    {
+        match self.power {
+            Some(power) => power,
+            None => power_16(&self.table, self.subkey),
+        }
+    }
+
     // Takes whole groups of sixteen blocks.
     fn absorb_groups(&mut self, groups: &[[u8; 16]])
         requires some { 16 ≤ length groups.now }
         requires whole { length groups.now % 16 ≡ 0 }
         ensures { (h : List ℕ) (before : List (List ℕ)) → Holds self.old h before → Holds self.new h (before ++ groups.now) }
     {
-        self.sum = hash_of_groups(&self.table, self.subkey, self.sum, groups);
+        let power = self.raised();
+        self.power = Some(power);
+        self.sum = hash_of_groups(&self.table, self.subkey, power, self.sum, groups);
     }
 
     /// Takes the next blocks, in their order.
     pub fn absorb_all(&mut self, blocks: &[[u8; 16]])
         ensures { (h : List ℕ) (before : List (List ℕ)) → Holds self.old h before → Holds self.new h (before ++ blocks.now) }
     {
-        if blocks.len() < MANY {
+        let least = if self.power.is_some() {
+            MANY
+        } else {
+            MANY_AT_FIRST
+        };
+        if blocks.len() < least {
             self.absorb_each(blocks);
             return;
         }

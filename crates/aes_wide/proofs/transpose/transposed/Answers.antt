@@ -2,7 +2,7 @@ use Rattle.std.proofs.Common.{[], length, map, slice_index_or, refl, sym, ap, â—
 use Rattle.std.specs.List.{range_with_len}
 use Rattle.std.proofs.lemmas.List.FromFn.{fill_by_all}
 use Rattle.aes_wide.specs.Planes.{block}
-use Rattle.aes_wide.proofs.SwapLemmas.{turned_about}
+use Rattle.aes_wide.proofs.TransposeLemmas.{turned_about}
 use Rattle.aes_wide.proofs.transpose.transposed.Goals as goal
 
 pub returns : goal.returns

@@ -2,7 +2,7 @@ use Rattle.std.proofs.Common.{length, [], replicate, refl, ap, ◌∙◌}
 use Rattle.std.proofs.lemmas.Simd.{get_or-replicate}
 use Rattle.aes_wide.specs.Planes.{lanes, block}
 use Rattle.aes_wide.proofs.Lanes.{lanes_whole}
-use Rattle.aes_wide.proofs.SwapLemmas.{back}
+use Rattle.aes_wide.proofs.TransposeLemmas.{back}
 use Rattle.aes_wide.proofs.GroupLemmas.{all_bytes}
 use Rattle.aes_wide.proofs.wide_aes.spread.Goals as goal
 

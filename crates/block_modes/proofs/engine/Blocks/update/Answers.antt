@@ -12,11 +12,13 @@ pieces-init g c = in_update_start g.C.BlockCipher.cipher g.C.BlockCipher.inverse
 pub pieces-preserved : goal.pieces-preserved
 pieces-preserved g c =
     let some : 0 < length c.pieces.rest.now = omega (arith, eqb-false (length c.pieces.rest.now) 0 (sym c.is_empty.ensures ∙ c.pieces-test.true)) in
-    in_update_more g.C.BlockCipher.cipher g.C.BlockCipher.inverse c.args.self.now c.pieces.self c.make_room-end.new.self (record c.make_room-end.new.self { held = c.fill-taken.new.self })
-    c.args.input.now c.pieces.rest.now (take (length c.pieces.rest.now - c.fill-taken.result) (drop c.fill-taken.result c.pieces.rest.now)) c.args.out.now c.pieces.out c.make_room-end.new.out
-    c.pieces.at c.make_room-end.result.0 c.pieces.skip c.make_room-end.result.1 c.fill-taken.result
-    c.pieces.invariant c.make_room-end.ensures.goes c.make_room-end.ensures.part (ap (λ h. record c.make_room-end.new.self { held = h }) c.fill-taken.ensures.bytes) c.make_room-end.ensures.space some
-    c.fill-taken.ensures.count (take_rest c.pieces.rest.now c.fill-taken.result) c.make_room-end.ensures.count c.make_room-end.ensures.within c.make_room-end.ensures.rest
+    let mid = take (length c.pieces.rest.now - c.make_way-end.result.2) (drop c.make_way-end.result.2 c.pieces.rest.now) in
+    in_update_more g.C.BlockCipher.cipher g.C.BlockCipher.inverse c.args.self.now c.pieces.self c.make_way-end.new.self (record c.make_way-end.new.self { held = c.fill-taken.new.self })
+    c.args.input.now c.pieces.rest.now mid (take (length mid - c.fill-taken.result) (drop c.fill-taken.result mid)) c.args.out.now c.pieces.out c.make_way-end.new.out
+    c.pieces.at c.make_way-end.result.0 c.pieces.skip c.make_way-end.result.1 c.make_way-end.result.2 c.fill-taken.result
+    c.pieces.invariant c.make_way-end.ensures.goes c.make_way-end.ensures.part (ap (λ h. record c.make_way-end.new.self { held = h }) c.fill-taken.ensures.bytes) c.make_way-end.ensures.space some
+    c.make_way-end.ensures.taken c.make_way-end.ensures.behind c.fill-taken.ensures.count
+    (take_rest c.pieces.rest.now c.make_way-end.result.2) (take_rest mid c.fill-taken.result) c.make_way-end.ensures.count c.make_way-end.ensures.within c.make_way-end.ensures.rest
 
 pub returns-clause-holds : goal.returns-clause-holds
 returns-clause-holds g c cipher inverse plan nonce text holds =

@@ -1,30 +1,37 @@
--- One more byte was changed, and all were.
-use Rattle.std.proofs.Common.{◌≡◌, ℕ, ◌+◌, length, ◌∙◌, arith, add_assoc, refl}
-use Rattle.std.proofs.lemmas.List.{take_all, drop_all, append-nil}
-use Rattle.gcm_mode.specs.Parts.{key_byte}
-use Rattle.gcm_mode.proofs.KeyStream.{xor_by, xor_by_more, raw-append}
+-- The bytes up to a block's edge, the whole blocks and the rest.
+use Rattle.std.proofs.Common.{◌≡◌, ℕ, ◌+◌, ◌%◌, ◌++◌, List, length, refl, ap, subst, arith}
+use Rattle.gcm_mode.specs.Gcm.{raw}
+use Rattle.gcm_mode.specs.Parts.{Streams, key_byte}
+use Rattle.gcm_mode.proofs.KeyStream.{raw-append}
+use Rattle.gcm_mode.proofs.Blockwise.{in_three}
 use Rattle.gcm_mode.proofs.stream.Gctr.apply.Goals as goal
 
-pub bytes-preserved : goal.bytes-preserved
-bytes-preserved g c = record {
-  stream = λ cipher nonce n held.
-      let next = c.next_byte-key.ensures.stream cipher nonce (n + c.bytes.i) (c.bytes.invariant.stream cipher nonce n held) in
-      rw (add_assoc n c.bytes.i 1) at next;
-  bytes = λ cipher nonce n held.
-      let key = c.next_byte-key.ensures.byte cipher nonce (n + c.bytes.i) (c.bytes.invariant.stream cipher nonce n held) in
-      let so_far = c.bytes.invariant.bytes cipher nonce n held in
-      rw (key, so_far) (xor_by_more (key_byte cipher nonce) n c.args.bytes.now c.bytes.i (omega arith));
-}
+pub returns-then-bytes-first-clause-raw : goal.returns-then-bytes-first-clause-raw
+returns-then-bytes-first-clause-raw g c = λ cipher nonce text held.
+    rw (raw-append cipher nonce text c.args.bytes.now held.nonce_len, c.apply_each.ensures.bytes cipher nonce (length text) held) refl
 
 pub returns-clause-raw : goal.returns-clause-raw
 returns-clause-raw g c = λ cipher nonce text held.
-    let f : ℕ → ℕ = key_byte cipher nonce in
-    let so_far = c.bytes.invariant.bytes cipher nonce (length text) held in
-    let all : c.bytes.bytes ≡ xor_by f (length text) c.args.bytes.now =
-    so_far ∙ rw (take_all c.bytes.i c.args.bytes.now (omega arith), drop_all c.bytes.i c.args.bytes.now (omega arith)) (append-nil (xor_by f (length text) c.args.bytes.now)) in
-    rw (raw-append cipher nonce text c.args.bytes.now held.nonce_len, all) refl
+    let n : ℕ = length text in
+    let front = c.split_at_mut-front.result.0.now in
+    let blocks = c.split_at_mut-blocks.result.0.now in
+    let first = c.apply_each-2.ensures.stream cipher nonce n held in
+    let due : (n + length front) % 16 ≡ 0 = omega (arith, c.split_at_mut-front.ensures.front_len, held.used) in
+    let second = c.apply_blocks.ensures.stream cipher nonce (n + length front) first due in
+    rw (raw-append cipher nonce text c.args.bytes.now held.nonce_len)
+    (ap (λ (l : List ℕ). raw cipher nonce text ++ l)
+    (in_three (key_byte cipher nonce) n c.args.bytes.now front c.split_at_mut-front.result.1.now blocks c.split_at_mut-blocks.result.1.now c.apply_each-2.new.bytes c.apply_blocks.new.bytes c.apply_each-3.new.bytes
+    c.split_at_mut-front.ensures.value c.split_at_mut-blocks.ensures.value (c.apply_each-2.ensures.bytes cipher nonce n held) (c.apply_blocks.ensures.bytes cipher nonce (n + length front) first due)
+    (c.apply_each-3.ensures.bytes cipher nonce (n + length front + length blocks) second)))
 
 pub returns-clause-stream : goal.returns-clause-stream
 returns-clause-stream g c = λ cipher nonce n held.
-    let done : c.bytes.i ≡ length c.args.bytes.now = omega arith in
-    rw (← done) (c.bytes.invariant.stream cipher nonce n held)
+    let front = c.split_at_mut-front.result.0.now in
+    let blocks = c.split_at_mut-blocks.result.0.now in
+    let first = c.apply_each-2.ensures.stream cipher nonce n held in
+    let due : (n + length front) % 16 ≡ 0 = omega (arith, c.split_at_mut-front.ensures.front_len, held.used) in
+    let second = c.apply_blocks.ensures.stream cipher nonce (n + length front) first due in
+    let all : n + length front + length blocks + length c.split_at_mut-blocks.result.1.now ≡ n + length c.args.bytes.now =
+    omega (arith, c.split_at_mut-front.ensures.front_len, c.split_at_mut-front.ensures.back_len, c.split_at_mut-blocks.ensures.front_len, c.split_at_mut-blocks.ensures.back_len) in
+    let P : ℕ → Type 0 = λ k. Streams g.C.BlockCipher.cipher c.apply_each-3.new.self cipher nonce k in
+    subst P all (c.apply_each-3.ensures.stream cipher nonce (n + length front + length blocks) second)
