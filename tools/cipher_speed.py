@@ -1,7 +1,7 @@
 #!/usr/bin/env python3
 """Measures the ciphers beside OpenSSL without AES-NI and PCLMUL: `cipher_speed.py [ROUNDS]` prints ratios of bytes a second.
 
-The ciphers run in a program of their own (tools/cipher_speed/main.rt), which is proved and built in a folder for the time of
+The ciphers run in a program of their own (tools/cipher_speed/main.rt.in), which is proved and built in a folder for the time of
 the run, over copies of the crates. Each side's time is that of its processor, and the two sides take turns, since other work on
 the machine slows both. With one round more the median is steadier; the default is five."""
 import os
@@ -43,7 +43,7 @@ def built(place):
         out.writelines(kept + [f"cipher_speed: {' '.join(CRATES)}\n"])
     crate = f"{place}/crates/cipher_speed"
     os.makedirs(f"{crate}/src")
-    shutil.copy(f"{TOP}/tools/cipher_speed/main.rt", f"{crate}/src/main.rt")
+    shutil.copy(f"{TOP}/tools/cipher_speed/main.rt.in", f"{crate}/src/main.rt")
     subprocess.run(["rt", "run"], cwd=crate, stdin=subprocess.DEVNULL, stdout=subprocess.DEVNULL, stderr=subprocess.DEVNULL, check=False)
     return f"{crate}/out/cipher_speed"
 
