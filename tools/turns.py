@@ -4,16 +4,17 @@
     python3 tools/turns.py [TURNS]
 
 It runs the program of `crates/turn_list`, which `rt run` leaves there, with 1, 2, 4 and 8 threads that make TURNS turns
-together (800,000 without the word), under the lock and under the mutex by turns, three times each. It prints, as Markdown,
-the turns a second of the fastest run of each and their ratio. The time of a run without a turn is taken off."""
+together (4,000,000 without the word), under the lock and under the mutex by turns, five times each. It prints, as Markdown,
+the turns a second of the middle run of each and their ratio. The time of a run without a turn is taken off."""
 import pathlib
+import statistics
 import subprocess
 import sys
 import time
 
 PROGRAM = pathlib.Path(__file__).resolve().parent.parent / "crates" / "turn_list" / "out" / "turn_list"
 THREADS = (1, 2, 4, 8)
-RUNS = 3
+RUNS = 5
 
 
 def seconds(kind, items, threads):
@@ -24,18 +25,17 @@ def seconds(kind, items, threads):
 
 
 def main():
-    turns = int(sys.argv[1]) if len(sys.argv) > 1 else 800_000
+    turns = int(sys.argv[1]) if len(sys.argv) > 1 else 4_000_000
     if not PROGRAM.exists():
         sys.exit("tools/turns.py: there is no program yet: run `rt run` in crates/turn_list")
     print("| Threads | Turn lock | Mutex | Ratio |")
     print("|---|---|---|---|")
     for threads in THREADS:
-        items, best = turns // threads, {}
+        items, took = turns // threads, {"lock": [], "mutex": []}
         for _run in range(RUNS):
-            for kind in ("lock", "mutex"):
-                took = seconds(kind, items, threads) - seconds(kind, 0, threads)
-                best[kind] = min(took, best.get(kind, took))
-        rate = {kind: items * threads / max(took, 1e-6) for kind, took in best.items()}
+            for kind, runs in took.items():
+                runs.append(seconds(kind, items, threads) - seconds(kind, 0, threads))
+        rate = {kind: items * threads / max(statistics.median(runs), 1e-6) for kind, runs in took.items()}
         print(f"| {threads} | {rate['lock']:,.0f} | {rate['mutex']:,.0f} | {rate['lock'] / rate['mutex']:.3f} |", flush=True)
 
 

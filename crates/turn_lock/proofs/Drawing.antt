@@ -1,5 +1,5 @@
 -- Numbers and turns are drawn.
-use Rattle.std.proofs.Common.{◌≡◌, ◌≢◌, ℕ, ◌+◌, ◌%◌, ◌^◌, ◌<◌, ◌≤◌, List, [], ◌∷◌, length, get_or, set, sym, refl, ap, ◌∙◌, subst, arith, Option, Some, None, length-set, get_or-set_other, get_or-set_same}
+use Rattle.std.proofs.Common.{◌≡◌, ℕ, ◌+◌, ◌%◌, ◌^◌, ◌<◌, List, [], ◌∷◌, get_or, sym, refl, ap, ◌∙◌, subst, arith, Option, Some, None, length-set, get_or-set_other, get_or-set_same}
 use Rattle.std.proofs.Math.Nat.{mod-add-mod}
 use mathlib.Core.Option.{none, some}
 use lib.ListN.{get_elem?}
@@ -7,7 +7,7 @@ use Rattle.atomic_table.specs.Table.{Me, step, keeps, Allows}
 use Rattle.turn_lock.specs.declared.view.Stage.TheVariants.{Idle, Makes, Waits}
 use Rattle.turn_lock.specs.declared.view.View.{View}
 use Rattle.turn_lock.specs.Views.{turns_of, IsServing, made_in, hand, view, numbers_in, turns, number_to}
-use Rattle.turn_lock.specs.Rule.{own, Tally, WordsAre, IsSound}
+use Rattle.turn_lock.specs.Rule.{own, Tally, IsSound}
 use Rattle.turn_lock.specs.Steps.{numbered, drew}
 use Rattle.turn_lock.proofs.Prefixes.{own_none}
 use Rattle.turn_lock.proofs.Sums.{put, put_here, put_else}

@@ -1,15 +1,14 @@
 -- Seats are cut in two and joined.
-use Rattle.std.proofs.Common.{◌≡◌, ◌≢◌, ℕ, ◌+◌, ◌<◌, List, [], ◌∷◌, ◌++◌, length, get_or, set, sym, refl, ap, ◌∙◌, subst, ⊎_elim, arith, Option, Some, None, length-set}
+use Rattle.std.proofs.Common.{◌≡◌, ◌≢◌, ℕ, ◌+◌, List, [], ◌∷◌, ◌++◌, length, get_or, set, sym, refl, ap, ◌∙◌, subst, ⊎_elim, arith, Option, Some, None, length-set}
 use mathlib.Core.Option.{none, some}
-use mathlib.Core.List.{IsPrefix}
 use lib.ListN.{get_elem?}
 use Rattle.atomic_table.specs.Table.{Me, step, keeps, Allows, Splits, Joins}
 use Rattle.atomic_table.proofs.Lists.{at_set, set_else, set_again}
 use Rattle.turn_lock.specs.declared.view.Stage.{Stage}
 use Rattle.turn_lock.specs.declared.view.Stage.TheVariants.{Idle, Makes}
 use Rattle.turn_lock.specs.declared.view.View.{View}
-use Rattle.turn_lock.specs.Views.{turns_of, IsServing, hand, view, turns, numbers, numbers_in, unnumbered}
-use Rattle.turn_lock.specs.Rule.{own, total, Tally, Stands, Knows, ViewsAre, IsSound}
+use Rattle.turn_lock.specs.Views.{turns_of, IsServing, hand, view, turns, numbers, numbers_in}
+use Rattle.turn_lock.specs.Rule.{total, Tally, Stands, Knows, ViewsAre, IsSound}
 use Rattle.turn_lock.specs.Steps.{longer, kept_part, heir_part, note_part, gathered, nobody, compare, BothBegin, compared}
 use Rattle.turn_lock.proofs.Prefixes.{longer_prefix, longer_own, longer_owned, longer_begins}
 use Rattle.turn_lock.proofs.Sums.{total_set, moved, moved_here, moved_else}

@@ -1,5 +1,5 @@
 -- A turn ends: it is passed on, or kept for good.
-use Rattle.std.proofs.Common.{◌≡◌, ◌≢◌, ℕ, ◌+◌, ◌-◌, ◌%◌, ◌^◌, ◌<◌, ◌≤◌, List, [], ◌∷◌, length, get_or, set, sym, refl, ap, ◌∙◌, subst, inl, arith, Option, Some, None, length-set, get_or-set_other, get_or-set_same}
+use Rattle.std.proofs.Common.{◌≡◌, ◌≢◌, ℕ, ◌+◌, ◌-◌, ◌%◌, ◌^◌, ◌<◌, List, [], ◌∷◌, length, get_or, set, sym, refl, ap, ◌∙◌, subst, inl, arith, Option, Some, length-set, get_or-set_other, get_or-set_same}
 use Rattle.std.proofs.Math.Nat.{mod-add-mod}
 use mathlib.Core.Option.{none, some}
 use mathlib.Core.List.{IsPrefix}

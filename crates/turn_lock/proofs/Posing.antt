@@ -3,7 +3,7 @@ use Rattle.std.proofs.Common.{◌≡◌, ℕ, ◌+◌, ◌%◌, ◌^◌, ◌∷�
 use Rattle.atomic_table.specs.Table.{Me, Step, rest}
 use Rattle.atomic_table.specs.declared.shared.Seat.{Seat}
 use Rattle.turn_lock.specs.declared.view.Stage.{Stage}
-use Rattle.turn_lock.specs.declared.view.Stage.TheVariants.{Idle, Makes, Waits, Serves, Closes}
+use Rattle.turn_lock.specs.declared.view.Stage.TheVariants.{Idle, Makes, Waits, Serves}
 use Rattle.turn_lock.specs.declared.view.Hand.{Hand}
 use Rattle.turn_lock.specs.declared.view.View.{View}
 use Rattle.turn_lock.specs.Views.{posed, view, hand, front_in, number_to, unnumbered, blank, AllNamed, turn_in, log_in}

@@ -1,5 +1,5 @@
 -- The parts of the rule that each step keeps in the same way.
-use Rattle.std.proofs.Common.{◌≡◌, ◌≢◌, ℕ, zero, suc, ◌+◌, ◌%◌, ◌^◌, ◌<◌, ◌≤◌, List, [], ◌∷◌, ◌++◌, length, get_or, set, sym, refl, ap, ◌∙◌, subst, ⊎_elim, inl, inr, arith, Option, Some, None, length-set}
+use Rattle.std.proofs.Common.{◌≡◌, ◌≢◌, ℕ, zero, suc, ◌+◌, ◌<◌, ◌≤◌, List, [], ◌∷◌, ◌++◌, length, get_or, set, sym, refl, ap, ◌∙◌, subst, ⊎_elim, inl, inr, arith, Option, Some, None}
 use mathlib.Core.Logic.{dite}
 use mathlib.Core.Option.{some, some-ne-none, some-injective}
 use mathlib.Core.Option as maybe
@@ -7,14 +7,14 @@ use mathlib.Core.List.{IsPrefix}
 use native.Mathlib.Decide.{ℕ_discrete}
 use lib.ListN.{get_elem?}
 use lib.Seq.{set-get_or}
-use Rattle.atomic_table.specs.Table.{State, Me, opening}
+use Rattle.atomic_table.specs.Table.{opening}
 use Rattle.atomic_table.proofs.Lists.{at_set, set_here, set_else, at_longer}
 use Rattle.turn_lock.specs.declared.view.Stage.{Stage}
 use Rattle.turn_lock.specs.declared.view.Stage.TheVariants.{Idle, Makes, Waits, Serves, Closes}
 use Rattle.turn_lock.specs.declared.view.Hand.{Hand}
 use Rattle.turn_lock.specs.declared.view.View.{View}
-use Rattle.turn_lock.specs.Views.{IsServing, hand, view, turns, numbers, unnumbered, numbers_in, first_view}
-use Rattle.turn_lock.specs.Rule.{own, total, Tally, Stands, Owns, AllHold, Knows, WordsAre, ViewsAre, IsKept, IsSound}
+use Rattle.turn_lock.specs.Views.{IsServing, turns, numbers, unnumbered, numbers_in, first_view}
+use Rattle.turn_lock.specs.Rule.{own, Tally, Stands, Owns, AllHold, Knows, WordsAre, ViewsAre, IsKept, IsSound}
 use Rattle.turn_lock.specs.Steps.{IsOwned}
 use Rattle.turn_lock.specs.Endings.{same_at}
 use Rattle.turn_lock.proofs.Sums.{total_set, total_snoc, total_le, at_snoc_where, at_inside}

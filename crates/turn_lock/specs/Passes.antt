@@ -18,8 +18,8 @@ use Rattle.turn_lock.specs.Fronts.{IsFrontOf, HasHand}
 
 module _ {S V K P : Type 0} where
   -- which lock it is: no other has the same
-  abbrev pub id_of : Locked S V K P → TableId
-  id_of lock = lock.table.shared.table_id
+  abbrev pub lock_id : Locked S V K P → TableId
+  lock_id lock = lock.table.shared.table_id
 
   -- the name that it was opened with
   abbrev pub name_of : Locked S V K P → K
@@ -34,8 +34,8 @@ module _ {S V : Type 0} where
   abbrev pub view_of : LastTurn S V → V
   view_of closing = closing.seat.me.0
 
-  abbrev pub lock_of : LastTurn S V → TableId
-  lock_of closing = closing.seat.table_id
+  abbrev pub closing_lock : LastTurn S V → TableId
+  closing_lock closing = closing.seat.table_id
 
 -- ---- what was seen
 
@@ -43,9 +43,9 @@ module _ {T E K : Type 0} where
   abbrev pub number_of : Pass T E K → ℕ
   number_of pass = pass.number
 
-  -- the lock that a pass is of, as `id_of` tells it
-  abbrev pub lock_id : Pass T E K → TableId
-  lock_id pass = pass.seat.table_id
+  -- the lock that a pass is of, as `lock_id` tells it
+  abbrev pub pass_lock : Pass T E K → TableId
+  pass_lock pass = pass.seat.table_id
 
   -- the front of the history that a pass has seen
   abbrev pub front : Pass T E K → List E
@@ -107,16 +107,16 @@ module _ {T E K : Type 0} where
 module _ {S V T E K P : Type 0} where
   -- of this lock
   abbrev pub IsPassOf : Locked S V K P → Pass T E K → Type 0
-  IsPassOf lock pass = IsPassAt (id_of lock) (name_of lock) pass
+  IsPassOf lock pass = IsPassAt (lock_id lock) (name_of lock) pass
 
   abbrev pub IsNoteOf : Locked S V K P → Note T E K → Type 0
-  IsNoteOf lock note = IsNoteAt (id_of lock) (name_of lock) note
+  IsNoteOf lock note = IsNoteAt (lock_id lock) (name_of lock) note
 
   abbrev pub IsMakerOf : Locked S V K P → Maker T E K → Type 0
-  IsMakerOf lock maker = IsMakerAt (id_of lock) (name_of lock) maker
+  IsMakerOf lock maker = IsMakerAt (lock_id lock) (name_of lock) maker
 
   abbrev pub IsTurnOf : (E → ℕ) → Locked S V K P → Turn T E K → Type 0
-  IsTurnOf maker lock turn = IsTurnAt maker (id_of lock) (name_of lock) turn
+  IsTurnOf maker lock turn = IsTurnAt maker (lock_id lock) (name_of lock) turn
 
   abbrev pub IsClosingOf : Locked S V K P → Closing T E K → Type 0
-  IsClosingOf lock closing = IsClosingAt (id_of lock) closing
+  IsClosingOf lock closing = IsClosingAt (lock_id lock) closing

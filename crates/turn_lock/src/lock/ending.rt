@@ -1,6 +1,6 @@
 //! Taking the value out of the lock for good.
 ghost use Rattle.std.specs.Prelude.{◌≡◌};
-ghost use Rattle.turn_lock.specs.Passes.{id_of, name_of, view_of, lock_of, IsPassOf, IsClosingOf, Took};
+ghost use Rattle.turn_lock.specs.Passes.{lock_id, name_of, view_of, closing_lock, IsPassOf, IsClosingOf, Took};
 
 use super::{Closing, LastTurn, Locked, Pass, TurnLock};
 use crate::history::History;
@@ -40,7 +40,7 @@ impl<S, V, K: Drop, P: EndRule<S, V, K>> Locked<S, V, K, P> {
     /// The lock ends. It gives its slot, which has the value with its whole history, and how many passes were made
     /// (`Ended` in `specs/Endings.antt`). The value need not be `Drop`.
     pub fn end(self, closing: LastTurn<S, V>) -> (S, u64)
-        requires ours { lock_of closing ≡ id_of self }
+        requires ours { closing_lock closing ≡ lock_id self }
         requires last { P.may_end (view_of closing) }
         ensures { P.ended (name_of self) (view_of closing) result.1 result.0 }
     {

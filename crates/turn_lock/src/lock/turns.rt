@@ -1,6 +1,6 @@
 //! Taking a turn and passing it on.
 ghost use Rattle.std.specs.Prelude.{◌≡◌, ◌^◌, ◌<◌, ◌++◌, List, length};
-ghost use Rattle.turn_lock.specs.Passes.{front, front_before, seen, number_of, turn_number, id_of, name_of, IsPassOf, IsTurnOf, HasPutBack};
+ghost use Rattle.turn_lock.specs.Passes.{front, front_before, seen, number_of, turn_number, lock_id, name_of, IsPassOf, IsTurnOf, HasPutBack};
 ghost use Rattle.turn_lock.specs.Fronts.{IsFrontOf, Extends, Appends};
 
 use super::{Pass, Turn, TurnLock};
@@ -73,7 +73,7 @@ impl<T: History<E, K>, E, K> TurnLock<T, E, K> {
     /// Puts the value back into the slot, while the turn is still served.
     pub(super) fn put_back(&self, turn: Turn<T, E, K>, value: T) -> Place<T, E, K>
         requires ours { IsTurnOf T.maker self.now turn }
-        ensures here { result.table_id ≡ id_of self.now }
+        ensures here { result.table_id ≡ lock_id self.now }
         ensures full { HasPutBack (name_of self.now) turn value result }
     {
         let Turn {

@@ -1,4 +1,4 @@
-use Rattle.std.proofs.Common.{rules, [], ◌∷◌, ◌++◌, ap, ◌∙◌, arith, length, ◌≤◌, ◌≡◌}
+use Rattle.std.proofs.Common.{rules, [], ◌∷◌, ◌++◌, ap, ◌∙◌, arith, length, ◌≡◌}
 use Rattle.turn_list.proofs.Taking.{takes_first, takes_on}
 use Rattle.turn_list.proofs.run.take_in.Goals as goal
 

@@ -1,6 +1,5 @@
-use Rattle.std.proofs.Common.{◌≡◌, ℕ, ◌<◌, length, get_or}
-use Rattle.std.specs.Prelude.{IfOk}
-use Rattle.turn_lock.specs.Passes.{IsPassOf, IsClosingOf}
+use Rattle.std.proofs.Common.{length}
+use Rattle.turn_lock.specs.Passes.{IsClosingOf}
 use Rattle.turn_list.proofs.Taking.{IsTaking}
 use Rattle.turn_list.proofs.run.take_in.Given as goal
 

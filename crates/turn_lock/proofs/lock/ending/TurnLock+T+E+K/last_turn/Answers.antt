@@ -1,7 +1,7 @@
-use Rattle.std.proofs.Common.{rules, ◌≡◌, [], ◌∷◌, ap, sym, ◌∙◌, Some, None, refl, subst, inl}
+use Rattle.std.proofs.Common.{rules, ap, sym, ◌∙◌, Some, refl, subst, inl}
 use Rattle.atomic_table.specs.Table.{rest}
 use Rattle.turn_lock.specs.declared.view.Stage.TheVariants.{Closes}
-use Rattle.turn_lock.specs.Views.{view, hand, front_in, turn_in, log_in}
+use Rattle.turn_lock.specs.Views.{view, front_in, turn_in, log_in}
 use Rattle.turn_lock.specs.Rule.{IsClosing}
 use Rattle.turn_lock.specs.Fronts.{HasHand}
 use Rattle.turn_lock.proofs.Passing.{closes}

@@ -1,4 +1,4 @@
-use Rattle.std.proofs.Common.{rules, [], refl, ap, ◌∙◌, Some, None}
+use Rattle.std.proofs.Common.{rules, [], ◌∙◌, Some}
 use Rattle.atomic_table.specs.Table.{rest}
 use Rattle.turn_lock.specs.declared.view.Stage.TheVariants.{Idle}
 use Rattle.turn_lock.specs.Views.{view, hand, front_in, turn_in, log_in, front_to}
