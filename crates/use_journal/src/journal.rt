@@ -73,7 +73,7 @@ impl Journal {
     pub(crate) fn at(end: u64) -> Journal
         requires { end < 268435456 }
         ensures end { end_of result ≡ end }
-        ensures idle { result.pending ≡ None }
+        ensures idle { is_waiting result ≡ false }
     {
         Journal { end, pending: None }
     }

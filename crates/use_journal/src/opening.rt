@@ -18,7 +18,7 @@ fn walk(alloc: Global, bytes: &[u8]) -> Result<(Journal, Changes), StoreFault>
     ensures reads { Reads bytes.now result }
     ensures places { IfOk result (λ opened. opened.1 ≡ placed (past_of opened.1)) }
     ensures end { IfOk result (λ opened. end_of opened.0 ≡ length (written (past_of opened.1))) }
-    ensures idle { IfOk result (λ opened. opened.0.pending ≡ None) }
+    ensures idle { IfOk result (λ opened. is_waiting opened.0 ≡ false) }
     ensures changes { IfOk result (λ opened. AreChanges (past_of opened.1)) }
     ensures device { ¬ IsErrOf result StoreFault.Device }
 {
@@ -57,7 +57,7 @@ fn read_bytes(alloc: Global, bytes: &[u8]) -> Result<(Journal, Changes), StoreFa
     ensures reads { Reads bytes.now result }
     ensures places { IfOk result (λ opened. opened.1 ≡ placed (past_of opened.1)) }
     ensures end { IfOk result (λ opened. end_of opened.0 ≡ length (written (past_of opened.1))) }
-    ensures idle { IfOk result (λ opened. opened.0.pending ≡ None) }
+    ensures idle { IfOk result (λ opened. is_waiting opened.0 ≡ false) }
     ensures changes { IfOk result (λ opened. AreChanges (past_of opened.1)) }
     ensures device { ¬ IsErrOf result StoreFault.Device }
 {
