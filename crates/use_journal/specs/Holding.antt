@@ -1,5 +1,5 @@
 -- When a journal and a disk hold a list of changes, and what each call leaves.
-use Rattle.std.specs.Prelude.{◌≡◌, ◌≤◌, ◌^◌, ℕ, List, [], ◌∷◌, length, Bool, true, false, Option, None, Some, is_some, Result, Ok, Err, ⊤}
+use Rattle.std.specs.Prelude.{◌≡◌, ◌≤◌, ℕ, List, ◌∷◌, length, Bool, true, false, Option, Some, is_some, Result, Ok, Err, ⊤}
 use Rattle.ks_outside.specs.declared.disk.Disk.{Ghosts}
 use Rattle.ks_outside.specs.Faults.{Rises}
 use Rattle.ks_outside.specs.Images.{AllImages}
@@ -8,7 +8,6 @@ use Rattle.tags.specs.declared.settled.Settled.TheVariants.{Kept, Lost}
 use Rattle.journal_records.specs.declared.change.Change.{Change}
 use Rattle.journal_records.specs.declared.fault.StoreFault.{StoreFault}
 use Rattle.journal_records.specs.declared.fault.StoreFault.TheVariants as faults
-use Rattle.journal_records.specs.Spelling.{IsChange}
 use Rattle.use_journal.specs.Journal.{written, IsJournal, IsBeforeOrAfter, IsCorrupted, AreChanges, past_of, placed}
 use Rattle.use_journal.specs.declared.journal.Journal.{Journal}
 
