@@ -19,7 +19,10 @@ GATE = 0x4B
 
 # the fields of each kind: numbers by their width in bytes, and counted bytes
 KINDS = {
-    1: ("Create", [("id", 8), ("domain", 1), ("nspace", 8), ("alias", "bytes"), ("blob", "bytes"), ("list", "bytes"), ("limit", 4)]),
+    1: (
+        "Create",
+        [("id", 8), ("domain", 1), ("nspace", 8), ("alias", "bytes"), ("blob", "bytes"), ("list", "bytes"), ("limit", 4)],
+    ),
     2: ("Delete", [("id", 8)]),
     3: ("Use", [("id", 8)]),
     4: ("Grant", [("grant", 8), ("key", 8), ("uid", 4), ("bits", 4)]),
@@ -116,7 +119,8 @@ class Lasting:
         if not (id == self.next_key and id < 2**63 and owner and sizes and place):
             return False
         self.drop_keys(same)
-        self.keys.append({"id": id, "domain": domain, "nspace": nspace, "alias": alias, "blob": blob, "list": list, "limit": limit, "left": limit})
+        key = {"id": id, "domain": domain, "nspace": nspace, "alias": alias, "blob": blob, "list": list}
+        self.keys.append({**key, "limit": limit, "left": limit})
         self.next_key += 1
         return True
 
@@ -183,7 +187,8 @@ def print_store(store):
     if broken is not None or unmet is not None:
         print(json.dumps({"corrupted": unmet if broken is None else broken}))
         return 7
-    print(json.dumps({"end": end, "keys": len(lasting.keys), "grants": len(lasting.grants), "next_key": lasting.next_key, "next_grant": lasting.next_grant}))
+    counts = {"keys": len(lasting.keys), "grants": len(lasting.grants)}
+    print(json.dumps({"end": end, **counts, "next_key": lasting.next_key, "next_grant": lasting.next_grant}))
     return 0
 
 
@@ -228,7 +233,8 @@ def random_stores(count=1000):
         state = digest(store, state)
         damaged = store[:place] + bytes([byte]) + store[place + 1 :]
         records, end, broken = read_journal(damaged)
-        state = digest(b"".join(n.to_bytes(8, "big") for n in ((len(records), end) if broken is None else (2**64 - 1, broken))), state)
+        read = (len(records), end) if broken is None else (2**64 - 1, broken)
+        state = digest(b"".join(number.to_bytes(8, "big") for number in read), state)
     return state
 
 
@@ -237,7 +243,7 @@ THREE = [(1, [1, 0, 10001, b"m", b"\xaa\xbb\xcc", b"\0\0", 2]), (4, [1, 1, 10002
 
 
 def letter(store, gates):
-    """'.' where the bytes are a journal, 'h' where the header is not there, and else the letter of the gate where they are broken off."""
+    """'.' for a journal, 'h' where the header is not there, and else the letter of the gate where it is broken off."""
     _, end, broken = read_journal(store)
     return "." if broken is None else "h" if broken == 0 else chr(ord("a") + gates.index(broken))
 
@@ -251,7 +257,8 @@ def print_damage():
     store += b"\0"
     print("store", store.hex(), "gates", gates)
     for byte in (0x00, 0x4B, 0xFF):
-        print(f"{byte:02x}", "".join(letter(store[:at] + bytes([byte]) + store[at + 1 :], gates) for at in range(len(store))))
+        damaged = (store[:at] + bytes([byte]) + store[at + 1 :] for at in range(len(store)))
+        print(f"{byte:02x}", "".join(letter(bytes_, gates) for bytes_ in damaged))
     print("cut", "".join(letter(store[:size], gates) for size in range(len(store) + 1)))
 
 

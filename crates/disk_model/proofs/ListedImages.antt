@@ -1,7 +1,7 @@
 -- The listed images are images, and the others are not.
 use Rattle.std.proofs.Common.{◌≡◌, ◌⊎◌, inl, inr, ⊎_elim, ℕ, ◌+◌, ◌<◌, ◌≤◌, List, [], ◌∷◌, length, take, drop, get_or, refl, sym, ap, ◌∙◌, arith}
 use Rattle.ks_outside.specs.Ranges.{Torn}
-use Rattle.disk_model.specs.Calls.{Call, Wrote, Synced}
+use Rattle.disk_model.specs.Calls.{Call}
 use Rattle.disk_model.specs.Kept.{IsImage}
 use Rattle.disk_model.specs.Limits.{IsWithin, IsPending}
 use Rattle.disk_model.specs.Listed.{five, over, past, two, synced, AreImages, AreNoImages, of_five, not_of_five, of_over, not_of_over, of_past, not_of_past, of_two, not_of_two, of_synced, not_of_synced}

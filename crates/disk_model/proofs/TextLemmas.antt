@@ -1,10 +1,10 @@
 -- Pieces that stand in a text stand there also once it is longer.
-use Rattle.std.proofs.Common.{◌≡◌, ℕ, zero, suc, ◌+◌, ◌-◌, ◌<◌, ◌≤◌, List, [], ◌∷◌, ◌++◌, length, take, drop, map, get_or, refl, sym, ap, ◌∙◌, subst, arith, length-drop}
+use Rattle.std.proofs.Common.{◌≡◌, ℕ, zero, suc, ◌<◌, ◌≤◌, List, [], ◌∷◌, ◌++◌, length, take, drop, map, get_or, refl, sym, ap, ◌∙◌, arith, length-drop}
 use Rattle.std.specs.List.{AllByRecursion}
-use Rattle.std.proofs.lemmas.List.{take_at, drop_at, map-append, take_all}
+use Rattle.std.proofs.lemmas.List.{drop_at, map-append, take_all}
 use Rattle.disk_model.specs.declared.calls.Made.{Made}
 use Rattle.disk_model.specs.declared.calls.Made.TheVariants as kinds
-use Rattle.disk_model.specs.Calls.{Call, Wrote, Synced}
+use Rattle.disk_model.specs.Calls.{Wrote, Synced}
 use Rattle.disk_model.specs.Texts.{call_in, IsInFirst}
 
 take_front : (n : ℕ) (xs ys : List ℕ) → n ≤ length xs → take n (xs ++ ys) ≡ take n xs

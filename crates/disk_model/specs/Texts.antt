@@ -1,5 +1,5 @@
 -- Calls whose pieces stand in one text.
-use Rattle.std.specs.Prelude.{ℕ, ◌+◌, ◌≤◌, List, take, drop, map, ⊤}
+use Rattle.std.specs.Prelude.{ℕ, ◌+◌, ◌≤◌, List, take, drop, ⊤}
 use Rattle.disk_model.specs.declared.calls.Made.{Made}
 use Rattle.disk_model.specs.declared.calls.Made.TheVariants as kinds
 use Rattle.disk_model.specs.Calls.{Call, Wrote, Synced}

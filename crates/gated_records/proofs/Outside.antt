@@ -1,5 +1,5 @@
 -- What stands outside the places that are written stays.
-use Rattle.std.proofs.Common.{◌≡◌, ◌⊎◌, inl, inr, ⊎_elim, ℕ, ◌+◌, ◌-◌, ◌<◌, ◌≤◌, List, [], ◌∷◌, length, take, drop, arith}
+use Rattle.std.proofs.Common.{inl, inr, ⊎_elim, ℕ, ◌+◌, ◌≤◌, List, length, arith}
 use Rattle.ks_outside.specs.declared.disk.Disk.{Ghosts}
 use Rattle.ks_outside.specs.Ranges.{Torn}
 use Rattle.ks_outside.specs.Images.{AllImages, Passes, TornFrom}

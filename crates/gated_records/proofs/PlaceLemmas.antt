@@ -1,5 +1,5 @@
 -- What stands at a place outside a torn range stays.
-use Rattle.std.proofs.Common.{◌≡◌, ℕ, zero, suc, ◌+◌, ◌-◌, ◌<◌, ◌≤◌, List, [], ◌∷◌, ◌++◌, length, take, drop, get_or, slice_get, Option, Some, None, refl, sym, ◌∙◌, ap, subst, arith, length-take, length-drop, length-append}
+use Rattle.std.proofs.Common.{◌≡◌, ℕ, zero, suc, ◌+◌, ◌-◌, ◌<◌, ◌≤◌, List, [], ◌∷◌, ◌++◌, length, take, drop, get_or, slice_get, Some, None, refl, sym, ◌∙◌, ap, arith, length-take, length-drop, length-append}
 use Rattle.std.proofs.lemmas.List.{take_rest, take_at, take-take, drop-take, drop-drop, drop_more}
 use Rattle.ks_outside.specs.Ranges.{Holds, Torn}
 use Rattle.gated_records.specs.Areas.{HoldsAt}

@@ -1,11 +1,11 @@
 -- Bytes behind a gate, and then the gate.
-use Rattle.std.proofs.Common.{◌≡◌, ◌≢◌, ◌⊎◌, inl, inr, ⊎_elim, ℕ, ◌+◌, ◌<◌, ◌≤◌, List, [], ◌∷◌, ◌++◌, length, take, drop, get_or, Bool, true, false, Option, Some, slice_get, refl, sym, ◌∙◌, ap, subst, arith, length-append, append_assoc}
+use Rattle.std.proofs.Common.{◌≡◌, ◌≢◌, inl, inr, ⊎_elim, ℕ, ◌+◌, ◌<◌, ◌≤◌, List, [], ◌∷◌, ◌++◌, length, take, get_or, Bool, true, false, Option, Some, slice_get, refl, sym, ◌∙◌, subst, arith, length-append, append_assoc}
 use Rattle.std.proofs.lemmas.Bool.{cases_eq}
 use Rattle.ks_outside.specs.declared.disk.Disk.{Ghosts}
 use Rattle.ks_outside.specs.Ranges.{Holds, Torn}
 use Rattle.ks_outside.specs.Moments.{Follows}
 use Rattle.ks_outside.specs.Images.{AllImages, TornFrom}
-use Rattle.gated_records.specs.Areas.{HoldsAt, IsArea, HasArea, IsWithOrWithout, with_more, opened_to}
+use Rattle.gated_records.specs.Areas.{HoldsAt, IsArea, IsWithOrWithout, opened_to}
 use Rattle.gated_records.proofs.PlaceLemmas.{byte_of, fits, torn_below, torn_above, held_below, held_above, one_at, join, first_of, within_below}
 
 some_gate : (records : List ℕ) (gate : ℕ) → 0 < length (records ++ gate ∷ [])

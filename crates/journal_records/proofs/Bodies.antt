@@ -1,14 +1,13 @@
 -- Each kind of body: what was read is spelled so, and what is spelled is read again.
-use Rattle.std.proofs.Common.{◌≡◌, ◌⊎◌, ℕ, ◌+◌, ◌^◌, ◌<◌, Bool, true, false, cond, eqb, List, [], ◌∷◌, ◌++◌, length, Option, Some, None, refl, sym, ap, subst, ◌∙◌, arith, inl, inr, ⊎_elim}
+use Rattle.std.proofs.Common.{◌≡◌, ◌⊎◌, ℕ, ◌^◌, ◌<◌, Bool, true, false, cond, eqb, List, [], ◌∷◌, ◌++◌, length, Option, Some, None, refl, sym, ap, subst, ◌∙◌, arith, inl, inr, ⊎_elim}
 use Rattle.std.specs.Option.{option_and_then}
 use Rattle.std.proofs.lemmas.Bool.{eqb-true}
 use Rattle.byteorder.specs.Endian.{big_bytes}
-use Rattle.grants.specs.declared.row.GrantRow.{GrantRow}
 use Rattle.journal_records.specs.declared.change.Change.{Change}
 use Rattle.journal_records.specs.declared.change.Change.TheVariants.{Create, Delete, Use, Grant, Ungrant, Clear, Removed}
-use Rattle.journal_records.specs.Spelling.{counted, body_of, tail_of, framed, AreFields, IsShort, IsChange}
-use Rattle.journal_records.specs.Reading.{byte_at, number_at, counted_at, both, ended, created_in, granted_in, fields_in, change_in, record_at, record_in}
-use Rattle.journal_records.proofs.Codecs.{IsBytes, IsCodec, Takes, bind_some, some_is, guard_end, byte_codec, long_codec, short_codec, counted_codec, counted_takes, counted_bytes, counted_again, both_codec, row_takes, row_again}
+use Rattle.journal_records.specs.Spelling.{counted, body_of, tail_of, AreFields, IsShort, IsChange}
+use Rattle.journal_records.specs.Reading.{byte_at, number_at, counted_at, both, ended, created_in, granted_in, fields_in, change_in, record_at}
+use Rattle.journal_records.proofs.Codecs.{IsBytes, IsCodec, bind_some, some_is, byte_codec, long_codec, short_codec, counted_codec, counted_takes, counted_bytes, counted_again, both_codec, row_takes, row_again}
 
 -- what a body is, once it was read
 record IsBody (kind : ℕ) (bytes : List ℕ) (change : Change) : Type 0 where

@@ -1,13 +1,12 @@
 -- From what a reader says to both ways of its grammar.
-use Rattle.std.proofs.Common.{◌≡◌, ℕ, Bool, true, List, [], ◌∷◌, ◌++◌, eqb, length, Option, Some, None, Result, Ok, Err, refl, sym, ap, subst, ◌∙◌}
+use Rattle.std.proofs.Common.{◌≡◌, ℕ, List, [], ◌++◌, Option, Some, Result, Ok, Err, refl, sym, ap, subst, ◌∙◌}
 use Rattle.std.specs.Prelude.{IfOk}
-use Rattle.std.specs.Option.{option_and_then}
 use Rattle.std.proofs.lemmas.List.{append-nil}
 use Rattle.journal_records.specs.declared.change.Change.{Change}
 use Rattle.journal_records.specs.declared.fault.RecordFault.{RecordFault}
 use Rattle.journal_records.specs.Spelling.{tail_of, framed, IsChange}
-use Rattle.journal_records.specs.Reading.{Says, record_at, record_in, ended, byte_at}
-use Rattle.journal_records.proofs.Codecs.{IsBytes, bind_some}
+use Rattle.journal_records.specs.Reading.{Says, record_at, record_in}
+use Rattle.journal_records.proofs.Codecs.{IsBytes}
 use Rattle.journal_records.proofs.Bodies.{record_takes, record_again}
 
 -- reading again gives what was spelled

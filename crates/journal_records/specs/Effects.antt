@@ -1,5 +1,5 @@
 -- What a change makes of the lasting part, and what a list of changes leaves.
-use Rattle.std.specs.Prelude.{ℕ, suc, ◌+◌, ◌-◌, Bool, true, false, not, ◌==◌, ◌&&◌, List, [], ◌∷◌, ◌++◌, map, filter, find, Option, None, Some, if◌then◌else◌}
+use Rattle.std.specs.Prelude.{ℕ, ◌+◌, ◌-◌, Bool, not, ◌==◌, ◌&&◌, List, [], ◌∷◌, ◌++◌, map, filter, find, Option, None, Some, if◌then◌else◌}
 use Rattle.std.specs.Option.{option_and_then}
 use Rattle.grants.specs.declared.row.GrantRow.{GrantRow}
 use Rattle.grants.specs.Rows.{is_numbered, is_for, with_bits}

@@ -1,5 +1,5 @@
 -- What a change needs of the lasting part before it.
-use Rattle.std.specs.Prelude.{ℕ, suc, ◌+◌, ◌^◌, Bool, true, false, ◌&&◌, ◌||◌, ◌==◌, not, nat_lt, nat_le, List, length, filter, find, Option, None, Some, is_some, if◌then◌else◌}
+use Rattle.std.specs.Prelude.{ℕ, ◌^◌, Bool, ◌&&◌, ◌||◌, ◌==◌, nat_lt, nat_le, List, length, find, Option, None, Some}
 use Rattle.std.specs.List.{list_any}
 use Rattle.tags.specs.Descriptor.{is_alias}
 use Rattle.grants.specs.declared.row.GrantRow.{GrantRow}

@@ -4,7 +4,7 @@ use Rattle.grants.specs.declared.row.GrantRow.{GrantRow}
 use Rattle.journal_records.specs.declared.change.Change.{Change}
 use Rattle.journal_records.specs.declared.change.Change.TheVariants.{Create, Delete, Use, Grant, Ungrant, Clear, Removed}
 use Rattle.journal_records.specs.declared.record.KeyRecord.{KeyRecord}
-use Rattle.journal_records.specs.LastingPart.{Lasting, empty_lasting}
+use Rattle.journal_records.specs.LastingPart.{Lasting}
 use Rattle.journal_records.specs.Effects.{lasting_of}
 
 -- the key m of uid 10001, with an empty list and a use limit

@@ -1,19 +1,16 @@
 -- Reading a journal from left to right.
-use Rattle.std.proofs.Common.{◌≡◌, ◌≢◌, inl, inr, get_or, ℕ, ◌+◌, ◌-◌, ◌<◌, ◌≤◌, Bool, true, false, List, [], ◌∷◌, ◌++◌, length, take, drop, map, reverse, Option, Some, None, Result, Ok, Err, refl, sym, ap, subst, ◌∙◌, append_assoc, arith, length-append, length-take, take-append-drop}
+use Rattle.std.proofs.Common.{◌≡◌, ◌≢◌, inl, inr, get_or, ℕ, ◌-◌, ◌<◌, ◌≤◌, true, List, [], ◌∷◌, ◌++◌, length, take, drop, map, reverse, Option, Some, None, Result, Ok, Err, refl, sym, ap, subst, ◌∙◌, append_assoc, arith, length-append, length-take}
 use Rattle.std.specs.Prelude.{is_some, IfOk}
-use Rattle.std.specs.List.{AllByRecursion}
-use Rattle.std.proofs.lemmas.List.{append-nil, reverse-append, map-append, take-take, take_at, take_all, take_rest}
+use Rattle.std.proofs.lemmas.List.{reverse-append, map-append, take-take, take_at, take_all, take_rest}
 use Rattle.std.proofs.lemmas.Bool.{cases_lt}
-use Rattle.ks_outside.specs.declared.disk.Disk.{Ghosts}
-use Rattle.gated_records.specs.Areas.{HoldsAt, IsArea}
 use Rattle.journal_records.specs.declared.change.Change.{Change}
 use Rattle.journal_records.specs.declared.fault.StoreFault.{StoreFault}
 use Rattle.journal_records.specs.declared.fault.StoreFault.TheVariants as faults
 use Rattle.journal_records.specs.Spelling.{tail_of, framed, IsChange}
 use Rattle.journal_records.specs.Reading.{record_at}
 use Rattle.use_journal.specs.declared.journal.Journal.{Journal}
-use Rattle.use_journal.specs.Journal.{header, written, IsJournal, AreChanges, up_to_end, HasNoRecord, IsBrokenOff, IsCorrupted, NoHeader, BrokenOff, past_of, placed}
-use Rattle.use_journal.specs.Holding.{IsSettledOn, Reads, Finds}
+use Rattle.use_journal.specs.Journal.{header, written, IsJournal, AreChanges, up_to_end, HasNoRecord, IsCorrupted, NoHeader, BrokenOff, past_of, placed}
+use Rattle.use_journal.specs.Holding.{Reads, Finds}
 use Rattle.use_journal.proofs.Unique.{same_changes, not_corrupted}
 
 -- the bytes so far are the header and the records of the changes
@@ -118,8 +115,3 @@ take_end n k bytes le short = elim (cases_lt k n) [
 pub some_of : (content : Option (List ℕ)) → is_some content ≡ true → (bytes : List ℕ) × (content ≡ Some bytes)
 some_of None e = absurd (cc)
 some_of (Some bytes) e = (bytes, refl)
-
-pub settled_changes : {D : Type 0} (g : Ghosts D) (disk : D) (result : Result (Journal × List (ℕ × Change)) StoreFault)
-    → IfOk result (λ opened. IsSettledOn g opened.0 disk (past_of opened.1)) → IfOk result (λ opened. AreChanges (past_of opened.1))
-settled_changes g disk (Ok opened) settled = settled.changes
-settled_changes g disk (Err fault) settled = tt

@@ -1,5 +1,5 @@
 -- When a journal and a disk hold a list of changes, and what each call leaves.
-use Rattle.std.specs.Prelude.{◌≡◌, ◌≤◌, ◌^◌, ℕ, List, [], ◌∷◌, length, Bool, true, false, Option, None, Some, is_some, Result, Ok, Err, ⊤}
+use Rattle.std.specs.Prelude.{◌≡◌, ◌≤◌, ℕ, List, ◌∷◌, length, Bool, true, false, Option, Some, is_some, Result, Ok, Err, ⊤}
 use Rattle.ks_outside.specs.declared.disk.Disk.{Ghosts}
 use Rattle.ks_outside.specs.Faults.{Rises}
 use Rattle.ks_outside.specs.Images.{AllImages}
@@ -8,7 +8,6 @@ use Rattle.tags.specs.declared.settled.Settled.TheVariants.{Kept, Lost}
 use Rattle.journal_records.specs.declared.change.Change.{Change}
 use Rattle.journal_records.specs.declared.fault.StoreFault.{StoreFault}
 use Rattle.journal_records.specs.declared.fault.StoreFault.TheVariants as faults
-use Rattle.journal_records.specs.Spelling.{IsChange}
 use Rattle.use_journal.specs.Journal.{written, IsJournal, IsBeforeOrAfter, IsCorrupted, AreChanges, past_of, placed}
 use Rattle.use_journal.specs.declared.journal.Journal.{Journal}
 
@@ -16,23 +15,27 @@ use Rattle.use_journal.specs.declared.journal.Journal.{Journal}
 abbrev pub end_of : Journal → ℕ
 end_of journal = journal.end
 
+-- where the records end with the change that waits to be settled, where there is one
+abbrev pub end_with : Journal → Option ℕ
+end_with journal = journal.pending
+
 -- whether a change whose writing failed waits to be settled
 abbrev pub is_waiting : Journal → Bool
-is_waiting journal = is_some journal.pending
+is_waiting journal = is_some (end_with journal)
 
 -- settled: each image is a journal of these changes. That the journal knows their end does not rest on what the
 -- disk tells.
 pub record IsSettledOn {D : Type 0} (g : Ghosts D) (journal : Journal) (disk : D) (past : List Change) : Type 0 where
-  pub idle : journal.pending ≡ None
-  pub place : journal.end ≡ length (written past)
+  pub idle : is_waiting journal ≡ false
+  pub place : end_of journal ≡ length (written past)
   pub changes : AreChanges past
   pub images : AllImages g disk (IsJournal past)
 
 -- unsettled: each image is a journal of these changes, or of those with one more
 pub record IsUnsettledOn {D : Type 0} (g : Ghosts D) (journal : Journal) (disk : D) (past : List Change) (change : Change)
     : Type 0 where
-  pub waits : journal.pending ≡ Some (length (written (change ∷ past)))
-  pub place : journal.end ≡ length (written past)
+  pub waits : end_with journal ≡ Some (length (written (change ∷ past)))
+  pub place : end_of journal ≡ length (written past)
   pub changes : AreChanges (change ∷ past)
   pub images : AllImages g disk (IsBeforeOrAfter past change)
 

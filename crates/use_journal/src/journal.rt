@@ -57,13 +57,12 @@ impl Journal {
         ensures settled { IfOk result (λ opened. IsSettledOn D.Disk opened.0 disk.new (past_of opened.1)) }
         ensures places { IfOk result (λ opened. opened.1 ≡ placed (past_of opened.1)) }
         ensures reads { AllImages D.Disk disk.new (λ image. Reads image result) }
-        ensures told { (bytes : List ℕ) → D.content disk.old ≡ Some bytes → Reads bytes result }
         ensures stands { (past : List Change) → AreChanges past → AllImages D.Disk disk.old (IsJournal past)
             → tells D.Disk disk.old ≡ true → Finds past result }
         ensures images { AllImages D.Disk disk.new (D.images disk.old) }
         ensures passes { Passes D.Disk disk.old disk.new (D.images disk.old) }
-        ensures content { D.content disk.new ≡ D.content disk.old }
         ensures sure { D.is_sure disk.old → D.is_sure disk.new }
+        ensures telling { tells D.Disk disk.new ≡ tells D.Disk disk.old }
         ensures cause { OpenCause (D.fault_count disk.old) (D.fault_count disk.new) result }
     {
         read_disk(alloc, disk)
@@ -73,7 +72,7 @@ impl Journal {
     pub(crate) fn at(end: u64) -> Journal
         requires { end < 268435456 }
         ensures end { end_of result ≡ end }
-        ensures idle { result.pending ≡ None }
+        ensures idle { is_waiting result ≡ false }
     {
         Journal { end, pending: None }
     }

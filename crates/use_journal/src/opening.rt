@@ -1,7 +1,7 @@
 //! Reading a journal.
 
-ghost use Rattle.std.specs.Prelude.{◌≡◌, ◌<◌, ◌≤◌, ℕ, List, length, IfOk, IsErrOf};
-ghost use Rattle.ks_outside.specs.Images.{AllImages, Passes};
+ghost use Rattle.std.specs.Prelude.{◌≡◌, ◌<◌, ◌≤◌, ℕ, List, length, true, false, IfOk, IsErrOf};
+ghost use Rattle.ks_outside.specs.Images.{AllImages, Passes, tells};
 ghost use Rattle.journal_records.specs.declared.change.Change.{Change};
 ghost use Rattle.use_journal.specs.Journal.{written, IsJournal, AreChanges, past_of, placed};
 ghost use Rattle.use_journal.specs.Holding.{end_of, is_waiting, IsSettledOn, Reads, Finds, OpenCause};
@@ -18,7 +18,7 @@ fn walk(alloc: Global, bytes: &[u8]) -> Result<(Journal, Changes), StoreFault>
     ensures reads { Reads bytes.now result }
     ensures places { IfOk result (λ opened. opened.1 ≡ placed (past_of opened.1)) }
     ensures end { IfOk result (λ opened. end_of opened.0 ≡ length (written (past_of opened.1))) }
-    ensures idle { IfOk result (λ opened. opened.0.pending ≡ None) }
+    ensures idle { IfOk result (λ opened. is_waiting opened.0 ≡ false) }
     ensures changes { IfOk result (λ opened. AreChanges (past_of opened.1)) }
     ensures device { ¬ IsErrOf result StoreFault.Device }
 {
@@ -57,7 +57,7 @@ fn read_bytes(alloc: Global, bytes: &[u8]) -> Result<(Journal, Changes), StoreFa
     ensures reads { Reads bytes.now result }
     ensures places { IfOk result (λ opened. opened.1 ≡ placed (past_of opened.1)) }
     ensures end { IfOk result (λ opened. end_of opened.0 ≡ length (written (past_of opened.1))) }
-    ensures idle { IfOk result (λ opened. opened.0.pending ≡ None) }
+    ensures idle { IfOk result (λ opened. is_waiting opened.0 ≡ false) }
     ensures changes { IfOk result (λ opened. AreChanges (past_of opened.1)) }
     ensures device { ¬ IsErrOf result StoreFault.Device }
 {
@@ -73,11 +73,12 @@ pub(crate) fn read_disk<D: Disk>(
     ensures settled { IfOk result (λ opened. IsSettledOn D.Disk opened.0 disk.new (past_of opened.1)) }
     ensures places { IfOk result (λ opened. opened.1 ≡ placed (past_of opened.1)) }
     ensures reads { AllImages D.Disk disk.new (λ image. Reads image result) }
-    ensures told { (bytes : List ℕ) → D.content disk.old ≡ Some bytes → Reads bytes result }
+    ensures stands { (past : List Change) → AreChanges past → AllImages D.Disk disk.old (IsJournal past)
+        → tells D.Disk disk.old ≡ true → Finds past result }
     ensures images { AllImages D.Disk disk.new (D.images disk.old) }
     ensures passes { Passes D.Disk disk.old disk.new (D.images disk.old) }
-    ensures content { D.content disk.new ≡ D.content disk.old }
     ensures sure { D.is_sure disk.old → D.is_sure disk.new }
+    ensures telling { tells D.Disk disk.new ≡ tells D.Disk disk.old }
     ensures cause { OpenCause (D.fault_count disk.old) (D.fault_count disk.new) result }
 {
     match read_synced(alloc, disk) {

@@ -1,7 +1,7 @@
 -- The exits of a publishing.
-use Rattle.std.proofs.Common.{inl, inr, ◌+◌, arith}
+use Rattle.std.proofs.Common.{inl, ◌+◌, arith}
 use Rattle.ks_outside.proofs.Joins.{passes_as, passes_on}
-use Rattle.gated_records.specs.Areas.{IsArea, IsWithOrWithout}
+use Rattle.gated_records.specs.Areas.{IsWithOrWithout}
 use Rattle.gated_records.proofs.PlaceLemmas.{piece_is}
 use Rattle.gated_records.proofs.Staging.{stays_all, staged_all, shut_all, gate_all, counts_all}
 use Rattle.gated_records.proofs.Outside.{within, keeps_one, passes_one, passes_two}

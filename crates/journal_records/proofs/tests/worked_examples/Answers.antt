@@ -1,5 +1,5 @@
 -- The definitions compute, but for the test of UTF-8, which one letter passes.
-use Rattle.std.proofs.Common.{◌≡◌, ℕ, List, [], ◌∷◌, Bool, true, refl, subst, arith}
+use Rattle.std.proofs.Common.{◌≡◌, [], ◌∷◌, true, refl, subst, arith}
 use Rattle.std.specs.Str.{IsUtf8, is_utf8}
 use Rattle.std.proofs.lemmas.Str.{IsUtf8-encode, encode_ascii, is_utf8-from_IsUtf8}
 use lib.Utf8.{low_scalar}

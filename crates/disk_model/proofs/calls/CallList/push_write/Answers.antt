@@ -1,5 +1,5 @@
 -- The write stands behind the others, and its piece behind theirs.
-use Rattle.std.proofs.Common.{◌≡◌, ◌++◌, ◌∷◌, [], List, ℕ, length, map, ap, ◌∙◌, sym, rules, arith}
+use Rattle.std.proofs.Common.{◌≡◌, ◌++◌, ◌∷◌, [], length, map, ◌∙◌, rules, arith}
 use Rattle.disk_model.specs.declared.calls.Made.TheVariants as kinds
 use Rattle.disk_model.specs.Texts.{call_in}
 use Rattle.disk_model.proofs.TextLemmas.{pushed_write}

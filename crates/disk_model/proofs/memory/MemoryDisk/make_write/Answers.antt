@@ -1,6 +1,6 @@
 -- The write is the newest call, and the pages have its piece.
-use Rattle.std.proofs.Common.{refl, ℕ, List, ◌∷◌, length, reverse, sym, ap, ◌∙◌, subst, arith}
-use Rattle.disk_model.specs.Calls.{Call, Wrote}
+use Rattle.std.proofs.Common.{refl, reverse, arith}
+use Rattle.disk_model.specs.Calls.{Wrote}
 use Rattle.disk_model.specs.Kept.{content_of}
 use Rattle.disk_model.specs.Pages.{byte_in}
 use Rattle.disk_model.proofs.Elapsing.{newest}

@@ -1,5 +1,5 @@
 -- The gate tells what each image has.
-use Rattle.std.proofs.Common.{◌≡◌, ◌∙◌, ℕ, ◌+◌, ◌∷◌, length, Some, refl, sym, arith}
+use Rattle.std.proofs.Common.{◌≡◌, ◌∙◌, ◌+◌, ◌∷◌, length, refl, sym, arith}
 use Rattle.journal_records.specs.Spelling.{tail_of}
 use Rattle.use_journal.specs.Journal.{written}
 use Rattle.use_journal.proofs.Unique.{some_is}
