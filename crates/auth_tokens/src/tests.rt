@@ -4,7 +4,7 @@ use crate::{AuthToken, check, mac_input};
 use std::process::Abort;
 use std::test::Fail;
 
-// Tokens with a right mac: the token, the key, and the text under the mac. The macs were made with Python's `hmac` module.
+/// Tokens with a right mac: the token, the key, and the text under the mac. The macs were made with Python's `hmac` module.
 static KNOWN: [(AuthToken, [u8; 32], [u8; 37]); 3] = [
     (
         AuthToken {
@@ -80,7 +80,7 @@ static KNOWN: [(AuthToken, [u8; 32], [u8; 37]); 3] = [
     ),
 ];
 
-// The token with each field turned in one bit, but for the mac.
+/// The token with each field turned in one bit, but for the mac.
 fn other_fields(token: &AuthToken) -> [AuthToken; 5] {
     [
         AuthToken {
@@ -106,7 +106,7 @@ fn other_fields(token: &AuthToken) -> [AuthToken; 5] {
     ]
 }
 
-// The token is right as it stands, and no longer with one field, one bit of one byte of its mac or of the key changed.
+/// The token is right as it stands, and no longer with one field, one bit of one byte of its mac or of the key changed.
 fn is_right_alone(token: &AuthToken, key: &[u8; 32]) -> bool {
     let mut right = check(token, key);
     for other in &other_fields(token) {

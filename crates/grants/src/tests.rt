@@ -9,7 +9,7 @@ use std::alloc::Global;
 use std::test::Fail;
 use tags::NoMemory;
 
-// Shares a key with a uid, under the next number where it is new.
+/// Shares a key with a uid, under the next number where it is new.
 fn share(grants: &mut Grants, number: u64, key: u64, uid: u32, bits: u32) -> Result<(), NoMemory>
     requires { AreBelow grants.old number }
     ensures { OnOk result (AreBelow grants.new (number + 1)) }
@@ -24,7 +24,7 @@ fn share(grants: &mut Grants, number: u64, key: u64, uid: u32, bits: u32) -> Res
     Ok(())
 }
 
-// Whether the grant of a key to a uid has this number and these bits, or there is none (number 0).
+/// Whether the grant of a key to a uid has this number and these bits, or there is none (number 0).
 fn stands(grants: &Grants, key: u64, uid: u32, number: u64, bits: u32) -> bool {
     match grants.of_key(key, uid) {
         Some(row) => {
@@ -41,7 +41,7 @@ fn stands(grants: &Grants, key: u64, uid: u32, number: u64, bits: u32) -> bool {
     }
 }
 
-// Each grant that is made: a key, a uid and bits. The fourth is the second again.
+/// Each grant that is made: a key, a uid and bits. The fourth is the second again.
 static SHARED: [(u64, u32, u32); 5] = [
     (7, 10002, 260),
     (7, 10001, 1),
@@ -50,7 +50,7 @@ static SHARED: [(u64, u32, u32); 5] = [
     (9, 10002, 0),
 ];
 
-// What stands then: a key, a uid, the grant's number (0 for none) and its bits.
+/// What stands then: a key, a uid, the grant's number (0 for none) and its bits.
 static STANDING: [(u64, u32, u64, u32); 7] = [
     (7, 10002, 1, 260),
     (7, 10001, 2, 256),
@@ -61,7 +61,7 @@ static STANDING: [(u64, u32, u64, u32); 7] = [
     (6, 10002, 0, 0),
 ];
 
-// What stands once grant 1 is out, and once key 7 has ended.
+/// What stands once grant 1 is out, and once key 7 has ended.
 static ENDED: [(u64, u32, u64, u32); 4] = [
     (7, 10002, 0, 0),
     (7, 10001, 0, 0),
@@ -78,7 +78,7 @@ fn five(alloc: Global) -> Result<Grants, NoMemory> {
     Ok(grants)
 }
 
-// One grant to 10001 of each key from 1 to 65,536.
+/// One grant to 10001 of each key from 1 to 65,536.
 fn many(alloc: Global) -> Result<Grants, NoMemory> {
     let mut grants = Grants::new(alloc);
     for index in 0..65_536u64 {
@@ -87,8 +87,8 @@ fn many(alloc: Global) -> Result<Grants, NoMemory> {
     Ok(grants)
 }
 
-// Looks up sixteen million times by each of both, and ends as many keys that have no grant. A walk of the rows in one
-// of these would meet more than 10^11 of them.
+/// Looks up sixteen million times by each of both, and ends as many keys that have no grant. A walk of the rows in one
+/// of these would meet more than 10^11 of them.
 fn finds_each(grants: &mut Grants) -> bool {
     for round in 0..16_000_000u64 {
         let number = round % 65_536 + 1;

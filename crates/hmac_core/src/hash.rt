@@ -6,21 +6,21 @@ ghost use Rattle.sha2.specs.Sha512.{sha384, sha512};
 
 use sha2::{Digest, Sha224, Sha256, Sha384, Sha512};
 
-// A hash function whose digest fits 64 bytes and whose block fits 128.
+/// A hash function whose digest fits 64 bytes and whose block fits 128.
 pub trait Hash: Digest {
-    // The digest of a message.
+    /// The digest of a message.
     ghost hash: { List ℕ → List ℕ };
 
-    // The block size in bytes.
+    /// The block size in bytes.
     ghost block: { ℕ };
 
-    // The block size in bytes.
+    /// The block size in bytes.
     fn block_bytes() -> usize
         ensures block { result ≡ block }
         ensures room { 64 ≤ result }
         ensures within { result ≤ 128 };
 
-    // Writes the digest of the message at the front of `out`, and returns its length in bytes.
+    /// Writes the digest of the message at the front of `out`, and returns its length in bytes.
     fn finish_into(self, out: &mut [u8; 64]) -> usize
         ensures size { result ≡ Self.size }
         ensures within { result ≤ 64 }
@@ -28,7 +28,7 @@ pub trait Hash: Digest {
         ensures rest { drop result out.new ≡ drop result out.old };
 }
 
-// Writes `bytes` at the front of `out`.
+/// Writes `bytes` at the front of `out`.
 pub(crate) fn put_front(out: &mut [u8], bytes: &[u8])
     requires { length bytes.now ≤ length out.old }
     ensures { out.new ≡ bytes.now ++ drop (length bytes.now) out.old }
@@ -36,7 +36,7 @@ pub(crate) fn put_front(out: &mut [u8], bytes: &[u8])
     out[..bytes.len()].copy_from_slice(bytes);
 }
 
-// Writes a digest at the front of `out`, and returns its length.
+/// Writes a digest at the front of `out`, and returns its length.
 fn put_digest<const N: usize>(out: &mut [u8; 64], digest: &[u8; N]) -> usize
     requires { N ≤ 64 }
     ensures size { result ≡ N }

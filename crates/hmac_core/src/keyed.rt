@@ -6,14 +6,14 @@ ghost use Rattle.hmac_core.specs.Hmac.{block_key, hmac_with};
 use crate::hash::{Hash, put_front};
 use std::alloc::AllocError;
 
-// Two hashers that took the inner and the outer key.
+/// Two hashers that took the inner and the outer key.
 #[derive(Drop)]
 pub struct Keyed<D> {
     pub inner: D,
     pub outer: D,
 }
 
-// Each byte of `block` with the bits of `mask` turned.
+/// Each byte of `block` with the bits of `mask` turned.
 fn masked(block: &[u8; 128], mask: u8) -> [u8; 128]
     ensures { result ≡ map (λ b. bit_xor b mask) block.now }
 {
@@ -24,7 +24,7 @@ fn masked(block: &[u8; 128], mask: u8) -> [u8; 128]
     bytes
 }
 
-// The key as one block of zeros behind the key, or behind the digest of a key that is longer.
+/// The key as one block of zeros behind the key, or behind the digest of a key that is longer.
 fn key_as_block<D: Hash>(key: &[u8]) -> [u8; 128]
     ensures { take D.block result ≡ block_key D.hash D.block key.now }
 {
@@ -41,7 +41,7 @@ fn key_as_block<D: Hash>(key: &[u8]) -> [u8; 128]
     block
 }
 
-// A hasher of the first block of `bytes`.
+/// A hasher of the first block of `bytes`.
 fn hasher_of<D: Hash>(bytes: &[u8; 128]) -> D
     ensures { D.holds result (take D.block bytes.now) }
 {
@@ -53,7 +53,7 @@ fn hasher_of<D: Hash>(bytes: &[u8; 128]) -> D
 impl<D: Hash> Keyed<D> {
     ghost use Rattle.hmac_core.specs.State.{IsKeyed};
 
-    // The two hashers of a key.
+    /// The two hashers of a key.
     pub fn new(key: &[u8]) -> Self
         ensures { IsKeyed D.holds D.hash D.block result key.now [] }
     {
@@ -64,14 +64,14 @@ impl<D: Hash> Keyed<D> {
         }
     }
 
-    // Adds `input` to the text.
+    /// Adds `input` to the text.
     pub fn update(&mut self, input: &[u8])
         ensures { (key text : List ℕ) → IsKeyed D.holds D.hash D.block self.old key text → IsKeyed D.holds D.hash D.block self.new key (text ++ input.now) }
     {
         self.inner.update(input);
     }
 
-    // Writes the mac of the text at the front of `out`, and returns its length in bytes.
+    /// Writes the mac of the text at the front of `out`, and returns its length in bytes.
     pub fn finish(self, out: &mut [u8; 64]) -> usize
         ensures size { result ≡ D.size }
         ensures within { result ≤ 64 }

@@ -14,7 +14,7 @@ pub struct Hmac {
     state: State,
 }
 
-// The keyed hashers of one of the four hash functions.
+/// The keyed hashers of one of the four hash functions.
 #[derive(Drop)]
 enum State {
     Sha224(Keyed<Sha224>),

@@ -4,7 +4,7 @@ use crate::{Hmac, digest_size};
 use std::process::Abort;
 use std::test::Fail;
 
-// The value of a hexadecimal digit.
+/// The value of a hexadecimal digit.
 fn digit(text: u8) -> u8 {
     match text {
         b'0'..=b'9' => text - b'0',
@@ -13,7 +13,7 @@ fn digit(text: u8) -> u8 {
     }
 }
 
-// Tells whether the digits spell the bytes.
+/// Tells whether the digits spell the bytes.
 fn spells(digits: &[u8], bytes: &[u8]) -> bool {
     if digits.len() / 2 != bytes.len() || digits.len() % 2 != 0 {
         return false;
@@ -27,8 +27,8 @@ fn spells(digits: &[u8], bytes: &[u8]) -> bool {
     same
 }
 
-// One key and text under the four hash functions: the macs are `macs`, in hexadecimal digits, also
-// where the text comes in pieces and where the keyed code is cloned.
+/// One key and text under the four hash functions: the macs are `macs`, in hexadecimal digits, also
+/// where the text comes in pieces and where the keyed code is cloned.
 fn check(rt: &impl Abort, key: &[u8], text: &[u8], macs: &[&[u8]; 4]) -> Result<(), Fail> {
     for digest in 3..7u8 {
         let mac = macs[(digest - 3) as usize];
@@ -56,11 +56,11 @@ fn check(rt: &impl Abort, key: &[u8], text: &[u8], macs: &[&[u8]; 4]) -> Result<
     Ok(())
 }
 
-// A key, a text, and the macs under the four hash functions.
+/// A key, a text, and the macs under the four hash functions.
 type Case = (&'static [u8], &'static [u8], [&'static [u8]; 4]);
 
-// The cases of RFC 4231, section 4. The fifth case's macs, which the RFC cuts to 16 bytes, stand
-// here whole.
+/// The cases of RFC 4231, section 4. The fifth case's macs, which the RFC cuts to 16 bytes, stand
+/// here whole.
 static CASES: [Case; 7] = [
     (
         &[0x0b; 20],

@@ -7,8 +7,8 @@ use std::alloc::Global;
 use std::test::Fail;
 use tags::{Bytes, Descriptor, NoMemory, Policy, PolicyRow};
 
-// Keys 1 and 2 of the app 10001, with aliases of 1 and of 256 bytes; key 3 of the namespace 100 and key 4 of the app
-// 1000, with aliases of 1 byte. Grants 1 and 3 of key 1 and grants 2 and 4 of key 3; the key of grant 9 has ended.
+/// Keys 1 and 2 of the app 10001, with aliases of 1 and of 256 bytes; key 3 of the namespace 100 and key 4 of the app
+/// 1000, with aliases of 1 byte. Grants 1 and 3 of key 1 and grants 2 and 4 of key 3; the key of grant 9 has ended.
 struct FewKeys;
 
 impl KeyLookups for FewKeys {
@@ -103,8 +103,8 @@ const SYSTEM_KEY: KeyRow = KeyRow {
     nspace: 1000,
 };
 
-// A descriptor (domain, nspace, and how often which byte its alias has), a caller, and what it finds: the key's number
-// or 0, and the bits.
+/// A descriptor (domain, nspace, and how often which byte its alias has), a caller, and what it finds: the key's number
+/// or 0, and the bits.
 type Case = (u32, u64, Option<(usize, u8)>, u32, u64, u32);
 
 static CASES: [Case; 41] = [

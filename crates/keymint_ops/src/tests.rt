@@ -1,17 +1,19 @@
-//! The keys that the tests make and use, and how their lists are spelled.
+//! The keys that the tests make and use, and how their lists are spelled. The tests of `tag_lists`, `key_rules` and
+//! `use_rules` stand here too.
 
 mod begin_rules;
 mod beginnings;
 mod creations;
+mod lists;
 mod new_key_rules;
 
 use std::alloc::{AllocError, Global};
 use tags::{Bytes, Descriptor, Tag, TagType};
 
-// The parameters of a key or an operation: of a BYTES tag the number of zero bytes.
+/// The parameters of a key or an operation: of a BYTES tag the number of zero bytes.
 type Pairs = &'static [(Tag, u64)];
 
-// An HMAC-SHA256 key, an AES key of every mode, and an AES-GCM key of 256 bits that is generated.
+/// An HMAC-SHA256 key, an AES key of every mode, and an AES-GCM key of 256 bits that is generated.
 const MAC_KEY: Pairs = &[
     (Tag::Purpose, 2),
     (Tag::Purpose, 3),
@@ -47,7 +49,7 @@ const GCM_KEY: Pairs = &[
     (Tag::NoAuthRequired, 1),
 ];
 
-// Adds a parameter.
+/// Adds a parameter.
 fn put(bytes: &mut Vec<u8>, tag: Tag, number: u64) -> Result<(), AllocError> {
     bytes.extend_from_slice(&tag.number().to_be_bytes())?;
     match tag.kind() {
@@ -69,7 +71,7 @@ fn put(bytes: &mut Vec<u8>, tag: Tag, number: u64) -> Result<(), AllocError> {
     }
 }
 
-// The encoded list of these parameters without those of some tags, and of a nonce where there is one.
+/// The encoded list of these parameters without those of some tags, and of a nonce where there is one.
 fn encoded(
     alloc: Global,
     params: Pairs,
@@ -96,7 +98,7 @@ fn encoded(
     Ok(bytes)
 }
 
-// The key of an app under an alias.
+/// The key of an app under an alias.
 fn app_key(alloc: Global, alias: &[u8]) -> Result<Descriptor, AllocError> {
     Ok(Descriptor {
         domain: 0,

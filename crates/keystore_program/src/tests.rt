@@ -4,6 +4,7 @@ mod answered;
 mod blocks;
 mod draws;
 mod lengths;
+mod lines;
 mod macs;
 mod script;
 mod sealing;

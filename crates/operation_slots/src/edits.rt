@@ -4,7 +4,7 @@ ghost use Rattle.operation_slots.specs.Table.{has_number, taken, is_taken, idle_
 
 use crate::{OpId, Operation, Taken};
 
-// Where the operation of this number stands.
+/// Where the operation of this number stands.
 fn place_of<T>(operations: &[Operation<T>], op: OpId) -> Option<usize>
     ensures { result ≡ position (has_number op) operations.now }
 {

@@ -7,14 +7,14 @@ ghost use Rattle.operation_slots.specs.Owners.{is_first_of_owner, listed_owners,
 use crate::{OpId, Operation, Steps};
 use std::sync::ledger::Ledger;
 
-// Whether one of them is idle and of this uid.
+/// Whether one of them is idle and of this uid.
 fn has_idle<T>(operations: &[Operation<T>], uid: u32) -> bool
     ensures { result ≡ list_any (is_idle_of uid) operations.now }
 {
     operations.iter().any(|operation| operation.is_idle_of(uid))
 }
 
-// Whether it is idle, and no operation before it is idle and of its uid.
+/// Whether it is idle, and no operation before it is idle and of its uid.
 fn is_first_of_owner<T>(before: &[Operation<T>], operation: &Operation<T>) -> bool
     ensures { result ≡ is_first_of_owner before.now operation.now }
 {
@@ -71,14 +71,14 @@ pub fn oldest_idle<T, L: Ledger>(
     oldest
 }
 
-// Whether it is idle, this uid's, and older than the one found so far.
+/// Whether it is idle, this uid's, and older than the one found so far.
 fn takes_over<T>(operation: &Operation<T>, uid: u32, oldest: Option<(OpId, u64)>) -> bool
     ensures { result ≡ (is_idle_of uid operation.now && is_older (stamp_of operation.now) oldest) }
 {
     operation.is_idle_of(uid) && is_older(operation.stamp, oldest)
 }
 
-// Whether the stamp is less than that of the one found so far.
+/// Whether the stamp is less than that of the one found so far.
 fn is_older(stamp: u64, oldest: Option<(OpId, u64)>) -> bool
     ensures { result ≡ is_older stamp oldest }
 {

@@ -39,7 +39,7 @@ pub fn first_to_go<T, L: Ledger>(
     first
 }
 
-// The oldest idle operation of the owner at this place.
+/// The oldest idle operation of the owner at this place.
 fn oldest_of<T, L: Ledger>(
     slots: &Slots<T>,
     place: usize,
@@ -66,7 +66,7 @@ fn oldest_of<T, L: Ledger>(
     }
 }
 
-// Of the first to go so far and another one, that which goes first.
+/// Of the first to go so far and another one, that which goes first.
 fn earlier(first: Option<Candidate>, other: Candidate) -> Candidate
     ensures { result ≡ earlier_of first other }
 {
@@ -76,7 +76,7 @@ fn earlier(first: Option<Candidate>, other: Candidate) -> Candidate
     }
 }
 
-// Whether one gives way no later than another: its malus is greater, or the same and it was touched no later.
+/// Whether one gives way no later than another: its malus is greater, or the same and it was touched no later.
 fn goes_before(one: Candidate, other: Candidate) -> bool
     ensures { result ≡ spec.goes_before one other }
 {

@@ -11,7 +11,7 @@ use std::marker::Brand;
 use std::sync::ledger::{Blank, Ledger};
 use std::test::Fail;
 
-// Slots with the stamp that comes next, which is greater than every stamp held.
+/// Slots with the stamp that comes next, which is greater than every stamp held.
 #[derive(Drop)]
 struct Desk {
     slots: Slots<u8>,
@@ -20,14 +20,14 @@ struct Desk {
 }
 
 impl Desk {
-    // Lets time pass.
+    /// Lets time pass.
     fn wait_until(&mut self, time: u64) {
         if self.next < time {
             self.next = time;
         }
     }
 
-    // Begins an operation where a slot is free and its number is; the stamp is this moment's.
+    /// Begins an operation where a slot is free and its number is; the stamp is this moment's.
     fn begin(&mut self, op: OpId, uid: u32) -> bool {
         let stamp = self.next;
         if stamp == u64::MAX || !self.slots.has_room() {
@@ -43,7 +43,7 @@ impl Desk {
         }
     }
 
-    // Takes an idle operation and gives it back at this moment.
+    /// Takes an idle operation and gives it back at this moment.
     fn touch(&mut self, op: OpId) -> bool {
         let stamp = self.next;
         if stamp == u64::MAX {
@@ -59,12 +59,12 @@ impl Desk {
         }
     }
 
-    // Takes an idle operation, which stays busy.
+    /// Takes an idle operation, which stays busy.
     fn hold(&mut self, op: OpId) -> bool {
         matches!(self.slots.take(op), Taken::Found(_))
     }
 
-    // Takes an idle operation out, at once or by way of being busy.
+    /// Takes an idle operation out, at once or by way of being busy.
     fn finish(&mut self, op: OpId, at_once: bool) -> bool {
         if at_once {
             return self.slots.close(op).is_some();
@@ -79,7 +79,7 @@ impl Desk {
     }
 }
 
-// The victim, with a counter of its own.
+/// The victim, with a counter of its own.
 fn pruned<L: Ledger>(desk: &Desk, uid: u32, forced: bool, blank: Blank) -> Option<OpId>
     requires name { blank.name ≡ L.name }
     requires parts { blank.parts ≡ L.parts }
@@ -89,12 +89,12 @@ fn pruned<L: Ledger>(desk: &Desk, uid: u32, forced: bool, blank: Blank) -> Optio
     victim(&desk.slots, uid, forced, desk.next, &mut steps)
 }
 
-// Sixteen operations, the one of place i with the number (7 i + 3) mod 16 + 1.
+/// Sixteen operations, the one of place i with the number (7 i + 3) mod 16 + 1.
 struct Case {
     uids: [u32; 16],
-    // by how much this moment is later than the last touch, descending
+    /// by how much this moment is later than the last touch, descending
     ages: [u64; 16],
-    // bit i for place i
+    /// bit i for place i
     busy: u16,
     uid: u32,
     forced: bool,
@@ -103,7 +103,7 @@ struct Case {
 
 const NOW: u64 = 1 << 40;
 
-// Expected values by another program, from the rule as it is written.
+/// Expected values by another program, from the rule as it is written.
 static CASES: [Case; 18] = [
     // a uid with all slots: the oldest has 16 and five digits, and the bar is 17
     Case {
@@ -324,7 +324,7 @@ fn the_first_to_go_of_sixteen(rt: HostRuntime) -> Result<(), Fail> {
     Ok(())
 }
 
-// The same operations in a plain list of the test's own.
+/// The same operations in a plain list of the test's own.
 #[derive(Clone, Copy)]
 struct Row {
     op: OpId,
@@ -337,7 +337,7 @@ fn open_of(rows: &[Row], uid: u32) -> usize {
     rows.iter().filter(|row| row.uid == uid).count()
 }
 
-// How often a number is halved before nothing is left.
+/// How often a number is halved before nothing is left.
 fn digits(number: u64) -> usize {
     let mut left = number;
     let mut count: usize = 0;
@@ -364,7 +364,7 @@ fn greatest_malus(rows: &[Row], now: u64) -> usize {
     greatest
 }
 
-// Of the idle rows of greatest malus the one touched longest ago, over the bar or forced.
+/// Of the idle rows of greatest malus the one touched longest ago, over the bar or forced.
 fn by_definition(rows: &[Row], uid: u32, forced: bool, now: u64) -> Option<OpId> {
     let greatest = greatest_malus(rows, now);
     let mut first: Option<Row> = None;
@@ -382,7 +382,7 @@ fn by_definition(rows: &[Row], uid: u32, forced: bool, now: u64) -> Option<OpId>
     }
 }
 
-// Draws of the test's own: a linear congruence, of which the upper bits count.
+/// Draws of the test's own: a linear congruence, of which the upper bits count.
 #[derive(Drop)]
 struct Draws {
     state: u64,
@@ -399,7 +399,7 @@ impl Draws {
     }
 }
 
-// One event on the slots and on the plain list.
+/// One event on the slots and on the plain list.
 fn act(desk: &mut Desk, rows: &mut Vec<Row>, draws: &mut Draws, uids: u32) -> Result<(), Fail> {
     let pause = draws.below(3).wrapping_mul(draws.below(40)) as u64;
     desk.wait_until(desk.next.saturating_add(pause));
@@ -447,7 +447,7 @@ fn change<F: Fn(&Row) -> Row>(rows: &mut [Row], op: OpId, to: F)
     }
 }
 
-// The slots answer as the definition does, for a caller of each uid and one that has none.
+/// The slots answer as the definition does, for a caller of each uid and one that has none.
 fn agree(desk: &Desk, rows: &[Row]) -> bool {
     let mut same = desk.slots.open_count() == rows.len();
     for uid in 0..6u32 {

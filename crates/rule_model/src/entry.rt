@@ -1,3 +1,5 @@
+//! The entries of a history, what a step gives back, and a key that lasts.
+
 use crate::{Event, Reply};
 use tags::{Bytes, Settled};
 

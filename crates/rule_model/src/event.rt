@@ -1,3 +1,5 @@
+//! The events of the service: a reading of the clocks, a client, and its act with the arguments.
+
 use tags::{Bytes, Descriptor};
 
 /// What the clock said: milliseconds since the start, and since 1970.

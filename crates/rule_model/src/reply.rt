@@ -1,3 +1,5 @@
+//! The answers of the service: the fields of an admitted call, or the rule or the code that stopped it.
+
 ghost use Rattle.std.specs.Prelude.{◌≡◌};
 
 use std::alloc::Global;

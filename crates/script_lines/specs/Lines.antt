@@ -1,7 +1,6 @@
 -- What a line of a script spells.
 use Rattle.std.specs.Prelude.{ℕ, List, Bool, ◌&&◌, not, if◌then◌else◌, Option, Some, None}
 use Rattle.std.specs.Str.{is_utf8}
-use Rattle.rule_model.specs.declared.event.Event.{Event}
 use Rattle.rule_model.specs.declared.event.Line.{Line}
 use Rattle.serde_json.specs.Data.{Data}
 use Rattle.serde_json.specs.Read.{read}
@@ -13,10 +12,6 @@ use Rattle.rule_model.specs.Acts.{is_built}
 abbrev pub parsed : List ℕ → Option Data
 parsed line = if is_utf8 line then read line else None
 
--- an event of an act that is built; none waits for its leave yet
-abbrev pub if_built : Event → Bool → Option Line
-if_built event hold = if is_built event.act && not hold then Some (record { event = event; hold = hold }) else None
-
 -- an object with a reading, the act's name, a client where the act has one, and the act's fields
 abbrev pub line_in : Data → Option Line
 line_in members = do
@@ -25,8 +20,16 @@ line_in members = do
   client ← client_of name members
   act ← act_of name members
   hold ← hold_of name members
-  if_built (record { reading = reading; client = client; act = act }) hold
+  Some (record { event = record { reading = reading; client = client; act = act }; hold = hold })
+
+-- what a line says, its act built or not; None is a malformed line
+abbrev pub read_line : List ℕ → Option Line
+read_line line = parsed line >>= line_in
+
+-- a line of an act that is built; none waits for its leave yet
+abbrev pub if_built : Line → Option Line
+if_built line = if is_built line.event.act && not line.hold then Some line else None
 
 -- the event that a line spells, and whether an enter waits for its leave; None is a malformed line
 abbrev pub event_of : List ℕ → Option Line
-event_of line = parsed line >>= line_in
+event_of line = read_line line >>= if_built

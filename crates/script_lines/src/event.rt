@@ -4,7 +4,7 @@ ghost use Rattle.std.specs.Prelude.{◌≡◌};
 ghost use Rattle.serde_json.specs.View.{view};
 ghost use Rattle.script_lines.specs.Reads.{Gives, GivesView};
 ghost use Rattle.script_lines.specs.Acts.{act_of as spec_act_of, client_of as spec_client_of, hold_of as spec_hold_of, reading_of as spec_reading_of};
-ghost use Rattle.script_lines.specs.Lines.{event_of as spec_event_of, line_in as spec_line_in, parsed as spec_parsed};
+ghost use Rattle.script_lines.specs.Lines.{event_of as spec_event_of, line_in as spec_line_in, parsed as spec_parsed, read_line as spec_read_line};
 
 use crate::LineFault;
 use crate::act_name::name_of;
@@ -28,12 +28,25 @@ use std::str;
 pub fn event_of(alloc: Global, line: &[u8]) -> Result<Line, LineFault>
     ensures { Gives result (spec_event_of line.now) }
 {
+    let line = read_line(alloc, line)?;
+    if !line.event.act.is_built() || line.hold {
+        return Err(LineFault::Malformed);
+    }
+    Ok(line)
+}
+
+/// What a line says, without its LF, also where its act is not built yet and where it is to wait for its leave.
+///
+/// A line is `Malformed` exactly where it is no JSON object of a script (RFC 8259).
+pub fn read_line(alloc: Global, line: &[u8]) -> Result<Line, LineFault>
+    ensures { Gives result (spec_read_line line.now) }
+{
     let object = parsed(alloc, line)?;
     line_in(alloc, &object)
 }
 
 /// The JSON value of a line.
-pub fn parsed(alloc: Global, line: &[u8]) -> Result<Value, LineFault>
+fn parsed(alloc: Global, line: &[u8]) -> Result<Value, LineFault>
     ensures { GivesView view result (spec_parsed line.now) }
 {
     let Ok(text) = str::from_utf8(line) else {
@@ -54,9 +67,6 @@ fn line_in(alloc: Global, object: &Value) -> Result<Line, LineFault>
     let client = client_of(name, object)?;
     let act = act_of(alloc, name, object)?;
     let hold = hold_of(name, object)?;
-    if !act.is_built() || hold {
-        return Err(LineFault::Malformed);
-    }
     Ok(Line {
         event: Event {
             reading,
@@ -102,7 +112,7 @@ fn hold_of(name: ActKind, object: &Value) -> Result<bool, LineFault>
 }
 
 /// The act of a name, with its fields from the members of the line.
-pub fn act_of(alloc: Global, name: ActKind, object: &Value) -> Result<Act, LineFault>
+fn act_of(alloc: Global, name: ActKind, object: &Value) -> Result<Act, LineFault>
     ensures { Gives result (spec_act_of name (view object.now)) }
 {
     match name {

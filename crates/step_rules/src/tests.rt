@@ -63,8 +63,8 @@ const TOO_MUCH: Broken = Some((7, Code::InvalidInputLength));
 
 const NO_BLOCKS: Broken = Some((8, Code::InvalidInputLength));
 
-// A step; whether the operation is the client's own, and whether its key has ended; the plan; the lengths of the additional
-// data and the text that were admitted, of the input and of the signature; and the rule that is broken first.
+/// A step; whether the operation is the client's own, and whether its key has ended; the plan; the lengths of the additional
+/// data and the text that were admitted, of the input and of the signature; and the rule that is broken first.
 type Row = (StepKind, bool, bool, Plan, u64, u64, u64, u64, Broken);
 
 static ROWS: [Row; 46] = [

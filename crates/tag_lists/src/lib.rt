@@ -9,8 +9,6 @@ mod fault;
 mod list;
 mod reading;
 mod shape;
-#[cfg(test)]
-mod tests;
 mod writing;
 
 pub use fault::ListFault;

@@ -8,7 +8,7 @@ use std::test::Fail;
 use tag_lists::AuthList;
 use tags::Tag;
 
-// A token of this user, authenticator, kind and time.
+/// A token of this user, authenticator, kind and time.
 fn token(fields: (u64, u64, u32, u64)) -> AuthToken {
     let (user, authenticator, kind, time) = fields;
     AuthToken {
@@ -21,8 +21,8 @@ fn token(fields: (u64, u64, u32, u64)) -> AuthToken {
     }
 }
 
-// A key's USER_SECURE_IDs (0 for none), USER_AUTH_TYPE and AUTH_TIMEOUT, and for each token the reading, whether the
-// token fits the key and whether it is timely where it is the only one.
+/// A key's USER_SECURE_IDs (0 for none), USER_AUTH_TYPE and AUTH_TIMEOUT, and for each token the reading, whether the
+/// token fits the key and whether it is timely where it is the only one.
 struct Key {
     users: [u64; 2],
     kinds: Option<u32>,
@@ -110,7 +110,7 @@ static KEYS: [Key; 7] = [
     },
 ];
 
-// Adds a parameter of four bytes to the bytes of a list, and tells how many were added.
+/// Adds a parameter of four bytes to the bytes of a list, and tells how many were added.
 fn put_number(out: &mut Vec<u8>, tag: Tag, value: Option<u32>) -> Result<u16, Fail> {
     let Some(value) = value else {
         return Ok(0);
@@ -120,7 +120,7 @@ fn put_number(out: &mut Vec<u8>, tag: Tag, value: Option<u32>) -> Result<u16, Fa
     Ok(1)
 }
 
-// The list of a key.
+/// The list of a key.
 fn list_of(
     alloc: Global,
     users: &[u64; 2],
@@ -161,7 +161,7 @@ fn a_token_is_timely_for_the_keys_that_it_fits(rt: HostRuntime) -> Result<(), Fa
     Ok(())
 }
 
-// Adds a token of each user from 1 to 256, and tells whether each was taken.
+/// Adds a token of each user from 1 to 256, and tells whether each was taken.
 fn add_users(store: &mut TokenStore) -> bool {
     let mut taken = true;
     for user in 1..257u64 {

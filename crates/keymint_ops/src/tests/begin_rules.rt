@@ -9,7 +9,7 @@ use tag_lists::AuthList;
 use tags::{Code, Plan, Rule, RuleTable, Tag};
 use use_rules::{BeginFacts, check_begin, nonce_given, nonce_wanted};
 
-// Facts whose lists are these.
+/// Facts whose lists are these.
 fn begin(alloc: Global, asked: Pairs, key: Pairs) -> Result<BeginFacts, AllocError> {
     let asked = encoded(alloc, asked, &[], None)?;
     let key = encoded(alloc, key, &[], None)?;
@@ -23,7 +23,7 @@ fn begin(alloc: Global, asked: Pairs, key: Pairs) -> Result<BeginFacts, AllocErr
     })
 }
 
-// Whether the begin breaks this rule first, with this code.
+/// Whether the begin breaks this rule first, with this code.
 fn breaks(facts: &BeginFacts, number: u8, code: Code) -> bool {
     let table = RuleTable::B;
     check_begin(facts) == Err((Rule { table, number }, code))

@@ -14,7 +14,7 @@ use tags::Tag::{Algorithm, BlockMode, Digest, MacLength, MinMacLength, Padding, 
 use tags::{Code, Plan, RuleTable};
 use use_rules::BeginFacts;
 
-// The facts of a begin with this list on a key whose material has so many bytes.
+/// The facts of a begin with this list on a key whose material has so many bytes.
 fn facts_of(
     alloc: Global,
     asked: Pairs,
@@ -38,7 +38,7 @@ fn facts_of(
     })
 }
 
-// The plan of a begin, which starts with a nonce of sevens where one is drawn.
+/// The plan of a begin, which starts with a nonce of sevens where one is drawn.
 fn started(
     alloc: Global,
     facts: &BeginFacts,
@@ -58,8 +58,8 @@ fn started(
     }
 }
 
-// The operation's list, the nonce in it, the key's list and its bytes; and the plan with the bytes that are drawn, or the
-// rule and its code.
+/// The operation's list, the nonce in it, the key's list and its bytes; and the plan with the bytes that are drawn, or the
+/// rule and its code.
 type Row = (
     Pairs,
     Option<&'static [u8]>,
@@ -76,7 +76,7 @@ const TWELVE: Option<&[u8]> = Some(b"\x00\x01\x02\x03\x04\x05\x06\x07\x08\x09\x0
 
 const THREE: Option<&[u8]> = Some(b"\x00\x01\x02");
 
-// An AES key for encryption in GCM alone, with tags of 120 bits and drawn nonces, and an HMAC-SHA512 key that verifies.
+/// An AES key for encryption in GCM alone, with tags of 120 bits and drawn nonces, and an HMAC-SHA512 key that verifies.
 const SHORT_TAG_KEY: Pairs = &[
     (Purpose, 0),
     (Algorithm, 32),
@@ -452,7 +452,7 @@ static ROWS: [Row; 28] = [
     ),
 ];
 
-// Whether the plan is this one, with the nonce that the list has where its mode takes one.
+/// Whether the plan is this one, with the nonce that the list has where its mode takes one.
 fn is_begun(begin: &Begin, plan: Plan, wanted: usize, nonce: Option<&[u8]>) -> bool {
     let takes = matches!(plan, Plan::Cbc { .. } | Plan::Ctr | Plan::Gcm { .. });
     let same = match (&begin.nonce, nonce) {

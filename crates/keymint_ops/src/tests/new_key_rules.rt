@@ -10,7 +10,7 @@ use std::test::Fail;
 use tag_lists::AuthList;
 use tags::{Bytes, Code, RuleTable, Tag};
 
-// What a call of making a key is asked: the alias, the list, the length of an imported material, and the wall reading.
+/// What a call of making a key is asked: the alias, the list, the length of an imported material, and the wall reading.
 fn asked(
     alloc: Global,
     alias: &[u8],
@@ -31,7 +31,7 @@ fn asked(
     })
 }
 
-// A list, the length of an import, the wall reading, the kept list, and the bytes of the material.
+/// A list, the length of an import, the wall reading, the kept list, and the bytes of the material.
 type Kept = (Pairs, Option<u64>, u64, &'static [u8], usize);
 
 static KEPT: [Kept; 4] = [
@@ -116,7 +116,7 @@ fn the_kept_list_has_what_is_set_and_not_what_is_dropped(rt: HostRuntime) -> Res
     Ok(())
 }
 
-// Whether this rule of table K is broken, with this code.
+/// Whether this rule of table K is broken, with this code.
 fn breaks(answer: &Result<KeyPlan, NewFault>, number: u8, code: Code) -> bool {
     match answer {
         Err(NewFault::Broken(rule, own)) => {
@@ -126,7 +126,7 @@ fn breaks(answer: &Result<KeyPlan, NewFault>, number: u8, code: Code) -> bool {
     }
 }
 
-// Eight times a length is counted without a wrap, and an alias is UTF-8.
+/// Eight times a length is counted without a wrap, and an alias is UTF-8.
 #[test]
 fn what_no_line_spells_is_refused(rt: HostRuntime) -> Result<(), Fail> {
     let alloc = rt.alloc();
@@ -142,7 +142,7 @@ fn what_no_line_spells_is_refused(rt: HostRuntime) -> Result<(), Fail> {
     Ok(())
 }
 
-// A list, the tags that are taken out of it, the material's length, and whether that is a key's.
+/// A list, the tags that are taken out of it, the material's length, and whether that is a key's.
 type Use = (Pairs, &'static [Tag], usize, bool);
 
 static USED: [Use; 9] = [

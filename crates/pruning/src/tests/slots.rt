@@ -8,7 +8,7 @@ use std::process::Abort;
 use std::sync::ledger::{Blank, Ledger};
 use std::test::Fail;
 
-// Slots with the stamp that comes next, which is greater than every stamp held.
+/// Slots with the stamp that comes next, which is greater than every stamp held.
 #[derive(Drop)]
 struct Desk {
     slots: Slots<Vec<u8>>,
@@ -17,7 +17,7 @@ struct Desk {
 }
 
 impl Desk {
-    // Begins an operation in a slot and under a number that have to be free.
+    /// Begins an operation in a slot and under a number that have to be free.
     fn begin<R: Abort>(&mut self, rt: &R, op: OpId, uid: u32, value: Vec<u8>) {
         let stamp = self.next;
         assert!(rt; stamp < u64::MAX);
@@ -29,7 +29,7 @@ impl Desk {
         self.next = stamp + 1;
     }
 
-    // Gives a busy operation its value back.
+    /// Gives a busy operation its value back.
     fn give<R: Abort>(&mut self, rt: &R, op: OpId, value: Vec<u8>) {
         let stamp = self.next;
         assert!(rt; stamp < u64::MAX);
@@ -39,7 +39,7 @@ impl Desk {
         self.next = stamp + 1;
     }
 
-    // Takes a busy operation out.
+    /// Takes a busy operation out.
     fn end<R: Abort>(&mut self, rt: &R, op: OpId) {
         let busy = matches!(self.slots.take(op), Taken::Busy);
         assert!(rt; busy);
@@ -47,7 +47,7 @@ impl Desk {
     }
 }
 
-// The oldest idle operation of a uid, with the steps that it took.
+/// The oldest idle operation of a uid, with the steps that it took.
 fn oldest<L: Ledger>(slots: &Slots<Vec<u8>>, uid: u32, blank: Blank) -> Option<(OpId, u64)>
     requires name { blank.name ≡ L.name }
     requires parts { blank.parts ≡ L.parts }

@@ -1,11 +1,11 @@
-//! Lists against a plain reader of the format, each fault with its offset, and a list of the greatest length.
+//! Authorization lists against a plain reader of the format, each fault with its offset, and the longest list.
 
-use crate::{AuthList, ListFault};
 use std::alloc::Global;
 use std::test::Fail;
+use tag_lists::{AuthList, ListFault};
 use tags::{Param, ParamValue, Tag};
 
-// The format's tags, as its description lists them: the 28 low bits and the type.
+/// The format's tags, as its description lists them: the 28 low bits and the type.
 static TAGS: [(u32, u32); 28] = [
     (1, 2),
     (2, 1),
@@ -37,10 +37,10 @@ static TAGS: [(u32, u32); 28] = [
     (1003, 3),
 ];
 
-// A parameter: the 28 low bits, the tag, and the value's bytes.
+/// A parameter: the 28 low bits, the tag, and the value's bytes.
 type Row = (u32, u32, Vec<u8>);
 
-// So many bytes from a place on.
+/// So many bytes from a place on.
 fn piece(bytes: &[u8], at: usize, n: usize) -> Option<&[u8]> {
     if at <= bytes.len() && n <= bytes.len() - at {
         Some(&bytes[at..at + n])
@@ -49,7 +49,7 @@ fn piece(bytes: &[u8], at: usize, n: usize) -> Option<&[u8]> {
     }
 }
 
-// The number of big-endian bytes.
+/// The number of big-endian bytes.
 fn number(bytes: &[u8]) -> u64 {
     let mut number = 0u64;
     for byte in bytes {
@@ -58,7 +58,7 @@ fn number(bytes: &[u8]) -> u64 {
     number
 }
 
-// The bytes of a value of a type, or nothing where they are cut.
+/// The bytes of a value of a type, or nothing where they are cut.
 fn plain_value(kind: u32, at: usize, bytes: &[u8]) -> Option<&[u8]> {
     match kind {
         1 | 2 | 3 | 4 => piece(bytes, at, 4),
@@ -71,7 +71,7 @@ fn plain_value(kind: u32, at: usize, bytes: &[u8]) -> Option<&[u8]> {
     }
 }
 
-// The type of the tag of these 28 low bits, or 0.
+/// The type of the tag of these 28 low bits, or 0.
 fn plain_kind(low: u32) -> u32 {
     for (known, kind) in &TAGS {
         if *known == low {
@@ -81,7 +81,7 @@ fn plain_kind(low: u32) -> u32 {
     0
 }
 
-// The parameter at a place, as the format's description reads.
+/// The parameter at a place, as the format's description reads.
 fn plain_row(alloc: Global, bytes: &[u8], place: usize, rows: &[Row]) -> Result<Row, ListFault> {
     let at = place as u64;
     let Some(head) = piece(bytes, place, 4) else {
@@ -111,7 +111,7 @@ fn plain_row(alloc: Global, bytes: &[u8], place: usize, rows: &[Row]) -> Result<
     }
 }
 
-// The parameters of the bytes, in canonical order.
+/// The parameters of the bytes, in canonical order.
 fn plain_rows(alloc: Global, bytes: &[u8]) -> Result<Vec<Row>, ListFault> {
     let Some(head) = piece(bytes, 0, 2) else {
         return Err(ListFault::Truncated { at: 0 });
@@ -131,7 +131,7 @@ fn plain_rows(alloc: Global, bytes: &[u8]) -> Result<Vec<Row>, ListFault> {
     Ok(rows)
 }
 
-// The canonical spelling of what the bytes spell.
+/// The canonical spelling of what the bytes spell.
 fn plain_spelling(alloc: Global, bytes: &[u8]) -> Result<Vec<u8>, ListFault> {
     let rows = plain_rows(alloc, bytes)?;
     let mut out = Vec::new(alloc);
@@ -143,7 +143,7 @@ fn plain_spelling(alloc: Global, bytes: &[u8]) -> Result<Vec<u8>, ListFault> {
     Ok(out)
 }
 
-// What `read` and then `write` make of the bytes.
+/// What `read` and then `write` make of the bytes.
 fn again(alloc: Global, bytes: &[u8]) -> Result<Vec<u8>, ListFault> {
     let list = AuthList::read(alloc, bytes)?;
     match list.write(alloc) {
@@ -152,7 +152,7 @@ fn again(alloc: Global, bytes: &[u8]) -> Result<Vec<u8>, ListFault> {
     }
 }
 
-// The next number of a xorshift generator.
+/// The next number of a xorshift generator.
 fn next(state: &mut u64) -> u64 {
     let mut x = *state;
     x ^= x.wrapping_mul(1 << 13);
@@ -162,7 +162,7 @@ fn next(state: &mut u64) -> u64 {
     x
 }
 
-// A parameter, often right.
+/// A parameter, often right.
 fn put_made_up(bytes: &mut Vec<u8>, state: &mut u64) -> Result<(), Fail> {
     let (low, own) = TAGS[(next(state) % 28) as usize];
     let kind = if next(state) % 32 == 0 {
@@ -186,7 +186,7 @@ fn put_made_up(bytes: &mut Vec<u8>, state: &mut u64) -> Result<(), Fail> {
     Ok(())
 }
 
-// Bytes that are often, and not always, a list.
+/// Bytes that are often, and not always, a list.
 fn made_up(alloc: Global, state: &mut u64) -> Result<Vec<u8>, Fail> {
     let mut bytes = Vec::new(alloc);
     let count = next(state) % 6;
@@ -224,7 +224,7 @@ fn random_bytes_read_as_a_plain_reader_reads_them(rt: HostRuntime) -> Result<(),
     Ok(())
 }
 
-// Bytes, and the fault of least offset.
+/// Bytes, and the fault of least offset.
 static FAULTS: [(&[u8], ListFault); 25] = [
     (b"", ListFault::Truncated { at: 0 }),
     (b"\x00", ListFault::Truncated { at: 0 }),

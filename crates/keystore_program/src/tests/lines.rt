@@ -1,9 +1,7 @@
 //! Lines with the events that they spell, and replies with their lines.
 
-use crate::act_name::name_of;
-use crate::event::{act_of, parsed};
-use crate::{LineFault, event_of, line_of, malformed_line};
 use rule_model::{Entries, Fields, NO_FIELDS, Reply, Stepped};
+use script_lines::{LineFault, event_of, line_of, malformed_line, read_line};
 use std::alloc::Global;
 use std::test::Fail;
 use tags::{Bytes, Code, NoMemory, Rule, RuleTable, Settled};
@@ -29,111 +27,123 @@ static LINES: [(&str, &str); 4] = [
     ),
 ];
 
-/// Each act with all its members, and the act that it spells.
+/// A line of each act with all its members, and the act that it spells, built or not.
 static ACTS: [(&str, &str); 27] = [
-    (r#"{"do":"connect","uid":10001}"#, "Connect { uid: 10001 }"),
-    (r#"{"do":"disconnect"}"#, "Disconnect"),
     (
-        r#"{"do":"generateKey","key":{"domain":2,"nspace":100,"alias":"k"}}"#,
+        r#"{"t":[0,1000],"do":"connect","uid":10001}"#,
+        "Connect { uid: 10001 }",
+    ),
+    (r#"{"t":[0,1000],"c":1,"do":"disconnect"}"#, "Disconnect"),
+    (
+        r#"{"t":[0,1000],"c":1,"do":"generateKey","key":{"domain":2,"nspace":100,"alias":"k"}}"#,
         "GenerateKey { key: Descriptor { domain: 2, nspace: 100, alias: Some(Bytes { bytes: [107] }), blob: None }, params: Bytes { bytes: [0, 0] } }",
     ),
     (
-        r#"{"do":"generateKey","key":{"domain":3},"params":"0002fF"}"#,
+        r#"{"t":[0,1000],"c":1,"do":"generateKey","key":{"domain":3},"params":"0002fF"}"#,
         "GenerateKey { key: Descriptor { domain: 3, nspace: 0, alias: None, blob: None }, params: Bytes { bytes: [0, 2, 255] } }",
     ),
     (
-        r#"{"do":"generateKey","key":{"domain":3},"params":[["USER_SECURE_ID",7],["NONCE","abcd"],["PURPOSE",1],["CALLER_NONCE",true],["ACTIVE_DATETIME",18446744073709551615]]}"#,
+        r#"{"t":[0,1000],"c":1,"do":"generateKey","key":{"domain":3},"params":[["USER_SECURE_ID",7],["NONCE","abcd"],["PURPOSE",1],["CALLER_NONCE",true],["ACTIVE_DATETIME",18446744073709551615]]}"#,
         "GenerateKey { key: Descriptor { domain: 3, nspace: 0, alias: None, blob: None }, params: Bytes { bytes: [0, 5, 160, 0, 1, 246, 0, 0, 0, 0, 0, 0, 0, 7, 144, 0, 3, 233, 0, 2, 171, 205, 32, 0, 0, 1, 0, 0, 0, 1, 112, 0, 0, 7, 1, 96, 0, 1, 144, 255, 255, 255, 255, 255, 255, 255, 255] } }",
     ),
     (
-        r#"{"do":"importKey","key":{"domain":4,"nspace":18446744073709551615},"format":1,"material":"00"}"#,
+        r#"{"t":[0,1000],"c":1,"do":"importKey","key":{"domain":4,"nspace":18446744073709551615},"format":1,"material":"00"}"#,
         "ImportKey { key: Descriptor { domain: 4, nspace: 18446744073709551615, alias: None, blob: None }, params: Bytes { bytes: [0, 0] }, format: 1, material: Bytes { bytes: [0] } }",
     ),
     (
-        r#"{"do":"createOperation","key":{"domain":3,"blob":"4b53"},"params":[],"forced":true}"#,
+        r#"{"t":[0,1000],"c":1,"do":"createOperation","key":{"domain":3,"blob":"4b53"},"params":[],"forced":true}"#,
         "CreateOperation { key: Descriptor { domain: 3, nspace: 0, alias: None, blob: Some(Bytes { bytes: [75, 83] }) }, params: Bytes { bytes: [0, 0] }, forced: true }",
     ),
     (
-        r#"{"do":"updateAad","op":1,"input":"AaBb"}"#,
+        r#"{"t":[0,1000],"c":1,"do":"updateAad","op":1,"input":"AaBb"}"#,
         "EnterAad { op: 1, input: Bytes { bytes: [170, 187] } }",
     ),
     (
-        r#"{"do":"update","op":2}"#,
+        r#"{"t":[0,1000],"c":1,"do":"update","op":2}"#,
         "EnterUpdate { op: 2, input: Bytes { bytes: [] } }",
     ),
     (
-        r#"{"do":"finish","op":3,"input":"","signature":"00ff"}"#,
+        r#"{"t":[0,1000],"c":1,"do":"finish","op":3,"input":"","signature":"00ff"}"#,
         "EnterFinish { op: 3, input: Bytes { bytes: [] }, signature: Some(Bytes { bytes: [0, 255] }) }",
     ),
     (
-        r#"{"do":"finish","op":3}"#,
+        r#"{"t":[0,1000],"c":1,"do":"finish","op":3}"#,
         "EnterFinish { op: 3, input: Bytes { bytes: [] }, signature: None }",
     ),
-    (r#"{"do":"abort","op":4}"#, "Abort { op: 4 }"),
     (
-        r#"{"do":"getKeyEntry","key":{"domain":1,"nspace":9}}"#,
+        r#"{"t":[0,1000],"c":1,"do":"abort","op":4}"#,
+        "Abort { op: 4 }",
+    ),
+    (
+        r#"{"t":[0,1000],"c":1,"do":"getKeyEntry","key":{"domain":1,"nspace":9}}"#,
         "GetKeyEntry { key: Descriptor { domain: 1, nspace: 9, alias: None, blob: None } }",
     ),
     (
-        r#"{"do":"deleteKey","key":{"domain":0,"alias":""}}"#,
+        r#"{"t":[0,1000],"c":1,"do":"deleteKey","key":{"domain":0,"alias":""}}"#,
         "DeleteKey { key: Descriptor { domain: 0, nspace: 0, alias: Some(Bytes { bytes: [] }), blob: None } }",
     ),
     (
-        r#"{"do":"grant","key":{"domain":0},"uid":10002,"bits":260}"#,
+        r#"{"t":[0,1000],"c":1,"do":"grant","key":{"domain":0},"uid":10002,"bits":260}"#,
         "Grant { key: Descriptor { domain: 0, nspace: 0, alias: None, blob: None }, uid: 10002, bits: 260 }",
     ),
     (
-        r#"{"do":"ungrant","key":{"domain":0},"uid":4294967295}"#,
+        r#"{"t":[0,1000],"c":1,"do":"ungrant","key":{"domain":0},"uid":4294967295}"#,
         "Ungrant { key: Descriptor { domain: 0, nspace: 0, alias: None, blob: None }, uid: 4294967295 }",
     ),
     (
-        r#"{"do":"getNumberOfEntries","domain":2,"nspace":100}"#,
+        r#"{"t":[0,1000],"c":1,"do":"getNumberOfEntries","domain":2,"nspace":100}"#,
         "GetNumberOfEntries { domain: 2, nspace: 100 }",
     ),
     (
-        r#"{"do":"listEntriesBatched","domain":0}"#,
+        r#"{"t":[0,1000],"c":1,"do":"listEntriesBatched","domain":0}"#,
         "ListEntriesBatched { domain: 0, nspace: 0, past: None }",
     ),
     (
-        r#"{"do":"listEntriesBatched","domain":0,"nspace":1,"past":"\u00e9"}"#,
+        r#"{"t":[0,1000],"c":1,"do":"listEntriesBatched","domain":0,"nspace":1,"past":"\u00e9"}"#,
         "ListEntriesBatched { domain: 0, nspace: 1, past: Some(Bytes { bytes: [195, 169] }) }",
     ),
     (
-        r#"{"do":"addAuthToken","challenge":1,"user":2,"authenticator":3,"kind":4,"time":5,"mac":"0101010101010101010101010101010101010101010101010101010101010102"}"#,
+        r#"{"t":[0,1000],"c":1,"do":"addAuthToken","challenge":1,"user":2,"authenticator":3,"kind":4,"time":5,"mac":"0101010101010101010101010101010101010101010101010101010101010102"}"#,
         "AddAuthToken { challenge: 1, user: 2, authenticator: 3, kind: 4, time: 5, mac: [1, 1, 1, 1, 1, 1, 1, 1, 1, 1, 1, 1, 1, 1, 1, 1, 1, 1, 1, 1, 1, 1, 1, 1, 1, 1, 1, 1, 1, 1, 1, 2] }",
     ),
     (
-        r#"{"do":"deviceLocked","user":42950}"#,
+        r#"{"t":[0,1000],"c":1,"do":"deviceLocked","user":42950}"#,
         "DeviceLocked { user: 42950 }",
     ),
     (
-        r#"{"do":"deviceUnlocked","user":0}"#,
+        r#"{"t":[0,1000],"c":1,"do":"deviceUnlocked","user":0}"#,
         "DeviceUnlocked { user: 0 }",
     ),
-    (r#"{"do":"earlyBootEnded"}"#, "EarlyBootEnded"),
     (
-        r#"{"do":"clearNamespace","domain":0,"nspace":10001}"#,
+        r#"{"t":[0,1000],"c":1,"do":"earlyBootEnded"}"#,
+        "EarlyBootEnded",
+    ),
+    (
+        r#"{"t":[0,1000],"c":1,"do":"clearNamespace","domain":0,"nspace":10001}"#,
         "ClearNamespace { domain: 0, nspace: 10001 }",
     ),
     (
-        r#"{"do":"userRemoved","user":1}"#,
+        r#"{"t":[0,1000],"c":1,"do":"userRemoved","user":1}"#,
         "UserRemoved { user: 1 }",
     ),
-    (r#"{"do":"leave","ticket":1}"#, "Leave { ticket: 1 }"),
     (
-        r#"{"do":"restart","root":"0404040404040404040404040404040404040404040404040404040404040405"}"#,
+        r#"{"t":[0,1000],"do":"leave","ticket":1}"#,
+        "Leave { ticket: 1 }",
+    ),
+    (
+        r#"{"t":[0,1000],"do":"restart","root":"0404040404040404040404040404040404040404040404040404040404040405"}"#,
         "Restart { root: Some([4, 4, 4, 4, 4, 4, 4, 4, 4, 4, 4, 4, 4, 4, 4, 4, 4, 4, 4, 4, 4, 4, 4, 4, 4, 4, 4, 4, 4, 4, 4, 5]) }",
     ),
 ];
 
 /// Acts that are spelled wrongly, of those that no line has yet; those of the others are in `checks/malformed-lines.jsonl`.
 static BAD_ACTS: [&str; 6] = [
-    r#"{"do":"deleteKey","key":{}}"#,
-    r#"{"do":"deleteKey","key":{"domain":0,"nspace":null}}"#,
-    r#"{"do":"deleteKey","key":{"domain":0,"alias":null}}"#,
-    r#"{"do":"deleteKey","key":{"domain":0,"blob":1}}"#,
-    r#"{"do":"addAuthToken","challenge":1,"user":2,"authenticator":3,"kind":4,"time":5,"mac":"01"}"#,
-    r#"{"do":"restart","root":null}"#,
+    r#"{"t":[0,1000],"c":1,"do":"deleteKey","key":{}}"#,
+    r#"{"t":[0,1000],"c":1,"do":"deleteKey","key":{"domain":0,"nspace":null}}"#,
+    r#"{"t":[0,1000],"c":1,"do":"deleteKey","key":{"domain":0,"alias":null}}"#,
+    r#"{"t":[0,1000],"c":1,"do":"deleteKey","key":{"domain":0,"blob":1}}"#,
+    r#"{"t":[0,1000],"c":1,"do":"addAuthToken","challenge":1,"user":2,"authenticator":3,"kind":4,"time":5,"mac":"01"}"#,
+    r#"{"t":[0,1000],"do":"restart","root":null}"#,
 ];
 
 fn bytes(alloc: Global, text: &str) -> Result<Option<Bytes>, NoMemory> {
@@ -160,15 +170,13 @@ fn each_act_with_its_members(rt: HostRuntime) -> Result<(), Fail> {
     let alloc = rt.alloc();
     for row in &ACTS {
         let (line, want) = *row;
-        let object = parsed(alloc, line.as_bytes())?;
-        let act = act_of(alloc, name_of(&object)?, &object)?;
-        let text = format!(in alloc; "{act:?}")?;
+        let spelled = read_line(alloc, line.as_bytes())?;
+        let text = format!(in alloc; "{:?}", spelled.event.act)?;
         assert!(rt; text.as_str() == want, "{text}");
     }
     for line in &BAD_ACTS {
-        let object = parsed(alloc, line.as_bytes())?;
-        let act = act_of(alloc, name_of(&object)?, &object);
-        assert!(rt; matches!(act, Err(LineFault::Malformed)), "{line}");
+        let spelled = read_line(alloc, line.as_bytes());
+        assert!(rt; matches!(spelled, Err(LineFault::Malformed)), "{line}");
     }
     Ok(())
 }
@@ -216,7 +224,7 @@ fn all_fields(alloc: Global) -> Result<Fields, NoMemory> {
     Ok(fields)
 }
 
-// Whether the line of a reply is this text.
+/// Whether the line of a reply is this text.
 fn says(
     alloc: Global,
     settled: Option<Settled>,
