@@ -114,7 +114,10 @@ fn places(y: u8x16) -> (u8x16, u8x16)
     let ratio = look(u8x16::from_array(RATIOS), k);
     let over_i = sum(look(inverses, i), ratio);
     let over_j = sum(look(inverses, j), ratio);
-    (sum(look(inverses, over_i), j), sum(look(inverses, over_j), i))
+    (
+        sum(look(inverses, over_i), j),
+        sum(look(inverses, over_j), i),
+    )
 }
 
 /// The S-box of each byte of the tower without its constant, and the product of that with x, both in the tower.

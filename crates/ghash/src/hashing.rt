@@ -11,6 +11,7 @@ use crate::table::{product_by, products_with};
 
 // From how many blocks on the chains are worth their tables, and the power of the subkey besides, as measured.
 const MANY: usize = 32;
+
 const MANY_AT_FIRST: usize = 48;
 
 impl Ghash {
