@@ -184,14 +184,38 @@ mixed_is x k h l =
     (λ r c. to_tower (bit_xor (mixed (sub_byte (byte_at x r c)) (sub_byte (byte_at x ((r + 1) % 4) c)) (sub_byte (byte_at x ((r + 2) % 4) c)) (sub_byte (byte_at x ((r + 3) % 4) c))) (byte_at k r c)))
     (λ r c. mixed_lane x k r c h l)
 
+-- the sums of a round in the order in which they are made
+other_order : (h t k g : ℕ) → bit_xor (bit_xor h (bit_xor t k)) g ≡ bit_xor (bit_xor (bit_xor h g) t) k
+other_order h t k g =
+    same_sums (h ∷ t ∷ k ∷ g ∷ []) (Both (Both (Term 0) (Both (Term 1) (Term 2))) (Term 3)) (Both (Both (Both (Term 0) (Term 3)) (Term 1)) (Term 2)) refl
+
+other_block : (h t k g : List ℕ) → add_round_key (add_round_key h (add_round_key t k)) g ≡ add_round_key (add_round_key (add_round_key h g) t) k
+unfolding add_round_key state_of
+other_block h t k g =
+    same_states (λ r c. bit_xor (bit_xor (byte_at h r c) (bit_xor (byte_at t r c) (byte_at k r c))) (byte_at g r c))
+    (λ r c. bit_xor (bit_xor (bit_xor (byte_at h r c) (byte_at g r c)) (byte_at t r c)) (byte_at k r c))
+    (λ r c. other_order (byte_at h r c) (byte_at t r c) (byte_at k r c) (byte_at g r c))
+
+once_shifted : (s : List ℕ) → shift_rows (once_block s) ≡ once_block (shift_rows s)
+unfolding shift_rows state_of
+once_shifted s = refl
+
+twice_shifted : (s : List ℕ) → shift_rows (twice_block s) ≡ twice_block (shift_rows s)
+unfolding shift_rows state_of
+twice_shifted s = refl
+
 -- a round, from what its steps gave
-pub round_is : (s k shifted a d : List ℕ) → IsBytes (shift_rows s) → IsBytes k → shifted ≡ towered (shift_rows s) → a ≡ map once shifted → d ≡ map twice shifted →
-    add_round_key (add_round_key (add_round_key (half a d) (turned 1 (half a d))) (turned 3 a)) (towered (add_round_key k constant)) ≡ towered (add_round_key (mix_columns (shift_rows (sub_bytes s))) k)
-round_is s k shifted a d h l is is_a is_d =
+pub round_is : (s k y a d : List ℕ) → IsBytes s → IsBytes (shift_rows s) → IsBytes k → y ≡ towered s → a ≡ map once y → d ≡ map twice y →
+    add_round_key (add_round_key (half (shift_rows a) (shift_rows d)) (add_round_key (turned 3 (shift_rows a)) (towered (add_round_key k constant)))) (turned 1 (half (shift_rows a) (shift_rows d)))
+    ≡ towered (add_round_key (mix_columns (shift_rows (sub_bytes s))) k)
+round_is s k y a d h hs l is is_a is_d =
     let x = shift_rows s in
-    let ea : a ≡ once_block x = is_a ∙ ap (map once) is ∙ once_is x h in
-    let ed : d ≡ twice_block x = is_d ∙ ap (map twice) is ∙ twice_is x h in
-    rw (ea, ed) (mixed_is x k h l) ∙ ap (λ t. towered (add_round_key (mix_columns t) k)) (sub_shifted s)
+    let ea : shift_rows a ≡ once_block x = ap shift_rows (is_a ∙ ap (map once) is ∙ once_is s h) ∙ once_shifted s in
+    let ed : shift_rows d ≡ twice_block x = ap shift_rows (is_d ∙ ap (map twice) is ∙ twice_is s h) ∙ twice_shifted s in
+    let e = half (shift_rows a) (shift_rows d) in
+    other_block e (turned 3 (shift_rows a)) (towered (add_round_key k constant)) (turned 1 e)
+    ∙ rw (ea, ed) (mixed_is x k hs l)
+    ∙ ap (λ t. towered (add_round_key (mix_columns t) k)) (sub_shifted s)
 
 last_lane : (s k : ℕ) → bit_xor (bit_xor s 0x63) (bit_xor k 0x63) ≡ bit_xor s k
 last_lane s k = interchange s 0x63 k 0x63 ∙ xor_zero_r (bit_xor s k)

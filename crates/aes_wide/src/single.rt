@@ -35,12 +35,20 @@ fn turned_once(x: u8x16) -> u8x16
     x.swizzle([1, 2, 3, 0, 5, 6, 7, 4, 9, 10, 11, 8, 13, 14, 15, 12])
 }
 
-/// Each column turned up by three rows.
+/// ShiftRows, and each column turned up by a row.
 #[inline(always)]
-fn turned_thrice(x: u8x16) -> u8x16
-    ensures { result ≡ turned 3 x }
+fn shifted_and_turned_once(x: u8x16) -> u8x16
+    ensures { result ≡ turned 1 (shift_rows x) }
 {
-    x.swizzle([3, 0, 1, 2, 7, 4, 5, 6, 11, 8, 9, 10, 15, 12, 13, 14])
+    x.swizzle([5, 10, 15, 0, 9, 14, 3, 4, 13, 2, 7, 8, 1, 6, 11, 12])
+}
+
+/// ShiftRows, and each column turned up by three rows.
+#[inline(always)]
+fn shifted_and_turned_thrice(x: u8x16) -> u8x16
+    ensures { result ≡ turned 3 (shift_rows x) }
+{
+    x.swizzle([15, 0, 5, 10, 3, 4, 9, 14, 7, 8, 13, 2, 11, 12, 1, 6])
 }
 
 /// The sums of the bytes.
@@ -57,10 +65,10 @@ pub(crate) fn tower_round(y: u8x16, key: u8x16) -> u8x16
     ensures { (s k : List ℕ) → IsBytes s → IsBytes k → y ≡ towered s → key ≡ towered (add_round_key k constant) →
         result ≡ towered (add_round_key (mix_columns (shift_rows (sub_bytes s))) k) }
 {
-    let (once, twice) = sub_in_tower(rows_shifted(y));
-    let half = sum(twice, turned_once(once));
-    let mixed = sum(sum(half, turned_once(half)), turned_thrice(once));
-    sum(mixed, key)
+    let (once, twice) = sub_in_tower(y);
+    let half = sum(rows_shifted(twice), shifted_and_turned_once(once));
+    let rest = sum(shifted_and_turned_thrice(once), key);
+    sum(sum(half, rest), turned_once(half))
 }
 
 /// The last round, out of the tower.

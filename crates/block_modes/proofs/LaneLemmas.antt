@@ -1,7 +1,8 @@
 -- Lists that fill from the front, and what the modes put there.
-use Rattle.std.proofs.Common.{◌≡◌, ℕ, zero, suc, ◌+◌, ◌<◌, true, false, Bool, List, [], ◌∷◌, ◌++◌, length, take, drop, map, set, get_or, refl, sym, ◌∙◌, ap, arith, append_assoc, length-take, length-append}
+use Rattle.std.proofs.Common.{◌≡◌, ℕ, zero, suc, ◌+◌, ◌%◌, ◌^◌, ◌<◌, true, false, Bool, List, [], ◌∷◌, ◌++◌, length, take, drop, map, set, get_or, refl, sym, ◌∙◌, ap, arith, append_assoc, length-take, length-append}
 use Rattle.std.specs.List.{concat}
 use Rattle.std.specs.Simd.Lanes.{zip2}
+use Rattle.std.specs.Int.{w128, from_be_bytes, to_be_bytes}
 use Rattle.std.proofs.lemmas.List.{take_more}
 use Rattle.tags.specs.declared.plan.Plan.{Plan}
 use Rattle.tags.specs.declared.plan.Plan.TheVariants.{Ecb, Cbc, Ctr, Gcm, HmacSign, HmacVerify}
@@ -88,6 +89,17 @@ counter_next (suc n) first =
     let longer : suc n + 1 ≡ suc (n + 1) = omega arith in
     ap (λ k. counter_after k first) longer ∙ counter_next n (next_counter first)
 
+number_again : (n : ℕ) → n < 2 ^ 128 → from_be_bytes w128 (to_be_bytes w128 n) ≡ n
+number_again n h = omega arith
+
+-- the number behind a counter block
+pub number_next : (n : ℕ) (first : List ℕ) (number : ℕ) → number < 2 ^ 128 → to_be_bytes w128 number ≡ counter_after n first →
+    to_be_bytes w128 ((number + 1) % 2 ^ 128) ≡ counter_after (n + 1) first
+number_next n first number small is =
+    ap (λ k. to_be_bytes w128 ((k + 1) % 2 ^ 128)) (sym (number_again number small))
+    ∙ ap next_counter is
+    ∙ sym (counter_next n first)
+
 -- ---- the chain of cipher text
 
 pub length-before_each : (before : List ℕ) (bs : List (List ℕ)) → length (before_each before bs) ≡ length bs
@@ -164,6 +176,23 @@ cbc_open_outs c i plan seal padded chain bs is t = rw (is, t) (outs_unchained c 
 pub cbc_open_chain : (c i : List ℕ → List ℕ) (plan : Plan) (seal padded : Bool) (chain : List ℕ) (bs : List (List ℕ)) → plan ≡ Cbc seal padded → seal ≡ false →
     before_next chain bs ≡ chain_after c i plan chain bs
 cbc_open_chain c i plan seal padded chain bs is t = rw (is, t) (chain_unchained c i padded chain bs)
+
+-- the padding does not show in what is sealed
+pub sealed_any : (c i : List ℕ → List ℕ) (plan : Plan) (seal padded : Bool) (chain : List ℕ) (bs : List (List ℕ)) → plan ≡ Cbc seal padded → seal ≡ true →
+    outs c i (Cbc true false) chain bs ≡ outs c i plan chain bs
+sealed_any c i plan seal padded chain bs is t = rw (is, t) (all chain bs)
+  where
+    all : (before : List ℕ) (blocks : List (List ℕ)) → outs c i (Cbc true false) before blocks ≡ outs c i (Cbc true padded) before blocks
+    all before [] = refl
+    all before (b ∷ blocks) = ap (λ t. c (xor_bytes b before) ∷ t) (all (c (xor_bytes b before)) blocks)
+
+pub sealed_after : (c i : List ℕ → List ℕ) (plan : Plan) (seal padded : Bool) (chain : List ℕ) (bs : List (List ℕ)) → plan ≡ Cbc seal padded → seal ≡ true →
+    chain_after c i (Cbc true false) chain bs ≡ chain_after c i plan chain bs
+sealed_after c i plan seal padded chain bs is t = rw (is, t) (all chain bs)
+  where
+    all : (before : List ℕ) (blocks : List (List ℕ)) → chain_after c i (Cbc true false) before blocks ≡ chain_after c i (Cbc true padded) before blocks
+    all before [] = refl
+    all before (b ∷ blocks) = all (c (xor_bytes b before)) blocks
 
 -- a plan that counts
 pub record Counts (c i : List ℕ → List ℕ) (plan : Plan) : Type 0 where

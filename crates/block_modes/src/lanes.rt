@@ -1,33 +1,35 @@
 //! What a mode makes of many blocks, most of them by one call of the cipher.
 
-ghost use Rattle.std.specs.Prelude.{◌≡◌, length};
+ghost use Rattle.std.specs.Prelude.{◌≡◌, true, false, length};
+ghost use Rattle.tags.specs.declared.plan.Plan.TheVariants.{Cbc};
 ghost use Rattle.std.specs.Simd.Lanes.{zip2};
 ghost use Rattle.block_modes.specs.Texts.{xor_bytes};
 ghost use Rattle.block_modes.specs.Steps.{outs, chain_after, counter_blocks, counter_after, before_each, before_next};
 
-use crate::step::{next_counter, step, xor};
+use crate::step::xor;
 use aes_core::ManyBlocks;
+use std::simd::prelude::*;
 use tags::Plan;
 
-/// One block after another, each with what is chained to it.
-fn one_by_one<C: ManyBlocks>(
+/// Seals one block after another in CBC, each with the cipher text before it. The chain stays a vector between the blocks.
+fn seal_chain<C: ManyBlocks>(
     cipher: &C,
-    plan: Plan,
     chain: [u8; 16],
     texts: &[[u8; 16]],
     made: &mut [[u8; 16]],
 ) -> [u8; 16]
     requires { length texts.now ≡ length made.old }
-    ensures made { made.new ≡ outs (C.cipher cipher.now) (C.inverse cipher.now) plan chain texts.now }
-    ensures chain { result ≡ chain_after (C.cipher cipher.now) (C.inverse cipher.now) plan chain texts.now }
+    ensures made { made.new ≡ outs (C.cipher cipher.now) (C.inverse cipher.now) (Cbc true false) chain texts.now }
+    ensures chain { result ≡ chain_after (C.cipher cipher.now) (C.inverse cipher.now) (Cbc true false) chain texts.now }
 {
-    let mut before = chain;
+    let mut before = u8x16::from_array(chain);
     'each: for i in 0..texts.len() {
-        let (out, next) = step(cipher, plan, before, texts[i]);
+        let sum = u8x16::from_array(texts[i]) ^ before;
+        let out = cipher.encrypt(sum.to_array());
         made[i] = out;
-        before = next;
+        before = u8x16::from_array(out);
     }
-    before
+    before.to_array()
 }
 
 /// Puts the counter blocks from `first` on, and gives the one behind them.
@@ -35,13 +37,16 @@ fn put_counters(first: [u8; 16], out: &mut [[u8; 16]]) -> [u8; 16]
     ensures blocks { out.new ≡ counter_blocks (length out.old) first }
     ensures next { result ≡ counter_after (length out.old) first }
 {
-    let mut counter = first;
-    'each: for i in 0..out.len() {
-        out[i] = counter;
-        let next = next_counter(counter);
-        counter = next;
+    if out.is_empty() {
+        return first;
     }
-    counter
+    out[0] = first;
+    let mut number = u128::from_be_bytes(first).wrapping_add(1);
+    'each: for i in 1..out.len() {
+        out[i] = number.to_be_bytes();
+        number = number.wrapping_add(1);
+    }
+    number.to_be_bytes()
 }
 
 /// Adds a key stream to texts: each block of it becomes its sum with the text.
@@ -94,7 +99,7 @@ pub(crate) fn pass_all<C: ManyBlocks>(
         }
         Plan::Cbc { seal, .. } => {
             if seal {
-                return one_by_one(cipher, plan, chain, texts, made);
+                return seal_chain(cipher, chain, texts, made);
             }
             made.copy_from_slice(texts);
             cipher.decrypt_all(made);

@@ -17,7 +17,7 @@ pub(crate) fn xor(a: [u8; 16], b: [u8; 16]) -> [u8; 16]
 }
 
 /// The next counter block (SP 800-38A appendix B.1, of all 128 bits).
-pub(crate) fn next_counter(counter: [u8; 16]) -> [u8; 16]
+fn next_counter(counter: [u8; 16]) -> [u8; 16]
     ensures { result ≡ next_counter counter }
 {
     u128::from_be_bytes(counter).wrapping_add(1).to_be_bytes()

@@ -2,7 +2,7 @@ use Rattle.std.proofs.Common.{◌≡◌, length, map, ap, sym, ◌∙◌}
 use Rattle.std.specs.Simd.Lanes.{zip2}
 use Rattle.block_modes.specs.Texts.{xor_bytes}
 use Rattle.block_modes.specs.Steps.{before_each, before_next, counter_blocks, counter_after}
-use Rattle.block_modes.proofs.LaneLemmas.{ecb_seal, ecb_open, ecb_chain, cbc_open_outs, cbc_open_chain, counts, counted_outs, counted_chain}
+use Rattle.block_modes.proofs.LaneLemmas.{ecb_seal, ecb_open, ecb_chain, cbc_open_outs, cbc_open_chain, sealed_any, sealed_after, counts, counted_outs, counted_chain}
 use Rattle.block_modes.proofs.lanes.pass_all.Goals as goal
 
 pub returns-then-seal-clause-made : goal.returns-then-seal-clause-made
@@ -54,3 +54,13 @@ returns-in_default g c =
           ∙ ap (λ n. counter_after n c.args.chain) (sym c.requires)
           ∙ counted_chain e d c.args.plan c.args.chain texts k;
     }
+
+pub returns-then-seal-2-clause-made : goal.returns-then-seal-2-clause-made
+returns-then-seal-2-clause-made g c =
+    c.seal_chain.ensures.made
+    ∙ sealed_any (g.C.BlockCipher.cipher c.args.cipher.now) (g.C.BlockCipher.inverse c.args.cipher.now) c.args.plan c.in-Cbc.seal c.in-Cbc.padded c.args.chain c.args.texts.now c.in-Cbc.is c.if-seal-2.true
+
+pub returns-then-seal-2-clause-chain : goal.returns-then-seal-2-clause-chain
+returns-then-seal-2-clause-chain g c =
+    c.seal_chain.ensures.chain
+    ∙ sealed_after (g.C.BlockCipher.cipher c.args.cipher.now) (g.C.BlockCipher.inverse c.args.cipher.now) c.args.plan c.in-Cbc.seal c.in-Cbc.padded c.args.chain c.args.texts.now c.in-Cbc.is c.if-seal-2.true
