@@ -24,8 +24,8 @@ key id limit left = record {
 }
 
 -- a grant of key 1 to uid 10002
-abbrev pub row : ℕ → ℕ → GrantRow
-row number bits = record { grant = number; key = 1; uid = 10002; bits = bits }
+abbrev pub grant_row : ℕ → ℕ → GrantRow
+grant_row number bits = record { grant = number; key = 1; uid = 10002; bits = bits }
 
 abbrev pub left_by : List KeyRecord → List GrantRow → ℕ → ℕ → Option Lasting
 left_by keys grants next_key next_grant =
@@ -45,23 +45,23 @@ pub record WorkedExamples : Type 0 where
   pub no_alias : lasting_of (Create 1 0 10001 [] [] [] 0 ∷ []) ≡ None
   pub no_such_domain : lasting_of (Create 1 1 10001 (109 ∷ []) [] [] 0 ∷ []) ≡ None
   -- the end of a key, and of its grants
-  pub rebound : lasting_of (create 2 3 ∷ Grant (row 1 256) ∷ create 1 2 ∷ []) ≡ left_by (key 2 3 3 ∷ []) [] 3 2
-  pub deleted : lasting_of (Delete 1 ∷ Grant (row 1 256) ∷ create 1 2 ∷ []) ≡ left_by [] [] 2 2
+  pub rebound : lasting_of (create 2 3 ∷ Grant (grant_row 1 256) ∷ create 1 2 ∷ []) ≡ left_by (key 2 3 3 ∷ []) [] 3 2
+  pub deleted : lasting_of (Delete 1 ∷ Grant (grant_row 1 256) ∷ create 1 2 ∷ []) ≡ left_by [] [] 2 2
   pub no_such_key : lasting_of (Delete 2 ∷ create 1 2 ∷ []) ≡ None
   pub cleared : lasting_of (Clear 0 10001 ∷ create 1 2 ∷ []) ≡ left_by [] [] 2 1
   pub other_cleared : lasting_of (Clear 2 10001 ∷ create 1 2 ∷ []) ≡ left_by (key 1 2 2 ∷ []) [] 2 1
   pub no_domain_cleared : lasting_of (Clear 1 10001 ∷ create 1 2 ∷ []) ≡ None
-  pub user_removed : lasting_of (Removed 0 ∷ Grant (row 1 256) ∷ create 1 2 ∷ []) ≡ left_by [] [] 2 2
+  pub user_removed : lasting_of (Removed 0 ∷ Grant (grant_row 1 256) ∷ create 1 2 ∷ []) ≡ left_by [] [] 2 2
   pub other_removed : lasting_of (Removed 1 ∷ create 1 2 ∷ []) ≡ left_by (key 1 2 2 ∷ []) [] 2 1
   pub no_such_user : lasting_of (Removed 42950 ∷ []) ≡ None
   -- grants
-  pub granted : lasting_of (Grant (row 1 256) ∷ create 1 2 ∷ []) ≡ left_by (key 1 2 2 ∷ []) (row 1 256 ∷ []) 2 2
-  pub granted_again : lasting_of (Grant (row 1 260) ∷ Grant (row 1 256) ∷ create 1 2 ∷ [])
-      ≡ left_by (key 1 2 2 ∷ []) (row 1 260 ∷ []) 2 2
-  pub other_number : lasting_of (Grant (row 2 260) ∷ Grant (row 1 256) ∷ create 1 2 ∷ []) ≡ None
-  pub number_ahead : lasting_of (Grant (row 2 256) ∷ create 1 2 ∷ []) ≡ None
-  pub no_key_granted : lasting_of (Grant (row 1 256) ∷ []) ≡ None
-  pub ungranted : lasting_of (Ungrant 1 ∷ Grant (row 1 256) ∷ create 1 2 ∷ []) ≡ left_by (key 1 2 2 ∷ []) [] 2 2
-  pub granted_anew : lasting_of (Grant (row 2 256) ∷ Ungrant 1 ∷ Grant (row 1 256) ∷ create 1 2 ∷ [])
-      ≡ left_by (key 1 2 2 ∷ []) (row 2 256 ∷ []) 2 3
+  pub granted : lasting_of (Grant (grant_row 1 256) ∷ create 1 2 ∷ []) ≡ left_by (key 1 2 2 ∷ []) (grant_row 1 256 ∷ []) 2 2
+  pub granted_again : lasting_of (Grant (grant_row 1 260) ∷ Grant (grant_row 1 256) ∷ create 1 2 ∷ [])
+      ≡ left_by (key 1 2 2 ∷ []) (grant_row 1 260 ∷ []) 2 2
+  pub other_number : lasting_of (Grant (grant_row 2 260) ∷ Grant (grant_row 1 256) ∷ create 1 2 ∷ []) ≡ None
+  pub number_ahead : lasting_of (Grant (grant_row 2 256) ∷ create 1 2 ∷ []) ≡ None
+  pub no_key_granted : lasting_of (Grant (grant_row 1 256) ∷ []) ≡ None
+  pub ungranted : lasting_of (Ungrant 1 ∷ Grant (grant_row 1 256) ∷ create 1 2 ∷ []) ≡ left_by (key 1 2 2 ∷ []) [] 2 2
+  pub granted_anew : lasting_of (Grant (grant_row 2 256) ∷ Ungrant 1 ∷ Grant (grant_row 1 256) ∷ create 1 2 ∷ [])
+      ≡ left_by (key 1 2 2 ∷ []) (grant_row 2 256 ∷ []) 2 3
   pub no_such_grant : lasting_of (Ungrant 1 ∷ create 1 2 ∷ []) ≡ None

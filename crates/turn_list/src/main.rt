@@ -1,7 +1,7 @@
 //! `turn_list`: threads that append to one plain list, behind the turn lock or, to compare, behind a `Mutex`.
 //!
-//! Its one contract is that of `appended` (`src/run.rt`): each pass's own entries stand in the list in their order, and
-//! nothing else does. The program runs it, and looks at the list once more:
+//! Its one contract is that of `appended` (`src/run.rt`): each thread's own entries stand in the list in their order. The
+//! program runs it, and looks whether anything else stands there:
 //!
 //!     turn_list lock ITEMS THREADS..
 //!     turn_list mutex ITEMS THREADS..

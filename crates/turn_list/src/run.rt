@@ -80,7 +80,7 @@ fn append_each<R: Threads + Wait + Sync>(
     )
 }
 
-/// The list of a lock that ends, and how many passes it had.
+/// The list of a lock that ends, and a number above those of its entries.
 fn list_of(lock: ListLock, closing: ListClosing) -> (Vec<Entry>, u64)
     requires { IsClosingOf lock closing }
     ensures all { (items k : ℕ) → TookIts items closing k → own by k result.0.items ≡ counted k items }
@@ -92,8 +92,9 @@ fn list_of(lock: ListLock, closing: ListClosing) -> (Vec<Entry>, u64)
     (list.entries, made)
 }
 
-/// The list to which so many threads appended so many items each, and how many passes there were. Each pass's own
-/// entries stand in it in their order, and nothing else does.
+/// The list to which so many threads appended so many items each, and a number that is no less than theirs. Each
+/// thread's own entries stand in it in their order, and none has that number or a greater one. That the number is theirs,
+/// so that nothing else stands in the list, is what the program looks at (`order`), and no clause says it.
 pub fn appended<R: Threads + Wait + Sync>(
     rt: &R,
     alloc: Global,

@@ -37,8 +37,9 @@ impl<T: History<E, K>, E, K> TurnLock<T, E, K> {
 }
 
 impl<S, V, K: Drop, P: EndRule<S, V, K>> Locked<S, V, K, P> {
-    /// The lock ends. It gives its slot, which has the value with its whole history, and how many passes were made
-    /// (`Ended` in `specs/Endings.antt`). The value need not be `Drop`.
+    /// The lock ends. It gives its slot, which has the value with its whole history, and a number that is above those of
+    /// all passes that were taken in and of all entries (`Ended` in `specs/Endings.antt`): how many passes were made, as
+    /// it is written, but no clause says that it is no greater. The value need not be `Drop`.
     pub fn end(self, closing: LastTurn<S, V>) -> (S, u64)
         requires ours { closing_lock closing ≡ lock_id self }
         requires last { P.may_end (view_of closing) }
