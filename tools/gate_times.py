@@ -5,8 +5,8 @@ for each crate the processor seconds of its bodies, of its tests' proofs, of its
     python3 tools/gate_times.py [FILE]
 
 FILE is where the table goes, as Markdown; without it, standard output has it last. The seconds are those of the processes
-that the gate starts, read from /proc twice a second, so a process that is shorter than that is missed. An edit is told from
-a crate by its folder: the gate checks it on a copy. To compile what a program's check proved counts with the runs."""
+that the gate starts, read from /proc twice a second, so a process that is shorter than that is missed, and one that has ended and
+was not waited for yet has no words and is left out. An edit is told from a crate by its folder: the gate checks it on a copy. To compile what a program's check proved counts with the runs."""
 import collections
 import os
 import subprocess
@@ -31,7 +31,8 @@ def below(top):
         except OSError:
             continue
         parents[int(name)] = int(stat[1])
-        found[int(name)] = (words, folder, (int(stat[11]) + int(stat[12])) / TICKS)
+        if words[0]:
+            found[int(name)] = (words, folder, (int(stat[11]) + int(stat[12])) / TICKS)
 
     def is_below(pid):
         while pid in parents and pid != top:

@@ -6,8 +6,6 @@
 #![tactic(auto)]
 
 mod mac;
-#[cfg(test)]
-mod tests;
 mod token;
 
 pub use mac::{MAC_INPUT_BYTES, check, mac_input};

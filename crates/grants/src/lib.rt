@@ -8,8 +8,6 @@
 mod maps;
 mod row;
 mod table;
-#[cfg(test)]
-mod tests;
 
 pub use row::GrantRow;
 pub use table::Grants;

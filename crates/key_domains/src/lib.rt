@@ -9,8 +9,6 @@
 mod access;
 mod caller;
 mod permission;
-#[cfg(test)]
-mod tests;
 mod view;
 
 pub use access::{Access, find_key, resolve};

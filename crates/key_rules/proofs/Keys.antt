@@ -11,6 +11,7 @@ use Rattle.tags.specs.Plan.{is_aes_size}
 use Rattle.tags.specs.Table.{Ruling}
 use Rattle.tags.specs.Values.{DIGESTS, implies, is_whole_bytes, one_in, passes}
 use Rattle.tag_lists.specs.Lookups.{IsKey, all_of, each, is_aes, is_hmac, is_of, number_of, stands}
+use Rattle.tag_lists.proofs.Lookups.{find-filter}
 use Rattle.key_rules.specs.declared.facts.ImportFacts.{ImportFacts}
 use Rattle.key_rules.specs.declared.fault.NewFault.{NewFault}
 use Rattle.key_rules.specs.declared.plan.KeyPlan.{KeyPlan}
@@ -41,14 +42,6 @@ sized size h =
       ]
     ]
 
-pick : (b : Bool) (x : Param) (found : Option Param) (rest : List Param) → found ≡ slice_get rest 0 → cond b (Some x) found ≡ slice_get (cond b (x ∷ rest) rest) 0
-pick true x found rest e = refl
-pick false x found rest e = e
-
-first_of : (p : Param → Bool) (xs : List Param) → find p xs ≡ slice_get (filter p xs) 0
-first_of p [] = refl
-first_of p (x ∷ xs) = pick (p x) x (find p xs) (filter p xs) (first_of p xs)
-
 digest_alone : (ps : List Param) → ((length ps == 1) && list_all (λ p. passes (one_in DIGESTS) (as_number p.value)) ps) ≡ true →
     passes (one_in DIGESTS) (option_and_then (λ p. as_number p.value) (slice_get ps 0)) ≡ true
 digest_alone [] h = absurd (false≢true h)
@@ -58,7 +51,7 @@ digest_alone (p ∷ ps) h =
 
 known : (list : List Param) → has_known_digest list ≡ true → passes (one_in DIGESTS) (number_of Digest list) ≡ true
 known list h =
-    subst (λ o. passes (one_in DIGESTS) (option_and_then (λ p. as_number p.value) o) ≡ true) (sym (first_of (is_of Digest) list)) (digest_alone (all_of Digest list) h)
+    subst (λ o. passes (one_in DIGESTS) (option_and_then (λ p. as_number p.value) o) ≡ true) (find-filter (is_of Digest) list) (digest_alone (all_of Digest list) h)
 
 -- a list whose size and digest the rules let through is a key's
 pub is_key : (list : List Param) (size : ℕ) → is_allowed_size list (8 * size) ≡ true → has_one_digest list ≡ true → IsKey list size
@@ -85,7 +78,7 @@ size_alone (p ∷ ps) test there h =
 named_size : (list : List Param) (test : ℕ → Bool) → (stands KeySize list && each KeySize test list) ≡ true → test (unwrap_or (number_of KeySize list) 0) ≡ true
 named_size list test h =
     let both = and_parts (stands KeySize list) (each KeySize test list) h in
-    subst (λ o. is_some o ≡ true → test (unwrap_or (option_and_then (λ p. as_number p.value) o) 0) ≡ true) (sym (first_of (is_of KeySize) list))
+    subst (λ o. is_some o ≡ true → test (unwrap_or (option_and_then (λ p. as_number p.value) o) 0) ≡ true) (find-filter (is_of KeySize) list)
     (λ there. size_alone (all_of KeySize list) test there both.1) both.0
 
 drawn_size : (bits : ℕ) → one_in (128 ∷ 192 ∷ 256 ∷ []) bits ≡ true → is_aes_size (bits / 8) ≡ true

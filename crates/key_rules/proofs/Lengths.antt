@@ -7,27 +7,12 @@ use Rattle.tags.specs.Tag.{type_of}
 use Rattle.tag_lists.specs.Lookups.{is_of, without}
 use Rattle.tag_lists.specs.Order.{rank, shape_of, with_param, with_params}
 use Rattle.tag_lists.specs.Spelling.{spelled, spelled_value, spelling, IsListOf}
-
-length_placed : (less same : Bool) (p q : Param) (qs rest : List Param) → length rest ≤ length qs + 1 → length (cond less (p ∷ q ∷ qs) (cond same (p ∷ qs) (q ∷ rest))) ≤ length (q ∷ qs) + 1
-length_placed true same p q qs rest h = omega arith
-length_placed false true p q qs rest h = omega arith
-length_placed false false p q qs rest h = omega (arith, h)
-
-pub length-with_param : (p : Param) (ps : List Param) → length (with_param p ps) ≤ length ps + 1
-length-with_param p [] = omega arith
-length-with_param p (q ∷ qs) = length_placed (ltb (rank p) (rank q)) (eqb (rank p) (rank q)) p q qs (with_param p qs) (length-with_param p qs)
+use Rattle.tag_lists.proofs.Canonical.{length-with_param}
+use Rattle.tag_lists.proofs.Edits.{length_filter}
 
 length-with_params : (ps before : List Param) → length (with_params before ps) ≤ length before + length ps
 length-with_params [] before = omega arith
 length-with_params (p ∷ ps) before = omega (arith, length-with_params ps (with_param p before), length-with_param p before)
-
-length_cond : (b : Bool) (x : Param) (ys : List Param) (n : ℕ) → length ys ≤ n → length (cond b (x ∷ ys) ys) ≤ n + 1
-length_cond true x ys n h = omega (arith, h)
-length_cond false x ys n h = omega (arith, h)
-
-pub length-filter_le : (t : Param → Bool) (xs : List Param) → length (filter t xs) ≤ length xs
-length-filter_le t [] = omega arith
-length-filter_le t (x ∷ xs) = omega (arith, length_cond (t x) x (filter t xs) (length xs) (length-filter_le t xs))
 
 -- four bytes of tag
 length_tagged : (p : Param) → length (spelled p) ≡ 4 + length (spelled_value (shape_of (type_of p.tag)) p.value)
@@ -48,5 +33,5 @@ no_more_than_bytes bytes list is =
     omega (arith, few, all, length_counted is.order, length-spelled is.order)
 
 pub adds_one : {E : Type 0} (r : Result (List Param) E) (p : Param) (list : List Param) → IfOk r (λ new. new ≡ with_param p (without p.tag list)) → IfOk r (λ new. length new ≤ length list + 1)
-adds_one (Ok new) p list h = rw h (omega (arith, length-with_param p (without p.tag list), length-filter_le (λ q. not (is_of p.tag q)) list))
+adds_one (Ok new) p list h = rw h (omega (arith, length-with_param p (without p.tag list), length_filter (λ q. not (is_of p.tag q)) list))
 adds_one (Err fault) p list h = tt

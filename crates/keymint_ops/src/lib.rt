@@ -10,8 +10,6 @@
 
 mod begin;
 mod creation;
-#[cfg(test)]
-mod tests;
 
 pub use begin::{Begin, BeginFault, plan_begin};
 pub use creation::{NewKey, plan_key};

@@ -39,10 +39,11 @@ impl<R> DeviceEntropy<R> {
 pub fn open_device<R: Files>(rt: &R) -> DeviceEntropy<R::File>
     ensures faults { result.faults.count ≡ 0 }
 {
-    open_file(rt, DEVICE)
+    open_device_at(rt, DEVICE)
 }
 
-pub(crate) fn open_file<R: Files>(rt: &R, path: &str) -> DeviceEntropy<R::File>
+/// Opens the random device of this path. Where it cannot be opened, each draw fails; no draw has failed so far.
+pub fn open_device_at<R: Files>(rt: &R, path: &str) -> DeviceEntropy<R::File>
     ensures faults { result.faults.count ≡ 0 }
 {
     DeviceEntropy {

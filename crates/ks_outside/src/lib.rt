@@ -23,15 +23,13 @@ mod seeded;
 mod sink;
 mod source;
 mod synced;
-#[cfg(test)]
-mod tests;
 mod whole;
 
 pub use adapters::{ReaderSource, WriterSink};
 pub use calls::FailingCalls;
 pub use counting::{MemoryEntropy, SteadyEntropy};
 pub use cursor::Cursor;
-pub use device::{DeviceEntropy, open_device};
+pub use device::{DeviceEntropy, open_device, open_device_at};
 pub use disk::{Disk, EmptyDisk};
 pub use edge::{RealReader, RealWriter};
 pub use entropy::Entropy;

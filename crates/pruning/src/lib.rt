@@ -10,7 +10,5 @@
 mod choice;
 mod digits;
 mod prune;
-#[cfg(test)]
-mod tests;
 
 pub use prune::victim;

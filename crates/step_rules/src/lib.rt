@@ -8,8 +8,6 @@
 mod facts;
 mod rules;
 mod table;
-#[cfg(test)]
-mod tests;
 
 pub use facts::{StepFacts, StepKind};
 pub use table::{check_step, ends_operation};

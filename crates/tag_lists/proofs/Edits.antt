@@ -2,6 +2,7 @@
 use Rattle.std.proofs.Common.{◌≡◌, ℕ, zero, suc, ◌+◌, ◌<◌, ◌≤◌, Bool, true, false, not, cond, ltb, eqb, List, [], ◌∷◌, ◌++◌, length, get_or, take, drop, refl, sym, ap, subst, ◌∙◌, arith}
 use Rattle.std.specs.List.{AllByRecursion, filter}
 use Rattle.std.proofs.lemmas.Bool.{ltb-true, ltb-false, lt-ltb, le-ltb, ne_eqb, eqb-false}
+use Rattle.std.proofs.lemmas.List.Filters.{length-filter_both}
 use Rattle.tags.specs.declared.tag.Tag.{Tag}
 use Rattle.tags.specs.declared.param.Param.{Param}
 use Rattle.tags.specs.Tag.{low_of}
@@ -26,13 +27,8 @@ ordered_filter : (t : Param → Bool) (xs : List Param) → IsInOrder xs → IsI
 ordered_filter t [] ordered = tt
 ordered_filter t (x ∷ xs) ordered = ordered_cond (t x) x (filter t xs) (all_filter (StandsBefore x) t xs ordered.0) (ordered_filter t xs ordered.1)
 
-length_cond : (b : Bool) (x : Param) (ys : List Param) (n : ℕ) → length ys ≤ n → length (cond b (x ∷ ys) ys) ≤ n + 1
-length_cond true x ys n h = omega (arith, h)
-length_cond false x ys n h = omega (arith, h)
-
 pub length_filter : (t : Param → Bool) (xs : List Param) → length (filter t xs) ≤ length xs
-length_filter t [] = omega arith
-length_filter t (x ∷ xs) = omega (arith, length_cond (t x) x (filter t xs) (length xs) (length_filter t xs))
+length_filter t xs = omega (arith, length-filter_both t (λ x. not (t x)) (λ x. refl) xs)
 
 pub canonical-without : (tag : Tag) (list : List Param) → IsCanonical list → IsCanonical (without tag list)
 canonical-without tag list is = record {

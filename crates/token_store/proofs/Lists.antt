@@ -9,6 +9,7 @@ use Rattle.tags.specs.declared.param.Param.{Param}
 use Rattle.tags.specs.declared.tag.Tag.TheVariants.{AuthTimeout}
 use Rattle.tags.specs.Values.{passes}
 use Rattle.tag_lists.specs.Lookups.{number_of}
+use Rattle.std.proofs.lemmas.List.Filters.{length-filter_both}
 use Rattle.auth_tokens.specs.declared.token.AuthToken.{AuthToken}
 use Rattle.token_store.specs.Fitting.{fits, is_recent, opens}
 use Rattle.token_store.specs.Table.{is_of, is_like, IsLast, IsNew, is_held, others_of, other_triples, triple_count, IsEachOnce, IsSound, SameTokens, AddsToken, triple_limit, with_last, FindsAdded, is_timely, IsTimely}
@@ -17,13 +18,8 @@ use Rattle.token_store.proofs.Triples.{like_itself, like_back, unlike_back, like
 -- ---- filters
 
 module _ {X : Type 0} where
-  length_cond : (b : Bool) (x : X) (ys : List X) (n : ℕ) → length ys ≤ n → length (cond b (x ∷ ys) ys) ≤ n + 1
-  length_cond true x ys n h = omega (arith, h)
-  length_cond false x ys n h = omega (arith, h)
-
   pub no_more : (p : X → Bool) (xs : List X) → length (filter p xs) ≤ length xs
-  no_more p [] = omega arith
-  no_more p (x ∷ xs) = omega (arith, length_cond (p x) x (filter p xs) (length xs) (no_more p xs))
+  no_more p xs = omega (arith, length-filter_both p (λ x. not (p x)) (λ x. refl) xs)
 
   -- a filter that takes none out
   pub all_kept : (p : X → Bool) (xs : List X) → length xs ≤ length (filter p xs) → filter p xs ≡ xs

@@ -8,8 +8,6 @@
 
 mod fitting;
 mod store;
-#[cfg(test)]
-mod tests;
 
 pub use fitting::fits;
 pub use store::{MOST_TRIPLES, TokenStore, TokensFull};

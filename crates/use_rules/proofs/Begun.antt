@@ -13,6 +13,7 @@ use Rattle.tags.specs.Param.{as_number}
 use Rattle.tags.specs.Plan.{IsWorkable, is_aes_size, nonce_bytes, takes_key}
 use Rattle.tags.specs.Values.{AES_PURPOSES, CBC, CTR, DIGESTS, ECB, ENCRYPT, HMAC_PURPOSES, MODES, PKCS7, digest_bits, implies, is_whole_bytes, one_in, passes}
 use Rattle.tag_lists.specs.Lookups.{IsKey, all_of, bytes_of, is_aes, is_hmac, is_of, is_only, number_alone, number_of, only_number, stands}
+use Rattle.tag_lists.proofs.Lookups.{find-filter}
 use Rattle.use_rules.specs.Rules.{is_sign, names_known_digest, digest_of, least_bits, has_size}
 use Rattle.use_rules.specs.Plans.{byte, cipher_plan, mac_plan, plan_of, length_bytes, NonceFits, nonce_given, nonce_wanted}
 use Rattle.use_rules.specs.Table.{Agree}
@@ -55,14 +56,6 @@ each_digest P digest e p3 p4 p5 p6 =
       ]
     ]
 
-pick : (b : Bool) (x : Param) (found : Option Param) (rest : List Param) → found ≡ slice_get rest 0 → cond b (Some x) found ≡ slice_get (cond b (x ∷ rest) rest) 0
-pick true x found rest e = refl
-pick false x found rest e = e
-
-first_of : (p : Param → Bool) (xs : List Param) → find p xs ≡ slice_get (filter p xs) 0
-first_of p [] = refl
-first_of p (x ∷ xs) = pick (p x) x (find p xs) (filter p xs) (first_of p xs)
-
 digest_value : (asked own : Option ℕ) → passes is_digest asked ≡ true → is_digest (unwrap_or (option_or asked own) 0) ≡ true
 digest_value None own h = absurd (false≢true h)
 digest_value (Some n) own h = h
@@ -76,7 +69,7 @@ digest_in (p ∷ q ∷ ps) own h k = absurd (false≢true h)
 digest_known : (asked key : List Param) → (not (stands Digest asked) || names_known_digest asked) ≡ true → passes is_digest (number_of Digest key) ≡ true → is_digest (digest_of asked key) ≡ true
 digest_known asked key h k =
     subst (λ o. (not (is_some o) || passes is_digest (number_alone (all_of Digest asked))) ≡ true → is_digest (unwrap_or (option_or (option_and_then (λ p. as_number p.value) o) (number_of Digest key)) 0) ≡ true)
-    (sym (first_of (is_of Digest) asked)) (λ e. digest_in (all_of Digest asked) (number_of Digest key) e k) h
+    (find-filter (is_of Digest) asked) (λ e. digest_in (all_of Digest asked) (number_of Digest key) e k) h
 
 hmac_of : (aes hmac : Bool) (p : Option ℕ) → passes (λ q. if aes then one_in AES_PURPOSES q else hmac && one_in HMAC_PURPOSES q) p ≡ true → aes ≡ false → hmac ≡ true
 hmac_of aes hmac None h e = absurd (false≢true h)

@@ -3,7 +3,7 @@ use Rattle.tags.specs.declared.tag.Tag.TheVariants.{ApplicationData, Nonce, MacL
 use Rattle.tag_lists.specs.Lookups.{without}
 use Rattle.key_rules.specs.Kept.{dropped, is_kept}
 use Rattle.key_rules.proofs.Dropped.{without_all_is}
-use Rattle.key_rules.proofs.Lengths.{length-filter_le}
+use Rattle.tag_lists.proofs.Edits.{length_filter}
 use Rattle.key_rules.proofs.kept.own.Goals as goal
 
 pub returns-clause-own : goal.returns-clause-own
@@ -12,4 +12,4 @@ returns-clause-own c =
     ∙ without_all_is dropped c.args.list
 
 pub returns-clause-room : goal.returns-clause-room
-returns-clause-room c = subst (λ new. length new ≤ length c.args.list) (sym (returns-clause-own c)) (length-filter_le is_kept c.args.list)
+returns-clause-room c = subst (λ new. length new ≤ length c.args.list) (sym (returns-clause-own c)) (length_filter is_kept c.args.list)

@@ -3,7 +3,7 @@
 ghost use Rattle.std.specs.Prelude.{◌+◌, OnOk};
 ghost use Rattle.grants.specs.Table.{AreBelow};
 
-use crate::{GrantRow, Grants};
+use grants::{GrantRow, Grants};
 use key_domains::Permissions;
 use std::alloc::Global;
 use std::test::Fail;

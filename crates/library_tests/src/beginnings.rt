@@ -4,9 +4,9 @@ ghost use Rattle.std.specs.Prelude.{◌≡◌, length, IfOk, true};
 ghost use Rattle.tag_lists.specs.Lookups.{IsKey};
 ghost use Rattle.use_rules.specs.Table.{key_of};
 
-use super::{AES_KEY, GCM_KEY, MAC_KEY, Pairs, app_key, encoded};
-use crate::{Begin, BeginFault, plan_begin};
+use crate::spelled::{AES_KEY, GCM_KEY, MAC_KEY, Pairs, app_key, encoded};
 use key_rules::{read_asked, usable};
+use keymint_ops::{Begin, BeginFault, plan_begin};
 use std::alloc::Global;
 use std::test::Fail;
 use tag_lists::AuthList;

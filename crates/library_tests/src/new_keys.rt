@@ -1,14 +1,14 @@
-//! The calls of the rules of a new key that no script shows: the kept list, a material that no line spells, and keys that
-//! are not made. What a script shows is in `checks/new-keys.jsonl` and `checks/new-key-lists.jsonl`.
+//! What is kept with a new key and drawn for it, and keys that are not made: the kept list, a material that no line spells,
+//! and lists and lengths that are no key's. What a script shows is in `checks/new-keys.jsonl` and
+//! `checks/new-key-lists.jsonl`.
 
-use super::{AES_KEY, GCM_KEY, MAC_KEY, Pairs, app_key, encoded};
-use key_rules::{
-    ImportFacts, KeyPlan, NewFacts, NewFault, check_new, material_size, read_asked, usable,
-};
+use crate::spelled::{AES_KEY, GCM_KEY, MAC_KEY, Pairs, app_key, encoded};
+use key_rules::{ImportFacts, NewFacts, NewFault, check_new, material_size, read_asked, usable};
+use keymint_ops::plan_key;
 use std::alloc::{AllocError, Global};
 use std::test::Fail;
 use tag_lists::AuthList;
-use tags::{Bytes, Code, RuleTable, Tag};
+use tags::{Bytes, Code, Rule, RuleTable, Tag};
 
 /// What a call of making a key is asked: the alias, the list, the length of an imported material, and the wall reading.
 fn asked(
@@ -34,13 +34,20 @@ fn asked(
 /// A list, the length of an import, the wall reading, the kept list, and the bytes of the material.
 type Kept = (Pairs, Option<u64>, u64, &'static [u8], usize);
 
-static KEPT: [Kept; 4] = [
+static KEPT: [Kept; 5] = [
     (
         GCM_KEY,
         None,
         1000,
         b"\x00\x0a\x20\x00\x00\x01\x00\x00\x00\x00\x20\x00\x00\x01\x00\x00\x00\x01\x10\x00\x00\x02\x00\x00\x00\x20\x30\x00\x00\x03\x00\x00\x01\x00\x20\x00\x00\x04\x00\x00\x00\x20\x20\x00\x00\x06\x00\x00\x00\x01\x30\x00\x00\x08\x00\x00\x00\x80\x70\x00\x01\xf7\x01\x60\x00\x02\xbd\x00\x00\x00\x00\x00\x00\x03\xe8\x10\x00\x02\xbe\x00\x00\x00\x00",
         32,
+    ),
+    (
+        MAC_KEY,
+        Some(20),
+        1000,
+        b"\x00\x09\x20\x00\x00\x01\x00\x00\x00\x02\x20\x00\x00\x01\x00\x00\x00\x03\x10\x00\x00\x02\x00\x00\x00\x80\x30\x00\x00\x03\x00\x00\x00\xa0\x20\x00\x00\x05\x00\x00\x00\x04\x30\x00\x00\x08\x00\x00\x00\x40\x70\x00\x01\xf7\x01\x60\x00\x02\xbd\x00\x00\x00\x00\x00\x00\x03\xe8\x10\x00\x02\xbe\x00\x00\x00\x02",
+        20,
     ),
     (
         &[
@@ -96,49 +103,80 @@ static KEPT: [Kept; 4] = [
     ),
 ];
 
+/// Whether the key of these facts is kept with this list, without a limit, and draws its size where it is generated.
+fn is_kept(alloc: Global, facts: &NewFacts, list: &[u8], size: usize) -> Result<bool, Fail> {
+    let plan = check_new(alloc, facts).map_err(|_| "a rule is broken")?;
+    let key = plan_key(alloc, facts).map_err(|_| "a rule is broken")?;
+    let written = plan.list.write(alloc).map_err(|_| "no memory")?;
+    let drawn = if facts.import.is_some() { 0 } else { size };
+    Ok(
+        plan.limit == 0
+            && material_size(&plan.list) == size
+            && written.as_slice() == list
+            && key.list.as_slice() == list
+            && key.limit == 0
+            && key.size == drawn,
+    )
+}
+
 #[test]
 fn the_kept_list_has_what_is_set_and_not_what_is_dropped(rt: HostRuntime) -> Result<(), Fail> {
     let alloc = rt.alloc();
     for (row, (list, length, wall, expected, size)) in KEPT.iter().enumerate() {
-        let Ok(plan) = check_new(alloc, &asked(alloc, b"k", list, *length, *wall)?) else {
-            assert!(rt; false, "no key in row {row}");
-            continue;
-        };
-        assert!(rt; plan.limit == 0);
-        assert!(rt; material_size(&plan.list) == *size, "in row {row}");
-        let Ok(written) = plan.list.write(alloc) else {
-            assert!(rt; false, "no memory in row {row}");
-            continue;
-        };
-        assert!(rt; written.as_slice() == *expected, "in row {row}");
+        let facts = asked(alloc, b"k", list, *length, *wall)?;
+        assert!(rt; is_kept(alloc, &facts, expected, *size)?, "in row {row}");
     }
     assert!(rt; material_size(&AuthList::empty(alloc)) == 0);
     Ok(())
 }
 
-/// Whether this rule of table K is broken, with this code.
-fn breaks(answer: &Result<KeyPlan, NewFault>, number: u8, code: Code) -> bool {
+/// An alias, a list, the length of an import, and the rule that is broken with its code.
+type Refused = (&'static [u8], Pairs, Option<u64>, u8, Code);
+
+static REFUSED: [Refused; 6] = [
+    (b"a", AES_KEY, None, 7, Code::UnsupportedKeySize),
+    (b"a", GCM_KEY, Some(16), 7, Code::ImportParameterMismatch),
+    (b"a", &[], None, 5, Code::UnsupportedAlgorithm),
+    // eight times a length is counted without a wrap
+    (
+        b"k",
+        AES_KEY,
+        Some(2305843009213693968),
+        7,
+        Code::UnsupportedKeySize,
+    ),
+    (b"k", AES_KEY, Some(u64::MAX), 7, Code::UnsupportedKeySize),
+    // an alias is UTF-8
+    (b"\xc3", MAC_KEY, Some(20), 2, Code::InvalidArgument),
+];
+
+/// Whether a call breaks this rule, with this code.
+fn breaks<T>(answer: &Result<T, NewFault>, rule: Rule, code: Code) -> bool {
     match answer {
-        Err(NewFault::Broken(rule, own)) => {
-            rule.table == RuleTable::K && rule.number == number && *own == code
-        }
+        Err(NewFault::Broken(own, other)) => *own == rule && *other == code,
         _ => false,
     }
 }
 
-/// Eight times a length is counted without a wrap, and an alias is UTF-8.
 #[test]
-fn what_no_line_spells_is_refused(rt: HostRuntime) -> Result<(), Fail> {
+fn a_key_that_breaks_a_rule_is_not_made(rt: HostRuntime) -> Result<(), Fail> {
     let alloc = rt.alloc();
-    for length in [2305843009213693968, u64::MAX] {
-        let answer = check_new(alloc, &asked(alloc, b"k", AES_KEY, Some(length), 1000)?);
+    let table = RuleTable::K;
+    for (row, (alias, list, length, number, code)) in REFUSED.iter().enumerate() {
+        let facts = asked(alloc, alias, list, *length, 1000)?;
+        let rule = Rule {
+            table,
+            number: *number,
+        };
         assert!(rt;
-            breaks(&answer, 7, Code::UnsupportedKeySize),
-            "of {length} bytes"
+            breaks(&check_new(alloc, &facts), rule, *code),
+            "in row {row}"
+        );
+        assert!(rt;
+            breaks(&plan_key(alloc, &facts), rule, *code),
+            "in row {row}"
         );
     }
-    let answer = check_new(alloc, &asked(alloc, b"\xc3", MAC_KEY, Some(20), 1000)?);
-    assert!(rt; breaks(&answer, 2, Code::InvalidArgument));
     Ok(())
 }
 

@@ -1,12 +1,12 @@
 //! Which keys a token fits and opens in time, and a store that is full.
 
-use crate::{TokenStore, TokensFull, fits};
 use auth_tokens::AuthToken;
 use std::alloc::Global;
 use std::process::Abort;
 use std::test::Fail;
 use tag_lists::AuthList;
 use tags::Tag;
+use token_store::{TokenStore, TokensFull, fits};
 
 /// A token of this user, authenticator, kind and time.
 fn token(fields: (u64, u64, u32, u64)) -> AuthToken {

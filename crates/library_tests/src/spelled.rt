@@ -1,20 +1,13 @@
-//! The keys that the tests make and use, and how their lists are spelled. The tests of `tag_lists`, `key_rules` and
-//! `use_rules` stand here too.
-
-mod begin_rules;
-mod beginnings;
-mod creations;
-mod lists;
-mod new_key_rules;
+//! The keys that the tests make and use, and how their lists are spelled.
 
 use std::alloc::{AllocError, Global};
 use tags::{Bytes, Descriptor, Tag, TagType};
 
 /// The parameters of a key or an operation: of a BYTES tag the number of zero bytes.
-type Pairs = &'static [(Tag, u64)];
+pub type Pairs = &'static [(Tag, u64)];
 
 /// An HMAC-SHA256 key, an AES key of every mode, and an AES-GCM key of 256 bits that is generated.
-const MAC_KEY: Pairs = &[
+pub const MAC_KEY: Pairs = &[
     (Tag::Purpose, 2),
     (Tag::Purpose, 3),
     (Tag::Algorithm, 128),
@@ -23,7 +16,7 @@ const MAC_KEY: Pairs = &[
     (Tag::NoAuthRequired, 1),
 ];
 
-const AES_KEY: Pairs = &[
+pub const AES_KEY: Pairs = &[
     (Tag::Purpose, 0),
     (Tag::Purpose, 1),
     (Tag::Algorithm, 32),
@@ -38,7 +31,7 @@ const AES_KEY: Pairs = &[
     (Tag::NoAuthRequired, 1),
 ];
 
-const GCM_KEY: Pairs = &[
+pub const GCM_KEY: Pairs = &[
     (Tag::Purpose, 0),
     (Tag::Purpose, 1),
     (Tag::Algorithm, 32),
@@ -72,7 +65,7 @@ fn put(bytes: &mut Vec<u8>, tag: Tag, number: u64) -> Result<(), AllocError> {
 }
 
 /// The encoded list of these parameters without those of some tags, and of a nonce where there is one.
-fn encoded(
+pub fn encoded(
     alloc: Global,
     params: Pairs,
     dropped: &[Tag],
@@ -99,7 +92,7 @@ fn encoded(
 }
 
 /// The key of an app under an alias.
-fn app_key(alloc: Global, alias: &[u8]) -> Result<Descriptor, AllocError> {
+pub fn app_key(alloc: Global, alias: &[u8]) -> Result<Descriptor, AllocError> {
     Ok(Descriptor {
         domain: 0,
         nspace: 0,

@@ -1,6 +1,6 @@
 //! Tokens whose macs were computed elsewhere.
 
-use crate::{AuthToken, check, mac_input};
+use auth_tokens::{AuthToken, check, mac_input};
 use std::process::Abort;
 use std::test::Fail;
 

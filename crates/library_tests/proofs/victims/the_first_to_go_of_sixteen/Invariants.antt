@@ -1,4 +1,4 @@
-use Rattle.pruning.proofs.tests.the_first_to_go_of_sixteen.Given as goal
+use Rattle.library_tests.proofs.victims.the_first_to_go_of_sixteen.Given as goal
 
 -- the ledger that the blank opens
 abbrev pub ghosts-pruned : goal.ghosts-pruned

@@ -2,7 +2,7 @@
 //! UTF-8, and lists that no key has. The other rules are in `checks/begins.jsonl` and `checks/begin-lists.jsonl`, the plans
 //! with their nonces in `beginnings.rt`.
 
-use super::{MAC_KEY, Pairs, app_key, encoded};
+use crate::spelled::{MAC_KEY, Pairs, app_key, encoded};
 use std::alloc::{AllocError, Global};
 use std::test::Fail;
 use tag_lists::AuthList;

@@ -2,10 +2,8 @@
 ghost use Rattle.std.specs.Prelude.{◌≡◌, ◌<◌, ◌≤◌};
 ghost use Rattle.operation_slots.specs.Table.{IsLater};
 
-mod slots;
-
-use crate::victim;
 use operation_slots::{OpId, Slots, Steps, Taken};
+use pruning::victim;
 use std::alloc::Global;
 use std::marker::Brand;
 use std::sync::ledger::{Blank, Ledger};

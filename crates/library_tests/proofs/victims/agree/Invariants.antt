@@ -1,4 +1,4 @@
-use Rattle.pruning.proofs.tests.agree.Given as goal
+use Rattle.library_tests.proofs.victims.agree.Given as goal
 
 -- the ledger that the blank opens
 abbrev pub ghosts-pruned : goal.ghosts-pruned

@@ -1,4 +1,4 @@
-use Rattle.pruning.proofs.tests.slots.oldest_of.Given as goal
+use Rattle.library_tests.proofs.places.oldest_of.Given as goal
 
 -- the ledger that the blank opens
 abbrev pub ghosts-oldest : goal.ghosts-oldest

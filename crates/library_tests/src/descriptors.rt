@@ -2,7 +2,7 @@
 
 ghost use Rattle.std.specs.Prelude.{◌≡◌, ℕ, Option, None, Some, ◌==◌, ◌&&◌, ◌||◌, length, if◌then◌else◌};
 
-use crate::{Access, GrantedRow, KeyLookups, KeyRow, Permission, Permissions, find_key};
+use key_domains::{Access, GrantedRow, KeyLookups, KeyRow, Permission, Permissions, find_key};
 use std::alloc::Global;
 use std::test::Fail;
 use tags::{Bytes, Descriptor, NoMemory, Policy, PolicyRow};

@@ -1,7 +1,7 @@
 //! Each rule of table S alone and before a later one.
 
-use crate::{StepFacts, StepKind, check_step, ends_operation};
 use std::test::Fail;
+use step_rules::{StepFacts, StepKind, check_step, ends_operation};
 use tags::{Code, Plan, Rule, RuleTable};
 
 const SEALING: Plan = Plan::Gcm {

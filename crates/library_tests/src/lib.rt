@@ -1,0 +1,30 @@
+//! Tests of the crates of the outside, words, rules, keys, access, tokens and slots, over their public calls. A crate with tests is
+//! proved a second time with them, so these stand in a crate that has nothing else. It has no contract.
+#![tactic(auto)]
+
+#[cfg(test)]
+mod begin_rules;
+#[cfg(test)]
+mod beginnings;
+#[cfg(test)]
+mod descriptors;
+#[cfg(test)]
+mod kept_tokens;
+#[cfg(test)]
+mod lists;
+#[cfg(test)]
+mod new_keys;
+#[cfg(test)]
+mod outside;
+#[cfg(test)]
+mod places;
+#[cfg(test)]
+mod shares;
+#[cfg(test)]
+mod spelled;
+#[cfg(test)]
+mod steps;
+#[cfg(test)]
+mod token_macs;
+#[cfg(test)]
+mod victims;

@@ -1,0 +1,381 @@
+//! What sources, sinks, entropies, a cursor and files answer to the calls of a table.
+
+use ks_outside::{
+    Cursor, DeviceEntropy, Disk, EmptyDisk, Entropy, Failed, MemoryEntropy, MemorySink,
+    MemorySource, ReaderSource, SeededEntropy, Sink, Source, SteadyEntropy, SteadySource,
+    WriterSink, open_device, open_device_at, open_store,
+};
+use std::io::{Error, ErrorKind, Read, Write};
+use std::os::unix::fs::PermissionsExt;
+use std::test::Fail;
+use std::{fs, io};
+
+/// A reader and writer that fails at each call, or takes nothing.
+#[derive(Drop)]
+struct Broken {
+    fails: bool,
+}
+
+impl Read for Broken {
+    fn read(&mut self, _buf: &mut [u8]) -> io::Result<usize> {
+        Err(Error::from(ErrorKind::Other))
+    }
+}
+
+impl Write for Broken {
+    fn write(&mut self, _buf: &[u8]) -> io::Result<usize> {
+        if self.fails {
+            Err(Error::from(ErrorKind::Other))
+        } else {
+            Ok(0)
+        }
+    }
+
+    fn flush(&mut self) -> io::Result<()> {
+        Ok(())
+    }
+}
+
+/// A reader that fails once, and then gives the byte 7 for each place of the buffer.
+#[derive(Drop)]
+struct FailsOnce {
+    asked: u64,
+}
+
+impl Read for FailsOnce {
+    fn read(&mut self, buf: &mut [u8]) -> io::Result<usize> {
+        self.asked = self.asked.saturating_add(1);
+        if self.asked == 1 {
+            return Err(Error::from(ErrorKind::Other));
+        }
+        for byte in buf.iter_mut() {
+            *byte = 7;
+        }
+        Ok(buf.len())
+    }
+}
+
+/// A read or a draw of at most eight bytes, and the bytes that it gives; `None` where it fails.
+type Fill = (usize, Option<&'static [u8]>);
+
+/// Whether the front of the buffer has these bytes, and the rest is as it was.
+fn begins_with(out: &[u8; 8], bytes: &[u8]) -> bool {
+    let count = bytes.len();
+    count <= 8 && &out[..count] == bytes && out[count..].iter().all(|byte| *byte == 9)
+}
+
+/// Whether each read gives the bytes of its row, and leaves the rest of the buffer as it was.
+fn reads<S: Source>(source: &mut S, rows: &[Fill]) -> bool {
+    for (room, wanted) in rows {
+        let mut out = [9; 8];
+        let end = (*room).min(8);
+        let right = match (source.read(&mut out[..end]), *wanted) {
+            (Ok(count), Some(bytes)) => count == bytes.len() && begins_with(&out, bytes),
+            (Err(Failed), None) => begins_with(&out, b""),
+            _ => false,
+        };
+        if !right {
+            return false;
+        }
+    }
+    true
+}
+
+static STEADY: [Fill; 3] = [(3, Some(b"abc")), (3, Some(b"de")), (3, Some(b""))];
+
+static PLANNED: [Fill; 3] = [(3, None), (3, Some(b"abc")), (3, None)];
+
+#[test]
+fn sources_in_memory(rt: HostRuntime) {
+    let mut steady = SteadySource::new(b"abcde");
+    assert!(rt; reads(&mut steady, &STEADY));
+    assert_eq!(rt; steady.left().len(), 0);
+    let mut failing = MemorySource::new(b"abcde", &[1, 3]);
+    assert!(rt; reads(&mut failing, &PLANNED));
+    assert_eq!(rt; failing.left(), b"de".as_slice());
+    assert_eq!(rt; failing.faults(), 2);
+}
+
+static AT_END: [Fill; 1] = [(0, Some(b""))];
+
+static CUT: [Fill; 3] = [(4, Some(b"abcd")), (4, Some(b"e")), (4, Some(b""))];
+
+static FAILED: [Fill; 1] = [(4, None)];
+
+static ONCE: [Fill; 2] = [(3, None), (3, Some(b"\x07\x07\x07"))];
+
+// Each read is one call of the reader, whatever the buffer's length, and a failed one is answered and counted.
+#[test]
+fn sources_over_readers(rt: HostRuntime) {
+    let mut input = ReaderSource::new(rt.stdin());
+    assert!(rt; reads(&mut input, &AT_END) && input.faults() == 0);
+    let mut text = ReaderSource::new(b"abcde".as_slice());
+    assert!(rt; reads(&mut text, &CUT) && text.faults() == 0);
+    let mut broken = ReaderSource::new(Broken { fails: true });
+    assert!(rt; reads(&mut broken, &FAILED) && broken.faults() == 1);
+    let mut once = ReaderSource::new(FailsOnce { asked: 0 });
+    assert!(rt; reads(&mut once, &ONCE) && once.faults() == 1);
+}
+
+/// A piece, and how many of its bytes are taken; `None` where the write fails.
+type Put = (&'static [u8], Option<usize>);
+
+/// Whether each write takes as much as its row says.
+fn writes<K: Sink>(sink: &mut K, rows: &[Put]) -> bool {
+    for (piece, wanted) in rows {
+        if sink.write(piece).ok() != *wanted {
+            return false;
+        }
+    }
+    true
+}
+
+static KEPT: [Put; 4] = [
+    (b"abc", Some(3)),
+    (b"xy", None),
+    (b"", Some(0)),
+    (b"de", Some(2)),
+];
+
+static NOTHING: [Put; 1] = [(b"", Some(0))];
+
+static REFUSED: [Put; 2] = [(b"a", None), (b"", Some(0))];
+
+#[test]
+fn sinks_in_memory_and_over_writers(rt: HostRuntime) -> Result<(), Fail> {
+    let mut sink = MemorySink::with_room(rt.alloc(), 5, 2, &[2])?;
+    assert!(rt; writes(&mut sink, &KEPT) && sink.faults() == 1);
+    assert_eq!(rt; sink.written(), b"abcde".as_slice());
+    assert_eq!(rt; sink.pieces(), [3, 0, 2].as_slice());
+    let mut output = WriterSink::new(rt.stdout());
+    assert!(rt; writes(&mut output, &NOTHING) && output.faults() == 0);
+    let mut failing = WriterSink::new(Broken { fails: true });
+    assert!(rt; writes(&mut failing, &REFUSED[..1]) && failing.faults() == 1);
+    let mut full = WriterSink::new(Broken { fails: false });
+    assert!(rt; writes(&mut full, &REFUSED) && full.faults() == 1);
+    Ok(())
+}
+
+/// Whether each draw gives the bytes of its row, and so many failed in all.
+fn draws<N: Entropy>(entropy: &mut N, rows: &[Fill], faults: u64) -> bool {
+    for (room, wanted) in rows {
+        let mut out = [9; 8];
+        let end = (*room).min(8);
+        let right = match (entropy.draw(&mut out[..end]), *wanted) {
+            (Ok(()), Some(bytes)) => end == bytes.len() && begins_with(&out, bytes),
+            (Err(Failed), None) => true,
+            _ => false,
+        };
+        if !right {
+            return false;
+        }
+    }
+    entropy.faults() == faults
+}
+
+static AROUND: [Fill; 2] = [(0, Some(b"")), (3, Some(b"\xff\x00\x01"))];
+
+static COUNTED: [Fill; 1] = [(3, Some(b"\x00\x01\x02"))];
+
+static COUNTED_BETWEEN: [Fill; 4] = [
+    (3, None),
+    (3, Some(b"\x00\x01\x02")),
+    (3, None),
+    (3, Some(b"\x03\x04\x05")),
+];
+
+/// The key stream of the zero key and nonce (RFC 8439, appendix A.1, the first vector), drawn with cuts inside words.
+static KEY_STREAM: [Fill; 3] = [
+    (3, Some(b"\x76\xb8\xe0")),
+    (6, Some(b"\xad\xa0\xf1\x3d\x90\x40")),
+    (3, Some(b"\x5d\x6a\xe5")),
+];
+
+#[test]
+fn entropies_in_memory(rt: HostRuntime) {
+    let mut all = [0; 255];
+    let mut steady = SteadyEntropy::counting();
+    assert_eq!(rt; steady.draw(&mut all), Ok(()));
+    assert_eq!(rt; (all[0], all[1], all[254]), (0, 1, 254));
+    assert!(rt; draws(&mut steady, &AROUND, 0));
+    assert!(rt; draws(&mut MemoryEntropy::counting(), &COUNTED, 0));
+    assert!(rt; draws(&mut MemoryEntropy::failing(&[1, 3]), &COUNTED_BETWEEN, 2));
+    assert!(rt; draws(&mut SeededEntropy::new([0; 32]), &KEY_STREAM, 0));
+}
+
+static SHORT: [Fill; 2] = [(3, Some(b"abc")), (3, None)];
+
+#[test]
+fn entropy_of_the_random_device(rt: HostRuntime) {
+    let (mut first, mut second) = ([0; 64], [0; 64]);
+    let mut device = open_device(&rt);
+    assert_eq!(rt; device.draw(&mut first), Ok(()));
+    assert_eq!(rt; device.draw(&mut second), Ok(()));
+    assert!(rt; first != second && first != [0; 64] && second != [0; 64]);
+    assert!(rt; draws(&mut device, &AT_END, 0));
+    assert!(rt; draws(&mut open_device_at(&rt, "no_such_device"), &FAILED, 1));
+    assert!(rt; draws(&mut DeviceEntropy::new(b"abcde".as_slice()), &SHORT, 1));
+    assert!(rt; draws(&mut DeviceEntropy::new(Broken { fails: true }), &FAILED, 1));
+    assert!(rt; draws(&mut DeviceEntropy::new(FailsOnce { asked: 0 }), &ONCE, 1));
+}
+
+/// What is taken of a cursor: a number, or so many bytes.
+enum Part {
+    U8(Option<u8>),
+    U16(Option<u16>),
+    U32(Option<u32>),
+    U64(Option<u64>),
+    Bytes(usize, Option<&'static [u8]>),
+}
+
+/// Whether the cursor gives this part.
+fn gives(cursor: &mut Cursor, part: &Part) -> bool {
+    match part {
+        Part::U8(wanted) => cursor.u8() == *wanted,
+        Part::U16(wanted) => cursor.u16() == *wanted,
+        Part::U32(wanted) => cursor.u32() == *wanted,
+        Part::U64(wanted) => cursor.u64() == *wanted,
+        Part::Bytes(count, wanted) => cursor.take(*count) == *wanted,
+    }
+}
+
+/// The parts of eighteen bytes, and where the cursor stands after each.
+static PARTS: [(Part, usize); 8] = [
+    (Part::U8(Some(7)), 1),
+    (Part::U16(Some(0x102)), 3),
+    (Part::U32(Some(0x100)), 7),
+    (Part::U64(Some(0x8000_0000_0000_0001)), 15),
+    (Part::Bytes(4, None), 15),
+    (Part::U32(None), 15),
+    (Part::Bytes(3, Some(b"abc")), 18),
+    (Part::U8(None), 18),
+];
+
+#[test]
+fn a_cursor_over_bytes(rt: HostRuntime) {
+    let bytes = b"\x07\x01\x02\x00\x00\x01\x00\x80\x00\x00\x00\x00\x00\x00\x01abc";
+    let mut cursor = Cursor::new(bytes);
+    for (part, offset) in &PARTS {
+        assert!(rt; gives(&mut cursor, part), "before {offset}");
+        assert_eq!(rt;
+            (cursor.offset(), cursor.is_at_end()),
+            (*offset, *offset == 18)
+        );
+    }
+    assert_eq!(rt; cursor.left().len(), 0);
+}
+
+/// The permissions of a file.
+fn mode_of(rt: &HostRuntime, path: &str) -> io::Result<u32> {
+    Ok(fs::metadata(rt, path)?.permissions().mode() % 0o1000)
+}
+
+/// A call of a disk.
+enum Ask {
+    /// so many bytes from a place on
+    Read { at: u64, count: usize },
+    Write { at: u64, piece: &'static [u8] },
+    Len,
+    Sync,
+}
+
+/// What a disk answers: how many bytes were read, or are there, and else 0.
+fn answer<D: Disk>(disk: &mut D, ask: &Ask) -> Result<u64, Failed> {
+    match ask {
+        Ask::Read { at, count } => {
+            let mut out = [9; 8];
+            let end = (*count).min(out.len());
+            let read = disk.read(*at, &mut out[..end])?;
+            Ok(read as u64)
+        }
+        Ask::Write { at, piece } => {
+            disk.write_at(*at, piece)?;
+            Ok(0)
+        }
+        Ask::Len => disk.len(),
+        Ask::Sync => {
+            disk.sync()?;
+            Ok(0)
+        }
+    }
+}
+
+static FILE_CALLS: [(Ask, Result<u64, Failed>); 8] = [
+    (Ask::Len, Ok(0)),
+    (
+        Ask::Write {
+            at: 2,
+            piece: b"abc",
+        },
+        Ok(0),
+    ),
+    (Ask::Sync, Ok(0)),
+    (Ask::Read { at: 1, count: 4 }, Ok(4)),
+    (Ask::Len, Ok(5)),
+    (Ask::Read { at: 5, count: 4 }, Ok(0)),
+    (
+        Ask::Write {
+            at: 1 << 63,
+            piece: b"a",
+        },
+        Err(Failed),
+    ),
+    (
+        Ask::Read {
+            at: 1 << 63,
+            count: 4,
+        },
+        Err(Failed),
+    ),
+];
+
+#[test]
+fn a_store_in_a_file(rt: HostRuntime) -> Result<(), Fail> {
+    let path = "a_store_in_a_file.ks";
+    let mut disk = open_store(&rt, path);
+    assert!(rt; fs::metadata(&rt, path).is_err() && EmptyDisk.faults() == 0);
+    for (ask, wanted) in &FILE_CALLS {
+        assert_eq!(rt; &answer(&mut disk, ask), wanted);
+    }
+    let mut out = [9; 4];
+    assert_eq!(rt; (disk.read(1, &mut out), disk.faults()), (Ok(4), 2));
+    assert_eq!(rt; (out, mode_of(&rt, path)?), ([0, b'a', b'b', b'c'], 0o600));
+    fs::remove_file(&rt, path)?;
+
+    let mut missing = open_store(&rt, "no_such_folder/store.ks");
+    assert_eq!(rt;
+        (missing.len(), missing.sync(), missing.faults()),
+        (Err(Failed), Err(Failed), 2)
+    );
+    Ok(())
+}
+
+/// The calls of a second handle while the first has the store.
+static SECOND_CALLS: [Ask; 4] = [
+    Ask::Write {
+        at: 0,
+        piece: b"xyz",
+    },
+    Ask::Len,
+    Ask::Sync,
+    Ask::Read { at: 0, count: 3 },
+];
+
+// As long as one handle has the store, each call of another fails, and harms nothing.
+#[test]
+fn two_handles_of_one_store(rt: HostRuntime) -> Result<(), Fail> {
+    let path = "two_handles_of_one_store.ks";
+    let mut first = open_store(&rt, path);
+    let mut second = open_store(&rt, path);
+    assert_eq!(rt; first.write_at(0, b"abc"), Ok(()));
+    for ask in &SECOND_CALLS {
+        assert_eq!(rt; answer(&mut second, ask), Err(Failed));
+    }
+    let mut out = [9; 3];
+    assert_eq!(rt; (first.read(0, &mut out), first.faults()), (Ok(3), 0));
+    assert_eq!(rt; out, [b'a', b'b', b'c']);
+    drop(first);
+    assert_eq!(rt; (second.len(), second.faults()), (Ok(3), 4));
+    fs::remove_file(&rt, path)?;
+    Ok(())
+}
