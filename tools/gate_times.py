@@ -5,8 +5,9 @@ for each crate the processor seconds of its bodies, of its tests' proofs, of its
     python3 tools/gate_times.py [FILE]
 
 FILE is where the table goes, as Markdown; without it, standard output has it last. The seconds are those of the processes
-that the gate starts, read from /proc twice a second, so a process that is shorter than that is missed, and one that has ended and
-was not waited for yet has no words and is left out. An edit is told from a crate by its folder: the gate checks it on a copy. To compile what a program's check proved counts with the runs."""
+that the gate starts, read from /proc twice a second, so a process that is shorter than that is missed. A process that is
+ending has no words any more, and is not looked at again. An edit is told from a crate by its folder: the gate checks it on
+a copy. To compile what a program's check proved counts with the runs."""
 import collections
 import os
 import subprocess
