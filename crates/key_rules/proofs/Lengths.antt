@@ -1,11 +1,11 @@
 -- A list has no more parameters than bytes spell it, and an edit adds at most one.
-use Rattle.std.proofs.Common.{◌≡◌, ℕ, ◌+◌, ◌≤◌, Bool, true, false, not, cond, ltb, eqb, List, [], ◌∷◌, length, Result, Ok, Err, ap, arith, length-append}
+use Rattle.std.proofs.Common.{◌≡◌, ℕ, ◌+◌, ◌≤◌, not, List, [], ◌∷◌, length, Result, Ok, Err, ap, arith, length-append}
 use Rattle.std.specs.Prelude.{IfOk}
-use Rattle.std.specs.List.{filter, flat_map}
+use Rattle.std.specs.List.{flat_map}
 use Rattle.tags.specs.declared.param.Param.{Param}
 use Rattle.tags.specs.Tag.{type_of}
 use Rattle.tag_lists.specs.Lookups.{is_of, without}
-use Rattle.tag_lists.specs.Order.{rank, shape_of, with_param, with_params}
+use Rattle.tag_lists.specs.Order.{shape_of, with_param, with_params}
 use Rattle.tag_lists.specs.Spelling.{spelled, spelled_value, spelling, IsListOf}
 use Rattle.tag_lists.proofs.Canonical.{length-with_param}
 use Rattle.tag_lists.proofs.Edits.{length_filter}
