@@ -1,7 +1,6 @@
 -- What holds of the plan and of the nonce where the lists agree.
-use Rattle.std.proofs.Common.{◌≡◌, ℕ, ◌*◌, ◌/◌, ◌≤◌, Bool, true, false, ◌&&◌, ◌||◌, not, ◌==◌, if◌then◌else◌, cond, List, [], ◌∷◌, length, Option, Some, None, refl, sym, subst, arith, inl, inr}
-use Rattle.std.specs.Prelude.{find, slice_get, is_some, unwrap_or, MatchOption}
-use Rattle.std.specs.List.{filter}
+use Rattle.std.proofs.Common.{◌≡◌, ℕ, ◌*◌, ◌/◌, ◌≤◌, Bool, true, false, ◌&&◌, ◌||◌, not, ◌==◌, if◌then◌else◌, List, [], ◌∷◌, length, Option, Some, None, refl, sym, subst, arith, inl, inr}
+use Rattle.std.specs.Prelude.{slice_get, is_some, unwrap_or, MatchOption}
 use Rattle.std.specs.Option.{option_and_then, option_or}
 use Rattle.std.proofs.lemmas.Bool.Decides.{nat_tests}
 use Rattle.std.proofs.lemmas.Bool.{or_cases, eqb-true, false≢true, true≢false}
