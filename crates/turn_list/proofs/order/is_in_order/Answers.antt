@@ -1,4 +1,4 @@
-use Rattle.std.proofs.Common.{rules, below_more, ◌≡◌, ◌≢◌, ℕ, ◌+◌, ◌^◌, ◌<◌, ◌≤◌, List, length, take, get_or, set, arith, ap, sym, subst, ◌∙◌, refl, ◌∷◌, []}
+use Rattle.std.proofs.Common.{rules, below_more, ◌≡◌, ℕ, ◌+◌, ◌≤◌, List, take, get_or, set, arith, ap, sym, subst, ◌∙◌}
 use Rattle.std.proofs.lemmas.List.{take_more, take_all, length-take-le}
 use Rattle.std.proofs.lemmas.Grind.{get_or_default_zero}
 use Rattle.turn_list.specs.declared.list.Entry.{Entry}
