@@ -1,0 +1,6 @@
+pub mod Spelling
+pub mod Reading
+pub mod Replies
+pub mod Streams
+pub mod Outcomes
+pub mod Standing
