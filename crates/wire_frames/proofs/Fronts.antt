@@ -16,7 +16,6 @@ use Rattle.wire_frames.proofs.Bodies.{act_takes, act_again}
 
 -- ---- how many bytes are needed
 
-
 size_least : (b c : Bool) (n : ℕ) → 4 ≤ cond b 4 (cond c (4 + n) 4)
 size_least true c n = omega arith
 size_least false true n = omega arith
@@ -167,10 +166,10 @@ no_act act e = absurd cc
 
 body_some : (act : Act) → AreFields act → 1 ≤ length (body_of act)
 body_some act h = elim (cases_lt 0 (length (body_of act))) [
-    | inl lt ↦ omega (arith, lt)
-    | inr le ↦ let none : body_of act ≡ [] = nil_from_length (body_of act) (omega (arith, le)) in
-    let never : act_in [] ≡ Some act = ap act_in (sym none) ∙ act_again act h in absurd (no_act act never)
-  ]
+  | inl lt ↦ omega (arith, lt)
+  | inr le ↦ let none : body_of act ≡ [] = nil_from_length (body_of act) (omega (arith, le)) in
+      let never : act_in [] ≡ Some act = ap act_in (sym none) ∙ act_again act h in absurd (no_act act never)
+]
 
 whole_by : (b c : Bool) (m : ℕ) (o : Option Act) (s : ℕ) (act : Act) → b ≡ false → c ≡ true → o ≡ Some act → cond b (Part m) (cond c (whole_in o s) Bad) ≡ Whole act s
 whole_by b c m o s act p q r = (λ i. cond (p i) (Part m) (cond (q i) (whole_in (r i) s) Bad))

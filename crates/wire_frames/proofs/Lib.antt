@@ -1,3 +1,4 @@
+pub mod Adding
 pub mod Bodies
 pub mod Codecs
 pub mod Filling
@@ -5,3 +6,4 @@ pub mod Fronts
 pub mod Giving
 pub mod Going
 pub mod OneReading
+pub mod Writes

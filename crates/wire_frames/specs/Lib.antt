@@ -4,3 +4,4 @@ pub mod Replies
 pub mod Streams
 pub mod Outcomes
 pub mod Standing
+pub mod Sizes

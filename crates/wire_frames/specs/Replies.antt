@@ -39,12 +39,19 @@ entries_field number (Some entries) = number ∷ entries_of entries
 
 -- ---- replies
 
--- the fields of eight bytes and of four, and those of bytes, in the order of their numbers
+-- the fields in the order of their numbers: those of a connect, a new key and a begin; those of the other calls; what
+-- getKeyEntry says of a key in numbers; and those of bytes
+abbrev pub begins_of : Fields → List ℕ
+begins_of fields = long_field 1 fields.client ++ (long_field 2 fields.key ++ (long_field 3 fields.op ++ long_field 4 fields.challenge))
+
+abbrev pub calls_of : Fields → List ℕ
+calls_of fields = long_field 5 fields.ticket ++ (long_field 6 fields.pruned ++ (long_field 7 fields.grant ++ long_field 8 fields.count))
+
+abbrev pub facts_of : Fields → List ℕ
+facts_of fields = short_field 9 fields.uses ++ (short_field 10 fields.domain ++ long_field 11 fields.nspace)
+
 abbrev pub numbers_of : Fields → List ℕ
-numbers_of fields =
-    long_field 1 fields.client ++ (long_field 2 fields.key ++ (long_field 3 fields.op ++ (long_field 4 fields.challenge
-    ++ (long_field 5 fields.ticket ++ (long_field 6 fields.pruned ++ (long_field 7 fields.grant ++ (long_field 8 fields.count
-    ++ (short_field 9 fields.uses ++ (short_field 10 fields.domain ++ long_field 11 fields.nspace)))))))))
+numbers_of fields = begins_of fields ++ (calls_of fields ++ facts_of fields)
 
 abbrev pub texts_of : Fields → List ℕ
 texts_of fields =

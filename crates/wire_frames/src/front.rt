@@ -32,7 +32,11 @@ pub(crate) fn needed(bytes: &[u8]) -> usize
         return 4;
     }
     let size = BigEndian::read_u32(bytes) as usize;
-    if 1 <= size && size <= MOST { 4 + size } else { 4 }
+    if 1 <= size && size <= MOST {
+        4 + size
+    } else {
+        4
+    }
 }
 
 /// What stands at the front of bytes.

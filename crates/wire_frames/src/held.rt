@@ -20,7 +20,11 @@ fn fill(held: &mut Vec<u8>, piece: &[u8]) -> Result<usize, NoMemory>
     ensures same { OnErr result (held.new.items ≡ held.old.items) }
 {
     let missing = needed(held.as_slice()) - held.len();
-    let count = if piece.len() < missing { piece.len() } else { missing };
+    let count = if piece.len() < missing {
+        piece.len()
+    } else {
+        missing
+    };
     held.reserve(missing)?;
     held.extend_from_slice(&piece[..count])?;
     Ok(count)

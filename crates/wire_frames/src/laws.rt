@@ -10,11 +10,9 @@ pub fn one_reading()
     ensures { (stream : List ℕ) → ((i : ℕ) → slice_index stream i < 256)
         → (acts others : List Act) (rest left : List ℕ) → HasRequests stream acts rest → HasRequests stream others left
         → (acts ≡ others) × (rest ≡ left) }
-{
-}
+{}
 
 /// What is spelled is read again: the frame of an act is a stream with that request alone.
 pub fn spelled_again()
     ensures { (act : Act) → IsRequest act → HasRequests (frame_of act) (act ∷ []) [] }
-{
-}
+{}

@@ -1,9 +1,10 @@
 //! Writing frames.
 
-ghost use Rattle.std.specs.Prelude.{◌≡◌, true, ◌≤◌, ◌<◌, ◌^◌, length, IfOk};
+ghost use Rattle.std.specs.Prelude.{◌≡◌, ◌↔◌, true, ◌≤◌, ◌<◌, ◌^◌, length, IfOk, IfSome, IsSome};
 ghost use Rattle.wire_frames.specs.Spelling.{most, body_of, frame_of, is_framed};
 ghost use Rattle.wire_frames.specs.Replies.{reply_body, reply_of};
 
+use crate::front::MOST;
 use crate::request::Request;
 use byteorder::{BigEndian, ByteOrder};
 use rule_model::Reply;
@@ -13,19 +14,24 @@ use tags::{Bytes, NoMemory};
 mod acts;
 mod fields;
 mod replies;
+mod sizes;
 
-/// The frame of a request, of which disconnect has none; its body has 262,144 bytes at most.
+/// The frame of a request. `None` says that it has none: a disconnect, and what a body of 262,144 bytes cannot hold.
 #[tactic(auto, unfolding(crate::specs::Spelling::frame_of))]
-pub fn request_frame(alloc: Global, request: &Request) -> Result<Bytes, NoMemory>
-    requires framed { is_framed request.now ≡ true }
-    requires short { length (body_of request.now) ≤ most }
-    ensures frame { IfOk result (λ bytes. bytes ≡ frame_of request.now) }
+pub fn request_frame(alloc: Global, request: &Request) -> Result<Option<Bytes>, NoMemory>
+    ensures frame { IfOk result (λ o. IfSome o (λ bytes. bytes ≡ frame_of request.now)) }
+    ensures some { IfOk result (λ o. IsSome o ↔ ((is_framed request.now ≡ true) × (length (body_of request.now) ≤ most))) }
 {
+    let act = request.act();
+    let size = sizes::body_size(act);
+    if size == 0 || size > MOST {
+        return Ok(None);
+    }
     let mut out = Vec::from_slice(alloc, &[0; 4])?;
-    acts::put_body(&mut out, request.act())?;
-    let size = out.len() - 4;
+    out.reserve(size)?;
+    acts::put_body(&mut out, act)?;
     BigEndian::write_u32(&mut out, size as u32);
-    Ok(Bytes::of(out))
+    Ok(Some(Bytes::of(out)))
 }
 
 /// The frame of a reply. Its body has fewer than 2^32 bytes.

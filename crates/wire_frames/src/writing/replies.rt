@@ -34,11 +34,7 @@ fn put_short_field(out: &mut Vec<u8>, number: u8, field: Option<u32>) -> Result<
 }
 
 /// Counted bytes, where they are there.
-fn put_bytes_field(
-    out: &mut Vec<u8>,
-    number: u8,
-    field: &Option<Bytes>,
-) -> Result<(), NoMemory>
+fn put_bytes_field(out: &mut Vec<u8>, number: u8, field: &Option<Bytes>) -> Result<(), NoMemory>
     requires { length (spec.bytes_field number field.now) < 2 ^ 32 }
     ensures { OnOk result (out.new.items ≡ out.old.items ++ spec.bytes_field number field.now) }
 {
@@ -66,29 +62,46 @@ fn put_rule(out: &mut Vec<u8>, rule: Rule) -> Result<(), NoMemory>
     put(out, &[rule.number])
 }
 
-/// The fields that are numbers.
-fn put_numbers(out: &mut Vec<u8>, fields: &Fields) -> Result<(), NoMemory>
-    ensures { OnOk result (out.new.items ≡ out.old.items ++ spec.numbers_of fields.now) }
+/// What a connect, a new key and a begin answer in numbers.
+fn put_begins(out: &mut Vec<u8>, fields: &Fields) -> Result<(), NoMemory>
+    ensures { OnOk result (out.new.items ≡ out.old.items ++ spec.begins_of fields.now) }
 {
     put_long_field(out, 1, fields.client)?;
     put_long_field(out, 2, fields.key)?;
     put_long_field(out, 3, fields.op)?;
-    put_long_field(out, 4, fields.challenge)?;
+    put_long_field(out, 4, fields.challenge)
+}
+
+/// What the other calls answer in numbers.
+fn put_calls(out: &mut Vec<u8>, fields: &Fields) -> Result<(), NoMemory>
+    ensures { OnOk result (out.new.items ≡ out.old.items ++ spec.calls_of fields.now) }
+{
     put_long_field(out, 5, fields.ticket)?;
     put_long_field(out, 6, fields.pruned)?;
     put_long_field(out, 7, fields.grant)?;
-    put_long_field(out, 8, fields.count)?;
+    put_long_field(out, 8, fields.count)
+}
+
+/// What is said of a key in numbers.
+fn put_facts(out: &mut Vec<u8>, fields: &Fields) -> Result<(), NoMemory>
+    ensures { OnOk result (out.new.items ≡ out.old.items ++ spec.facts_of fields.now) }
+{
     put_short_field(out, 9, fields.uses)?;
     put_short_field(out, 10, fields.domain)?;
     put_long_field(out, 11, fields.nspace)
 }
 
+/// The fields that are numbers.
+fn put_numbers(out: &mut Vec<u8>, fields: &Fields) -> Result<(), NoMemory>
+    ensures { OnOk result (out.new.items ≡ out.old.items ++ spec.numbers_of fields.now) }
+{
+    put_begins(out, fields)?;
+    put_calls(out, fields)?;
+    put_facts(out, fields)
+}
+
 /// The entries of a listing, where it is there.
-fn put_entries_field(
-    out: &mut Vec<u8>,
-    number: u8,
-    field: &Option<Entries>,
-) -> Result<(), NoMemory>
+fn put_entries_field(out: &mut Vec<u8>, number: u8, field: &Option<Entries>) -> Result<(), NoMemory>
     requires { length (spec.entries_field number field.now) < 2 ^ 32 }
     ensures { OnOk result (out.new.items ≡ out.old.items ++ spec.entries_field number field.now) }
 {
