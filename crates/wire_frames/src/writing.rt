@@ -41,7 +41,7 @@ pub fn reply_frame(alloc: Global, reply: &Reply) -> Result<Bytes, NoMemory>
 {
     let mut out = Vec::from_slice(alloc, &[0; 4])?;
     replies::put_reply(&mut out, reply)?;
-    let size = out.len() - 4;
-    BigEndian::write_u32(&mut out, size as u32);
+    let body = out.len() - 4;
+    BigEndian::write_u32(&mut out, body as u32);
     Ok(Bytes::of(out))
 }
