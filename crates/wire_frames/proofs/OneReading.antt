@@ -1,12 +1,15 @@
 -- A stream has its requests in one way.
-use Rattle.std.proofs.Common.{◌≡◌, ◌⊎◌, ⊎_elim, ℕ, ◌+◌, ◌-◌, ◌<◌, ◌≤◌, List, [], ◌∷◌, ◌++◌, length, get_or, take, drop, flat_map, refl, sym, ap, subst, ◌∙◌, arith, append_assoc, inl, inr}
+use Rattle.std.proofs.Common.{◌≡◌, ◌⊎◌, ⊎_elim, Bool, true, false, ℕ, ◌+◌, ◌-◌, ◌<◌, ◌≤◌, List, [], ◌∷◌, ◌++◌, length, get_or, take, drop, flat_map, refl, sym, ap, subst, ◌∙◌, arith, append_assoc, inl, inr}
 use Rattle.std.specs.List.{AllByRecursion}
+use Rattle.std.specs.Bool.{MatchBool}
 use Rattle.std.proofs.lemmas.List.{append-nil, append_cancel_left, drop_at, get_or-drop}
 use Rattle.rule_model.specs.declared.event.Act.{Act}
 use Rattle.wire_frames.specs.declared.front.Front.{Front}
 use Rattle.wire_frames.specs.declared.front.Front.TheVariants.{Part, Bad, Whole}
 use Rattle.wire_frames.specs.Spelling.{body_of, frame_of, IsRequest}
 use Rattle.wire_frames.specs.Streams.{stream_of, needed, IsPart, IsBad, HasRequests, front_of}
+use Rattle.wire_frames.specs.declared.frames.Frames.{Frames}
+use Rattle.wire_frames.specs.Standing.{held_in, is_shut, Stands}
 use Rattle.wire_frames.proofs.Codecs.{IsBytes, IsBytes-drop}
 use Rattle.wire_frames.proofs.Fronts.{part_again, bad_again, whole_again}
 
@@ -63,3 +66,13 @@ alone act request = record {
   each = (request, tt);
   ends = inl (omega arith);
 }
+
+ends_of : (H : Type 0) (b : Bool) (rest : List ℕ) → MatchBool b (IsBad rest) (H × IsPart rest) → IsPart rest ⊎ IsBad rest
+ends_of H true rest h = inr h
+ends_of H false rest h = inl h.1
+
+stands_has : (stream : List ℕ) (given : List Act) (f : Frames) (s : Stands stream given f) → HasRequests stream given s.rest
+stands_has stream given f s = record { whole = s.whole; each = s.each; ends = ends_of (held_in f ≡ s.rest) (is_shut f) s.rest s.left }
+
+pub same_requests : (stream : List ℕ) → IsBytes stream → (given others : List Act) (one two : Frames) → Stands stream given one → Stands stream others two → given ≡ others
+same_requests stream fits given others one two s t = (one_reading stream fits given others s.rest t.rest (stands_has stream given one s) (stands_has stream others two t)).0

@@ -21,6 +21,6 @@ mod writing;
 
 pub use fault::FrameFault;
 pub use frames::Frames;
-pub use laws::{one_reading, spelled_again};
+pub use laws::{one_reading, same_requests, spelled_again};
 pub use request::Request;
 pub use writing::{reply_frame, request_frame};
