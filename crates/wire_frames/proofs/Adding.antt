@@ -1,7 +1,7 @@
 -- Sizes are added.
 use Rattle.std.proofs.Common.{◌≡◌, ℕ, ◌+◌, ◌<◌, ◌≤◌, Bool, true, false, length, arith, refl, ⊎_elim}
 use Rattle.std.proofs.lemmas.Bool.{cases_lt}
-use Rattle.wire_frames.specs.Spelling.{most, flag}
+use Rattle.wire_frames.specs.Spelling.{flag}
 use Rattle.wire_frames.specs.Sizes.{IsSize}
 
 pub size_one : (k a m l : ℕ) → IsSize a m → l ≡ k + m → IsSize (k + a) l

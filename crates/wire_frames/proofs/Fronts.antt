@@ -1,17 +1,15 @@
 -- What stands at the front of bytes, both ways.
-use Rattle.std.proofs.Common.{◌≡◌, ◌≢◌, ◌⊎◌, ℕ, suc, ◌+◌, ◌-◌, ◌*◌, ◌^◌, ◌<◌, ◌≤◌, Bool, true, false, cond, eqb, ltb, List, [], ◌∷◌, ◌++◌, length, get_or, take, drop, Option, Some, None, refl, sym, ap, subst, ◌∙◌, arith, ⊎_elim, inl, inr, append_assoc}
-use Rattle.std.specs.Prelude.{nat_le, ◌&&◌, is_some}
+use Rattle.std.proofs.Common.{◌≡◌, ℕ, ◌+◌, ◌-◌, ◌<◌, ◌≤◌, Bool, true, false, cond, ltb, List, [], ◌++◌, length, take, drop, Option, Some, None, refl, sym, ap, ◌∙◌, arith, inl, inr, append_assoc}
 use Rattle.std.proofs.lemmas.Bool.{cases_lt, lt-ltb, ltb-false, le-ltb, ltb-true}
-use Rattle.std.proofs.lemmas.List.{take_at, drop_at, take-append-drop, length-append, length-take-le, length-drop, append-nil, nil_from_length}
+use Rattle.std.proofs.lemmas.List.{take_at, drop_at, take-append-drop, length-append, length-take-le, length-drop, nil_from_length}
 use Rattle.byteorder.specs.Endian.{big_number, big_bytes}
 use Rattle.byteorder.specs.Numbers.{big_from-append, big_number-reads_back, length-bytes_high_first}
 use Rattle.rule_model.specs.declared.event.Act.{Act}
-use Rattle.wire_frames.specs.declared.front.Front.{Front}
 use Rattle.wire_frames.specs.declared.front.Front.TheVariants.{Part, Bad, Whole}
 use Rattle.wire_frames.specs.Spelling.{counted, most, body_of, frame_of, IsRequest, AreFields}
 use Rattle.wire_frames.specs.Reading.{act_in}
 use Rattle.wire_frames.specs.Streams.{announced, is_length, needed, IsPart, IsBad, whole_in, front_of}
-use Rattle.wire_frames.proofs.Codecs.{IsBytes, IsBytes-take, IsBytes-drop, number_front, wide4, some_is}
+use Rattle.wire_frames.proofs.Codecs.{IsBytes, IsBytes-take, IsBytes-drop, number_front, wide4}
 use Rattle.wire_frames.proofs.Bodies.{act_takes, act_again}
 
 -- ---- how many bytes are needed

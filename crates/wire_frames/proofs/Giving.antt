@@ -1,9 +1,8 @@
 -- A reader of frames comes to a bad one.
-use Rattle.std.proofs.Common.{◌≡◌, ℕ, ◌+◌, ◌<◌, ◌≤◌, Bool, true, false, List, [], ◌∷◌, ◌++◌, length, flat_map, refl, sym, ap, subst, ◌∙◌, arith, append_assoc, length-append}
-use Rattle.std.specs.List.{AllByRecursion}
+use Rattle.std.proofs.Common.{◌≡◌, ℕ, ◌+◌, true, false, List, [], ◌++◌, length, flat_map, sym, ap, subst, ◌∙◌, arith, append_assoc, length-append}
 use Rattle.std.specs.Bool.{MatchBool}
 use Rattle.rule_model.specs.declared.event.Act.{Act}
-use Rattle.wire_frames.specs.Spelling.{frame_of, IsRequest}
+use Rattle.wire_frames.specs.Spelling.{frame_of}
 use Rattle.wire_frames.specs.Streams.{stream_of, IsPart, IsBad}
 use Rattle.wire_frames.specs.Outcomes.{IsRead}
 use Rattle.wire_frames.specs.declared.outcome.Outcome.{Outcome}

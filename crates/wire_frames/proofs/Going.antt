@@ -1,5 +1,5 @@
 -- The frames of a text, one after another.
-use Rattle.std.proofs.Common.{◌≡◌, ◌⊎◌, ℕ, ◌+◌, ◌-◌, ◌<◌, ◌≤◌, Bool, true, false, List, [], ◌∷◌, ◌++◌, length, get_or, take, drop, flat_map, refl, sym, ap, subst, ◌∙◌, arith, append_assoc}
+use Rattle.std.proofs.Common.{◌≡◌, ℕ, ◌+◌, ◌<◌, ◌≤◌, Bool, true, false, List, [], ◌∷◌, ◌++◌, length, take, drop, flat_map, sym, ap, subst, ◌∙◌, arith, append_assoc}
 use Rattle.std.specs.List.{AllByRecursion}
 use Rattle.std.proofs.lemmas.Grind.{flat_map-append}
 use Rattle.std.proofs.lemmas.List.{append-nil, length-append, length-drop, drop-drop, drop-append-le, take-append-le, nil_from_length}
@@ -9,7 +9,6 @@ use Rattle.wire_frames.specs.Spelling.{frame_of, IsRequest}
 use Rattle.wire_frames.specs.Streams.{stream_of, announced, is_length, needed, IsPart, IsBad, front_of}
 use Rattle.wire_frames.specs.Outcomes.{IsRead}
 use Rattle.wire_frames.specs.declared.outcome.Outcome.{Outcome}
-use Rattle.wire_frames.specs.declared.front.Front.{Front}
 use Rattle.wire_frames.specs.declared.front.Front.TheVariants.{Part, Bad, Whole}
 use Rattle.wire_frames.proofs.Codecs.{IsBytes, IsBytes-drop}
 use Rattle.wire_frames.proofs.Fronts.{IsFront, part_is, bad_is, whole_is, needed_least, needed_more, needed_whole, announced_more}

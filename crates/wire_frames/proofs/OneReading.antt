@@ -1,13 +1,13 @@
 -- A stream has its requests in one way.
-use Rattle.std.proofs.Common.{◌≡◌, ◌⊎◌, ⊎_elim, Bool, true, false, ℕ, ◌+◌, ◌-◌, ◌<◌, ◌≤◌, List, [], ◌∷◌, ◌++◌, length, get_or, take, drop, flat_map, refl, sym, ap, subst, ◌∙◌, arith, append_assoc, inl, inr}
+use Rattle.std.proofs.Common.{◌≡◌, ◌⊎◌, ⊎_elim, Bool, true, false, ℕ, ◌+◌, List, [], ◌∷◌, ◌++◌, length, flat_map, refl, sym, ap, subst, ◌∙◌, arith, append_assoc, inl, inr}
 use Rattle.std.specs.List.{AllByRecursion}
 use Rattle.std.specs.Bool.{MatchBool}
-use Rattle.std.proofs.lemmas.List.{append-nil, append_cancel_left, drop_at, get_or-drop}
+use Rattle.std.proofs.lemmas.List.{append-nil, append_cancel_left, drop_at}
 use Rattle.rule_model.specs.declared.event.Act.{Act}
 use Rattle.wire_frames.specs.declared.front.Front.{Front}
 use Rattle.wire_frames.specs.declared.front.Front.TheVariants.{Part, Bad, Whole}
 use Rattle.wire_frames.specs.Spelling.{body_of, frame_of, IsRequest}
-use Rattle.wire_frames.specs.Streams.{stream_of, needed, IsPart, IsBad, HasRequests, front_of}
+use Rattle.wire_frames.specs.Streams.{stream_of, IsPart, IsBad, HasRequests, front_of}
 use Rattle.wire_frames.specs.declared.frames.Frames.{Frames}
 use Rattle.wire_frames.specs.Standing.{held_in, is_shut, Stands}
 use Rattle.wire_frames.proofs.Codecs.{IsBytes, IsBytes-drop}

@@ -299,16 +299,23 @@ fn every_frame_has_the_fields_of_its_act(rt: HostRuntime) -> Result<(), Fail> {
     Ok(())
 }
 
+/// A frame whose body has the most bytes: an update.
+fn longest(alloc: Global) -> Result<Vec<u8>, Fail>
+    ensures { IfOk result (λ stream. length stream.items ≡ 262148) }
+{
+    let head = b"\x00\x04\x00\x00\x07\x00\x00\x00\x00\x00\x00\x00\x08\x00\x03\xff\xf3";
+    let mut stream = Vec::from_slice(alloc, head)?;
+    stream.resize(262_148, 0x61)?;
+    Ok(stream)
+}
+
 #[test]
 fn a_body_of_262144_bytes_is_read(rt: HostRuntime) -> Result<(), Fail> {
     let alloc = rt.alloc();
-    let mut stream = vec![in alloc; 0x61; 262_148]?;
-    stream[..17].copy_from_slice(
-        b"\x00\x04\x00\x00\x07\x00\x00\x00\x00\x00\x00\x00\x08\x00\x03\xff\xf3",
-    );
-    assert!(&rt; is_read(alloc, stream.as_slice(), 0)?);
-    assert!(&rt; is_read(alloc, stream.as_slice(), 4)?);
-    assert!(&rt; is_read(alloc, stream.as_slice(), 262_147)?);
+    let stream = longest(alloc)?;
+    for cut in &[0, 4, 262_147] {
+        assert!(&rt; is_read(alloc, stream.as_slice(), *cut)?);
+    }
     Ok(())
 }
 

@@ -1,4 +1,4 @@
-use Rattle.std.proofs.Common.{arith, ◌≡◌, ◌-◌, Bool, true, false}
+use Rattle.std.proofs.Common.{arith, ◌≡◌, ◌-◌, true, false}
 use Rattle.wire_frames.proofs.Codecs.{IsBytes, IsBytes-take, IsBytes-drop}
 use Rattle.wire_frames.proofs.Bodies.{act_takes, framed_asked}
 use Rattle.wire_frames.proofs.front.front_at.Goals as goal

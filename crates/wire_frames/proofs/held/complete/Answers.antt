@@ -1,5 +1,4 @@
-use Rattle.std.proofs.Common.{rules}
-use Rattle.wire_frames.proofs.Filling.{Filled, filled, fill_enough, fill_all}
+use Rattle.wire_frames.proofs.Filling.{filled, fill_enough, fill_all}
 use Rattle.wire_frames.proofs.held.complete.Goals as goal
 
 pub returns-clause-taken : goal.returns-clause-taken

@@ -1,4 +1,4 @@
-use Rattle.std.proofs.Common.{rules, ◌≡◌, ◌⊎◌, ⊎_elim, ℕ, ◌+◌, ◌<◌, ◌≤◌, List, [], ◌∷◌, ◌++◌, length, arith, sym, ap, ◌∙◌, refl}
+use Rattle.std.proofs.Common.{rules, ◌≡◌, ⊎_elim, ◌≤◌, [], ◌∷◌, length, arith, sym, ◌∙◌, refl}
 use Rattle.wire_frames.proofs.Codecs.{IsBytes}
 use Rattle.wire_frames.proofs.Fronts.{part_is, bad_is, whole_is, needed_most}
 use Rattle.wire_frames.proofs.Going.{held_bad, held_whole}

@@ -1,4 +1,4 @@
-use Rattle.std.proofs.Common.{rules, refl, ◌≡◌, [], true, false}
+use Rattle.std.proofs.Common.{rules, refl}
 use Rattle.std.proofs.lemmas.List.{nil_from_length}
 use Rattle.wire_frames.proofs.Giving.{shut_again, shut_now}
 use Rattle.wire_frames.proofs.frames.Frames.feed.Goals as goal

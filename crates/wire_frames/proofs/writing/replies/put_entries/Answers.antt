@@ -1,4 +1,4 @@
-use Rattle.std.proofs.Common.{rules, [], arith, ap, length}
+use Rattle.std.proofs.Common.{rules, arith, ap, length}
 use Rattle.wire_frames.proofs.Writes.{count_fits, alias_fits}
 use Rattle.wire_frames.proofs.writing.replies.put_entries.Goals as goal
 

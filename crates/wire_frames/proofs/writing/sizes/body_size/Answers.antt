@@ -1,4 +1,4 @@
-use Rattle.std.proofs.Common.{rules, ◌≡◌, ◌++◌, arith, length, length-append}
+use Rattle.std.proofs.Common.{◌≡◌, ◌++◌, arith, length, length-append}
 use Rattle.byteorder.specs.Endian.{big_bytes}
 use Rattle.wire_frames.specs.Spelling.{counted, optional, flag, key_of}
 use Rattle.wire_frames.proofs.Adding.{size_one, size_two, size_three, flag_one}
