@@ -1,7 +1,7 @@
 //! `turn_list`: threads that append to one plain list, behind the turn lock or, to compare, behind a `Mutex`.
 //!
-//! Its one contract is that of `appended` (`src/run.rt`): each thread's own entries stand in the list in their order. The
-//! program runs it, and looks whether anything else stands there:
+//! Its one contract is that of `appended` (`src/run.rt`): each thread's own entries stand in the list in their order, and
+//! nothing else. The program runs it, and looks at what came:
 //!
 //!     turn_list lock ITEMS THREADS..
 //!     turn_list mutex ITEMS THREADS..
@@ -19,6 +19,10 @@ mod run;
 mod tests;
 mod words;
 
+ghost use Rattle.std.specs.Prelude.{◌≡◌, IfOk};
+ghost use Rattle.turn_list.specs.Lists.{IsInOrder};
+ghost use Rattle.turn_list.specs.declared.words.Kind.TheVariants.{Lock};
+
 use crate::list::Entry;
 use crate::words::{Kind, Words};
 use std::alloc::{AllocError, Global};
@@ -33,9 +37,11 @@ fn listed<R: Threads + Wait + Sync>(
     alloc: Global,
     words: &Words,
     threads: u32,
-) -> Result<Vec<Entry>, AllocError> {
+) -> Result<Vec<Entry>, AllocError>
+    ensures lock { words.now.kind ≡ Lock → IfOk result (λ list. IsInOrder threads words.now.items list.items) }
+{
     match words.kind {
-        Kind::Lock => Ok(run::appended(rt, alloc, threads, words.items)?.0),
+        Kind::Lock => run::appended(rt, alloc, threads, words.items),
         Kind::Mutex => plain::appended(rt, alloc, threads, words.items),
     }
 }

@@ -1,4 +1,6 @@
 //! Whether a list has each thread's entries in their order, and nothing else.
+ghost use Rattle.std.specs.Prelude.{◌≡◌, false, true, IfOk};
+ghost use Rattle.turn_list.specs.Lists.{IsInOrder};
 
 use crate::list::Entry;
 use std::alloc::{AllocError, Global};
@@ -9,22 +11,25 @@ pub fn is_in_order(
     entries: &[Entry],
     threads: u32,
     items: u64,
-) -> Result<bool, AllocError> {
-    let mut next = Vec::new(alloc);
-    for _thread in 0..threads {
-        next.push(0u64)?;
-    }
+) -> Result<bool, AllocError>
+    ensures yes { IfOk result (λ b. b ≡ true → IsInOrder threads items entries.now) }
+    ensures no { IfOk result (λ b. b ≡ false → IsInOrder threads items entries.now → ⊥) }
+{
+    let mut next = vec![in alloc; 0u64; threads as usize]?;
     for entry in entries {
-        let Ok(by) = usize::try_from(entry.by) else {
-            return Ok(false);
-        };
-        let Some(expected) = next.get_mut(by) else {
-            return Ok(false);
-        };
-        if *expected != entry.item {
+        let by = entry.by as usize;
+        if by >= next.len() {
             return Ok(false);
         }
-        *expected = expected.wrapping_add(1);
+        if next[by] != entry.item {
+            return Ok(false);
+        }
+        next[by] += 1;
     }
-    Ok(next.iter().all(|&n| n == items))
+    for count in next.as_slice() {
+        if *count != items {
+            return Ok(false);
+        }
+    }
+    Ok(true)
 }

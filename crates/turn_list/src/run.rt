@@ -1,8 +1,8 @@
 //! Threads that append to a list behind the turn lock.
 ghost use Rattle.std.specs.Prelude.{◌≡◌, ℕ, ◌+◌, ◌^◌, ◌<◌, ◌≤◌, [], length, IfOk};
 ghost use Rattle.turn_lock.specs.Rule.{own};
-ghost use Rattle.turn_lock.specs.Passes.{front, number_of, made_of, IsPassOf, IsMakerOf, IsClosingOf};
-ghost use Rattle.turn_list.specs.Lists.{by, counted};
+ghost use Rattle.turn_lock.specs.Passes.{front, number_of, made_of, made_before, IsPassOf, IsMakerOf, IsClosingOf};
+ghost use Rattle.turn_list.specs.Lists.{by, counted, IsInOrder};
 ghost use Rattle.turn_list.specs.Runs.{Each, EachOk, IsNew, HasAppended, TookIts};
 
 use crate::append::append_all;
@@ -17,19 +17,19 @@ use turn_lock::TurnLock;
 fn new_passes(
     alloc: Global,
     lock: &ListLock,
-    maker: ListMaker,
+    maker: &mut ListMaker,
     threads: u32,
 ) -> Result<Vec<ListPass>, AllocError>
-    requires ours { IsMakerOf lock.now maker }
-    requires first { made_of maker ≡ 0 }
+    requires ours { IsMakerOf lock.now maker.old }
+    requires first { made_of maker.old ≡ 0 }
+    ensures maker { IfOk result (λ _. IsMakerOf lock.now maker.new × (made_of maker.new ≡ threads)) }
     ensures count { IfOk result (λ v. length v.items ≡ threads) }
     ensures ours { IfOk result (λ v. Each (λ _. IsPassOf lock.now) v.items) }
     ensures new { IfOk result (λ v. Each IsNew v.items) }
 {
-    let mut maker = maker;
     let mut passes = Vec::new(alloc);
     for _made in 0..threads {
-        passes.push(lock.another(&mut maker))?;
+        passes.push(lock.another(maker))?;
     }
     Ok(passes)
 }
@@ -38,11 +38,14 @@ fn new_passes(
 fn take_in<R: Wait>(
     rt: &R,
     lock: &ListLock,
+    maker: ListMaker,
     results: Vec<Result<ListPass, AllocError>>,
 ) -> Result<ListClosing, AllocError>
     requires some { 0 < length results.items }
+    requires maker { IsMakerOf lock.now maker }
     requires ours { EachOk (λ _. IsPassOf lock.now) results.items }
     ensures closing { IfOk result (IsClosingOf lock.now) }
+    ensures made { IfOk result (λ c. made_before c ≡ made_of maker) }
     ensures taken { IfOk result (λ c. (items : ℕ) → EachOk (HasAppended items) results.items
         → (k : ℕ) → k < length results.items → TookIts items c k) }
 {
@@ -50,7 +53,7 @@ fn take_in<R: Wait>(
     let Some(last) = results.pop() else {
         unreachable!()
     };
-    let mut closing = lock.last_turn(rt, last?);
+    let mut closing = lock.last_turn(rt, last?, maker);
     while let Some(next) = results.pop() {
         lock.absorb(&mut closing, next?);
     }
@@ -80,39 +83,35 @@ fn append_each<R: Threads + Wait + Sync>(
     )
 }
 
-/// The list of a lock that ends, and a number above those of its entries.
-fn list_of(lock: ListLock, closing: ListClosing) -> (Vec<Entry>, u64)
+/// The list of a lock that ends.
+fn list_of(lock: ListLock, closing: ListClosing) -> Vec<Entry>
     requires { IsClosingOf lock closing }
-    ensures all { (items k : ℕ) → TookIts items closing k → own by k result.0.items ≡ counted k items }
-    ensures below { (items k : ℕ) → TookIts items closing k → k < result.1 }
-    ensures none { (k : ℕ) → result.1 ≤ k → own by k result.0.items ≡ [] }
+    ensures all { (items k : ℕ) → TookIts items closing k → own by k result.items ≡ counted k items }
+    ensures none { (k : ℕ) → made_before closing ≤ k → own by k result.items ≡ [] }
 {
-    let (slot, made) = lock.end(closing);
+    let (slot, _made) = lock.end(closing);
     let Some(list) = slot else { unreachable!() };
-    (list.entries, made)
+    list.entries
 }
 
-/// The list to which so many threads appended so many items each, and a number that is no less than theirs. Each
-/// thread's own entries stand in it in their order, and none has that number or a greater one. That the number is theirs,
-/// so that nothing else stands in the list, is what the program looks at (`order`), and no clause says it.
+/// The list to which so many threads appended so many items each: each thread's own entries stand in it in their
+/// order, and nothing else.
 pub fn appended<R: Threads + Wait + Sync>(
     rt: &R,
     alloc: Global,
     threads: u32,
     items: u64,
-) -> Result<(Vec<Entry>, u64), AllocError>
-    ensures own { IfOk result (λ r. (k : ℕ) → k < threads → own by k r.0.items ≡ counted k items) }
-    ensures made { IfOk result (λ r. (k : ℕ) → k < threads → k < r.1) }
-    ensures none { IfOk result (λ r. (k : ℕ) → r.1 ≤ k → own by k r.0.items ≡ []) }
+) -> Result<Vec<Entry>, AllocError>
+    ensures { IfOk result (λ list. IsInOrder threads items list.items) }
 {
     if threads == 0 {
-        return Ok((Vec::new(alloc), 0));
+        return Ok(Vec::new(alloc));
     }
-    let Ok((lock, maker)) = TurnLock::open(alloc, PlainList::new(alloc), ()) else {
+    let Ok((lock, mut maker)) = TurnLock::open(alloc, PlainList::new(alloc), ()) else {
         return Err(AllocError);
     };
-    let passes = new_passes(alloc, &lock, maker, threads)?;
+    let passes = new_passes(alloc, &lock, &mut maker, threads)?;
     let results = append_each(rt, &lock, passes, items)?;
-    let closing = take_in(rt, &lock, results)?;
+    let closing = take_in(rt, &lock, maker, results)?;
     Ok(list_of(lock, closing))
 }

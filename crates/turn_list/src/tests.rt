@@ -37,7 +37,7 @@ fn run<R: Wait + Abort>(rt: &R, alloc: Global) -> Result<(), Fail> {
         return Err(Fail::from("no memory"));
     };
     let two = told(rt, &lock, &mut one, two);
-    let mut closing = lock.last_turn(rt, one);
+    let mut closing = lock.last_turn(rt, one, maker);
     lock.absorb(&mut closing, two);
     let (slot, made) = lock.end(closing);
     let Some(list) = slot else { unreachable!() };

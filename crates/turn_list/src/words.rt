@@ -1,4 +1,6 @@
 //! The words of the command line.
+ghost use Rattle.std.specs.Prelude.{◌≡◌, ◌<◌, ◌≤◌, All, IfOk, IfSome};
+ghost use Rattle.turn_list.specs.Words.{kind_named, IsCount};
 
 use std::{env, io};
 
@@ -19,17 +21,36 @@ pub struct Words {
 
 const MOST_THREADS: u32 = 64;
 
-fn kind_of(word: &str) -> Option<Kind> {
-    match word {
-        "lock" => Some(Kind::Lock),
-        "mutex" => Some(Kind::Mutex),
-        _ => None,
+fn kind_of(word: &str) -> Option<Kind>
+    ensures { result ≡ kind_named word.now }
+{
+    if word == "lock" {
+        Some(Kind::Lock)
+    } else if word == "mutex" {
+        Some(Kind::Mutex)
+    } else {
+        None
     }
+}
+
+/// A number of threads.
+fn count_of(word: &str) -> Option<u32>
+    ensures { IfSome result IsCount }
+{
+    let Ok(count) = word.parse::<u32>() else {
+        return None;
+    };
+    if count == 0 || count > MOST_THREADS {
+        return None;
+    }
+    Some(count)
 }
 
 impl Words {
     /// The words behind the program's name, where they are of this form.
-    pub fn read(rt: &HostRuntime) -> io::Result<Option<Words>> {
+    pub fn read(rt: &HostRuntime) -> io::Result<Option<Words>>
+        ensures counts { IfOk result (λ o. IfSome o (λ words. All IsCount words.threads.items)) }
+    {
         let mut args = env::args(rt)?.skip(1);
         let Some(first) = args.next() else {
             return Ok(None);
@@ -45,12 +66,9 @@ impl Words {
         };
         let mut threads = Vec::new(rt.alloc());
         for word in args {
-            let Ok(count) = word.parse::<u32>() else {
+            let Some(count) = count_of(&word) else {
                 return Ok(None);
             };
-            if count == 0 || count > MOST_THREADS {
-                return Ok(None);
-            }
             threads.push(count)?;
         }
         Ok(Some(Words {

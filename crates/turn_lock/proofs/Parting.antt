@@ -1,15 +1,15 @@
 -- Seats are cut in two and joined.
-use Rattle.std.proofs.Common.{◌≡◌, ◌≢◌, ℕ, ◌+◌, List, [], ◌∷◌, ◌++◌, length, get_or, set, sym, refl, ap, ◌∙◌, subst, ⊎_elim, arith, Option, Some, None, length-set}
+use Rattle.std.proofs.Common.{◌≡◌, ◌≢◌, ℕ, ◌+◌, ◌<◌, List, [], ◌∷◌, ◌++◌, length, get_or, set, sym, refl, ap, ◌∙◌, subst, ⊎_elim, arith, Option, Some, None, length-set}
 use mathlib.Core.Option.{none, some}
 use lib.ListN.{get_elem?}
 use Rattle.atomic_table.specs.Table.{Me, step, keeps, Allows, Splits, Joins}
 use Rattle.atomic_table.proofs.Lists.{at_set, set_else, set_again}
 use Rattle.turn_lock.specs.declared.view.Stage.{Stage}
-use Rattle.turn_lock.specs.declared.view.Stage.TheVariants.{Idle, Makes}
+use Rattle.turn_lock.specs.declared.view.Stage.TheVariants.{Idle, Makes, Closes, Ends}
 use Rattle.turn_lock.specs.declared.view.View.{View}
-use Rattle.turn_lock.specs.Views.{turns_of, IsServing, hand, view, turns, numbers, numbers_in}
+use Rattle.turn_lock.specs.Views.{turns_of, IsServing, turn_in, made_in, hand, view, turns, numbers, numbers_in}
 use Rattle.turn_lock.specs.Rule.{total, Tally, Stands, Knows, ViewsAre, IsSound}
-use Rattle.turn_lock.specs.Steps.{longer, kept_part, heir_part, note_part, gathered, nobody, compare, BothBegin, compared}
+use Rattle.turn_lock.specs.Steps.{longer, kept_part, heir_part, note_part, gathered, completed, nobody, compare, BothBegin, compared}
 use Rattle.turn_lock.proofs.Prefixes.{longer_prefix, longer_own, longer_owned, longer_begins}
 use Rattle.turn_lock.proofs.Sums.{total_set, moved, moved_here, moved_else}
 use Rattle.turn_lock.proofs.Standing.{stands_by, holds_by, holds_append, holds_unnumbered, views_set, views_more, words_again, numbers_append, numbers_unnumbered, kept_by, kept_longer}
@@ -70,30 +70,32 @@ module _ {T E K : Type 0} (entries : T → List E) (maker : E → ℕ) (fits : K
       } in
       subst (λ (vs : List V). IsSound entries maker fits name record { words = s.words; homes = s.homes; views = vs ++ h ∷ [] }) (sym (set_again s.views id v at)) out
 
-  -- kind 2: one seat takes the hands of another
-  pub gathers : (id : ℕ) (v : V) (other : ℕ) (w : V) → w.stage ≡ Idle → Joins (IsSound entries maker fits name) id v other w (gathered v w) nobody
-  gathers id v other w is s r at apart there =
+  -- kind 2: one seat takes the hands of another, which has no turn, and stands then so
+  joined : (id : ℕ) (v : V) (other : ℕ) (w : V) (st : Stage E) (drawer : Tally E → ℕ) → turns_of w.stage ≡ 0 → turns_of st ≡ turns_of v.stage → (IsServing w.stage → ⊥) → (IsServing v.stage → IsServing st)
+      → ((f : Tally E) (holder : ℕ → ℕ) → Stands f id v.stage → Stands f other w.stage → Stands (record f { drawer = drawer f; holder = holder }) id st)
+      → ((f : Tally E) (holder : ℕ → ℕ) (j : ℕ) (u : Stage E) → j ≢ id → j ≢ other → Stands f id v.stage → Stands f other w.stage → Stands f j u → Stands (record f { drawer = drawer f; holder = holder }) j u)
+      → Joins (IsSound entries maker fits name) id v other w (view st (v.hands ++ w.hands)) nobody
+  joined id v other w st drawer idle same_turn no_value on mine_stands rest_stand s r at apart there =
       let f : Tally E = r.tally in
-      let b : V = gathered v w in
+      let b : V = view st (v.hands ++ w.hands) in
       let n : V = nobody in
       let vs : List V = set s.views id b in
       let at_other : get_elem? s.views other ≡ some w = sym (set_else s.views id other b apart) ∙ there in
       let mine = r.views.each id v at in
       let yours = r.views.each other w at_other in
-      let f' : Tally E = record f { holder = moved f.holder other id } in
-      let idle : turns w ≡ 0 = ap turns_of is in
+      let holder' : ℕ → ℕ = moved f.holder other id in
+      let f' : Tally E = record f { drawer = drawer f; holder = holder' } in
       let numbers_1 : total numbers vs + numbers_in v.hands ≡ total numbers s.views + numbers_in (v.hands ++ w.hands) = total_set numbers s.views id v b at in
       let numbers_2 : total numbers (set vs other n) + numbers_in w.hands ≡ total numbers vs + 0 = total_set numbers vs other w n there in
       let both = numbers_append v.hands w.hands in
-      let turns_1 : total turns vs + turns v ≡ total turns s.views + turns v = total_set turns s.views id v b at in
+      let turns_1 : total turns vs + turns v ≡ total turns s.views + turns_of st = total_set turns s.views id v b at in
       let turns_2 : total turns (set vs other n) + turns w ≡ total turns vs + 0 = total_set turns vs other w n there in
       let all = r.views.drawn_by in
       let some_wait = r.views.waiting_by in
       let may = mine.may in
-      let stay : (j : ℕ) (st : Stage E) → Stands f j st → Stands f' j st = λ j st. stands_by f f' j (λ _ a c. (a, c)) (λ _ a c d. (a, c, d)) (λ _ a c d. (a, c, d, refl)) st in
       let whole : Knows maker name f' id b = record {
         may = omega arith;
-        stands = stay id v.stage mine.stands;
+        stands = mine_stands f holder' mine.stands yours.stands;
         hold = holds_append maker name f' id v.hands w.hands
             (holds_by maker name f f' id id (λ _ p. p) (λ m _ p a c d. (a, moved_else f.holder other id m (λ z. apart (sym z ∙ c)) ∙ c, d)) v.hands mine.hold)
             (holds_by maker name f f' other id (λ _ p. p) (λ m _ p a c d. (a, moved_here f.holder other id m c, d)) w.hands yours.hold);
@@ -114,14 +116,34 @@ module _ {T E K : Type 0} (entries : T → List E) (maker : E → ℕ) (fits : K
               (λ (t2 : (j ≢ id) × (get_elem? s.views j ≡ some u)).
               let o = r.views.each j u t2.1 in record {
                 may = o.may;
-                stands = stay j u.stage o.stands;
+                stands = rest_stand f holder' j u.stage t2.0 t.0 mine.stands yours.stands o.stands;
                 hold = holds_by maker name f f' j j (λ _ p. p) (λ m _ p a c d. (a, moved_else f.holder other id m (λ z. t.0 (sym c ∙ z)) ∙ c, d)) u.hands o.hold;
               })
               (at_set s.views id j b u t.1))
               (at_set vs other j n u e);
         };
-        slot = kept_by entries fits name f.log s.homes vs other w n there (λ z. absurd (subst IsServing is z)) (kept_by entries fits name f.log s.homes s.views id v b at (λ z. z) r.slot);
+        slot = kept_by entries fits name f.log s.homes vs other w n there no_value (kept_by entries fits name f.log s.homes s.views id v b at on r.slot);
       }
+
+  -- kind 2: one seat takes the hands of another
+  pub gathers : (id : ℕ) (v : V) (other : ℕ) (w : V) → w.stage ≡ Idle → Joins (IsSound entries maker fits name) id v other w (gathered v w) nobody
+  gathers id v other w is = joined id v other w v.stage (λ f. f.drawer) (ap turns_of is) refl (λ z. subst IsServing is z) (λ z. z)
+      (λ f h mine _. stands_by f (record f { holder = h }) id (λ _ a c. (a, c)) (λ _ a c d. (a, c, d)) (λ _ a c d. (a, c, d, refl)) v.stage mine)
+      (λ f h j u _ _ _ _ stands. stands_by f (record f { holder = h }) j (λ _ a c. (a, c)) (λ _ a c d. (a, c, d)) (λ _ a c d. (a, c, d, refl)) u stands)
+
+  -- kind 2: the last turn takes the right to draw numbers
+  pub completes : (id : ℕ) (v : V) (other : ℕ) (w : V) (t k : ℕ) → v.stage ≡ Closes t → w.stage ≡ Makes k → Joins (IsSound entries maker fits name) id v other w (completed v w) nobody
+  completes id v other w t k closes makes =
+      joined id v other w (Ends (turn_in v.stage) (made_in w.stage)) (λ _. id) (ap turns_of makes) (sym (ap turns_of closes)) (λ z. subst IsServing makes z) (λ z. subst IsServing closes z)
+      (λ f h mine yours.
+      let a : (t ≡ f.passed) × (0 < f.waiting) × (f.server t ≡ id) = subst (Stands f id) closes mine in
+      let b : (k ≡ f.drawn) × (other ≡ f.drawer) = subst (Stands f other) makes yours in
+      let turn : turn_in v.stage ≡ t = ap turn_in closes in
+      let made : made_in w.stage ≡ k = ap made_in makes in
+      (turn ∙ a.0, a.1, ap f.server turn ∙ a.2, made ∙ b.0, refl))
+      (λ f h j u _ not_other _ yours stands.
+      let b : (k ≡ f.drawn) × (other ≡ f.drawer) = subst (Stands f other) makes yours in
+      stands_by f (record f { drawer = id; holder = h }) j (λ _ _ z. absurd (not_other (z ∙ sym b.1))) (λ _ a c d. (a, c, d)) (λ _ a c d. (a, c, d, refl)) u stands)
 
   -- kind 2: of two hands the first takes the longer front, and the second is let go
   pub compares : (slots id : ℕ) (me : Me (Option T) V) (called other : K) (n : ℕ) (front note : List E) → me.0 ≡ view Idle (hand called (Some n) front ∷ hand other None note ∷ [])

@@ -10,7 +10,7 @@ use lib.Seq.{set-get_or}
 use Rattle.atomic_table.specs.Table.{opening}
 use Rattle.atomic_table.proofs.Lists.{at_set, set_here, set_else, at_longer}
 use Rattle.turn_lock.specs.declared.view.Stage.{Stage}
-use Rattle.turn_lock.specs.declared.view.Stage.TheVariants.{Idle, Makes, Waits, Serves, Closes}
+use Rattle.turn_lock.specs.declared.view.Stage.TheVariants.{Idle, Makes, Waits, Serves, Closes, Ends}
 use Rattle.turn_lock.specs.declared.view.Hand.{Hand}
 use Rattle.turn_lock.specs.declared.view.View.{View}
 use Rattle.turn_lock.specs.Views.{IsServing, turns, numbers, unnumbered, numbers_in, first_view}
@@ -29,6 +29,7 @@ stands_by f f' j a b c (Makes k) h = a k h.0 h.1
 stands_by f f' j a b c (Waits t) h = b t h.0 h.1 h.2
 stands_by f f' j a b c (Serves t log) h = let d = c t h.0 h.1 h.2 in (d.0, d.1, d.2, h.3 ∙ d.3)
 stands_by f f' j a b c (Closes t) h = let d = c t h.0 h.1 h.2 in (d.0, d.1, d.2)
+stands_by f f' j a b c (Ends t k) h = let d = c t h.0 h.1 h.2 in let e = a k h.3 h.4 in (d.0, d.1, d.2, e.0, e.1)
 
 module _ {E K : Type 0} (maker : E → ℕ) (name : K) where
   owns_by : (f f' : Tally E) (j j' : ℕ) (front : List E) → IsPrefix front f.log

@@ -5,10 +5,10 @@ use mathlib.Core.List.{IsPrefix}
 use lib.ListN.{get_elem?}
 use Rattle.atomic_table.specs.Table.{Final, Seen}
 use Rattle.turn_lock.specs.declared.view.Stage.{Stage}
-use Rattle.turn_lock.specs.declared.view.Stage.TheVariants.{Idle, Makes, Waits, Serves, Closes}
+use Rattle.turn_lock.specs.declared.view.Stage.TheVariants.{Idle, Makes, Waits, Serves, Closes, Ends}
 use Rattle.turn_lock.specs.declared.view.Hand.{Hand}
 use Rattle.turn_lock.specs.declared.view.View.{View}
-use Rattle.turn_lock.specs.Views.{IsServing, turn_in}
+use Rattle.turn_lock.specs.Views.{IsServing, turn_in, made_in}
 use Rattle.turn_lock.specs.Rule.{own, Tally, Stands, Owns, AllHold, IsSound, IsClosing}
 use Rattle.turn_lock.specs.Fronts.{IsFrontOf, HasHand}
 
@@ -20,7 +20,8 @@ pub record Ended {T E K : Type 0} (entries : T → List E) (maker : E → ℕ) (
   -- the front of each pass that was taken in begins the history, and has all that this pass made
   pub all : (n : ℕ) (front : List E) → HasHand v.hands n front → IsFrontOf maker n front (entries value)
   pub below : (n : ℕ) (front : List E) → HasHand v.hands n front → n < drawn
-  -- no entry has a number that was not drawn
+  -- so many were drawn as the last turn knows, and no entry has a number that was not
+  pub made : drawn ≡ made_in v.stage
   pub none : (n : ℕ) → drawn ≤ n → own maker n (entries value) ≡ []
 
 -- two values at one place
@@ -34,6 +35,7 @@ serving_one f j (Makes k) h s = absurd s
 serving_one f j (Waits t) h s = absurd s
 serving_one f j (Serves t log) h s = ap f.server (sym h.0) ∙ h.2
 serving_one f j (Closes t) h s = absurd s
+serving_one f j (Ends t k) h s = absurd s
 
 -- a hand that the rule holds of has a front of the history, and a number that was drawn
 front_held : {E K : Type 0} (maker : E → ℕ) (log : List E) (drawn : ℕ) (holder : ℕ → ℕ) (seat : ℕ) (name : K) (hs : List (Hand E K)) (n : ℕ) (front : List E)
@@ -58,7 +60,7 @@ module _ {T E K : Type 0} (entries : T → List E) (maker : E → ℕ) (fits : K
       let r = fin.1.0 in
       let f : Tally E = r.tally in
       let known = r.views.each id v fin.1.1 in
-      let stands : (t ≡ f.passed) × (0 < f.waiting) × (f.server t ≡ id) = subst (Stands f id) is known.stands in
+      let stands : (t ≡ f.passed) × (0 < f.waiting) × (f.server t ≡ id) × (made_in v.stage ≡ f.drawn) × (id ≡ f.drawer) = subst (Stands f id) is known.stands in
       let same : drawn ≡ f.drawn = sym (word_at ws drawn word) ∙ (ap (λ (l : List ℕ). get_or l 0 0) (sym fin.2) ∙ r.words.drawn_is) in
       ⊎_elim
       (λ (h : (x : T) × (get_elem? s.homes 0 ≡ some (some (Some x))) × (entries x ≡ f.log) × fits name x).
@@ -68,6 +70,7 @@ module _ {T E K : Type 0} (entries : T → List E) (maker : E → ℕ) (fits : K
         fit = h.3;
         all = λ n front a. subst (IsFrontOf maker n front) (sym h.2) (front_held maker f.log f.drawn f.holder id name v.hands n front known.hold a).0;
         below = λ n front a. let inside = (front_held maker f.log f.drawn f.holder id name v.hands n front known.hold a).1 in omega arith;
+        made = same ∙ sym stands.3;
         none = λ n le. ap (own maker n) h.2 ∙ r.later n (omega arith);
       } in out)
       (λ (h : (j : ℕ) × (u : View E K) × (get_elem? s.views j ≡ some u) × IsServing u.stage).

@@ -10,7 +10,7 @@ use Rattle.turn_lock.specs.declared.lock.Maker.{Maker}
 use Rattle.turn_lock.specs.declared.view.View.{View}
 use Rattle.atomic_table.specs.declared.shared.Seat.{Seat}
 use Rattle.turn_lock.specs.declared.view.Stage.TheVariants.{Serves}
-use Rattle.turn_lock.specs.Views.{hand, view, front_in, turn_in, log_in, AllNamed}
+use Rattle.turn_lock.specs.Views.{hand, view, front_in, turn_in, made_in, log_in, AllNamed}
 use Rattle.turn_lock.specs.Rule.{IsClosing}
 use Rattle.turn_lock.specs.Fronts.{IsFrontOf, HasHand}
 
@@ -68,6 +68,10 @@ module _ {T E K : Type 0} where
   -- how many passes were made
   abbrev pub made_of : Maker T E K → ℕ
   made_of maker = maker.made
+
+  -- how many passes were made, as the last turn knows it
+  abbrev pub made_before : Closing T E K → ℕ
+  made_before closing = made_in closing.seat.me.0.stage
 
 -- ---- which lock they are of
 

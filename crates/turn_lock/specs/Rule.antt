@@ -9,10 +9,10 @@ use mathlib.Core.List.{IsPrefix}
 use lib.ListN.{get_elem?}
 use Rattle.atomic_table.specs.Table.{State}
 use Rattle.turn_lock.specs.declared.view.Stage.{Stage}
-use Rattle.turn_lock.specs.declared.view.Stage.TheVariants.{Idle, Makes, Waits, Serves, Closes}
+use Rattle.turn_lock.specs.declared.view.Stage.TheVariants.{Idle, Makes, Waits, Serves, Closes, Ends}
 use Rattle.turn_lock.specs.declared.view.Hand.{Hand}
 use Rattle.turn_lock.specs.declared.view.View.{View}
-use Rattle.turn_lock.specs.Views.{turns_of, turn_in, IsServing, numbers_in, turns, numbers}
+use Rattle.turn_lock.specs.Views.{turns_of, turn_in, made_in, IsServing, numbers_in, turns, numbers}
 
 -- the entries that the pass n made, in their order
 abbrev pub own : {E : Type 0} → (E → ℕ) → ℕ → List E → List E
@@ -43,6 +43,7 @@ Stands f seat (Makes k) = (k ≡ f.drawn) × (seat ≡ f.drawer)
 Stands f seat (Waits t) = (f.passed ≤ t) × (t < f.passed + f.waiting) × (f.server t ≡ seat)
 Stands f seat (Serves t log) = (t ≡ f.passed) × (0 < f.waiting) × (f.server t ≡ seat) × (log ≡ f.log)
 Stands f seat (Closes t) = (t ≡ f.passed) × (0 < f.waiting) × (f.server t ≡ seat)
+Stands f seat (Ends t k) = (t ≡ f.passed) × (0 < f.waiting) × (f.server t ≡ seat) × (k ≡ f.drawn) × (seat ≡ f.drawer)
 
 module _ {E : Type 0} (maker : E → ℕ) (log : List E) (drawn : ℕ) (holder : ℕ → ℕ) (seat : ℕ) where
   -- a hand without a number made nothing; a numbered one has seen all that its pass made
@@ -93,6 +94,6 @@ pub record IsSound {T E K : Type 0} (entries : T → List E) (maker : E → ℕ)
   pub views : ViewsAre maker name tally s.views
   pub slot : IsKept entries fits name tally.log s.homes s.views
 
--- the seat's turn is served for good
+-- the seat's turn is served for good, and no other seat may draw a number
 abbrev pub IsClosing : {E K : Type 0} → View E K → Type 0
-IsClosing v = v.stage ≡ Closes (turn_in v.stage)
+IsClosing v = v.stage ≡ Ends (turn_in v.stage) (made_in v.stage)

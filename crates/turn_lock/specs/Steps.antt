@@ -3,7 +3,7 @@ use Rattle.std.specs.Prelude.{◌≡◌, ◌≢◌, ℕ, ◌+◌, ◌%◌, ◌^�
 use Rattle.std.proofs.Common.{leb}
 use mathlib.Core.List.{IsPrefix}
 use Rattle.atomic_table.specs.Table.{Me, Step, rest}
-use Rattle.turn_lock.specs.declared.view.Stage.TheVariants.{Idle, Makes, Waits, Serves, Closes}
+use Rattle.turn_lock.specs.declared.view.Stage.TheVariants.{Idle, Makes, Waits, Serves, Closes, Ends}
 use Rattle.turn_lock.specs.declared.view.Hand.{Hand}
 use Rattle.turn_lock.specs.declared.view.View.{View}
 use Rattle.turn_lock.specs.Views.{view, hand, turn_in, made_in, log_in, number_to, front_to, unnumbered}
@@ -53,6 +53,10 @@ module _ {E K : Type 0} where
 
   abbrev pub gathered : View E K → View E K → View E K
   gathered v w = view v.stage (v.hands ++ w.hands)
+
+  -- a seat whose turn is served for good takes in the one that may draw numbers
+  abbrev pub completed : View E K → View E K → View E K
+  completed v w = view (Ends (turn_in v.stage) (made_in w.stage)) (v.hands ++ w.hands)
 
   abbrev pub nobody : View E K
   nobody = view Idle []

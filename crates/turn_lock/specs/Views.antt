@@ -2,7 +2,7 @@
 use Rattle.std.specs.Prelude.{◌≡◌, ◌+◌, ℕ, List, [], ◌∷◌, Option, Some, None}
 use Rattle.atomic_table.specs.declared.shared.Seat.{Seat}
 use Rattle.turn_lock.specs.declared.view.Stage.{Stage}
-use Rattle.turn_lock.specs.declared.view.Stage.TheVariants.{Idle, Makes, Waits, Serves, Closes}
+use Rattle.turn_lock.specs.declared.view.Stage.TheVariants.{Idle, Makes, Waits, Serves, Closes, Ends}
 use Rattle.turn_lock.specs.declared.view.Hand.{Hand}
 use Rattle.turn_lock.specs.declared.view.View.{View}
 
@@ -14,6 +14,7 @@ module _ {E : Type 0} where
   turns_of (Waits t) = 1
   turns_of (Serves t log) = 1
   turns_of (Closes t) = 1
+  turns_of (Ends t k) = 1
 
   -- the value is out with the seat
   abbrev pub IsServing : Stage E → Type 0
@@ -22,6 +23,7 @@ module _ {E : Type 0} where
   IsServing (Waits t) = ⊥
   IsServing (Serves t log) = Unit {0}
   IsServing (Closes t) = ⊥
+  IsServing (Ends t k) = ⊥
 
   abbrev pub turn_in : Stage E → ℕ
   turn_in Idle = 0
@@ -29,6 +31,7 @@ module _ {E : Type 0} where
   turn_in (Waits t) = t
   turn_in (Serves t log) = t
   turn_in (Closes t) = t
+  turn_in (Ends t k) = t
 
   abbrev pub made_in : Stage E → ℕ
   made_in Idle = 0
@@ -36,6 +39,7 @@ module _ {E : Type 0} where
   made_in (Waits t) = 0
   made_in (Serves t log) = 0
   made_in (Closes t) = 0
+  made_in (Ends t k) = k
 
   abbrev pub log_in : Stage E → List E
   log_in Idle = []
@@ -43,6 +47,7 @@ module _ {E : Type 0} where
   log_in (Waits t) = []
   log_in (Serves t log) = log
   log_in (Closes t) = []
+  log_in (Ends t k) = []
 
 -- a hand counts where it has a number
 abbrev pub count_in : Option ℕ → ℕ

@@ -1,5 +1,5 @@
 //! What each step on the table tells the seat that makes it.
-ghost use Rattle.turn_lock.specs.Steps.{numbered, drew, looked, counted, left, left_seeing, closed, kept_part, heir_part, note_part, gathered, compared, nobody};
+ghost use Rattle.turn_lock.specs.Steps.{numbered, drew, looked, counted, left, left_seeing, closed, kept_part, heir_part, note_part, gathered, completed, compared, nobody};
 
 use crate::history::History;
 use crate::view::View;
@@ -84,6 +84,15 @@ pub(crate) struct Gather;
 
 impl<E, K> Join<View<E, K>> for Gather {
     ghost both = { gathered };
+
+    ghost spent = { nobody };
+}
+
+/// The last turn takes in the right to draw numbers.
+pub(crate) struct TakeMaker;
+
+impl<E, K> Join<View<E, K>> for TakeMaker {
+    ghost both = { completed };
 
     ghost spent = { nobody };
 }

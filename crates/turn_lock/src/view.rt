@@ -13,6 +13,8 @@ pub enum Stage<E> {
     Serves(u64, LinkedList<E>),
     /// This turn of its is served for good, and the value is in its slot.
     Closes(u64),
+    /// The same, and it alone may draw the numbers of passes, of which so many were drawn.
+    Ends(u64, u64),
 }
 
 /// What one pass knows: the name of the value, its own number where it has one, and the front of the history that it

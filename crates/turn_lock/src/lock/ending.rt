@@ -1,23 +1,36 @@
 //! Taking the value out of the lock for good.
 ghost use Rattle.std.specs.Prelude.{◌≡◌};
-ghost use Rattle.turn_lock.specs.Passes.{lock_id, name_of, view_of, closing_lock, IsPassOf, IsClosingOf, Took};
+ghost use Rattle.turn_lock.specs.Passes.{lock_id, name_of, view_of, closing_lock, made_of, made_before, IsPassOf, IsMakerOf, IsClosingOf, Took};
 
-use super::{Closing, LastTurn, Locked, Pass, TurnLock};
+use super::{Closing, LastTurn, Locked, Maker, Pass, TurnLock};
 use crate::history::History;
-use crate::plays::{Close, Gather};
+use crate::plays::{Close, Gather, TakeMaker};
 use crate::rule::EndRule;
 use std::sync::Wait;
 
 impl<T: History<E, K>, E, K> TurnLock<T, E, K> {
-    /// Waits for a turn, which is not passed on, and takes its own pass in.
-    pub fn last_turn<R: Wait>(&self, rt: &R, pass: Pass<T, E, K>) -> Closing<T, E, K>
+    /// Waits for a turn, which is not passed on, and takes its own pass in. No pass is made any more.
+    pub fn last_turn<R: Wait>(
+        &self,
+        rt: &R,
+        pass: Pass<T, E, K>,
+        maker: Maker<T, E, K>,
+    ) -> Closing<T, E, K>
         requires ours { IsPassOf self.now pass }
+        requires maker { IsMakerOf self.now maker }
         ensures closing { IsClosingOf self.now result }
         ensures taken { Took result pass }
+        ensures made { made_before result ≡ made_of maker }
     {
         let (turn, value) = self.enter(rt, pass);
         let mut seat = self.put_back(turn, value);
-        self.table.shared.load::<Close>(&mut seat, 0);
+        let shared = &self.table.shared;
+        shared.load::<Close>(&mut seat, 0);
+        let Maker {
+            seat: drawer,
+            made: _,
+        } = maker;
+        shared.join_seat::<TakeMaker>(&mut seat, drawer);
         LastTurn { seat }
     }
 
@@ -26,6 +39,7 @@ impl<T: History<E, K>, E, K> TurnLock<T, E, K> {
         requires closing { IsClosingOf self.now closing.old }
         requires ours { IsPassOf self.now pass }
         ensures closing { IsClosingOf self.now closing.new }
+        ensures made { made_before closing.new ≡ made_before closing.old }
         ensures taken { Took closing.new pass }
         ensures kept { (other : Pass T E K) → Took closing.old other → Took closing.new other }
     {
@@ -37,9 +51,8 @@ impl<T: History<E, K>, E, K> TurnLock<T, E, K> {
 }
 
 impl<S, V, K: Drop, P: EndRule<S, V, K>> Locked<S, V, K, P> {
-    /// The lock ends. It gives its slot, which has the value with its whole history, and a number that is above those of
-    /// all passes that were taken in and of all entries (`Ended` in `specs/Endings.antt`): how many passes were made, as
-    /// it is written, but no clause says that it is no greater. The value need not be `Drop`.
+    /// The lock ends. It gives its slot, which has the value with its whole history, and how many passes were made, so
+    /// that no entry has that number or a greater one (`Ended` in `specs/Endings.antt`). The value need not be `Drop`.
     pub fn end(self, closing: LastTurn<S, V>) -> (S, u64)
         requires ours { closing_lock closing ≡ lock_id self }
         requires last { P.may_end (view_of closing) }

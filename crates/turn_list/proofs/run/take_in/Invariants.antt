@@ -1,5 +1,5 @@
-use Rattle.std.proofs.Common.{length}
-use Rattle.turn_lock.specs.Passes.{IsClosingOf}
+use Rattle.std.proofs.Common.{◌≡◌, length}
+use Rattle.turn_lock.specs.Passes.{made_of, made_before, IsClosingOf}
 use Rattle.turn_list.proofs.Taking.{IsTaking}
 use Rattle.turn_list.proofs.run.take_in.Given as goal
 
@@ -9,5 +9,6 @@ decreases-loop-next g l = length l.results.items
 abbrev pub invariant-loop-next : goal.invariant-loop-next
 invariant-loop-next g l = record {
   closing : IsClosingOf l.lock l.closing;
+  made : made_before l.closing ≡ made_of l.fn.maker;
   taking : IsTaking l.fn.results.items l.results.items l.closing;
 }

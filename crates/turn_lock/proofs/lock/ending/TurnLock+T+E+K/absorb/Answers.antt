@@ -1,6 +1,6 @@
 use Rattle.std.proofs.Common.{rules, [], ◌∷◌, ap, sym, subst, refl, inl, Some}
 use Rattle.turn_lock.specs.declared.view.Stage.TheVariants.{Idle}
-use Rattle.turn_lock.specs.Views.{view, hand, front_in}
+use Rattle.turn_lock.specs.Views.{view, hand, front_in, made_in}
 use Rattle.turn_lock.specs.Steps.{gathered}
 use Rattle.turn_lock.specs.Rule.{IsClosing}
 use Rattle.turn_lock.proofs.Posing.{open_pass}
@@ -29,3 +29,6 @@ returns-clause-kept g c other took =
 pub returns-clause-closing : goal.returns-clause-closing
 returns-clause-closing g c =
     record { here = search rules; closes = subst (λ m. IsClosing m.0) (sym c.join_seat.ensures.2) c.requires.closing.closes }
+
+pub returns-clause-made : goal.returns-clause-made
+returns-clause-made g c = ap (λ m. made_in m.0.stage) c.join_seat.ensures.2

@@ -1,0 +1,129 @@
+-- How an act is spelled in a frame. Numbers are big-endian.
+use Rattle.std.specs.Prelude.{◌≡◌, ℕ, ◌<◌, ◌≤◌, ◌^◌, Bool, true, false, List, [], ◌∷◌, ◌++◌, length, Option, Some, None}
+use Rattle.byteorder.specs.Endian.{big_bytes}
+use Rattle.tags.specs.declared.descriptor.Descriptor.{Descriptor}
+use Rattle.rule_model.specs.declared.event.Act.{Act}
+use Rattle.rule_model.specs.declared.event.Act.TheVariants.{Connect, Disconnect, GenerateKey, ImportKey, CreateOperation, EnterAad, EnterUpdate, EnterFinish, Abort, GetKeyEntry, DeleteKey, Grant, Ungrant, GetNumberOfEntries, ListEntriesBatched, AddAuthToken, DeviceLocked, DeviceUnlocked, EarlyBootEnded, ClearNamespace, UserRemoved, Leave, Restart}
+
+-- ---- fields
+
+-- a length of four bytes, and so many bytes
+abbrev pub counted : List ℕ → List ℕ
+counted bytes = big_bytes 4 (length bytes) ++ bytes
+
+-- a byte 00, or a byte 01 and counted bytes
+abbrev pub optional : Option (List ℕ) → List ℕ
+optional None = 0 ∷ []
+optional (Some bytes) = 1 ∷ counted bytes
+
+-- a truth value: a byte 00 or 01
+abbrev pub flag : Bool → List ℕ
+flag false = 0 ∷ []
+flag true = 1 ∷ []
+
+abbrev pub key_of : Descriptor → List ℕ
+key_of key = big_bytes 4 key.domain ++ (big_bytes 8 key.nspace ++ (optional key.alias ++ optional key.blob))
+
+-- ---- bodies
+
+-- the number of the act and its fields in their order; three acts have no frame
+abbrev pub body_of : Act → List ℕ
+body_of (Connect uid) = 1 ∷ big_bytes 4 uid
+body_of Disconnect = []
+body_of (GenerateKey key params) = 3 ∷ (key_of key ++ counted params)
+body_of (ImportKey key params format material) = 4 ∷ (key_of key ++ (counted params ++ (big_bytes 4 format ++ counted material)))
+body_of (CreateOperation key params forced) = 5 ∷ (key_of key ++ (counted params ++ flag forced))
+body_of (EnterAad op input) = 6 ∷ (big_bytes 8 op ++ counted input)
+body_of (EnterUpdate op input) = 7 ∷ (big_bytes 8 op ++ counted input)
+body_of (EnterFinish op input signature) = 8 ∷ (big_bytes 8 op ++ (counted input ++ optional signature))
+body_of (Abort op) = 9 ∷ big_bytes 8 op
+body_of (GetKeyEntry key) = 10 ∷ key_of key
+body_of (DeleteKey key) = 11 ∷ key_of key
+body_of (Grant key uid bits) = 12 ∷ (key_of key ++ (big_bytes 4 uid ++ big_bytes 4 bits))
+body_of (Ungrant key uid) = 13 ∷ (key_of key ++ big_bytes 4 uid)
+body_of (GetNumberOfEntries domain nspace) = 14 ∷ (big_bytes 4 domain ++ big_bytes 8 nspace)
+body_of (ListEntriesBatched domain nspace past) = 15 ∷ (big_bytes 4 domain ++ (big_bytes 8 nspace ++ optional past))
+body_of (AddAuthToken challenge user authenticator kind time mac) =
+    16 ∷ (big_bytes 8 challenge ++ (big_bytes 8 user ++ (big_bytes 8 authenticator ++ (big_bytes 4 kind ++ (big_bytes 8 time ++ mac)))))
+body_of (DeviceLocked user) = 17 ∷ big_bytes 4 user
+body_of (DeviceUnlocked user) = 18 ∷ big_bytes 4 user
+body_of EarlyBootEnded = 19 ∷ []
+body_of (ClearNamespace domain nspace) = 20 ∷ (big_bytes 4 domain ++ big_bytes 8 nspace)
+body_of (UserRemoved user) = 21 ∷ big_bytes 4 user
+body_of (Leave ticket) = []
+body_of (Restart root) = []
+
+-- the most bytes of a body
+abbrev pub most : ℕ
+most = 262144
+
+-- the length of the body, and the body
+unfoldable pub frame_of : Act → List ℕ
+frame_of act = counted (body_of act)
+
+-- ---- which acts have a frame
+
+abbrev pub IsShort : Option (List ℕ) → Type 0
+IsShort None = Unit {0}
+IsShort (Some bytes) = length bytes < 2 ^ 32
+
+abbrev pub IsKey : Descriptor → Type 0
+IsKey key = (key.domain < 2 ^ 32) × ((key.nspace < 2 ^ 64) × (IsShort key.alias × IsShort key.blob))
+
+-- each number has its width, and each length of bytes four bytes
+abbrev pub AreFields : Act → Type 0
+AreFields (Connect uid) = uid < 2 ^ 32
+AreFields Disconnect = ⊥
+AreFields (GenerateKey key params) = IsKey key × (length params < 2 ^ 32)
+AreFields (ImportKey key params format material) = IsKey key × (length params < 2 ^ 32) × (format < 2 ^ 32) × (length material < 2 ^ 32)
+AreFields (CreateOperation key params forced) = IsKey key × (length params < 2 ^ 32)
+AreFields (EnterAad op input) = (op < 2 ^ 64) × (length input < 2 ^ 32)
+AreFields (EnterUpdate op input) = (op < 2 ^ 64) × (length input < 2 ^ 32)
+AreFields (EnterFinish op input signature) = (op < 2 ^ 64) × (length input < 2 ^ 32) × IsShort signature
+AreFields (Abort op) = op < 2 ^ 64
+AreFields (GetKeyEntry key) = IsKey key
+AreFields (DeleteKey key) = IsKey key
+AreFields (Grant key uid bits) = IsKey key × (uid < 2 ^ 32) × (bits < 2 ^ 32)
+AreFields (Ungrant key uid) = IsKey key × (uid < 2 ^ 32)
+AreFields (GetNumberOfEntries domain nspace) = (domain < 2 ^ 32) × (nspace < 2 ^ 64)
+AreFields (ListEntriesBatched domain nspace past) = (domain < 2 ^ 32) × (nspace < 2 ^ 64) × IsShort past
+AreFields (AddAuthToken challenge user authenticator kind time mac) =
+    (challenge < 2 ^ 64) × (user < 2 ^ 64) × (authenticator < 2 ^ 64) × (kind < 2 ^ 32) × (time < 2 ^ 64) × (length mac ≡ 32)
+AreFields (DeviceLocked user) = user < 2 ^ 32
+AreFields (DeviceUnlocked user) = user < 2 ^ 32
+AreFields EarlyBootEnded = Unit {0}
+AreFields (ClearNamespace domain nspace) = (domain < 2 ^ 32) × (nspace < 2 ^ 64)
+AreFields (UserRemoved user) = user < 2 ^ 32
+AreFields (Leave ticket) = ⊥
+AreFields (Restart root) = ⊥
+
+-- an act that a client asks for, and no leave or restart
+abbrev pub is_asked : Act → Bool
+is_asked (Leave ticket) = false
+is_asked (Restart root) = false
+is_asked act = true
+
+-- one that has a frame
+abbrev pub is_framed : Act → Bool
+is_framed Disconnect = false
+is_framed act = is_asked act
+
+-- one on a key that a descriptor names
+abbrev pub is_on_key : Act → Bool
+is_on_key (GenerateKey key params) = true
+is_on_key (ImportKey key params format material) = true
+is_on_key (CreateOperation key params forced) = true
+is_on_key (GetKeyEntry key) = true
+is_on_key (DeleteKey key) = true
+is_on_key (Grant key uid bits) = true
+is_on_key (Ungrant key uid) = true
+is_on_key act = false
+
+-- one that brings a token
+abbrev pub is_token : Act → Bool
+is_token (AddAuthToken challenge user authenticator kind time mac) = true
+is_token act = false
+
+-- a frame can hold the act
+abbrev pub IsRequest : Act → Type 0
+IsRequest act = AreFields act × (length (body_of act) ≤ most)

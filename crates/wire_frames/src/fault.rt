@@ -1,0 +1,41 @@
+//! Why frames were not read.
+
+ghost use Rattle.std.specs.Prelude.{◌≡◌};
+ghost use Rattle.wire_frames.specs.declared.fault.BodyFault.TheVariants as faults;
+
+use std::alloc::AllocError;
+use tags::NoMemory;
+
+/// Why no request was given.
+#[derive(Clone, Copy, Debug, PartialEq, Eq)]
+pub enum FrameFault {
+    /// A frame is bad; the offset is that of its first byte in the stream.
+    Bad { offset: u64 },
+    /// Memory was wanting.
+    Memory,
+}
+
+/// Why a body was not read.
+#[derive(Clone, Copy, Debug, PartialEq, Eq)]
+pub enum BodyFault {
+    /// It is not exactly one act.
+    Bad,
+    /// Memory was wanting.
+    Memory,
+}
+
+impl From<AllocError> for BodyFault {
+    ghost from_gives = { λ _ fault. fault ≡ faults.Memory };
+
+    fn from(_fault: AllocError) -> BodyFault {
+        BodyFault::Memory
+    }
+}
+
+impl From<NoMemory> for BodyFault {
+    ghost from_gives = { λ _ fault. fault ≡ faults.Memory };
+
+    fn from(_fault: NoMemory) -> BodyFault {
+        BodyFault::Memory
+    }
+}

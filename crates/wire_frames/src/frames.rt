@@ -1,0 +1,18 @@
+//! Requests from a stream that comes in pieces.
+
+ghost use Rattle.std.specs.Prelude.{◌<◌, length};
+ghost use Rattle.wire_frames.specs.Streams.{needed};
+
+mod feeding;
+
+/// Gives the requests of a stream of frames, whose bytes come in pieces of any size. It holds back what has come of one
+/// frame, and nothing else.
+#[derive(Debug, Drop)]
+pub struct Frames {
+    /// the place in the stream of what is held, or of the bad frame
+    start: u64,
+    held: Vec<u8>,
+    /// it has come to a bad frame
+    shut: bool,
+    ghost part: { length held.items < needed held.items },
+}

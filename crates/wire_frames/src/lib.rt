@@ -1,0 +1,26 @@
+//! Requests and replies as frames of bytes, for a stream that comes in any pieces.
+//!
+//! Its one contract: a stream has its requests in one way (`one_reading`), each frame being the spelling of an act
+//! (`specs/Spelling.antt`), up to a frame that is bad or not whole (`specs/Streams.antt`); and `Frames::feed` gives them
+//! however the stream is cut, each once, with a bad frame told by its first byte when all before it were given
+//! (`specs/Standing.antt`). `request_frame` and `reply_frame` write the spelling. The format is the service's own; numbers
+//! are big-endian.
+#![tactic(auto)]
+
+mod fault;
+mod frames;
+mod front;
+mod held;
+mod laws;
+mod outcome;
+mod reading;
+mod request;
+#[cfg(test)]
+mod tests;
+mod writing;
+
+pub use fault::FrameFault;
+pub use frames::Frames;
+pub use laws::{one_reading, same_requests, spelled_again};
+pub use request::Request;
+pub use writing::{reply_frame, request_frame};

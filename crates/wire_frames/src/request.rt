@@ -1,0 +1,64 @@
+//! What a client asks for.
+
+ghost use Rattle.std.specs.Prelude.{◌≡◌, ◌↔◌, true, IsSome, IfSome};
+ghost use Rattle.wire_frames.specs.Spelling.{is_asked};
+
+use rule_model::Act;
+use std::marker::Model;
+
+/// An act other than a leave and a restart, which the service makes by itself. It is seen as the act.
+#[derive(Debug, Drop)]
+pub struct Request {
+    act: Act,
+    ghost asked: { is_asked act ≡ true },
+}
+
+impl Model for Request {
+    ghost use Rattle.rule_model.specs.declared.event.Act.{Act};
+
+    ghost Value = { Act };
+
+    ghost view = { λ request. request.act };
+}
+
+/// Whether a client asks for such an act.
+fn is_asked_for(act: &Act) -> bool
+    ensures { result ≡ is_asked act.now }
+{
+    match act {
+        Act::Leave { .. } => false,
+        Act::Restart { .. } => false,
+        _ => true,
+    }
+}
+
+impl Request {
+    /// The request for an act; a leave and a restart are none. It takes no memory.
+    pub fn of(act: Act) -> Option<Request>
+        ensures found { IfSome result (λ request. request ≡ act) }
+        ensures some { IsSome result ↔ (is_asked act ≡ true) }
+    {
+        if is_asked_for(&act) {
+            Some(Request { act })
+        } else {
+            None
+        }
+    }
+
+    /// The act. It takes no memory.
+    pub fn act(&self) -> &Act
+        ensures act { result.now ≡ self.now }
+        ensures asked { is_asked result.now ≡ true }
+    {
+        &self.act
+    }
+
+    /// The act, given away. It takes no memory.
+    pub fn into_act(self) -> Act
+        ensures act { result ≡ self }
+        ensures asked { is_asked result ≡ true }
+    {
+        let Request { act } = self;
+        act
+    }
+}

@@ -1,0 +1,47 @@
+//! Writing frames.
+
+ghost use Rattle.std.specs.Prelude.{◌≡◌, ◌↔◌, true, ◌≤◌, ◌<◌, ◌^◌, length, IfOk, IfSome, IsSome};
+ghost use Rattle.wire_frames.specs.Spelling.{most, body_of, frame_of, is_framed};
+ghost use Rattle.wire_frames.specs.Replies.{reply_body, reply_of};
+
+use crate::front::MOST;
+use crate::request::Request;
+use byteorder::{BigEndian, ByteOrder};
+use rule_model::Reply;
+use std::alloc::Global;
+use tags::{Bytes, NoMemory};
+
+mod acts;
+mod fields;
+mod replies;
+mod sizes;
+
+/// The frame of a request. `None` says that it has none: a disconnect, and what a body of 262,144 bytes cannot hold.
+#[tactic(auto, unfolding(crate::specs::Spelling::frame_of))]
+pub fn request_frame(alloc: Global, request: &Request) -> Result<Option<Bytes>, NoMemory>
+    ensures frame { IfOk result (λ o. IfSome o (λ bytes. bytes ≡ frame_of request.now)) }
+    ensures some { IfOk result (λ o. IsSome o ↔ ((is_framed request.now ≡ true) × (length (body_of request.now) ≤ most))) }
+{
+    let act = request.act();
+    let size = sizes::body_size(act);
+    if size == 0 || size > MOST {
+        return Ok(None);
+    }
+    let mut out = Vec::from_slice(alloc, &[0; 4])?;
+    out.reserve(size)?;
+    acts::put_body(&mut out, act)?;
+    BigEndian::write_u32(&mut out, size as u32);
+    Ok(Some(Bytes::of(out)))
+}
+
+/// The frame of a reply. Its body has fewer than 2^32 bytes.
+pub fn reply_frame(alloc: Global, reply: &Reply) -> Result<Bytes, NoMemory>
+    requires short { length (reply_body reply.now) < 2 ^ 32 }
+    ensures frame { IfOk result (λ bytes. bytes ≡ reply_of reply.now) }
+{
+    let mut out = Vec::from_slice(alloc, &[0; 4])?;
+    replies::put_reply(&mut out, reply)?;
+    let body = out.len() - 4;
+    BigEndian::write_u32(&mut out, body as u32);
+    Ok(Bytes::of(out))
+}

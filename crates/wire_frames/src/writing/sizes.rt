@@ -1,0 +1,81 @@
+//! How long bodies are, as far as a frame can hold them.
+
+ghost use Rattle.std.specs.Prelude.{◌≡◌, ℕ, ◌≤◌, ◌<◌, length};
+ghost use Rattle.wire_frames.specs.Spelling as spec;
+ghost use Rattle.wire_frames.specs.Spelling.{body_of};
+ghost use Rattle.wire_frames.specs.Sizes.{IsSize};
+
+use crate::front::MOST;
+use rule_model::Act;
+use tags::{Bytes, Descriptor};
+
+/// The size of counted bytes.
+fn counted_size(bytes: &Bytes) -> usize
+    ensures size { IsSize result (length (spec.counted bytes.now)) }
+    ensures small { result ≤ 262148 }
+{
+    if bytes.len() > MOST {
+        MOST + 1
+    } else {
+        4 + bytes.len()
+    }
+}
+
+/// The size of bytes that may be given.
+fn optional_size(bytes: &Option<Bytes>) -> usize
+    ensures size { IsSize result (length (spec.optional bytes.now)) }
+    ensures small { result ≤ 262149 }
+{
+    match bytes {
+        None => 1,
+        Some(given) => 1 + counted_size(given),
+    }
+}
+
+/// The size of a descriptor.
+fn key_size(key: &Descriptor) -> usize
+    ensures size { IsSize result (length (spec.key_of key.now)) }
+    ensures small { result ≤ 524310 }
+{
+    12 + optional_size(&key.alias) + optional_size(&key.blob)
+}
+
+/// The size of a body, which is none where the act has no frame.
+pub(super) fn body_size(act: &Act) -> usize
+    ensures { IsSize result (length (body_of act.now)) }
+{
+    match act {
+        Act::Connect { .. } => 5,
+        Act::GenerateKey { key, params } => 1 + key_size(key) + counted_size(params),
+        Act::ImportKey {
+            key,
+            params,
+            material,
+            ..
+        } => 5 + key_size(key) + counted_size(params) + counted_size(material),
+        Act::CreateOperation { key, params, .. } => 2 + key_size(key) + counted_size(params),
+        Act::EnterAad { input, .. } => 9 + counted_size(input),
+        Act::EnterUpdate { input, .. } => 9 + counted_size(input),
+        Act::EnterFinish {
+            input,
+            signature,
+            ..
+        } => 9 + counted_size(input) + optional_size(signature),
+        Act::Abort { .. } => 9,
+        Act::GetKeyEntry { key } => 1 + key_size(key),
+        Act::DeleteKey { key } => 1 + key_size(key),
+        Act::Grant { key, .. } => 9 + key_size(key),
+        Act::Ungrant { key, .. } => 5 + key_size(key),
+        Act::GetNumberOfEntries { .. } => 13,
+        Act::ListEntriesBatched { past, .. } => 13 + optional_size(past),
+        Act::AddAuthToken { mac, .. } => 37 + mac.as_slice().len(),
+        Act::DeviceLocked { .. } => 5,
+        Act::DeviceUnlocked { .. } => 5,
+        Act::EarlyBootEnded => 1,
+        Act::ClearNamespace { .. } => 13,
+        Act::UserRemoved { .. } => 5,
+        Act::Disconnect => 0,
+        Act::Leave { .. } => 0,
+        Act::Restart { .. } => 0,
+    }
+}
