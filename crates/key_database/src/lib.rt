@@ -1,0 +1,16 @@
+//! The keys and grants that last, over a journal.
+#![tactic(auto)]
+
+mod appending;
+mod counts;
+mod database;
+mod keys;
+mod law;
+mod lookups;
+mod maps;
+mod names;
+mod opening;
+mod part;
+
+pub use database::KeyDatabase;
+pub use law::one_store;
