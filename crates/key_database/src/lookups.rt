@@ -2,12 +2,13 @@
 
 ghost use Rattle.std.specs.Prelude.{◌≡◌, ℕ};
 ghost use Rattle.std.specs.Option.{option_copied};
+ghost use Rattle.journal_records.specs.Needs.{is_met};
 ghost use Rattle.key_database.specs.Lookups.{row_of, key_of_id, key_of_name, IsNextKey, key_count, named_in, numbered_in, granted_in, shared_in};
 ghost use Rattle.key_database.specs.Stands.{lasting};
 
 use crate::database::KeyDatabase;
 use grants::Grants;
-use journal_records::KeyRecord;
+use journal_records::{Change, KeyRecord};
 use key_domains::{GrantedRow, KeyLookups, KeyRow, Permissions};
 
 /// A key, as far as access to it goes.
@@ -49,6 +50,13 @@ impl KeyDatabase {
         ensures { result ≡ key_count (lasting self.now) domain nspace }
     {
         self.part.keys.count(domain, nspace)
+    }
+
+    /// Whether the need of a change is met.
+    pub fn meets(&self, change: &Change) -> bool
+        ensures { result ≡ is_met (lasting self.now) change.now }
+    {
+        self.part.meets(change)
     }
 
     /// The live grants.

@@ -1,6 +1,6 @@
 -- The listed images are images, and the others are not.
 use Rattle.disk_model.proofs.ListedImages.{are_of_five, are_not_of_five, are_of_over, are_not_of_over, are_of_past, are_not_of_past, are_of_two, are_not_of_two, are_of_synced, are_not_of_synced}
-use Rattle.disk_model.proofs.tests.listed_images.Goals as goal
+use Rattle.store_tests.proofs.disks.listed_images.Goals as goal
 
 pub returns-clause-five : goal.returns-clause-five
 returns-clause-five c = are_of_five

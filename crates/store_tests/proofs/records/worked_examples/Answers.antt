@@ -3,7 +3,7 @@ use Rattle.std.proofs.Common.{◌≡◌, [], ◌∷◌, true, refl, subst, arith
 use Rattle.std.specs.Str.{IsUtf8, is_utf8}
 use Rattle.std.proofs.lemmas.Str.{IsUtf8-encode, encode_ascii, is_utf8-from_IsUtf8}
 use lib.Utf8.{low_scalar}
-use Rattle.journal_records.proofs.tests.worked_examples.Goals as goal
+use Rattle.store_tests.proofs.records.worked_examples.Goals as goal
 
 text : is_utf8 (109 ∷ []) ≡ true
 text = is_utf8-from_IsUtf8 (109 ∷ []) (subst IsUtf8 (encode_ascii 109 (omega arith)) (IsUtf8-encode 109 (low_scalar 109 (omega arith))))

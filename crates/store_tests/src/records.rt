@@ -1,6 +1,6 @@
 ghost use Rattle.journal_records.specs.Worked.{WorkedExamples};
 
-use crate::{Change, RecordFault, frame, frame_into, framed_length, parse};
+use journal_records::{Change, RecordFault, frame, frame_into, framed_length, parse};
 use std::alloc::Global;
 use std::test::Fail;
 

@@ -2,7 +2,6 @@ ghost use Rattle.std.specs.Prelude.{◌≤◌, None, length, IfOk};
 ghost use Rattle.journal_records.specs.Spelling.{IsShort};
 ghost use Rattle.ks_outside.specs.Telling.{none_is_some};
 
-use crate::Journal;
 use disk_model::{Choice, MemoryDisk, Room};
 use grants::GrantRow;
 use journal_records::{Change, StoreFault, frame};
@@ -11,6 +10,7 @@ use ks_outside::{Disk, Failed, read_synced, write_synced};
 use std::alloc::{AllocError, Global};
 use std::test::Fail;
 use tags::{Bytes, Settled};
+use use_journal::Journal;
 
 /// The records of a key with two uses, of a grant of it, and of one use, each with a closing byte.
 static KEY: &[u8] =
