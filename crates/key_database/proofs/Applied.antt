@@ -1,5 +1,5 @@
 -- What is held after a change and after a settling, over plain variables.
-use Rattle.std.proofs.Common.{◌≡◌, ◌≢◌, ◌⊎◌, inl, inr, ⊎_elim, ℕ, List, [], ◌∷◌, Bool, true, false, Option, Some, None, Result, Ok, Err, refl, sym, ap, ◌∙◌, subst}
+use Rattle.std.proofs.Common.{◌≡◌, ◌⊎◌, inl, inr, ⊎_elim, ℕ, List, ◌∷◌, true, false, Some, refl, ap, ◌∙◌, subst}
 use Rattle.ks_outside.specs.declared.disk.Disk.{Ghosts}
 use Rattle.ks_outside.specs.Images.{AllImages, Passes}
 use Rattle.ks_outside.proofs.Joins.{passes_as}
@@ -12,7 +12,7 @@ use Rattle.journal_records.specs.Holding.{Holding, Sure, Unsure, changed_in, tor
 use Rattle.use_journal.specs.Journal.{IsJournal, IsBeforeOrAfter, AreChanges}
 use Rattle.use_journal.specs.Holding.{IsSettledOn, IsUnsettledOn}
 use Rattle.key_database.specs.Store.{StandsFor, MayBe, Between}
-use Rattle.key_database.specs.Stands.{IsSure, IsUnsure, Holds, lasting, is_unsettled}
+use Rattle.key_database.specs.Stands.{IsSure, Holds, lasting, is_unsettled}
 use Rattle.key_database.specs.declared.database.KeyDatabase.{KeyDatabase}
 
 pub left_after : (past : List Change) (change : Change) (part : Lasting) → lasting_of past ≡ Some part → is_met part change ≡ true → lasting_of (change ∷ past) ≡ Some (after part change)

@@ -1,13 +1,12 @@
 -- What a range of the map by name tells of the keys.
-use Rattle.std.proofs.Common.{◌≡◌, ℕ, true, false, List, [], ◌∷◌, Option, Some, None, refl, sym, ap, ◌∙◌, subst, arith}
+use Rattle.std.proofs.Common.{◌≡◌, ℕ, true, false, List, [], ◌∷◌, Option, Some, None, refl, sym, ap, ◌∙◌, subst}
 use Rattle.std.specs.Prelude.{find, IsSome}
 use Rattle.std.specs.Option.{option_map}
-use Rattle.std.specs.Ordering.{nat_cmp, is_eq, is_gt, ordering_then}
+use Rattle.std.specs.Ordering.{nat_cmp, is_eq, is_gt}
 use Rattle.std.specs.declared.cmp.Ordering.{Ordering}
 use Rattle.std.specs.declared.cmp.Ordering.TheVariants.{Less, Equal, Greater}
 use Rattle.std.specs.declared.ops.Bound.{Bound}
 use Rattle.std.specs.declared.ops.Bound.TheVariants.{Unbounded}
-use Rattle.std.specs.Cmp.{nat_cmp_is}
 use Rattle.std.specs.BTreeMap.{get, values}
 use Rattle.std.specs.BTreeMap.Range.{IsRangeOf, IsFromStart}
 use Rattle.std.proofs.lemmas.Map.Lookups.{CmpEqualImpliesEq, exact_unsigned, exact_bytes, exact_pairs}
@@ -18,7 +17,7 @@ use Rattle.journal_records.specs.LastingPart.{has_id}
 use Rattle.key_database.specs.declared.maps.KeyMaps.TheInside.{Inside}
 use Rattle.key_database.specs.Names.{Name, owner_cmp, padded_cmp, name_cmp, key_name, is_at_name}
 use Rattle.key_database.specs.Maps.{IsIndexed, id_of}
-use Rattle.key_database.specs.First.{IsLeast, IsFirstFrom}
+use Rattle.key_database.specs.First.{IsFirstFrom}
 use Rattle.key_database.proofs.KeyRows.{id_from_found}
 
 pub exact_names : CmpEqualImpliesEq name_cmp

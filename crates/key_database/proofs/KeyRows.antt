@@ -1,18 +1,18 @@
 -- Rows stay rows where a key is put behind them, where keys are taken out, and where a use is taken; and what is found then.
-use Rattle.std.proofs.Common.{◌≡◌, ℕ, ◌+◌, ◌-◌, ◌<◌, ◌≤◌, Bool, true, false, not, ◌&&◌, ◌==◌, cond, if◌then◌else◌, List, [], ◌∷◌, ◌++◌, length, Option, Some, None, refl, sym, ap, ◌∙◌, subst, arith, inl, inr}
+use Rattle.std.proofs.Common.{◌≡◌, ℕ, ◌+◌, ◌-◌, Bool, true, false, not, cond, if◌then◌else◌, List, [], ◌∷◌, ◌++◌, length, Some, None, refl, ap, ◌∙◌, arith, inl, inr}
 use Rattle.std.specs.Prelude.{find, map}
 use Rattle.std.specs.Option.{option_map}
 use Rattle.std.specs.List.{AllByRecursion, filter}
 use Rattle.std.specs.Ordering.{is_eq}
-use Rattle.std.proofs.lemmas.Bool.{both_ways, cases_Bool, and_parts, eqb-true, eq-eqb, ne_eqb, not_from_false}
+use Rattle.std.proofs.lemmas.Bool.{both_ways, cases_Bool, eqb-true, eq-eqb, ne_eqb, not_from_false}
 use Rattle.std.proofs.lemmas.Option.{none-some, same_Some}
-use Rattle.grants.proofs.Finding.{all_more, all_front, all_last, all_push, all_filter, find_none, keeps_all, found_has, found_passes, all_from_none}
+use Rattle.grants.proofs.Finding.{all_more, all_front, all_last, all_push, all_filter, find_none, keeps_all, found_has}
 use Rattle.journal_records.specs.declared.record.KeyRecord.{KeyRecord}
-use Rattle.journal_records.specs.LastingPart.{has_id, is_owned, is_named}
+use Rattle.journal_records.specs.LastingPart.{has_id, is_owned}
 use Rattle.journal_records.specs.Effects.{with_use}
-use Rattle.key_database.specs.Names.{Name, name_cmp, name_of, key_name, is_at_name}
-use Rattle.key_database.specs.Rows.{AreRows, IsBefore, IsFit, AreBelow, NonePass}
-use Rattle.key_database.proofs.NameOrder.{name_test, name_congr, name_flips}
+use Rattle.key_database.specs.Names.{Name, key_name, is_at_name}
+use Rattle.key_database.specs.Rows.{AreRows, IsBefore, IsFit, NonePass}
+use Rattle.key_database.proofs.NameOrder.{name_test, name_congr}
 
 pub later_id : (id : ℕ) (key later : KeyRecord) → has_id id key ≡ true → IsBefore key later → has_id id later ≡ false
 later_id id key later here before = ne_eqb later.id id (λ e. omega (arith, e, eqb-true key.id id here, before.0))

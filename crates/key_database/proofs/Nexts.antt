@@ -1,26 +1,24 @@
 -- What the first key from a start on tells of the keys of an owner, and of a user.
-use Rattle.std.proofs.Common.{◌≡◌, ℕ, zero, suc, ◌*◌, ◌/◌, ◌<◌, ◌≤◌, Bool, true, false, ◌&&◌, ◌==◌, cond, List, [], ◌∷◌, ◌++◌, length, take, Option, Some, None, refl, sym, ap, ◌∙◌, subst, arith, inl, inr}
+use Rattle.std.proofs.Common.{◌≡◌, ℕ, zero, suc, ◌*◌, ◌/◌, ◌<◌, ◌≤◌, Bool, true, false, ◌==◌, List, [], ◌∷◌, ◌++◌, length, take, Option, Some, None, refl, sym, ap, ◌∙◌, subst, arith, inl, inr}
 use Rattle.std.specs.Prelude.{find, is_some, IsSome, IsSomeAnd}
-use Rattle.std.specs.List.{AllByRecursion, filter}
 use Rattle.std.specs.Ordering.{nat_cmp, is_eq, is_lt, is_gt, ordering_then, ordering_reverse}
-use Rattle.std.specs.Cmp.{IsTotalOrder, nat_cmp_is}
+use Rattle.std.specs.Cmp.{nat_cmp_is}
 use Rattle.std.specs.declared.cmp.Ordering.{Ordering}
 use Rattle.std.specs.declared.cmp.Ordering.TheVariants.{Less, Equal, Greater}
 use Rattle.std.specs.declared.ops.Bound.{Bound}
-use Rattle.std.specs.declared.ops.Bound.TheVariants.{Included, Excluded}
+use Rattle.std.specs.declared.ops.Bound.TheVariants.{Included}
 use Rattle.std.specs.BTreeMap.Range.{IsFromStart}
 use Rattle.std.specs.Str.{bytes_eq}
 use Rattle.std.proofs.lemmas.Bool.{both_ways, cases_Bool, cases_order, and_parts, and_from, eqb-true, eq-eqb}
-use Rattle.std.proofs.lemmas.Option.{none-some, same_Some}
-use Rattle.std.proofs.lemmas.Slice.Eq.{bytes_eq-Decides}
-use Rattle.grants.proofs.Finding.{all_from_none, find_none, found_has, found_passes}
+use Rattle.std.proofs.lemmas.Option.{none-some}
+use Rattle.grants.proofs.Finding.{found_has}
 use Rattle.journal_records.specs.declared.record.KeyRecord.{KeyRecord}
 use Rattle.journal_records.specs.LastingPart.{has_id, is_owned, is_named, is_of_user}
 use Rattle.key_database.specs.Names.{Name, alias_cmp, owner_cmp, name_cmp, name_of, key_name, is_at_name}
 use Rattle.key_database.specs.Rows.{AreRows, IsBefore, IsFit, NonePass}
-use Rattle.key_database.specs.Table.{listed, is_after, IsNextName, IsNextNamed}
+use Rattle.key_database.specs.Table.{is_after, IsNextName}
 use Rattle.key_database.specs.First.{start_of}
-use Rattle.key_database.specs.First.{IsLeast, IsFirstFrom}
+use Rattle.key_database.specs.First.{IsFirstFrom}
 use Rattle.key_database.proofs.NameOrder.{name_total, owner_test, owner_total, named_cmp, pads_are, cut_test}
 use Rattle.key_database.proofs.KeyRows.{name_push, absent_before, later_name, all_fit, id_from_found}
 use Rattle.key_database.proofs.Firsts.{name_is}

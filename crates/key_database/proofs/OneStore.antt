@@ -1,5 +1,5 @@
 -- Bytes stand for one lasting part at most, and have their first fault at one place.
-use Rattle.std.proofs.Common.{◌≡◌, ℕ, true, false, List, [], ◌∷◌, ◌++◌, length, Option, Some, None, refl, sym, ap, ◌∙◌, subst}
+use Rattle.std.proofs.Common.{◌≡◌, ℕ, false, List, [], ◌∷◌, ◌++◌, length, Some, None, refl, sym, ap, ◌∙◌}
 use Rattle.std.specs.Option.{option_and_then}
 use Rattle.std.proofs.lemmas.Option.{none-some, same_Some}
 use Rattle.journal_records.specs.declared.change.Change.{Change}
@@ -7,7 +7,7 @@ use Rattle.journal_records.specs.LastingPart.{Lasting}
 use Rattle.journal_records.specs.Needs.{is_met}
 use Rattle.journal_records.specs.Effects.{lasting_of, changed}
 use Rattle.use_journal.specs.Journal.{written, IsJournal, IsCorrupted, AreChanges}
-use Rattle.key_database.specs.Store.{StandsFor, HasUnmet, IsBadStore, NoJournal, UnmetNeed}
+use Rattle.key_database.specs.Store.{StandsFor, IsBadStore, NoJournal, UnmetNeed}
 
 -- what the law of journals tells
 abbrev pub OneList : Type 0

@@ -1,22 +1,20 @@
 -- What an opening reads and finds.
-use Rattle.std.proofs.Common.{◌≡◌, ℕ, ◌+◌, ◌<◌, true, false, List, [], ◌∷◌, ◌++◌, length, take, drop, map, reverse, get_or, suc, Option, Some, None, Result, Ok, Err, refl, sym, ap, ◌∙◌, subst, arith, append_assoc}
+use Rattle.std.proofs.Common.{◌≡◌, ℕ, ◌+◌, ◌<◌, true, List, [], ◌∷◌, ◌++◌, length, take, drop, map, reverse, get_or, suc, Option, Some, None, Err, refl, sym, ap, ◌∙◌, arith, append_assoc}
 use Rattle.std.specs.Prelude.{is_some}
 use Rattle.std.proofs.Math.Seq.{split_at}
-use Rattle.std.proofs.lemmas.Option.{none-some}
 use Rattle.std.proofs.lemmas.List.{reverse-append, length-reverse}
 use Rattle.ks_outside.specs.declared.disk.Disk.{Ghosts}
-use Rattle.ks_outside.specs.Images.{AllImages, tells}
+use Rattle.ks_outside.specs.Images.{tells}
 use Rattle.journal_records.specs.declared.change.Change.{Change}
 use Rattle.journal_records.specs.declared.fault.StoreFault.{StoreFault}
 use Rattle.journal_records.specs.declared.fault.StoreFault.TheVariants as faults
 use Rattle.journal_records.specs.LastingPart.{Lasting}
 use Rattle.journal_records.specs.Needs.{is_met}
 use Rattle.journal_records.specs.Effects.{after, lasting_of}
-use Rattle.use_journal.specs.Journal.{written, IsJournal, IsCorrupted, AreChanges, past_of, placed}
+use Rattle.use_journal.specs.Journal.{written, IsJournal, AreChanges, past_of, placed}
 use Rattle.use_journal.specs.Holding.{Reads}
-use Rattle.key_database.specs.Store.{StandsFor, HasUnmet, IsBadStore, NoJournal, UnmetNeed}
-use Rattle.key_database.specs.Stands.{IsUnmetAt, Replays, ReadsStore, FindsStore, lasting}
-use Rattle.key_database.specs.declared.database.KeyDatabase.{KeyDatabase}
+use Rattle.key_database.specs.Store.{IsBadStore, NoJournal, UnmetNeed}
+use Rattle.key_database.specs.Stands.{IsUnmetAt, Replays, ReadsStore, FindsStore}
 
 -- ---- changes in turn
 

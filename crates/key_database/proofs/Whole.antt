@@ -1,21 +1,20 @@
 -- The newest key behind those of the maps.
-use Rattle.std.proofs.Common.{◌≡◌, ℕ, ◌+◌, ◌<◌, ◌≤◌, Bool, true, false, not, ◌==◌, cond, if◌then◌else◌, List, [], ◌∷◌, ◌++◌, length, Option, Some, None, refl, sym, ap, ◌∙◌, subst, arith, inl, inr}
+use Rattle.std.proofs.Common.{◌≡◌, ℕ, ◌+◌, ◌<◌, ◌≤◌, Bool, true, false, not, ◌==◌, List, [], ◌∷◌, ◌++◌, length, Option, Some, None, refl, sym, ap, ◌∙◌, arith, inl, inr}
 use Rattle.std.specs.Prelude.{find, map, is_some, IsSome}
 use Rattle.std.specs.Option.{option_or}
-use Rattle.std.specs.List.{AllByRecursion, filter}
+use Rattle.std.specs.List.{filter}
 use Rattle.std.specs.Str.{bytes_eq}
 use Rattle.std.proofs.lemmas.Bool.{both_ways, cases_Bool, cases_lt, and_parts, eqb-true, eq-eqb, ne_eqb, not_from_false}
-use Rattle.std.proofs.lemmas.Option.{none-some, same_Some}
 use Rattle.std.proofs.lemmas.Slice.Eq.{bytes_eq-Decides}
-use Rattle.grants.proofs.Finding.{all_more, find_none, keeps_all, all_from_none, found_has, found_passes}
+use Rattle.grants.proofs.Finding.{all_more, keeps_all, found_has, found_passes}
 use Rattle.journal_records.specs.declared.record.KeyRecord.{KeyRecord}
 use Rattle.journal_records.specs.LastingPart.{has_id, is_owned, is_named}
 use Rattle.journal_records.specs.Effects.{with_use}
-use Rattle.key_database.specs.Names.{Name, name_of, key_name, is_at_name}
-use Rattle.key_database.specs.Rows.{AreRows, IsBefore, IsFit, NonePass}
+use Rattle.key_database.specs.Names.{name_of, is_at_name}
+use Rattle.key_database.specs.Rows.{AreRows, IsBefore, NonePass}
 use Rattle.key_database.specs.Table.{listed}
 use Rattle.key_database.proofs.NameOrder.{name_test}
-use Rattle.key_database.proofs.KeyRows.{before_last, later_id, id_push, use_keeps_all, all_fit, front_rows, count_push}
+use Rattle.key_database.proofs.KeyRows.{before_last, later_id, use_keeps_all}
 
 pub append_none : (rows : List KeyRecord) → rows ++ [] ≡ rows
 append_none [] = refl

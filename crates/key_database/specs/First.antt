@@ -5,7 +5,6 @@ use Rattle.std.specs.declared.ops.Bound.{Bound}
 use Rattle.std.specs.declared.ops.Bound.TheVariants.{Included, Excluded}
 use Rattle.std.specs.BTreeMap.Range.{IsFromStart}
 use Rattle.journal_records.specs.declared.record.KeyRecord.{KeyRecord}
-use Rattle.journal_records.specs.LastingPart.{has_id}
 use Rattle.key_database.specs.Names.{Name, name_cmp, name_of, key_name, is_at_name}
 
 -- a key of these, whose name is not before the start, and not behind that of another such key

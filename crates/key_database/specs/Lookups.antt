@@ -1,5 +1,5 @@
 -- What the look-ups find in a lasting part.
-use Rattle.std.specs.Prelude.{◌≡◌, ℕ, List, Option, find, filter, length}
+use Rattle.std.specs.Prelude.{ℕ, List, Option, find, filter, length}
 use Rattle.std.specs.Option.{option_map, option_and_then}
 use Rattle.key_domains.specs.declared.view.KeyRow.{KeyRow}
 use Rattle.key_domains.specs.declared.view.GrantedRow.{GrantedRow}

@@ -1,5 +1,5 @@
 -- Rows of keys, as lists.
-use Rattle.std.specs.Prelude.{◌≡◌, ◌<◌, ◌≤◌, ℕ, Bool, false, ◌==◌, List, [], ◌∷◌, length, find, None, ⊤}
+use Rattle.std.specs.Prelude.{◌≡◌, ◌<◌, ◌≤◌, ℕ, Bool, false, List, [], ◌∷◌, length, find, None, ⊤}
 use Rattle.std.specs.List.{AllByRecursion}
 use Rattle.journal_records.specs.declared.record.KeyRecord.{KeyRecord}
 use Rattle.journal_records.specs.LastingPart.{has_id, is_named}

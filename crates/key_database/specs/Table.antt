@@ -1,5 +1,5 @@
 -- The table of keys as its callers see it: the rows of the maps, and behind them the newest row, where there is one.
-use Rattle.std.specs.Prelude.{◌≡◌, ◌<◌, ◌≤◌, ℕ, List, [], ◌∷◌, Option, None, Some, find, IsSome, Bool, true, false, ◌&&◌, ◌==◌}
+use Rattle.std.specs.Prelude.{◌≡◌, ◌<◌, ◌≤◌, ℕ, List, [], ◌∷◌, Option, None, Some, find, IsSome, Bool, true, false}
 use Rattle.std.specs.Ordering.{is_lt, is_gt}
 use Rattle.journal_records.specs.declared.record.KeyRecord.{KeyRecord}
 use Rattle.journal_records.specs.LastingPart.{is_named}

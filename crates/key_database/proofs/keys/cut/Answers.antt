@@ -1,4 +1,4 @@
-use Rattle.std.proofs.Common.{◌≤◌, sym, length, arith}
+use Rattle.std.proofs.Common.{sym, arith}
 use Rattle.std.proofs.lemmas.List.{take_all, length-take, length-take-le}
 use Rattle.key_database.proofs.keys.cut.Goals as goal
 

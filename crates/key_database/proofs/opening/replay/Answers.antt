@@ -1,7 +1,6 @@
-use Rattle.std.proofs.Common.{◌≡◌, ◌<◌, true, Some, suc, length, drop, sym, ap, ◌∙◌, ◌++◌, ◌∷◌, []}
+use Rattle.std.proofs.Common.{Some, suc, length, drop, sym, ap, ◌∙◌}
 use Rattle.std.proofs.lemmas.Iterator.Adapters.{YieldsList-from_vec}
 use Rattle.std.proofs.lemmas.Iterator.Consumers.{YieldsList-turn, YieldsList-end, YieldsList-so_far}
-use Rattle.journal_records.specs.Needs.{is_met}
 use Rattle.journal_records.specs.Effects.{after, lasting_of}
 use Rattle.use_journal.specs.Journal.{past_of}
 use Rattle.key_database.specs.Held.{part_of}

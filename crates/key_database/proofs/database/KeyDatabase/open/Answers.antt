@@ -1,11 +1,7 @@
-use Rattle.std.proofs.Common.{◌≡◌, true, List, ℕ, Some, Ok, Err, sym, ◌∙◌}
-use Rattle.ks_outside.specs.Images.{tells}
+use Rattle.std.proofs.Common.{◌≡◌, Some, ◌∙◌}
 use Rattle.journal_records.specs.Effects.{lasting_of}
 use Rattle.use_journal.specs.Journal.{IsJournal, past_of}
-use Rattle.use_journal.specs.Holding.{Reads}
 use Rattle.key_database.specs.Held.{part_of}
-use Rattle.key_database.specs.Store.{StandsFor}
-use Rattle.key_database.specs.Stands.{Replays, ReadsStore}
 use Rattle.key_database.proofs.Opened.{bad_needs, bad_journal, told_image, no_fault_found}
 use Rattle.key_database.proofs.database.KeyDatabase.open.Goals as goal
 

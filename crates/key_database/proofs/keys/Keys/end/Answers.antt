@@ -1,5 +1,4 @@
-use Rattle.std.proofs.Common.{◌≡◌, ◌++◌, [], ◌∷◌, None, sym, ◌∙◌, subst, not, refl}
-use Rattle.std.specs.List.{filter}
+use Rattle.std.proofs.Common.{◌++◌, [], ◌∷◌, sym, ◌∙◌, subst, not}
 use Rattle.journal_records.specs.LastingPart.{has_id}
 use Rattle.key_database.specs.Rows.{AreRows}
 use Rattle.key_database.specs.Table.{listed}

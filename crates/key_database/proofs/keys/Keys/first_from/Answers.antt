@@ -1,5 +1,4 @@
-use Rattle.std.proofs.Common.{◌≡◌, ◌++◌, ◌∷◌, [], ◌≤◌, Some, None, length, sym, ◌∙◌, ap, subst, refl}
-use Rattle.std.specs.Prelude.{find}
+use Rattle.std.proofs.Common.{◌++◌, ◌∷◌, [], Some}
 use Rattle.std.specs.Option.{option_copied}
 use Rattle.grants.proofs.Finding.{found_has}
 use Rattle.key_database.specs.First.{IsFirstFrom}

@@ -1,7 +1,6 @@
-use Rattle.std.proofs.Common.{◌≡◌, ℕ, ◌-◌, ◌==◌, ◌++◌, [], ◌∷◌, Some, None, sym, ◌∙◌, subst, not, refl}
+use Rattle.std.proofs.Common.{◌≡◌, ℕ, ◌-◌, ◌++◌, [], ◌∷◌, Some, sym, ◌∙◌, subst, refl}
 use Rattle.std.proofs.lemmas.Bool.{eq-eqb}
 use Rattle.journal_records.specs.declared.record.KeyRecord.{KeyRecord}
-use Rattle.std.specs.Prelude.{map}
 use Rattle.journal_records.specs.Effects.{with_use}
 use Rattle.key_database.specs.Rows.{AreRows}
 use Rattle.key_database.specs.Table.{listed}

@@ -1,4 +1,4 @@
-use Rattle.std.proofs.Common.{◌∙◌, sym, ap, subst}
+use Rattle.std.proofs.Common.{◌∙◌, sym, subst}
 use Rattle.key_database.specs.First.{IsFirstFrom}
 use Rattle.key_database.proofs.Entries.{lookup_is}
 use Rattle.key_database.proofs.Firsts.{IsFrom, first_found, none_found}

@@ -1,5 +1,5 @@
-use Rattle.std.proofs.Common.{◌≡◌, ◌≤◌, ◌<◌, length, sym, ◌∙◌, subst, arith}
-use Rattle.std.specs.BTreeMap.{values, UpdatesBy}
+use Rattle.std.proofs.Common.{arith}
+use Rattle.std.specs.BTreeMap.{values}
 use Rattle.journal_records.specs.LastingPart.{is_owned}
 use Rattle.key_database.proofs.KeyRows.{fit_last}
 use Rattle.key_database.proofs.Counting.{filter_le, length_values}

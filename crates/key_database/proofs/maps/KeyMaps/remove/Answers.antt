@@ -1,9 +1,8 @@
-use Rattle.std.proofs.Common.{◌≡◌, Some, None, ◌∙◌, ◌≤◌, length, sym, ap, refl, subst}
+use Rattle.std.proofs.Common.{◌≡◌, Some, ◌∙◌, sym, ap}
 use Rattle.std.specs.Prelude.{find, is_some}
-use Rattle.std.specs.BTreeMap.{values, UpdatesBy}
+use Rattle.std.specs.BTreeMap.{values}
 use Rattle.grants.proofs.Finding.{found_has}
 use Rattle.journal_records.specs.LastingPart.{has_id}
-use Rattle.key_database.specs.Names.{name_cmp}
 use Rattle.key_database.specs.Rows.{IsFit}
 use Rattle.key_database.proofs.KeyRows.{all_fit}
 use Rattle.key_database.proofs.Entries.{lookup_is}

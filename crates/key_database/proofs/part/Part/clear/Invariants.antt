@@ -1,4 +1,4 @@
-use Rattle.std.proofs.Common.{◌≡◌, ℕ, length}
+use Rattle.std.proofs.Common.{◌≡◌, length}
 use Rattle.journal_records.specs.LastingPart.{is_owned, without_keys}
 use Rattle.key_database.specs.Held.{part_of}
 use Rattle.key_database.proofs.part.Part.clear.Given as goal

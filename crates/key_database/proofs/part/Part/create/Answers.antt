@@ -1,5 +1,5 @@
-use Rattle.std.proofs.Common.{◌≡◌, ◌+◌, ◌++◌, ◌∷◌, [], ◌∙◌, sym, ap, subst}
-use Rattle.journal_records.specs.LastingPart.{Lasting, is_named, without_keys}
+use Rattle.std.proofs.Common.{◌≡◌, ◌+◌, ◌∙◌, sym, ap, subst}
+use Rattle.journal_records.specs.LastingPart.{is_named, without_keys}
 use Rattle.key_database.specs.Held.{part_of}
 use Rattle.key_database.specs.Rows.{AreBelow}
 use Rattle.key_database.proofs.Ends.{new_rows, below_new, with_new}

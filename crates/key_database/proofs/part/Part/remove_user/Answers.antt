@@ -1,6 +1,5 @@
 use Rattle.std.proofs.Common.{◌∙◌, sym}
-use Rattle.std.specs.Prelude.{find}
-use Rattle.journal_records.specs.LastingPart.{has_id, is_of_user}
+use Rattle.journal_records.specs.LastingPart.{is_of_user}
 use Rattle.key_database.specs.Held.{part_of}
 use Rattle.key_database.proofs.Ends.{ends_on, fewer_left, none_end}
 use Rattle.key_database.proofs.part.Part.remove_user.Goals as goal

@@ -1,4 +1,4 @@
-use Rattle.std.proofs.Common.{◌≡◌, ℕ, length}
+use Rattle.std.proofs.Common.{◌≡◌, length}
 use Rattle.journal_records.specs.LastingPart.{is_of_user, without_keys}
 use Rattle.key_database.specs.Held.{part_of}
 use Rattle.key_database.proofs.part.Part.remove_user.Given as goal
