@@ -374,3 +374,7 @@ end_of_none domain nspace alias part none = sym (none_end (is_named domain nspac
 pub end_of_named : (domain nspace : ℕ) (alias : List ℕ) (part new : Lasting) (held : KeyRecord) → AreRows part.keys → find (is_named domain nspace alias) part.keys ≡ Some held → new ≡ without_keys (has_id held.id) part → new ≡ without_keys (is_named domain nspace alias) part
 end_of_named domain nspace alias part new held t named e =
     e ∙ rebound domain nspace alias part held t (found_short domain nspace alias part.keys t (rw named refl)) named (id_from_found (is_named domain nspace alias) part.keys held t named)
+
+pub copied_none : {X : Type 0} (o : Option (Bor X)) (none : Bool) → is_some o ≡ not none → none ≡ true → option_copied o ≡ None
+copied_none None none e t = refl
+copied_none (Some x) none e t = absurd (both_ways (not none) (ap not t) (sym e))

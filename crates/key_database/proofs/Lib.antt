@@ -11,3 +11,5 @@ pub mod Ends
 pub mod Applied
 pub mod OneStore
 pub mod Opened
+pub mod Lockstep
+pub mod Afters

@@ -1,6 +1,7 @@
 -- Rows of keys, as lists.
-use Rattle.std.specs.Prelude.{◌≡◌, ◌<◌, ◌≤◌, ℕ, Bool, false, List, [], ◌∷◌, length, find, None, ⊤}
+use Rattle.std.specs.Prelude.{◌≡◌, ◌<◌, ◌≤◌, ℕ, Bool, false, List, [], ◌∷◌, length, find, Option, None, ⊤}
 use Rattle.std.specs.List.{AllByRecursion}
+use Rattle.grants.specs.Rows.{is_behind}
 use Rattle.journal_records.specs.declared.record.KeyRecord.{KeyRecord}
 use Rattle.journal_records.specs.LastingPart.{has_id, is_named}
 
@@ -20,6 +21,10 @@ AreRows (key ∷ keys) = IsFit key × AllByRecursion (IsBefore key) keys × AreR
 -- no key has this number, or a greater one
 abbrev pub AreBelow : ℕ → List KeyRecord → Type 0
 AreBelow number keys = (id : ℕ) → number ≤ id → find (has_id id) keys ≡ None
+
+-- whether a key's number is greater than past; each is greater than none
+abbrev pub is_past : Option ℕ → KeyRecord → Bool
+is_past past key = is_behind past key.id
 
 -- no key passes the test
 abbrev pub NonePass : (KeyRecord → Bool) → List KeyRecord → Type 0

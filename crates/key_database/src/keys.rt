@@ -9,7 +9,7 @@ ghost use Rattle.journal_records.specs.Effects.{with_use};
 ghost use Rattle.key_database.specs.First.{IsFirstFrom, start_of};
 ghost use Rattle.key_database.specs.Names as spec;
 ghost use Rattle.key_database.specs.Names.{name_cmp};
-ghost use Rattle.key_database.specs.Rows.{AreRows, NonePass};
+ghost use Rattle.key_database.specs.Rows.{AreRows, NonePass, is_past};
 ghost use Rattle.key_database.specs.Table.{HasRoom, KeepsRoom, IsNextName};
 
 use crate::maps::KeyMaps;
@@ -55,6 +55,16 @@ fn is_named(key: &KeyRecord, domain: u8, nspace: u64, alias: &[u8]) -> bool
     ensures { result ≡ is_named domain nspace alias.now key.now }
 {
     key.domain == domain && key.nspace == nspace && key.alias.as_slice() == alias
+}
+
+/// Whether a key's number is greater than `past`; each is greater than none.
+fn is_past(key: &KeyRecord, past: Option<u64>) -> bool
+    ensures { result ≡ is_past past key.now }
+{
+    match past {
+        Some(past) => past < key.id,
+        None => true,
+    }
 }
 
 /// Whether a key is an owner's.
@@ -201,6 +211,21 @@ impl Keys {
         }
         match &self.newest {
             Some(newest) if newest.id == id => Some(newest),
+            _ => None,
+        }
+    }
+
+    /// The key of the least number greater than `past`, or of the least number.
+    #[tactic(auto, using(crate::proofs::Whole::find_whole))]
+    pub(crate) fn next_after(&self, past: Option<u64>) -> Option<&KeyRecord>
+        ensures key { option_copied result ≡ find (is_past past) self.now.rows }
+        ensures orderly { AreRows self.now.rows }
+    {
+        if let Some(key) = self.maps.next_after(past) {
+            return Some(key);
+        }
+        match &self.newest {
+            Some(newest) if is_past(newest, past) => Some(newest),
             _ => None,
         }
     }

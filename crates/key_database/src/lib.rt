@@ -2,6 +2,7 @@
 #![tactic(auto)]
 
 mod appending;
+mod compared;
 mod counts;
 mod database;
 mod keys;

@@ -1,11 +1,12 @@
-//! The look-ups. None takes memory, or walks the keys.
+//! The look-ups. None takes memory, and none but `same` walks the keys.
 
-ghost use Rattle.std.specs.Prelude.{◌≡◌, ℕ};
+ghost use Rattle.std.specs.Prelude.{◌≡◌, ℕ, true};
 ghost use Rattle.std.specs.Option.{option_copied};
 ghost use Rattle.journal_records.specs.Needs.{is_met};
 ghost use Rattle.key_database.specs.Lookups.{row_of, key_of_id, key_of_name, IsNextKey, key_count, named_in, numbered_in, granted_in, shared_in};
 ghost use Rattle.key_database.specs.Stands.{lasting};
 
+use crate::compared::same_part;
 use crate::database::KeyDatabase;
 use grants::Grants;
 use journal_records::{Change, KeyRecord};
@@ -50,6 +51,14 @@ impl KeyDatabase {
         ensures { result ≡ key_count (lasting self.now) domain nspace }
     {
         self.part.keys.count(domain, nspace)
+    }
+
+    /// Whether both hold the same lasting part, in as many steps as there are keys and grants.
+    pub fn same(&self, other: &KeyDatabase) -> bool
+        ensures yes { result ≡ true → lasting self.now ≡ lasting other.now }
+        ensures no { lasting self.now ≡ lasting other.now → result ≡ true }
+    {
+        same_part(&self.part, &other.part)
     }
 
     /// Whether the need of a change is met.

@@ -6,7 +6,8 @@ ghost use Rattle.journal_records.specs.LastingPart.{has_id, is_owned, is_named};
 ghost use Rattle.journal_records.specs.Effects.{with_use};
 ghost use Rattle.key_database.specs.First.{IsFirstFrom};
 ghost use Rattle.key_database.specs.Names.{key_name};
-ghost use Rattle.key_database.specs.Rows.{AreRows};
+ghost use Rattle.key_database.specs.Rows.{AreRows, is_past};
+ghost use Rattle.grants.specs.Maps.{start_of};
 
 use crate::counts::{count_of, lower, raise};
 use crate::names::{ALIAS_BYTES, Name, Owner, name_of};
@@ -36,6 +37,16 @@ impl Model for KeyMaps {
     ghost view = { λ maps. values maps.by_id };
 
     ghost invariant = { IsIndexed };
+}
+
+/// Where the numbers greater than `past` begin.
+fn behind(past: Option<u64>) -> Bound<u64>
+    ensures { result ≡ start_of past }
+{
+    match past {
+        Some(past) => Bound::Excluded(past),
+        None => Bound::Unbounded,
+    }
 }
 
 impl KeyMaps {
@@ -92,6 +103,16 @@ impl KeyMaps {
     {
         match self.by_name.range((start, Bound::Unbounded)).next() {
             Some((_, id)) => self.by_id.get(id),
+            None => None,
+        }
+    }
+
+    /// The key of the least number greater than `past`.
+    pub(crate) fn next_after(&self, past: Option<u64>) -> Option<&KeyRecord>
+        ensures { option_copied result ≡ find (is_past past) self.now }
+    {
+        match self.by_id.range((behind(past), Bound::Unbounded)).next() {
+            Some((_, key)) => Some(key),
             None => None,
         }
     }
