@@ -10,8 +10,6 @@ mod image;
 mod memory;
 mod pages;
 mod stopped;
-#[cfg(test)]
-mod tests;
 
 pub use image::Choice;
 pub use memory::{MemoryDisk, Room};

@@ -5,3 +5,4 @@ pub mod Indexed
 pub mod Ranges
 pub mod Whole
 pub mod Granting
+pub mod Nexts

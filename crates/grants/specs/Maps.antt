@@ -1,6 +1,8 @@
 -- The two maps hold the same rows.
-use Rattle.std.specs.Prelude.{◌≡◌, ℕ, List, map, find}
+use Rattle.std.specs.Prelude.{◌≡◌, ℕ, List, Option, None, Some, map, find}
 use Rattle.std.specs.declared.cmp.Ordering.{Ordering}
+use Rattle.std.specs.declared.ops.Bound.{Bound}
+use Rattle.std.specs.declared.ops.Bound.TheVariants.{Excluded, Unbounded}
 use Rattle.std.specs.Ordering.{nat_cmp, ordering_then}
 use Rattle.std.specs.BTreeMap.{get, values}
 use Rattle.grants.specs.declared.row.GrantRow.{GrantRow}
@@ -20,3 +22,8 @@ pub record IsIndexed (maps : Inside) : Type 0 where
   pub numbered : maps.by_number.entries ≡ entries_of (values maps.by_number)
   pub held : (key uid : ℕ) → get holder_cmp maps.by_holder (key, uid) ≡ find (is_for key uid) (values maps.by_number)
   pub orderly : IsTable (values maps.by_number)
+
+-- where the numbers greater than past begin
+abbrev pub start_of : Option ℕ → Bound ℕ
+start_of None = Unbounded
+start_of (Some past) = Excluded past

@@ -1,5 +1,5 @@
 -- Rows of grants, as lists.
-use Rattle.std.specs.Prelude.{◌≡◌, ◌<◌, ℕ, Bool, false, ◌==◌, ◌&&◌, List, [], ◌∷◌, if◌then◌else◌, ⊤}
+use Rattle.std.specs.Prelude.{◌≡◌, ◌<◌, ℕ, nat_lt, Option, None, Some, Bool, true, false, ◌==◌, ◌&&◌, List, [], ◌∷◌, if◌then◌else◌, ⊤}
 use Rattle.std.specs.List.{AllByRecursion}
 use Rattle.grants.specs.declared.row.GrantRow.{GrantRow}
 
@@ -18,6 +18,15 @@ is_of key row = row.key == key
 -- the row with these bits, where it shares this key with this uid
 abbrev pub with_bits : ℕ → ℕ → ℕ → GrantRow → GrantRow
 with_bits key uid bits row = if is_for key uid row then record row { bits = bits } else row
+
+-- whether a number stands behind another; each stands behind none
+abbrev pub is_behind : Option ℕ → ℕ → Bool
+is_behind None number = true
+is_behind (Some past) number = nat_lt past number
+
+-- whether a row's number does
+abbrev pub is_past : Option ℕ → GrantRow → Bool
+is_past past row = is_behind past row.grant
 
 -- the later row has a greater number, and another key or uid
 abbrev pub IsBefore : GrantRow → GrantRow → Type 0

@@ -1,7 +1,7 @@
 -- The table of grants as its callers see it: what a look-up finds, and what a change is.
 use Rattle.std.specs.Prelude.{◌≡◌, ◌<◌, ◌≤◌, ℕ, Bool, not, List, [], ◌∷◌, ◌++◌, map, find, filter, length, Option, None, Some, IsSome, IsSomeAnd, if◌then◌else◌}
 use Rattle.grants.specs.declared.row.GrantRow.{GrantRow}
-use Rattle.grants.specs.Rows.{IsTable, is_numbered, is_for, is_of, with_bits, NoneOf}
+use Rattle.grants.specs.Rows.{IsTable, is_past, is_numbered, is_for, is_of, with_bits, NoneOf}
 
 -- the rows in the order of their numbers, and for how many more there is room
 pub record Table : Type 0 where
@@ -15,6 +15,10 @@ numbered table number = find (is_numbered number) table.rows
 -- the grant of a key to a uid
 abbrev pub shared : Table → ℕ → ℕ → Option GrantRow
 shared table key uid = find (is_for key uid) table.rows
+
+-- the grant of the least number greater than past
+abbrev pub next_after : Table → Option ℕ → Option GrantRow
+next_after table past = find (is_past past) table.rows
 
 -- how many grants there are
 abbrev pub grant_count : Table → ℕ

@@ -5,13 +5,15 @@ ghost use Rattle.std.specs.Option.{option_copied};
 ghost use Rattle.std.specs.Ordering.{nat_cmp};
 ghost use Rattle.std.specs.BTreeMap.{insert_entry};
 ghost use Rattle.grants.specs.Table.{FindsOf};
-ghost use Rattle.grants.specs.Rows.{IsTable, is_numbered, is_for, with_bits, NoneOf};
+ghost use Rattle.grants.specs.Maps.{start_of};
+ghost use Rattle.grants.specs.Rows.{IsTable, is_past, is_numbered, is_for, with_bits, NoneOf};
 
 use crate::GrantRow;
 use key_domains::Permissions;
 use std::alloc::Global;
 use std::collections::BTreeMap;
 use std::marker::Model;
+use std::ops::Bound;
 use tags::NoMemory;
 
 /// The rows, found by their number and by their key and uid.
@@ -33,6 +35,16 @@ impl Model for GrantMaps {
     ghost view = { λ maps. values maps.by_number };
 
     ghost invariant = { IsIndexed };
+}
+
+/// Where the numbers greater than `past` begin.
+fn start_of(past: Option<u64>) -> Bound<u64>
+    ensures { result ≡ start_of past }
+{
+    match past {
+        Some(past) => Bound::Excluded(past),
+        None => Bound::Unbounded,
+    }
 }
 
 /// Puts a row under its number.
@@ -71,6 +83,20 @@ impl GrantMaps {
         ensures { option_copied result ≡ find (is_for key uid) self.now }
     {
         self.by_holder.get(&(key, uid))
+    }
+
+    /// The row of the least number greater than `past`.
+    pub(crate) fn next_after(&self, past: Option<u64>) -> Option<&GrantRow>
+        ensures { option_copied result ≡ find (is_past past) self.now }
+    {
+        match self
+            .by_number
+            .range((start_of(past), Bound::Unbounded))
+            .next()
+        {
+            Some((_, row)) => Some(row),
+            None => None,
+        }
     }
 
     /// The number of a row of a key, of the least uid.

@@ -2,14 +2,24 @@
 
 ghost use Rattle.std.specs.Prelude.{◌≡◌, ◌==◌, ℕ, IfSome, IfNone, OnOk};
 ghost use Rattle.std.specs.Option.{option_copied};
-ghost use Rattle.grants.specs.Rows.{is_numbered, is_of};
-ghost use Rattle.grants.specs.Table.{numbered, shared, grant_count, IsOrderly, IsEmpty, HasRoom, IsNew, IsHeld, IsNext, AreBelow, IsAddedBelow, IsHolderRow, FindsOf, SameGrants, KeepsRoom, AddsGrant, SetsBits, DropsGrant, DropsKey, numbered_after, shared_after, unless, HasNone};
+ghost use Rattle.grants.specs.Rows.{is_behind, is_numbered, is_of};
+ghost use Rattle.grants.specs.Table.{numbered, next_after, shared, grant_count, IsOrderly, IsEmpty, HasRoom, IsNew, IsHeld, IsNext, AreBelow, IsAddedBelow, IsHolderRow, FindsOf, SameGrants, KeepsRoom, AddsGrant, SetsBits, DropsGrant, DropsKey, numbered_after, shared_after, unless, HasNone};
 
 use crate::GrantRow;
 use crate::maps::GrantMaps;
 use std::alloc::Global;
 use std::marker::Model;
 use tags::NoMemory;
+
+/// Whether a number stands behind another; each stands behind none.
+fn is_behind(past: Option<u64>, number: u64) -> bool
+    ensures { result ≡ is_behind past number }
+{
+    match past {
+        Some(past) => past < number,
+        None => true,
+    }
+}
 
 /// The grants by their numbers, and by the key and uid that they join.
 ///
@@ -148,6 +158,21 @@ impl Grants {
         }
         match &self.newest {
             Some(newest) if newest.key == key && newest.uid == uid => Some(newest),
+            _ => None,
+        }
+    }
+
+    /// The grant of the least number greater than `past`, or of the least number; `None` exactly where there is none.
+    #[tactic(auto, using(crate::proofs::Whole::find_whole))]
+    pub fn next_after(&self, past: Option<u64>) -> Option<&GrantRow>
+        ensures row { option_copied result ≡ next_after self.now past }
+        ensures orderly { IsOrderly self.now }
+    {
+        if let Some(row) = self.maps.next_after(past) {
+            return Some(row);
+        }
+        match &self.newest {
+            Some(newest) if is_behind(past, newest.grant) => Some(newest),
             _ => None,
         }
     }

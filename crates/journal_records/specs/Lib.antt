@@ -1,4 +1,5 @@
 pub mod Effects
+pub mod Holding
 pub mod LastingPart
 pub mod Needs
 pub mod Reading

@@ -11,8 +11,6 @@ mod changes;
 mod fault;
 mod reading;
 mod record;
-#[cfg(test)]
-mod tests;
 mod writing;
 
 pub use change::Change;

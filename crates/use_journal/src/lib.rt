@@ -10,8 +10,6 @@
 mod journal;
 mod law;
 mod opening;
-#[cfg(test)]
-mod tests;
 
 pub use journal::Journal;
 pub use law::one_reading;

@@ -1,0 +1,133 @@
+-- What is held after a change and after a settling, over plain variables.
+use Rattle.std.proofs.Common.{◌≡◌, ◌⊎◌, inl, inr, ⊎_elim, ℕ, List, ◌∷◌, true, false, Some, refl, ap, ◌∙◌, subst}
+use Rattle.ks_outside.specs.declared.disk.Disk.{Ghosts}
+use Rattle.ks_outside.specs.Images.{AllImages, Passes}
+use Rattle.ks_outside.proofs.Joins.{passes_as}
+use Rattle.tags.specs.declared.settled.Settled.TheVariants.{Kept, Lost}
+use Rattle.journal_records.specs.declared.change.Change.{Change}
+use Rattle.journal_records.specs.LastingPart.{Lasting}
+use Rattle.journal_records.specs.Needs.{is_met}
+use Rattle.journal_records.specs.Effects.{after, lasting_of}
+use Rattle.journal_records.specs.Holding.{Holding, Sure, Unsure, changed_in, torn_in, settled_in}
+use Rattle.use_journal.specs.Journal.{IsJournal, IsBeforeOrAfter, AreChanges}
+use Rattle.use_journal.specs.Holding.{IsSettledOn, IsUnsettledOn}
+use Rattle.key_database.specs.Store.{StandsFor, MayBe, Between}
+use Rattle.key_database.specs.Stands.{IsSure, Holds, lasting, is_unsettled}
+use Rattle.key_database.specs.declared.database.KeyDatabase.{KeyDatabase}
+
+pub left_after : (past : List Change) (change : Change) (part : Lasting) → lasting_of past ≡ Some part → is_met part change ≡ true → lasting_of (change ∷ past) ≡ Some (after part change)
+left_after past change part left met = rw (left, met) refl
+
+before_stands : (past : List Change) (part : Lasting) (c : List ℕ) → AreChanges past → lasting_of past ≡ Some part → IsJournal past c → StandsFor part c
+before_stands past part c changes left j = record { past = past; changes = changes; journal = j; lasting = left }
+
+after_stands : (past : List Change) (change : Change) (part : Lasting) (c : List ℕ) → AreChanges (change ∷ past) → lasting_of past ≡ Some part → is_met part change ≡ true → IsJournal (change ∷ past) c → StandsFor (after part change) c
+after_stands past change part c changes left met j = record { past = change ∷ past; changes = changes; journal = j; lasting = left_after past change part left met }
+
+module _ {D : Type 0} (g : Ghosts D) (old new : KeyDatabase) (disk disk' : D) (change : Change) (idle : is_unsettled old ≡ false) (met : is_met (lasting old) change ≡ true) where
+  met_in : (part : Lasting) → IsSure g old disk part → is_met part change ≡ true
+  met_in part s = subst (λ p. is_met p change ≡ true) s.held met
+
+  pub holds_changed : (before : Holding) → Holds g old disk before
+      → ((past : List Change) → IsSettledOn g old.journal disk past → IsSettledOn g new.journal disk' (change ∷ past))
+      → lasting new ≡ after (lasting old) change → Holds g new disk' (changed_in change before)
+  holds_changed (Sure part) s appended made = record {
+    past = change ∷ s.past;
+    settled = appended s.past s.settled;
+    left = left_after s.past change part s.left (met_in part s);
+    held = made ∙ ap (λ p. after p change) s.held;
+  }
+  holds_changed (Unsure part later) s appended made = absurd (cc (s.unsettled.waits, idle))
+
+  pub holds_torn : (before : Holding) → Holds g old disk before
+      → ((past : List Change) → IsSettledOn g old.journal disk past → IsUnsettledOn g new.journal disk' past change)
+      → lasting new ≡ lasting old → new.pending ≡ Some change → Holds g new disk' (torn_in change before)
+  holds_torn (Sure part) s appended same pending = record {
+    past = s.past;
+    change = change;
+    unsettled = appended s.past s.settled;
+    left = s.left;
+    held = same ∙ s.held;
+    met = met_in part s;
+    after_it = refl;
+    pending = pending;
+  }
+  holds_torn (Unsure part later) s appended same pending = absurd (cc (s.unsettled.waits, idle))
+
+  pub holds_same : (before : Holding) → Holds g old disk before
+      → ((past : List Change) → IsSettledOn g old.journal disk past → IsSettledOn g new.journal disk' past)
+      → lasting new ≡ lasting old → Holds g new disk' before
+  holds_same (Sure part) s appended same = record { past = s.past; settled = appended s.past s.settled; left = s.left; held = same ∙ s.held }
+  holds_same (Unsure part later) s appended same = absurd (cc (s.unsettled.waits, idle))
+
+  sides : (part : Lasting) (s : IsSure g old disk part) (c : List ℕ) → AreChanges (change ∷ s.past) → IsBeforeOrAfter s.past change c → StandsFor part c ⊎ StandsFor (after part change) c
+  sides part s c changes held =
+      ⊎_elim (λ j. inl (before_stands s.past part c s.settled.changes s.left j)) (λ j. inr (after_stands s.past change part c changes s.left (met_in part s) j)) held
+
+  -- the moments of an append, where it went through, and where it is torn
+  pub passes_changed : (before : Holding) → Holds g old disk before
+      → ((past : List Change) → IsSettledOn g old.journal disk past → Passes g disk disk' (IsBeforeOrAfter past change))
+      → ((past : List Change) → IsSettledOn g old.journal disk past → IsSettledOn g new.journal disk' (change ∷ past))
+      → Passes g disk disk' (Between before (changed_in change before))
+  passes_changed (Sure part) s passes appended =
+      passes_as g disk disk' (IsBeforeOrAfter s.past change) (Between (Sure part) (changed_in change (Sure part))) (passes s.past s.settled)
+      (λ c held. sides part s c (appended s.past s.settled).changes held)
+  passes_changed (Unsure part later) s passes appended = absurd (cc (s.unsettled.waits, idle))
+
+  pub passes_torn : (before : Holding) → Holds g old disk before
+      → ((past : List Change) → IsSettledOn g old.journal disk past → Passes g disk disk' (IsBeforeOrAfter past change))
+      → ((past : List Change) → IsSettledOn g old.journal disk past → IsUnsettledOn g new.journal disk' past change)
+      → Passes g disk disk' (Between before (torn_in change before))
+  passes_torn (Sure part) s passes appended =
+      passes_as g disk disk' (IsBeforeOrAfter s.past change) (Between (Sure part) (torn_in change (Sure part))) (passes s.past s.settled)
+      (λ c held. inr (sides part s c (appended s.past s.settled).changes held))
+  passes_torn (Unsure part later) s passes appended = absurd (cc (s.unsettled.waits, idle))
+
+  -- over a disk that is sure to do nothing where it fails
+  pub nothing_done : (before : Holding) → Holds g old disk before
+      → ((past : List Change) → IsSettledOn g old.journal disk past → AllImages g disk' (IsJournal past))
+      → AllImages g disk' (MayBe before)
+  nothing_done (Sure part) s nothing = λ c image. before_stands s.past part c s.settled.changes s.left (nothing s.past s.settled c image)
+  nothing_done (Unsure part later) s nothing = absurd (cc (s.unsettled.waits, idle))
+
+module _ {D : Type 0} (g : Ghosts D) (old new : KeyDatabase) (disk disk' : D) (waits : is_unsettled old ≡ true) where
+  pub holds_kept : (before : Holding) → Holds g old disk before
+      → ((past : List Change) (change : Change) → IsUnsettledOn g old.journal disk past change → IsSettledOn g new.journal disk' (change ∷ past))
+      → ((change : Change) → old.pending ≡ Some change → lasting new ≡ after (lasting old) change) → Holds g new disk' (settled_in Kept before)
+  holds_kept (Sure part) s settles made = absurd (cc (s.settled.idle, waits))
+  holds_kept (Unsure part later) s settles made = record {
+    past = s.change ∷ s.past;
+    settled = settles s.past s.change s.unsettled;
+    left = left_after s.past s.change part s.left s.met ∙ ap (λ p. Some p) s.after_it;
+    held = made s.change s.pending ∙ ap (λ p. after p s.change) s.held ∙ s.after_it;
+  }
+
+  pub holds_lost : (before : Holding) → Holds g old disk before
+      → ((past : List Change) (change : Change) → IsUnsettledOn g old.journal disk past change → IsSettledOn g new.journal disk' past)
+      → lasting new ≡ lasting old → Holds g new disk' (settled_in Lost before)
+  holds_lost (Sure part) s settles same = absurd (cc (s.settled.idle, waits))
+  holds_lost (Unsure part later) s settles same = record { past = s.past; settled = settles s.past s.change s.unsettled; left = s.left; held = same ∙ s.held }
+
+  pub holds_waiting : (before : Holding) → Holds g old disk before
+      → ((past : List Change) (change : Change) → IsUnsettledOn g old.journal disk past change → IsUnsettledOn g new.journal disk' past change)
+      → lasting new ≡ lasting old → new.pending ≡ old.pending → Holds g new disk' before
+  holds_waiting (Sure part) s settles same pending = absurd (cc (s.settled.idle, waits))
+  holds_waiting (Unsure part later) s settles same pending = record {
+    past = s.past;
+    change = s.change;
+    unsettled = settles s.past s.change s.unsettled;
+    left = s.left;
+    held = same ∙ s.held;
+    met = s.met;
+    after_it = s.after_it;
+    pending = pending ∙ s.pending;
+  }
+
+  -- the moments of a settling
+  pub passes_settled : (before : Holding) → Holds g old disk before → Passes g disk disk' (g.images disk) → Passes g disk disk' (MayBe before)
+  passes_settled (Sure part) s passes = absurd (cc (s.settled.idle, waits))
+  passes_settled (Unsure part later) s passes =
+      passes_as g disk disk' (g.images disk) (MayBe (Unsure part later)) passes
+      (λ c image. ⊎_elim (λ j. inl (before_stands s.past part c s.unsettled.changes.1 s.left j))
+      (λ j. inr (subst (λ p. StandsFor p c) s.after_it (after_stands s.past s.change part c s.unsettled.changes s.left s.met j)))
+      (s.unsettled.images c image))

@@ -1,0 +1,9 @@
+pub mod First
+pub mod Held
+pub mod Lookups
+pub mod Maps
+pub mod Names
+pub mod Rows
+pub mod Stands
+pub mod Store
+pub mod Table

@@ -1,0 +1,100 @@
+-- When a database and a disk hold something.
+use Rattle.std.specs.Prelude.{◌≡◌, ◌≤◌, ℕ, List, ◌∷◌, ◌++◌, Bool, true, false, Some, Result, Ok, Err, length, ⊤}
+use Rattle.ks_outside.specs.declared.disk.Disk.{Ghosts}
+use Rattle.ks_outside.specs.Faults.{Rises}
+use Rattle.journal_records.specs.declared.change.Change.{Change}
+use Rattle.journal_records.specs.declared.fault.StoreFault.{StoreFault}
+use Rattle.journal_records.specs.declared.fault.StoreFault.TheVariants as faults
+use Rattle.journal_records.specs.LastingPart.{Lasting}
+use Rattle.journal_records.specs.Needs.{is_met}
+use Rattle.journal_records.specs.Effects.{after, lasting_of}
+use Rattle.journal_records.specs.Holding.{Holding, Sure, Unsure}
+use Rattle.journal_records.specs.Spelling.{closed_of}
+use Rattle.use_journal.specs.Journal.{past_of}
+use Rattle.use_journal.specs.Holding.{is_waiting, end_of, IsSettledOn, IsUnsettledOn}
+use Rattle.key_database.specs.declared.database.KeyDatabase.{KeyDatabase}
+use Rattle.key_database.specs.declared.part.Part.{Part}
+use Rattle.key_database.specs.Held.{part_of}
+use Rattle.key_database.specs.Store.{StandsFor, IsBadStore}
+
+-- the lasting part that its look-ups tell
+abbrev pub lasting : KeyDatabase → Lasting
+lasting database = part_of database.part
+
+-- whether a change waits to be settled
+abbrev pub is_unsettled : KeyDatabase → Bool
+is_unsettled database = is_waiting database.journal
+
+-- how many bytes the store's header and records have
+abbrev pub store_bytes : KeyDatabase → ℕ
+store_bytes database = end_of database.journal
+
+-- how many bytes of the store a change takes: its record and the byte behind it
+abbrev pub change_bytes : Change → ℕ
+change_bytes change = length (closed_of change)
+
+-- sure of this lasting part: each image is a journal of the same changes, which leave it
+pub record IsSure {D : Type 0} (g : Ghosts D) (database : KeyDatabase) (disk : D) (part : Lasting) : Type 0 where
+  pub past : List Change
+  pub settled : IsSettledOn g database.journal disk past
+  pub left : lasting_of past ≡ Some part
+  pub held : lasting database ≡ part
+
+-- a change waits: each image is a journal of the same changes, or of those and this one
+pub record IsUnsure {D : Type 0} (g : Ghosts D) (database : KeyDatabase) (disk : D) (part later : Lasting) : Type 0 where
+  pub past : List Change
+  pub change : Change
+  pub unsettled : IsUnsettledOn g database.journal disk past change
+  pub left : lasting_of past ≡ Some part
+  pub held : lasting database ≡ part
+  pub met : is_met part change ≡ true
+  pub after_it : after part change ≡ later
+  pub pending : database.pending ≡ Some change
+
+-- the database and the disk hold what is known
+abbrev pub Holds : {D : Type 0} → Ghosts D → KeyDatabase → D → Holding → Type 0
+Holds g database disk (Sure part) = IsSure g database disk part
+Holds g database disk (Unsure part later) = IsUnsure g database disk part later
+
+-- what an opening read of these bytes, by its answer
+abbrev pub ReadsStore : List ℕ → Result KeyDatabase StoreFault → Type 0
+ReadsStore image (Ok database) = StandsFor (lasting database) image
+ReadsStore image (Err faults.Device) = ⊤
+ReadsStore image (Err (faults.Corrupted offset)) = IsBadStore image offset
+ReadsStore image (Err faults.Full) = ⊥
+ReadsStore image (Err faults.Memory) = ⊤
+
+-- what an opening finds where the bytes stand for a lasting part
+abbrev pub FindsStore : Lasting → Result KeyDatabase StoreFault → Type 0
+FindsStore part (Ok database) = lasting database ≡ part
+FindsStore part (Err faults.Device) = ⊤
+FindsStore part (Err (faults.Corrupted offset)) = ⊥
+FindsStore part (Err faults.Full) = ⊥
+FindsStore part (Err faults.Memory) = ⊤
+
+-- a change of the list whose need is not met stands at this place, and the needs of those before it are met
+pub record IsUnmetAt (changes : List (ℕ × Change)) (offset : ℕ) : Type 0 where
+  pub front : List (ℕ × Change)
+  pub change : Change
+  pub rest : List (ℕ × Change)
+  pub is : changes ≡ front ++ (offset, change) ∷ rest
+  pub part : Lasting
+  pub left : lasting_of (past_of front) ≡ Some part
+  pub unmet : is_met part change ≡ false
+
+-- what the changes of a list leave, by the answer
+abbrev pub Replays : List (ℕ × Change) → Result Part StoreFault → Type 0
+Replays changes (Ok part) = lasting_of (past_of changes) ≡ Some (part_of part)
+Replays changes (Err faults.Device) = ⊥
+Replays changes (Err (faults.Corrupted offset)) = IsUnmetAt changes offset
+Replays changes (Err faults.Full) = ⊥
+Replays changes (Err faults.Memory) = ⊤
+
+-- What each answer of a change says of the disk's count of faults: Device comes where it rose, and any other where it
+-- stayed.
+abbrev pub ApplyCause : {T : Type 0} → ℕ → ℕ → Result T StoreFault → Type 0
+ApplyCause before now (Ok done) = now ≡ before
+ApplyCause before now (Err faults.Device) = (before ≤ now) × Rises before now
+ApplyCause before now (Err (faults.Corrupted offset)) = ⊥
+ApplyCause before now (Err faults.Full) = now ≡ before
+ApplyCause before now (Err faults.Memory) = now ≡ before

@@ -1,0 +1,147 @@
+//! The lasting part over a journal.
+
+ghost use Rattle.std.specs.Prelude.{◌≡◌, ◌⊎◌, ◌<◌, ◌≤◌, ◌+◌, ℕ, List, length, true, false, is_some, IsErrOf, IfSome, OnOk, OnErr, IfOk, is_err, not};
+ghost use Rattle.std.specs.Option.{ForSome};
+ghost use Rattle.ks_outside.specs.Images.{AllImages, Passes, tells};
+ghost use Rattle.journal_records.specs.declared.change.Change.{Change};
+ghost use Rattle.journal_records.specs.LastingPart.{Lasting, has_id, is_named, is_owned};
+ghost use Rattle.journal_records.specs.Needs.{is_met};
+ghost use Rattle.journal_records.specs.Effects.{after};
+ghost use Rattle.journal_records.specs.Holding.{Holding, Sure, after_apply, after_settle};
+ghost use Rattle.journal_records.specs.Spelling.{closed_of};
+ghost use Rattle.use_journal.specs.Holding.{is_waiting, waits_after, FormatCause, OpenCause};
+ghost use Rattle.key_database.specs.Held.{CanMake, takes_memory};
+ghost use Rattle.key_database.specs.Store.{MayBe, Between, StandsFor};
+
+use crate::appending::append_change;
+use crate::law::one_store;
+use crate::opening::replay;
+use crate::part::Part;
+use journal_records::{Change, StoreFault};
+use ks_outside::Disk;
+use std::alloc::Global;
+use tags::Settled;
+use use_journal::Journal;
+
+/// The keys and grants that last, and the journal that they lie in. While a change whose writing failed waits to be
+/// settled, also that change, with the room for it.
+#[derive(Drop)]
+pub struct KeyDatabase {
+    journal: Journal,
+    pub(crate) part: Part,
+    pending: Option<Change>,
+    ghost same: { is_waiting journal ≡ is_some pending },
+    ghost waits: { ForSome pending (λ change. CanMake part change) },
+}
+
+impl KeyDatabase {
+    ghost use Rattle.key_database.specs.Stands.{lasting, is_unsettled, store_bytes, change_bytes, Holds, ReadsStore, FindsStore, ApplyCause};
+
+    /// Syncs, reads the store that the disk holds, and tests the need of each change. Corrupted has the place of what
+    /// is wrong first: of what is no journal, and where it is one of the first change whose need is not met.
+    pub fn open<D: Disk>(alloc: Global, disk: &mut D) -> Result<KeyDatabase, StoreFault>
+        ensures holds { IfOk result (λ database. Holds D.Disk database disk.new (Sure (lasting database))) }
+        ensures reads { AllImages D.Disk disk.new (λ image. ReadsStore image result) }
+        ensures stands { (part : Lasting) → AllImages D.Disk disk.old (StandsFor part)
+            → tells D.Disk disk.old ≡ true → FindsStore part result }
+        ensures images { AllImages D.Disk disk.new (D.images disk.old) }
+        ensures passes { Passes D.Disk disk.old disk.new (D.images disk.old) }
+        ensures sure { D.is_sure disk.old → D.is_sure disk.new }
+        ensures telling { tells D.Disk disk.new ≡ tells D.Disk disk.old }
+        ensures cause { OpenCause (D.fault_count disk.old) (D.fault_count disk.new) result }
+    {
+        one_store();
+        match Journal::open(alloc, disk) {
+            Ok((journal, changes)) => match replay(alloc, changes) {
+                Ok(part) => Ok(KeyDatabase {
+                    journal,
+                    part,
+                    pending: None,
+                }),
+                Err(fault) => Err(fault),
+            },
+            Err(fault) => Err(fault),
+        }
+    }
+
+    /// Whether no change waits to be settled. It takes no memory.
+    pub fn is_settled(&self) -> bool
+        ensures { result ≡ not (is_unsettled self.now) }
+    {
+        self.journal.is_settled()
+    }
+
+    /// Makes a change on the disk, and then here. At each moment each image stands for the lasting part before, or for
+    /// that with the change.
+    ///
+    /// Memory comes before the first call of the disk, and only at a change that makes a key or a grant. Full comes
+    /// where the record and its closing byte would pass the journal's end, and no call is made then. After Device the
+    /// database is unsettled, and tells what it told before.
+    pub fn apply<D: Disk>(&mut self, disk: &mut D, change: Change) -> Result<(), StoreFault>
+        requires settled { is_unsettled self.old ≡ false }
+        requires met { is_met (lasting self.old) change ≡ true }
+        ensures holds { (before : Holding) → Holds D.Disk self.old disk.old before
+            → Holds D.Disk self.new disk.new (after_apply change result before) }
+        ensures passes { (before : Holding) → Holds D.Disk self.old disk.old before
+            → Passes D.Disk disk.old disk.new (Between before (after_apply change result before)) }
+        ensures nothing { (before : Holding) → Holds D.Disk self.old disk.old before → D.is_sure disk.old
+            → OnErr result (AllImages D.Disk disk.new (MayBe before)) }
+        ensures made { OnOk result (lasting self.new ≡ after (lasting self.old) change) }
+        ensures kept { OnErr result (lasting self.new ≡ lasting self.old) }
+        ensures waiting { is_unsettled self.new ≡ waits_after result }
+        ensures memory { IsErrOf result StoreFault.Memory → (takes_memory change ≡ true) × (disk.new ≡ disk.old) }
+        ensures full { IsErrOf result StoreFault.Full
+            → (268435456 < store_bytes self.old + change_bytes change) × (disk.new ≡ disk.old) }
+        ensures past { 268435456 < store_bytes self.old + change_bytes change
+            → IsErrOf result StoreFault.Full ⊎ IsErrOf result StoreFault.Memory }
+        ensures sure { D.is_sure disk.old → D.is_sure disk.new }
+        ensures telling { tells D.Disk disk.new ≡ tells D.Disk disk.old }
+        ensures cause { ApplyCause (D.fault_count disk.old) (D.fault_count disk.new) result }
+    {
+        let Ok(()) = self.part.reserve(&change) else {
+            return Err(StoreFault::Memory);
+        };
+        match append_change(&mut self.journal, disk, &change) {
+            Ok(()) => {
+                self.part.make(change);
+                Ok(())
+            }
+            Err(StoreFault::Device) => {
+                self.pending = Some(change);
+                Err(StoreFault::Device)
+            }
+            Err(StoreFault::Full) => Err(StoreFault::Full),
+            Err(_) => unreachable!(),
+        }
+    }
+
+    /// Finds out what became of a change that waits, and makes it here where the disk has it. Device alone is its
+    /// refusal, and the database stays unsettled then. It takes no memory.
+    pub fn settle<D: Disk>(&mut self, disk: &mut D) -> Result<Settled, StoreFault>
+        requires { is_unsettled self.old ≡ true }
+        ensures holds { (before : Holding) → Holds D.Disk self.old disk.old before
+            → Holds D.Disk self.new disk.new (after_settle result before) }
+        ensures passes { (before : Holding) → Holds D.Disk self.old disk.old before
+            → Passes D.Disk disk.old disk.new (MayBe before) }
+        ensures images { AllImages D.Disk disk.new (D.images disk.old) }
+        ensures kept { OnErr result (lasting self.new ≡ lasting self.old) }
+        ensures waiting { is_unsettled self.new ≡ is_err result }
+        ensures sure { D.is_sure disk.old → D.is_sure disk.new }
+        ensures telling { tells D.Disk disk.new ≡ tells D.Disk disk.old }
+        ensures cause { FormatCause (D.fault_count disk.old) (D.fault_count disk.new) result }
+    {
+        match self.journal.settle(disk) {
+            Ok(Settled::Kept) => {
+                if let Some(change) = self.pending.take() {
+                    self.part.make(change);
+                }
+                Ok(Settled::Kept)
+            }
+            Ok(Settled::Lost) => {
+                self.pending = None;
+                Ok(Settled::Lost)
+            }
+            Err(_) => Err(StoreFault::Device),
+        }
+    }
+}

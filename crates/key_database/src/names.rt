@@ -1,0 +1,42 @@
+//! Names of keys, as keys of an ordered map.
+
+ghost use Rattle.std.specs.Prelude.{◌≡◌, ◌≤◌, ◌++◌, length, drop};
+ghost use Rattle.key_database.specs.Names as spec;
+
+/// The owner of a key: its domain, and its uid or namespace.
+pub(crate) type Owner = (u8, u64);
+
+/// An alias with zeros behind it, and its length in bytes.
+pub(crate) type Padded = ([u8; 256], u16);
+
+/// An owner and an alias.
+pub(crate) type Name = (Owner, Padded);
+
+/// How many bytes an alias has at most.
+pub(crate) const ALIAS_BYTES: usize = 256;
+
+/// The bytes, with zeros behind them.
+fn padded(alias: &[u8]) -> [u8; 256]
+    requires { length alias.now ≤ 256 }
+    ensures { result ≡ spec.padded 256 alias.now }
+{
+    let mut bytes = [0; 256];
+    put_front(&mut bytes, alias);
+    bytes
+}
+
+/// Writes bytes over the front.
+fn put_front(out: &mut [u8], bytes: &[u8])
+    requires { length bytes.now ≤ length out.old }
+    ensures { out.new ≡ bytes.now ++ drop (length bytes.now) out.old }
+{
+    out[..bytes.len()].copy_from_slice(bytes);
+}
+
+/// The name of an owner's key of this alias.
+pub(crate) fn name_of(domain: u8, nspace: u64, alias: &[u8]) -> Name
+    requires { length alias.now ≤ 256 }
+    ensures { result ≡ spec.name_of domain nspace alias.now }
+{
+    ((domain, nspace), (padded(alias), alias.len() as u16))
+}

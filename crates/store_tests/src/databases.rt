@@ -1,0 +1,558 @@
+use disk_model::{MemoryDisk, Room};
+use grants::GrantRow;
+use journal_records::{Change, StoreFault};
+use key_database::KeyDatabase;
+use key_domains::Permissions;
+use ks_outside::write_synced;
+use std::alloc::{AllocError, Global};
+use tags::{Bytes, Settled};
+use use_journal::Journal;
+
+/// Room for the tests.
+const ROOM: Room = Room {
+    calls: 128,
+    bytes: 16_384,
+    pages: 4,
+};
+
+/// Records, each without a closing byte: key 1, alias `m`, of uid 10001, with two uses; key 2, alias `n`, of the same
+/// uid, without a limit; grant 1 of key 1 to uid 10002; a use of key 1.
+const KEY: &[u8] =
+    b"\x4b\x00\x00\x00\x28\x01\x00\x00\x00\x00\x00\x00\x00\x01\x00\x00\x00\x00\x00\x00\x00\x27\x11\
+\x00\x00\x00\x01m\x00\x00\x00\x03\xaa\xbb\xcc\x00\x00\x00\x02\x00\x00\x00\x00\x00\x02";
+
+const OTHER_KEY: &[u8] =
+    b"\x4b\x00\x00\x00\x28\x01\x00\x00\x00\x00\x00\x00\x00\x02\x00\x00\x00\x00\x00\x00\x00\x27\x11\
+\x00\x00\x00\x01n\x00\x00\x00\x03\xaa\xbb\xcc\x00\x00\x00\x02\x00\x00\x00\x00\x00\x00";
+
+const GRANT: &[u8] =
+    b"\x4b\x00\x00\x00\x19\x04\x00\x00\x00\x00\x00\x00\x00\x01\x00\x00\x00\x00\x00\x00\x00\x01\
+\x00\x00\x27\x12\x00\x00\x01\x00";
+
+const USE: &[u8] = b"\x4b\x00\x00\x00\x09\x03\x00\x00\x00\x00\x00\x00\x00\x01";
+
+/// Stores by their records, and the offset of the gate whose record's need is not met, or none. The gates behind a key
+/// stand at 53, and behind a grant of it at 83.
+static STORES: [(&[&[u8]], Option<u64>); 24] = [
+    (&[], None),
+    (&[KEY, GRANT, USE, USE], None),
+    (&[KEY, OTHER_KEY, GRANT, USE], None),
+    // a new key: another number than the next, also that of a live key
+    (&[OTHER_KEY], Some(8)),
+    (&[KEY, KEY], Some(53)),
+    // domain 1; an app of 33 bits
+    (
+        &[
+            b"\x4b\x00\x00\x00\x28\x01\x00\x00\x00\x00\x00\x00\x00\x01\x01\x00\x00\x00\x00\x00\x00\x27\x11\
+\x00\x00\x00\x01m\x00\x00\x00\x03\xaa\xbb\xcc\x00\x00\x00\x02\x00\x00\x00\x00\x00\x02",
+        ],
+        Some(8),
+    ),
+    (
+        &[
+            b"\x4b\x00\x00\x00\x28\x01\x00\x00\x00\x00\x00\x00\x00\x01\x00\x00\x00\x00\x01\x00\x00\x00\x00\
+\x00\x00\x00\x01m\x00\x00\x00\x03\xaa\xbb\xcc\x00\x00\x00\x02\x00\x00\x00\x00\x00\x02",
+        ],
+        Some(8),
+    ),
+    // the same number as a namespace
+    (
+        &[
+            b"\x4b\x00\x00\x00\x28\x01\x00\x00\x00\x00\x00\x00\x00\x01\x02\x00\x00\x00\x01\x00\x00\x00\x00\
+\x00\x00\x00\x01m\x00\x00\x00\x03\xaa\xbb\xcc\x00\x00\x00\x02\x00\x00\x00\x00\x00\x02",
+        ],
+        None,
+    ),
+    // no alias; one that is no UTF-8
+    (
+        &[
+            b"\x4b\x00\x00\x00\x27\x01\x00\x00\x00\x00\x00\x00\x00\x01\x00\x00\x00\x00\x00\x00\x00\x27\x11\
+\x00\x00\x00\x00\x00\x00\x00\x03\xaa\xbb\xcc\x00\x00\x00\x02\x00\x00\x00\x00\x00\x02",
+        ],
+        Some(8),
+    ),
+    (
+        &[
+            b"\x4b\x00\x00\x00\x28\x01\x00\x00\x00\x00\x00\x00\x00\x01\x00\x00\x00\x00\x00\x00\x00\x27\x11\
+\x00\x00\x00\x01\xff\x00\x00\x00\x03\xaa\xbb\xcc\x00\x00\x00\x02\x00\x00\x00\x00\x00\x02",
+        ],
+        Some(8),
+    ),
+    // the end of a key that is not there
+    (
+        &[
+            KEY,
+            b"\x4b\x00\x00\x00\x09\x02\x00\x00\x00\x00\x00\x00\x00\x02",
+        ],
+        Some(53),
+    ),
+    // a use of a key that is not there, of one that is used up, and of one without a limit
+    (&[USE], Some(8)),
+    (&[KEY, USE, USE, USE], Some(81)),
+    (
+        &[
+            KEY,
+            OTHER_KEY,
+            b"\x4b\x00\x00\x00\x09\x03\x00\x00\x00\x00\x00\x00\x00\x02",
+        ],
+        Some(98),
+    ),
+    // a grant of a key that is not there; a number ahead; another number than the grant has
+    (&[GRANT], Some(8)),
+    (
+        &[
+            KEY,
+            b"\x4b\x00\x00\x00\x19\x04\x00\x00\x00\x00\x00\x00\x00\x02\x00\x00\x00\x00\x00\x00\x00\x01\
+\x00\x00\x27\x12\x00\x00\x01\x00",
+        ],
+        Some(53),
+    ),
+    (
+        &[
+            KEY,
+            GRANT,
+            b"\x4b\x00\x00\x00\x19\x04\x00\x00\x00\x00\x00\x00\x00\x02\x00\x00\x00\x00\x00\x00\x00\x01\
+\x00\x00\x27\x12\x00\x00\x01\x04",
+        ],
+        Some(83),
+    ),
+    (&[KEY, GRANT, GRANT], None),
+    // the end of a grant that is not there
+    (
+        &[
+            KEY,
+            b"\x4b\x00\x00\x00\x09\x05\x00\x00\x00\x00\x00\x00\x00\x01",
+        ],
+        Some(53),
+    ),
+    // all keys of domain 1; all of user 42950, and of user 42949
+    (
+        &[b"\x4b\x00\x00\x00\x0a\x06\x01\x00\x00\x00\x00\x00\x00\x27\x11"],
+        Some(8),
+    ),
+    (&[b"\x4b\x00\x00\x00\x05\x07\x00\x00\xa7\xc6"], Some(8)),
+    (&[b"\x4b\x00\x00\x00\x05\x07\x00\x00\xa7\xc5"], None),
+    // a grant of a key that ended with its last use
+    (&[KEY, USE, USE, GRANT], Some(81)),
+    // of two faults that which is no need, though it stands behind
+    (&[USE, b"\x4b\x00\x00\x00\x05\x08"], Some(22)),
+];
+
+/// Writes pieces behind one another, and answers where they end.
+fn write_all(disk: &mut MemoryDisk, pieces: &[&[u8]]) -> Option<u64> {
+    let mut at: u64 = 0;
+    for piece in pieces {
+        let Ok(()) = write_synced(disk, at, piece) else {
+            return None;
+        };
+        at = at.checked_add(piece.len() as u64)?;
+    }
+    Some(at)
+}
+
+/// A disk with a store of these records.
+fn disk_of(alloc: Global, records: &[&[u8]]) -> Option<MemoryDisk<'static>> {
+    let Ok(mut disk) = MemoryDisk::with_room(alloc, ROOM, &[]) else {
+        return None;
+    };
+    let mut at: u64 = 8;
+    write_all(&mut disk, &[b"KSJRNL01".as_slice()])?;
+    for record in records {
+        let Ok(()) = write_synced(&mut disk, at, record) else {
+            return None;
+        };
+        at = at.checked_add(record.len() as u64)?;
+    }
+    let Ok(()) = write_synced(&mut disk, at, b"\0") else {
+        return None;
+    };
+    Some(disk)
+}
+
+/// The offset at which a store is refused: `Some(None)` where it opens, and `None` where anything else comes.
+fn refused_at(alloc: Global, records: &[&[u8]]) -> Option<Option<u64>> {
+    let mut disk = disk_of(alloc, records)?;
+    match KeyDatabase::open(alloc, &mut disk) {
+        Ok(_) => Some(None),
+        Err(StoreFault::Corrupted { offset }) => Some(Some(offset)),
+        Err(_) => None,
+    }
+}
+
+#[test]
+fn each_need_that_is_not_met_is_refused_at_its_gate(rt: HostRuntime) {
+    for (records, wrong) in &STORES {
+        assert_eq!(rt; refused_at(rt.alloc(), records), Some(*wrong));
+    }
+}
+
+/// A change that is made, with the number that a new key or grant takes left to the database.
+#[derive(Drop)]
+enum Step {
+    Create {
+        domain: u8,
+        nspace: u64,
+        alias: &'static [u8],
+        limit: u32,
+    },
+    Delete {
+        id: u64,
+    },
+    Use {
+        id: u64,
+    },
+    Grant {
+        key: u64,
+        uid: u32,
+    },
+    Ungrant {
+        grant: u64,
+    },
+    Clear {
+        domain: u8,
+        nspace: u64,
+    },
+    Removed {
+        user: u32,
+    },
+}
+
+/// The change of a step.
+fn change_of(alloc: Global, step: &Step, next: (u64, u64)) -> Result<Change, AllocError> {
+    let change = match step {
+        Step::Create {
+            domain,
+            nspace,
+            alias,
+            limit,
+        } => Change::Create {
+            id: next.0,
+            domain: *domain,
+            nspace: *nspace,
+            alias: copied(alloc, alias)?,
+            blob: copied(alloc, b"\xaa")?,
+            list: copied(alloc, b"\0\0")?,
+            limit: *limit,
+        },
+        Step::Delete { id } => Change::Delete { id: *id },
+        Step::Use { id } => Change::Use { id: *id },
+        Step::Grant { key, uid } => Change::Grant {
+            row: GrantRow {
+                grant: next.1,
+                key: *key,
+                uid: *uid,
+                bits: Permissions::of_bits(256),
+            },
+        },
+        Step::Ungrant { grant } => Change::Ungrant { grant: *grant },
+        Step::Clear { domain, nspace } => Change::Clear {
+            domain: *domain,
+            nspace: *nspace,
+        },
+        Step::Removed { user } => Change::Removed { user: *user },
+    };
+    Ok(change)
+}
+
+fn copied(alloc: Global, bytes: &[u8]) -> Result<Bytes, AllocError> {
+    match Bytes::copy_of(alloc, bytes) {
+        Ok(bytes) => Ok(bytes),
+        Err(_) => Err(AllocError),
+    }
+}
+
+/// A disk with an empty store, and its database.
+fn fresh<'a>(
+    alloc: Global,
+    failing: &'a [u64],
+) -> Result<(MemoryDisk<'a>, KeyDatabase), StoreFault> {
+    let Ok(mut disk) = MemoryDisk::with_room(alloc, ROOM, failing) else {
+        return Err(StoreFault::Memory);
+    };
+    Journal::format(&mut disk)?;
+    let database = KeyDatabase::open(alloc, &mut disk)?;
+    Ok((disk, database))
+}
+
+/// Makes a step; one whose need is not met, or at a database that waits, is answered with Memory.
+fn make(
+    alloc: Global,
+    database: &mut KeyDatabase,
+    disk: &mut MemoryDisk,
+    step: &Step,
+) -> Result<(), StoreFault> {
+    let Ok(change) = change_of(alloc, step, database.next_numbers()) else {
+        return Err(StoreFault::Memory);
+    };
+    if !database.is_settled() || !database.meets(&change) {
+        return Err(StoreFault::Memory);
+    }
+    database.apply(disk, change)
+}
+
+/// What a database tells: how many keys uid 10001 and namespace 10001 have, how many grants there are, and the next
+/// numbers.
+fn told(database: &KeyDatabase) -> ((u64, u64), usize, (u64, u64)) {
+    (
+        (database.count(0, 10_001), database.count(2, 10_001)),
+        database.grants().len(),
+        database.next_numbers(),
+    )
+}
+
+/// A key of an app, with an alias of one letter.
+fn app_key(nspace: u64, alias: &'static [u8], limit: u32) -> Step {
+    Step::Create {
+        domain: 0,
+        nspace,
+        alias,
+        limit,
+    }
+}
+
+/// Steps, and what is told after each.
+static STEPS: [(Step, ((u64, u64), usize, (u64, u64))); 22] = [
+    (
+        Step::Create {
+            domain: 0,
+            nspace: 10_001,
+            alias: b"m",
+            limit: 0,
+        },
+        ((1, 0), 0, (2, 1)),
+    ),
+    (
+        Step::Grant {
+            key: 1,
+            uid: 10_002,
+        },
+        ((1, 0), 1, (2, 2)),
+    ),
+    // a rebinding ends the key and its grant
+    (
+        Step::Create {
+            domain: 0,
+            nspace: 10_001,
+            alias: b"m",
+            limit: 0,
+        },
+        ((1, 0), 0, (3, 2)),
+    ),
+    (
+        Step::Grant {
+            key: 2,
+            uid: 10_002,
+        },
+        ((1, 0), 1, (3, 3)),
+    ),
+    (
+        Step::Grant {
+            key: 2,
+            uid: 10_003,
+        },
+        ((1, 0), 2, (3, 4)),
+    ),
+    // and so does a last use
+    (
+        Step::Create {
+            domain: 0,
+            nspace: 10_001,
+            alias: b"n",
+            limit: 2,
+        },
+        ((2, 0), 2, (4, 4)),
+    ),
+    (
+        Step::Grant {
+            key: 3,
+            uid: 10_002,
+        },
+        ((2, 0), 3, (4, 5)),
+    ),
+    (Step::Use { id: 3 }, ((2, 0), 3, (4, 5))),
+    (Step::Use { id: 3 }, ((1, 0), 2, (4, 5))),
+    // a namespace of the same number is another owner
+    (
+        Step::Create {
+            domain: 2,
+            nspace: 10_001,
+            alias: b"m",
+            limit: 0,
+        },
+        ((1, 1), 2, (5, 5)),
+    ),
+    (
+        Step::Grant {
+            key: 4,
+            uid: 10_002,
+        },
+        ((1, 1), 3, (5, 6)),
+    ),
+    (
+        Step::Clear {
+            domain: 0,
+            nspace: 10_001,
+        },
+        ((0, 1), 1, (5, 6)),
+    ),
+    // a user's keys, and not those of the next user, nor a namespace's
+    (
+        Step::Create {
+            domain: 0,
+            nspace: 100_000,
+            alias: b"m",
+            limit: 0,
+        },
+        ((0, 1), 1, (6, 6)),
+    ),
+    (
+        Step::Create {
+            domain: 0,
+            nspace: 99_999,
+            alias: b"m",
+            limit: 0,
+        },
+        ((0, 1), 1, (7, 6)),
+    ),
+    (
+        Step::Create {
+            domain: 0,
+            nspace: 10_001,
+            alias: b"o",
+            limit: 0,
+        },
+        ((1, 1), 1, (8, 6)),
+    ),
+    (
+        Step::Grant {
+            key: 5,
+            uid: 10_002,
+        },
+        ((1, 1), 2, (8, 7)),
+    ),
+    (
+        Step::Grant {
+            key: 6,
+            uid: 10_002,
+        },
+        ((1, 1), 3, (8, 8)),
+    ),
+    (Step::Removed { user: 0 }, ((0, 1), 2, (8, 8))),
+    (Step::Removed { user: 1 }, ((0, 1), 1, (8, 8))),
+    // one grant, and then its key
+    (
+        Step::Grant {
+            key: 4,
+            uid: 10_003,
+        },
+        ((0, 1), 2, (8, 9)),
+    ),
+    (Step::Ungrant { grant: 5 }, ((0, 1), 1, (8, 9))),
+    (Step::Delete { id: 4 }, ((0, 0), 0, (8, 9))),
+];
+
+#[test]
+fn what_a_key_ends_with_it(rt: HostRuntime) {
+    let alloc = rt.alloc();
+    let Ok((mut disk, mut database)) = fresh(alloc, &[]) else {
+        return;
+    };
+    for (step, wanted) in &STEPS {
+        assert_eq!(rt; make(alloc, &mut database, &mut disk, step), Ok(()));
+        assert_eq!(rt; told(&database), *wanted);
+        assert_eq!(rt; told_anew(alloc, &mut disk), Ok(*wanted));
+    }
+}
+
+/// What a database tells that is opened anew.
+fn told_anew(
+    alloc: Global,
+    disk: &mut MemoryDisk,
+) -> Result<((u64, u64), usize, (u64, u64)), StoreFault> {
+    let database = KeyDatabase::open(alloc, disk)?;
+    Ok(told(&database))
+}
+
+/// Where the calls 6 to 9 make a key, each fails in turn.
+static FAULTS: [(&[u64], Settled); 4] = [
+    (&[6], Settled::Lost),
+    (&[7], Settled::Lost),
+    (&[8], Settled::Lost),
+    (&[9], Settled::Kept),
+];
+
+/// What is told after a failed call, how it settles, and what is told then, here and opened anew.
+fn faulted(
+    alloc: Global,
+    failing: &[u64],
+) -> Result<(bool, Settled, (u64, u64), (u64, u64)), StoreFault> {
+    let (mut disk, mut database) = fresh(alloc, failing)?;
+    let refused = make(alloc, &mut database, &mut disk, &app_key(10_001, b"m", 0));
+    let before = refused == Err(StoreFault::Device) && told(&database).0 == (0, 0);
+    if database.is_settled() {
+        return Err(StoreFault::Memory);
+    }
+    let settled = database.settle(&mut disk)?;
+    Ok((
+        before,
+        settled,
+        told(&database).0,
+        told_anew(alloc, &mut disk)?.0,
+    ))
+}
+
+#[test]
+fn each_call_of_a_change_fails(rt: HostRuntime) {
+    for (failing, settled) in &FAULTS {
+        let count = match settled {
+            Settled::Kept => 1,
+            Settled::Lost => 0,
+        };
+        assert_eq!(rt;
+            faulted(rt.alloc(), failing),
+            Ok((true, *settled, (count, 0), (count, 0)))
+        );
+    }
+}
+
+/// Aliases, in the order in which they are made.
+static ALIASES: [&[u8]; 6] = [b"b", b"\xc3\xa9", b"ab", b"a\0", b"a", b"a\0b"];
+
+/// An alias, and the next one of the owner.
+static NEXT: [(Option<&[u8]>, Option<&[u8]>); 9] = [
+    (None, Some(b"a")),
+    (Some(b""), Some(b"a")),
+    (Some(b"a"), Some(b"a\0")),
+    (Some(b"a\0"), Some(b"a\0b")),
+    (Some(b"a\0b"), Some(b"ab")),
+    (Some(b"aa"), Some(b"ab")),
+    (Some(b"ab"), Some(b"b")),
+    (Some(b"b"), Some(b"\xc3\xa9")),
+    (Some(b"\xc3\xa9"), None),
+];
+
+#[test]
+fn the_next_alias_of_an_owner(rt: HostRuntime) {
+    let alloc = rt.alloc();
+    let Ok((mut disk, mut database)) = fresh(alloc, &[]) else {
+        return;
+    };
+    for alias in &ALIASES {
+        assert_eq!(rt;
+            make(alloc, &mut database, &mut disk, &app_key(10_001, alias, 0)),
+            Ok(())
+        );
+        // of the owners on both sides
+        assert_eq!(rt;
+            make(alloc, &mut database, &mut disk, &app_key(10_000, alias, 0)),
+            Ok(())
+        );
+    }
+    for (past, next) in &NEXT {
+        let found = match database.next_name(0, 10_001, *past) {
+            Some(key) => Some(key.alias.as_slice()),
+            None => None,
+        };
+        assert_eq!(rt; found, *next);
+    }
+}

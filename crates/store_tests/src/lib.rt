@@ -1,0 +1,12 @@
+//! The tests of the store, from the disks in memory up to the database, in one crate above them all, so that none of
+//! those crates is proved a second time.
+#![tactic(auto)]
+
+#[cfg(test)]
+mod databases;
+#[cfg(test)]
+mod disks;
+#[cfg(test)]
+mod journals;
+#[cfg(test)]
+mod records;

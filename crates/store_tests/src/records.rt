@@ -1,0 +1,109 @@
+ghost use Rattle.journal_records.specs.Worked.{WorkedExamples};
+
+use journal_records::{Change, RecordFault, frame, frame_into, framed_length, parse};
+use std::alloc::Global;
+use std::test::Fail;
+
+/// A record of each kind, as `tools/read_store.py --records` spells it.
+static RECORDS: [&[u8]; 7] = [
+    b"\x4b\x00\x00\x00\x36\x01\xd1\xfb\xaf\x7f\x72\x8d\x2e\xae\xae\x16\xdf\x9d\x6a\xc7\x6b\xd3\x22\
+\x00\x00\x00\x06\x11\x74\x2b\x44\x58\xc8\x00\x00\x00\x08\x43\xaf\xd8\x48\xed\xb6\xf8\xdd\
+\x00\x00\x00\x06\x61\x59\xbd\xae\x4d\x92\x2a\x5a\x9f\xa2",
+    b"\x4b\x00\x00\x00\x09\x02\xf1\x23\x6f\x67\x3e\x07\x8c\x15",
+    b"\x4b\x00\x00\x00\x09\x03\xa2\x81\x34\x81\x15\xa1\x2b\xd7",
+    b"\x4b\x00\x00\x00\x19\x04\x96\x38\x2c\x28\x41\xa3\x0a\x71\x2e\x72\x5c\x42\x6b\x79\x3e\
+\xba\x1b\x1c\x31\x98\x8d\xbf\x98\xaa",
+    b"\x4b\x00\x00\x00\x09\x05\x00\x12\xf5\x6e\xcd\x0f\x27\x48",
+    b"\x4b\x00\x00\x00\x0a\x06\x7d\xd1\xf1\xe9\x40\x7b\x98\x80\x8c",
+    b"\x4b\x00\x00\x00\x05\x07\xe2\xfe\x43\xf5",
+];
+
+/// Bytes that are no record: cut, of no kind, with a body that is too long or too short for its fields, with a shut
+/// gate, with more behind.
+static NO_RECORDS: [&[u8]; 9] = [
+    b"",
+    b"\x4b",
+    b"\x4b\x00\x00\x00\x00",
+    b"\x4b\x00\x00\x00\x01\x00",
+    b"\x4b\x00\x00\x00\x05\x08\x00\x00\x00\x00",
+    b"\x4b\x00\x00\x00\x06\x07\x00\x00\x00\x00\x00",
+    b"\x4b\x00\x00\x00\x04\x07\x00\x00\x00",
+    b"\x00\x00\x00\x00\x05\x07\x00\x00\x00\x00",
+    b"\x4b\x00\x00\x00\x05\x07\x00\x00\x00\x00\x00",
+];
+
+/// Whether the record is read, and written so again with a byte 00 behind it and nothing more.
+fn is_read_and_written(alloc: Global, record: &[u8]) -> bool {
+    let Ok(change) = parse(alloc, record) else {
+        return false;
+    };
+    let mut out = [9; 80];
+    if framed_length(&change) > out.len() {
+        return false;
+    }
+    let end = frame_into(&change, &mut out);
+    let Ok(framed) = frame(alloc, &change) else {
+        return false;
+    };
+    framed.as_slice() == record
+        && out.starts_with(record)
+        && out.get(end - 1) == Some(&0)
+        && out.get(end) == Some(&9)
+        && end == record.len() + 1
+}
+
+#[test]
+fn records_of_each_kind(rt: HostRuntime) {
+    for record in &RECORDS {
+        assert!(rt; is_read_and_written(rt.alloc(), record));
+        assert!(rt; parse(rt.alloc(), &record[..record.len() - 1]).is_err());
+    }
+    for bytes in &NO_RECORDS {
+        assert!(rt; matches!(parse(rt.alloc(), bytes), Err(RecordFault::Bad)));
+    }
+}
+
+#[test]
+fn the_fields_of_a_new_key(rt: HostRuntime) -> Result<(), Fail> {
+    let Ok(
+        Change::Create {
+            id,
+            domain,
+            nspace,
+            alias,
+            blob,
+            list,
+            limit,
+        },
+    ) = parse(rt.alloc(), RECORDS[0])
+    else {
+        return Err("no new key".into());
+    };
+    assert_eq!(rt;
+        (id, domain, nspace, limit),
+        (
+            0xd1fb_af7f_728d_2eae,
+            0xae,
+            0x16df_9d6a_c76b_d322,
+            0x2a5a_9fa2
+        )
+    );
+    assert_eq!(rt; alias.as_slice(), b"\x11\x74\x2b\x44\x58\xc8".as_slice());
+    assert_eq!(rt;
+        blob.as_slice(),
+        b"\x43\xaf\xd8\x48\xed\xb6\xf8\xdd".as_slice()
+    );
+    assert_eq!(rt; list.as_slice(), b"\x61\x59\xbd\xae\x4d\x92".as_slice());
+    Ok(())
+}
+
+/// What a few changes leave of the lasting part, by its definitions.
+fn worked_examples()
+    ensures { WorkedExamples }
+{}
+
+// The examples are proved; the call is here so that they are.
+#[test]
+fn what_a_few_changes_leave() {
+    worked_examples();
+}
