@@ -16,6 +16,7 @@ use Rattle.aes_core.specs.Laws.XorSums.{interchange, same_sums}
 use Rattle.aes_core.specs.Laws.XorSums.Sum.{None_of, Term, Both}
 use Rattle.aes_wide.specs.Steps.{turned, constant}
 use Rattle.aes_wide.specs.Single.{towered}
+use Rattle.aes_wide.proofs.Standing.{sub_shifted}
 use Rattle.aes_wide.proofs.StepLemmas.{same_states}
 
 pub row_block : (xs : List ℕ) → length xs ≡ 16 → Each1 (Fits w8) xs → IsBlock xs
@@ -129,10 +130,6 @@ map_towered s long = ap (map to_tower) (block_is s long)
 pub shifted_towered : (s : List ℕ) → shift_rows (towered s) ≡ towered (shift_rows s)
 unfolding shift_rows towered state_of
 shifted_towered s = refl
-
-sub_shifted : (s : List ℕ) → sub_bytes (shift_rows s) ≡ shift_rows (sub_bytes s)
-unfolding shift_rows sub_bytes state_of
-sub_shifted s = refl
 
 abbrev once_block : List ℕ → List ℕ
 once_block x = state_of (λ r c. to_tower (boxed (byte_at x r c)))
