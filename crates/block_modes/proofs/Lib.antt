@@ -1,3 +1,4 @@
+pub mod Halves
 pub mod XorLemmas
 pub mod PieceLemmas
 pub mod StepLemmas

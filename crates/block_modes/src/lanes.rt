@@ -1,6 +1,7 @@
 //! What a mode makes of many blocks, most of them by one call of the cipher.
 
-ghost use Rattle.std.specs.Prelude.{◌≡◌, true, false, length};
+ghost use Rattle.std.specs.Prelude.{◌≡◌, ◌+◌, ◌*◌, ◌^◌, true, false, length};
+ghost use Rattle.std.specs.Int.{w128, to_be_bytes};
 ghost use Rattle.tags.specs.declared.plan.Plan.TheVariants.{Cbc};
 ghost use Rattle.std.specs.Simd.Lanes.{zip2};
 ghost use Rattle.block_modes.specs.Texts.{xor_bytes};
@@ -32,7 +33,19 @@ fn seal_chain<C: ManyBlocks>(
     before.to_array()
 }
 
-/// Puts the counter blocks from `first` on, and gives the one behind them.
+/// The bytes of a number of two halves, the highest first.
+#[inline(always)]
+fn spelled(high: u64, low: u64) -> [u8; 16]
+    ensures { result ≡ to_be_bytes w128 (high * 2 ^ 64 + low) }
+{
+    let mut block = [0; 16];
+    block[..8].copy_from_slice(&high.to_be_bytes());
+    block[8..].copy_from_slice(&low.to_be_bytes());
+    block
+}
+
+/// Puts the counter blocks from `first` on, and gives the one behind them. A number is kept in two halves, each of which is
+/// turned about in one step.
 fn put_counters(first: [u8; 16], out: &mut [[u8; 16]]) -> [u8; 16]
     ensures blocks { out.new ≡ counter_blocks (length out.old) first }
     ensures next { result ≡ counter_after (length out.old) first }
@@ -41,12 +54,17 @@ fn put_counters(first: [u8; 16], out: &mut [[u8; 16]]) -> [u8; 16]
         return first;
     }
     out[0] = first;
-    let mut number = u128::from_be_bytes(first).wrapping_add(1);
+    let number = u128::from_be_bytes(first).wrapping_add(1);
+    let mut high = (number >> 64) as u64;
+    let mut low = (number % (1 << 64)) as u64;
     'each: for i in 1..out.len() {
-        out[i] = number.to_be_bytes();
-        number = number.wrapping_add(1);
+        out[i] = spelled(high, low);
+        low = low.wrapping_add(1);
+        if low == 0 {
+            high = high.wrapping_add(1);
+        }
     }
-    number.to_be_bytes()
+    spelled(high, low)
 }
 
 /// Adds a key stream to texts: each block of it becomes its sum with the text.
