@@ -33,15 +33,14 @@ fn seal_chain<C: ManyBlocks>(
     before.to_array()
 }
 
-/// The bytes of a number of two halves, the highest first.
+/// Puts the bytes of a number of two halves, the highest first. Each half is stored by itself, since a vector that is read
+/// back from two stores waits for both.
 #[inline(always)]
-fn spelled(high: u64, low: u64) -> [u8; 16]
-    ensures { result ≡ to_be_bytes w128 (high * 2 ^ 64 + low) }
+fn spell(out: &mut [u8; 16], high: u64, low: u64)
+    ensures { out.new ≡ to_be_bytes w128 (high * 2 ^ 64 + low) }
 {
-    let mut block = [0; 16];
-    block[..8].copy_from_slice(&high.to_be_bytes());
-    block[8..].copy_from_slice(&low.to_be_bytes());
-    block
+    out[..8].copy_from_slice(&high.to_be_bytes());
+    out[8..].copy_from_slice(&low.to_be_bytes());
 }
 
 /// Puts the counter blocks from `first` on, and gives the one behind them. A number is kept in two halves, each of which is
@@ -58,13 +57,15 @@ fn put_counters(first: [u8; 16], out: &mut [[u8; 16]]) -> [u8; 16]
     let mut high = (number >> 64) as u64;
     let mut low = (number % (1 << 64)) as u64;
     'each: for i in 1..out.len() {
-        out[i] = spelled(high, low);
+        spell(&mut out[i], high, low);
         low = low.wrapping_add(1);
         if low == 0 {
             high = high.wrapping_add(1);
         }
     }
-    spelled(high, low)
+    let mut next = [0; 16];
+    spell(&mut next, high, low);
+    next
 }
 
 /// Adds a key stream to texts: each block of it becomes its sum with the text.

@@ -11,6 +11,10 @@ mod opening;
 mod reading;
 mod sealed;
 mod sealing;
+#[cfg(test)]
+mod test_blobs;
+#[cfg(test)]
+mod tests;
 
 pub use fault::BlobFault;
 pub use opening::unseal;

@@ -22,7 +22,7 @@ each-preserved c =
     let high : c.each.high < 2 ^ 64 = omega arith in
     let low : c.each.low < 2 ^ 64 = omega arith in
     let small : n < 2 ^ 128 = omega arith in
-    let here = c.spelled.ensures ∙ c.each.invariant.next in
+    let here = c.spell.ensures ∙ c.each.invariant.next in
     let next : c.if-low-eq0.high * 2 ^ 64 + (c.each.low + 1) % 2 ^ 64 ≡ (n + 1) % 2 ^ 128 =
     elim c.if-low-eq0.branch [
       | then-low-eq0 w ↦ next_when_zero c.each.high c.each.low c.if-low-eq0.high high low w.high-is w.if-low-eq0.true
