@@ -11,7 +11,7 @@ finish-requires c =
     let f : List ℕ → List ℕ = cipher c.args.key.now in
     let s0 = rw c.aes_of.ensures at c.new-seal.ensures in
     let s1 = c.aad.ensures.seals f c.args.nonce 16 [] s0 in
-    let s2 = c.update.ensures.seals f c.args.nonce 16 START [] s1 in
+    let s2 = c.update.ensures.seals f c.args.nonce 16 _ [] s1 in
     omega (arith, s2.tag_is, c.split_at_mut-front.ensures.back_len, c.requires)
 
 pub returns-clause-sealed : goal.returns-clause-sealed
