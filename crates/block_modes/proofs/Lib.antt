@@ -1,4 +1,4 @@
-pub mod Halves
+pub mod LastByte
 pub mod XorLemmas
 pub mod PieceLemmas
 pub mod StepLemmas

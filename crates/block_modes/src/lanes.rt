@@ -1,6 +1,6 @@
 //! What a mode makes of many blocks, most of them by one call of the cipher.
 
-ghost use Rattle.std.specs.Prelude.{◌≡◌, ◌+◌, ◌*◌, ◌^◌, true, false, length};
+ghost use Rattle.std.specs.Prelude.{◌≡◌, ◌+◌, ◌<◌, ◌%◌, ◌^◌, true, false, length};
 ghost use Rattle.std.specs.Int.{w128, to_be_bytes};
 ghost use Rattle.tags.specs.declared.plan.Plan.TheVariants.{Cbc};
 ghost use Rattle.std.specs.Simd.Lanes.{zip2};
@@ -33,18 +33,32 @@ fn seal_chain<C: ManyBlocks>(
     before.to_array()
 }
 
-/// Puts the bytes of a number of two halves, the highest first. Each half is stored by itself, since a vector that is read
-/// back from two stores waits for both.
+/// What is added to a block for the next number, where its last byte can go up.
+const ONE: [u8; 16] = [0, 0, 0, 0, 0, 0, 0, 0, 0, 0, 0, 0, 0, 0, 0, 1];
+
+/// The counter block behind that of a number whose last byte can go up.
 #[inline(always)]
-fn spell(out: &mut [u8; 16], high: u64, low: u64)
-    ensures { out.new ≡ to_be_bytes w128 (high * 2 ^ 64 + low) }
+fn raised(block: u8x16, _number: u128) -> u8x16
+    requires last { _number % 256 < 255 }
+    requires spells { block ≡ to_be_bytes w128 _number }
+    ensures { result ≡ to_be_bytes w128 ((_number + 1) % 2 ^ 128) }
 {
-    out[..8].copy_from_slice(&high.to_be_bytes());
-    out[8..].copy_from_slice(&low.to_be_bytes());
+    block + u8x16::from_array(ONE)
 }
 
-/// Puts the counter blocks from `first` on, and gives the one behind them. A number is kept in two halves, each of which is
-/// turned about in one step.
+/// The counter block behind that of a number. It is spelled anew where the last byte carries.
+#[inline(always)]
+fn next_block(block: u8x16, number: u128) -> u8x16
+    requires { block ≡ to_be_bytes w128 number }
+    ensures { result ≡ to_be_bytes w128 ((number + 1) % 2 ^ 128) }
+{
+    if number % 256 < 255 {
+        return raised(block, number);
+    }
+    u8x16::from_array(number.wrapping_add(1).to_be_bytes())
+}
+
+/// Puts the counter blocks from `first` on, and gives the one behind them.
 fn put_counters(first: [u8; 16], out: &mut [[u8; 16]]) -> [u8; 16]
     ensures blocks { out.new ≡ counter_blocks (length out.old) first }
     ensures next { result ≡ counter_after (length out.old) first }
@@ -53,19 +67,15 @@ fn put_counters(first: [u8; 16], out: &mut [[u8; 16]]) -> [u8; 16]
         return first;
     }
     out[0] = first;
-    let number = u128::from_be_bytes(first).wrapping_add(1);
-    let mut high = (number >> 64) as u64;
-    let mut low = (number % (1 << 64)) as u64;
+    let mut number = u128::from_be_bytes(first).wrapping_add(1);
+    let mut block = u8x16::from_array(number.to_be_bytes());
     'each: for i in 1..out.len() {
-        spell(&mut out[i], high, low);
-        low = low.wrapping_add(1);
-        if low == 0 {
-            high = high.wrapping_add(1);
-        }
+        out[i] = block.to_array();
+        let next = next_block(block, number);
+        block = next;
+        number = number.wrapping_add(1);
     }
-    let mut next = [0; 16];
-    spell(&mut next, high, low);
-    next
+    block.to_array()
 }
 
 /// Adds a key stream to texts: each block of it becomes its sum with the text.
