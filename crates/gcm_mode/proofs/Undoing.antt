@@ -1,11 +1,11 @@
 -- Opening undoes sealing.
-use Rattle.std.proofs.Common.{◌≡◌, ℕ, ◌+◌, ◌-◌, ◌≤◌, false, true, List, [], ◌∷◌, ◌++◌, length, take, drop, nat_lt, Some, refl, sym, ap, ◌∙◌, arith, length-append}
+use Rattle.std.proofs.Common.{◌≡◌, ℕ, ◌+◌, ◌-◌, false, true, List, [], ◌∷◌, ◌++◌, length, take, drop, nat_lt, Some, refl, sym, ap, ◌∙◌, arith, length-append}
 use Rattle.std.proofs.lemmas.List.{take_at, drop_at}
 use Rattle.std.proofs.lemmas.Slice.Eq.{bytes_eq-Decides}
 use Rattle.std.specs.Str.{bytes_eq}
 use Rattle.aes_core.specs.Laws.FieldLaws.{add_undone}
 use Rattle.gcm_mode.specs.Bytewise.{xor_by}
-use Rattle.gcm_mode.specs.Gcm.{raw, tag_of, gcm_seal, gcm_open, open_front}
+use Rattle.gcm_mode.specs.Gcm.{raw, tag_of, gcm_seal, gcm_open}
 use Rattle.gcm_mode.specs.Parts.{key_byte}
 use Rattle.gcm_mode.proofs.KeyStream.{raw_is}
 use Rattle.gcm_mode.proofs.Tagging.{not_below}

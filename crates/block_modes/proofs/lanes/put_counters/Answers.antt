@@ -1,4 +1,4 @@
-use Rattle.std.proofs.Common.{◌≡◌, ◌+◌, ◌%◌, ◌^◌, ◌<◌, ◌++◌, ◌∷◌, [], length, sym, ap, ◌∙◌, arith, rules}
+use Rattle.std.proofs.Common.{◌+◌, ◌%◌, ◌^◌, ◌<◌, ◌++◌, ◌∷◌, [], sym, ap, ◌∙◌, arith, rules}
 use Rattle.std.specs.Int.{w128, to_be_bytes}
 use Rattle.std.proofs.lemmas.List.{length-set}
 use Rattle.block_modes.specs.Steps.{counter_blocks}

@@ -1,4 +1,4 @@
-use Rattle.std.proofs.Common.{◌≡◌, ◌≤◌, ◌++◌, drop}
+use Rattle.std.proofs.Common.{◌≡◌, ◌++◌, drop}
 use Rattle.std.specs.Int.{w128, to_be_bytes}
 use Rattle.block_modes.specs.Steps.{counter_blocks, counter_after}
 use Rattle.block_modes.proofs.lanes.put_counters.Given as goal

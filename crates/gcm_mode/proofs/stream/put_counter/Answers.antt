@@ -1,7 +1,6 @@
 -- The two writes make the block.
-use Rattle.std.proofs.Common.{◌≡◌, List, ℕ, [], ◌++◌, length, drop, ap, ◌∙◌, arith, rules}
-use Rattle.std.specs.Int.{w32, to_be_bytes}
-use Rattle.std.proofs.lemmas.List.{drop-drop, drop_all, take_at, drop_at, append-nil}
+use Rattle.std.proofs.Common.{◌≡◌, [], length, drop, ◌∙◌, arith, rules}
+use Rattle.std.proofs.lemmas.List.{drop-drop, drop_all}
 use Rattle.gcm_mode.proofs.Plain.{block_put}
 use Rattle.gcm_mode.proofs.stream.put_counter.Goals as goal
 

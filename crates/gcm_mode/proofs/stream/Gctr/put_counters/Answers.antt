@@ -1,5 +1,5 @@
 -- One counter block more.
-use Rattle.std.proofs.Common.{◌≡◌, ℕ, ◌+◌, ◌*◌, ◌/◌, ◌%◌, ◌++◌, ◌∷◌, [], List, length, set, drop, refl, sym, ap, ◌∙◌, arith}
+use Rattle.std.proofs.Common.{◌≡◌, ℕ, ◌+◌, ◌*◌, ◌/◌, ◌++◌, ◌∷◌, [], List, length, set, drop, refl, sym, ap, ◌∙◌, arith}
 use Rattle.std.proofs.lemmas.List.{drop_all, append-nil}
 use Rattle.gcm_mode.specs.Parts.{counter_block, counter_blocks}
 use Rattle.gcm_mode.proofs.Blockwise.{length-counter_blocks, counters_next, counter_now, block_passed, put_next}
