@@ -14,7 +14,7 @@ import sys
 import tempfile
 
 TOP = os.path.dirname(os.path.dirname(os.path.realpath(__file__)))
-CRATES = ["tags", "aes_core", "aes_wide", "block_modes", "ghash", "gcm_mode", "hmac_core"]
+CRATES = ["tags", "byte_strings", "aes_core", "aes_wide", "block_modes", "ghash", "gcm_mode", "hmac_core"]
 # bits 33 and 57 of the processor's words: carry-less products and AES
 PORTABLE = dict(os.environ, OPENSSL_ia32cap="~0x200000200000000")
 # our part, what openssl is asked for, and the bytes of a piece

@@ -11,8 +11,6 @@ mod boxes;
 mod rounds;
 mod schedule;
 mod state;
-#[cfg(test)]
-mod tests;
 mod tower;
 
 pub use aes_key::AesKey;

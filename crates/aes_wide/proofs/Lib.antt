@@ -1,5 +1,6 @@
 pub mod Lanes
 pub mod Wires
+pub mod Standing
 pub mod BoxLemmas
 pub mod StepLemmas
 pub mod SwapLemmas

@@ -1,11 +1,10 @@
 -- A round on one block in the tower is the standard's round.
-use Rattle.std.proofs.Common.{◌≡◌, ◌≢◌, ℕ, ◌+◌, ◌-◌, ◌*◌, ◌%◌, ◌<◌, ◌≤◌, ◌==◌, true, List, [], ◌∷◌, map, set, get_or, length, replicate, refl, sym, ◌∙◌, ap, subst, arith, add-one, below_more, Fits, w8}
-use Rattle.std.specs.Int.Bits.{bit_xor, xor_assoc, xor_self, xor_zero_r}
+use Rattle.std.proofs.Common.{◌≡◌, ℕ, ◌+◌, ◌*◌, ◌%◌, ◌<◌, ◌==◌, true, List, [], ◌∷◌, map, length, replicate, refl, sym, ◌∙◌, ap, arith, Fits, w8}
+use Rattle.std.specs.Int.Bits.{bit_xor, xor_assoc, xor_zero_r}
 use Rattle.std.specs.Simd.Lanes.{Each1}
 use Rattle.std.proofs.lemmas.Nat.{xor_comm}
 use Rattle.std.proofs.lemmas.Bool.{agree_below, agree_below_at}
 use Rattle.std.proofs.lemmas.Bool.Decides.{Decides-eqb}
-use Rattle.std.proofs.lemmas.List.{get_or-set_same, get_or-set_other, length-set}
 use Rattle.aes_core.specs.Block.{IsBytes, IsBlock}
 use Rattle.aes_core.specs.Field.{x_times, times_bits, times, inverse_up_to, inverse, affine, sub_byte}
 use Rattle.aes_core.specs.State.{byte_at, state_of, sub_bytes, shift_rows, mixed, mix_columns, add_round_key}
@@ -16,6 +15,7 @@ use Rattle.aes_core.specs.Laws.XorSums.{interchange, same_sums}
 use Rattle.aes_core.specs.Laws.XorSums.Sum.{None_of, Term, Both}
 use Rattle.aes_wide.specs.Steps.{turned, constant}
 use Rattle.aes_wide.specs.Single.{towered}
+use Rattle.aes_wide.proofs.Standing.{sub_shifted}
 use Rattle.aes_wide.proofs.StepLemmas.{same_states}
 
 pub row_block : (xs : List ℕ) → length xs ≡ 16 → Each1 (Fits w8) xs → IsBlock xs
@@ -129,10 +129,6 @@ map_towered s long = ap (map to_tower) (block_is s long)
 pub shifted_towered : (s : List ℕ) → shift_rows (towered s) ≡ towered (shift_rows s)
 unfolding shift_rows towered state_of
 shifted_towered s = refl
-
-sub_shifted : (s : List ℕ) → sub_bytes (shift_rows s) ≡ shift_rows (sub_bytes s)
-unfolding shift_rows sub_bytes state_of
-sub_shifted s = refl
 
 abbrev once_block : List ℕ → List ℕ
 once_block x = state_of (λ r c. to_tower (boxed (byte_at x r c)))

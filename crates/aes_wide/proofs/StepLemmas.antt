@@ -15,11 +15,12 @@ use Rattle.aes_core.specs.Laws.StateLaws.{state_block}
 use Rattle.aes_core.specs.Laws.XorSums.{same_sums}
 use Rattle.aes_core.specs.Laws.XorSums.Sum.{None_of, Term, Both}
 use Rattle.aes_wide.specs.Circuit.{run, circuit}
-use Rattle.aes_wide.specs.Planes.{lanes, made, column, block, bits_to_byte, planes_of, at, IsWhole}
+use Rattle.aes_wide.specs.Planes.{lanes, made, column, block, by_rows, standing, bits_to_byte, planes_of, at, IsWhole}
 use Rattle.aes_wide.specs.Boxes.{box_wires}
 use Rattle.aes_wide.specs.Steps.{turned, doubled, constant, double_gates, double_outs}
 use Rattle.aes_wide.proofs.Wires.{bits, bit_of_sum, circuit_bits}
 use Rattle.aes_wide.proofs.Lanes.{lanes_same, lanes_at, column_made}
+use Rattle.aes_wide.proofs.Standing.{by_rows_block, by_rows_sum, by_rows_doubled, by_rows_subbed, by_rows_constant}
 use Rattle.aes_wide.proofs.BoxLemmas.{digits_back, byte_of_bits, box_byte}
 
 -- the lanes at an index of eight planes
@@ -59,7 +60,7 @@ sums (x ∷ xs) (y ∷ ys) b e =
     ∙ ap (λ t. bit_xor t (m * 2 ^ 1 + bit_at y b)) (sym ex)
     ∙ ap (λ t. bit_xor (bit_at x b + 2 * n) t) (sym ey)
 
-pub added_blocks : (u w : ℕ → ℕ → ℕ) (b : ℕ) →
+added_blocks : (u w : ℕ → ℕ → ℕ) (b : ℕ) →
     block (planes_of 8 (λ i j. bit_xor (u i j) (w i j))) b ≡ add_round_key (block (planes_of 8 u) b) (block (planes_of 8 w) b)
 unfolding block lanes add_round_key state_of
 added_blocks u w b =
@@ -102,7 +103,7 @@ doubled_of x u b e =
     lanes_same (λ j. bits_to_byte (column (made double_gates double_outs x) j) b) (λ j. x_times (bits_to_byte (eight u j) b))
     (λ j h. ap (λ t. bits_to_byte t b) (column_made double_gates double_outs x j h ∙ ap (circuit double_gates double_outs) (ap (λ t. column t j) e ∙ column_whole u j h)) ∙ double_byte u j b)
 
-pub doubled_blocks : (x : List (List ℕ)) (b : ℕ) → IsWhole 8 x → block (made double_gates double_outs x) b ≡ doubled (block x b)
+doubled_blocks : (x : List (List ℕ)) (b : ℕ) → IsWhole 8 x → block (made double_gates double_outs x) b ≡ doubled (block x b)
 unfolding block lanes doubled state_of
 doubled_blocks x b e = doubled_of x (at x) b e ∙ ap (λ t. doubled (block t b)) (sym e)
 
@@ -115,7 +116,7 @@ boxed_of x z u b e boxed =
     (λ j h. ap (λ t. bit_xor (bits_to_byte t b) 0x63) (boxed j h ∙ ap box_wires (ap (λ t. column t j) e ∙ column_whole u j h))
     ∙ box_byte (u 0 j) (u 1 j) (u 2 j) (u 3 j) (u 4 j) (u 5 j) (u 6 j) (u 7 j) b)
 
-pub boxed_blocks : (x z : List (List ℕ)) (b : ℕ) → IsWhole 8 x → ((j : ℕ) → j < 16 → column z j ≡ box_wires (column x j)) →
+boxed_blocks : (x z : List (List ℕ)) (b : ℕ) → IsWhole 8 x → ((j : ℕ) → j < 16 → column z j ≡ box_wires (column x j)) →
     add_round_key (block z b) constant ≡ sub_bytes (block x b)
 unfolding block lanes add_round_key sub_bytes constant state_of
 boxed_blocks x z b e boxed = boxed_of x z (at x) b e boxed ∙ ap (λ t. sub_bytes (block t b)) (sym e)
@@ -145,3 +146,27 @@ mixed_block s h =
     (λ r c. bit_xor (x_times (bit_xor (byte_at s r c) (byte_at s ((r + 1) % 4) c))) (bit_xor (byte_at s ((r + 1) % 4) c) (bit_xor (byte_at s ((r + 2) % 4) c) (byte_at s ((r + 3) % 4) c))))
     (λ r c. mixed (byte_at s r c) (byte_at s ((r + 1) % 4) c) (byte_at s ((r + 2) % 4) c) (byte_at s ((r + 3) % 4) c))
     (λ r c. mixed_byte_is (byte_at s r c) (byte_at s ((r + 1) % 4) c) (byte_at s ((r + 2) % 4) c) (byte_at s ((r + 3) % 4) c) (h (r + 4 * c)) (h ((r + 1) % 4 + 4 * c)))
+
+-- ---- the same of the states that stand in planes
+
+pub standing_whole : (u : ℕ → ℕ → ℕ) (b : ℕ) → IsBlock (standing (planes_of 8 u) b)
+unfolding standing
+standing_whole u b = by_rows_block (block (planes_of 8 u) b) (block_whole u b).bytes
+
+pub added_standing : (u w : ℕ → ℕ → ℕ) (b : ℕ) →
+    standing (planes_of 8 (λ i j. bit_xor (u i j) (w i j))) b ≡ add_round_key (standing (planes_of 8 u) b) (standing (planes_of 8 w) b)
+unfolding standing
+added_standing u w b = ap by_rows (added_blocks u w b) ∙ by_rows_sum (block (planes_of 8 u) b) (block (planes_of 8 w) b)
+
+pub doubled_standing : (x : List (List ℕ)) (b : ℕ) → IsWhole 8 x → standing (made double_gates double_outs x) b ≡ doubled (standing x b)
+unfolding standing
+doubled_standing x b e = ap by_rows (doubled_blocks x b e) ∙ by_rows_doubled (block x b)
+
+pub boxed_standing : (x z : List (List ℕ)) (b : ℕ) → IsWhole 8 x → ((j : ℕ) → j < 16 → column z j ≡ box_wires (column x j)) →
+    add_round_key (standing z b) constant ≡ sub_bytes (standing x b)
+unfolding standing
+boxed_standing x z b e boxed =
+    ap (add_round_key (by_rows (block z b))) (sym by_rows_constant)
+    ∙ sym (by_rows_sum (block z b) constant)
+    ∙ ap by_rows (boxed_blocks x z b e boxed)
+    ∙ by_rows_subbed (block x b)

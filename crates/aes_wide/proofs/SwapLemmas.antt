@@ -1,17 +1,13 @@
 -- Eight rows of eight bits turned about by three rounds of swaps.
-use Rattle.std.proofs.Common.{◌≡◌, ℕ, zero, suc, ◌*◌, ◌/◌, ◌%◌, ◌^◌, ◌<◌, ◌==◌, true, List, [], ◌∷◌, map, slice_index, refl, sym, ◌∙◌, ap, subst, arith, length, slice_index_or, Fits, w8}
+use Rattle.std.proofs.Common.{◌≡◌, ℕ, ◌*◌, ◌/◌, ◌%◌, ◌^◌, ◌<◌, ◌==◌, true, List, [], ◌∷◌, refl, arith}
 use Rattle.std.specs.Int.{bit_at}
 use Rattle.std.specs.Int.Bits.{bit_xor}
 use lib.Bits.{bit_and}
-use Rattle.std.specs.Simd.Lanes.{number_l, Each1}
+use Rattle.std.specs.Simd.Lanes.{number_l}
 use Rattle.std.proofs.lemmas.Bool.{agree_below, agree_below_at}
 use Rattle.std.proofs.lemmas.Bool.Decides.{Decides-eqb}
 use Rattle.std.proofs.lemmas.Nat.Bits.{bit_at-lt}
-use Rattle.std.specs.List.{range_with_len}
-use Rattle.std.proofs.lemmas.List.FromFn.{fill_by_all}
-use Rattle.aes_wide.specs.Planes.{lanes, block, bits_to_byte}
 use Rattle.aes_core.specs.Laws.FieldLaws.{same_at}
-use Rattle.aes_wide.proofs.Lanes.{lanes_same, lanes_at, at_lane, lanes_whole, lane_below}
 use Rattle.aes_wide.specs.Swaps.{byte_of, low_1, high_1, low_2, high_2, low_4, high_4}
 
 abbrev pub part_1 : ℕ → ℕ → ℕ

@@ -1,5 +1,5 @@
 -- Eight blocks to eight planes, and back.
-use Rattle.std.proofs.Common.{◌≡◌, ℕ, zero, suc, ◌<◌, List, [], ◌∷◌, map, slice_index, slice_index_or, length, refl, sym, ◌∙◌, ap, subst, arith, Fits, w8}
+use Rattle.std.proofs.Common.{◌≡◌, ℕ, zero, suc, ◌<◌, List, [], ◌∷◌, map, slice_index, slice_index_or, length, refl, sym, subst, arith, Fits, w8}
 use Rattle.std.specs.List.{range_with_len}
 use Rattle.std.specs.Simd.Lanes.{Each1}
 use Rattle.std.proofs.lemmas.List.FromFn.{fill_by_all}

@@ -8,11 +8,12 @@ use Rattle.aes_core.specs.Laws.FieldLaws.{same_at}
 use Rattle.aes_core.specs.State.{add_round_key, inv_sub_bytes, state_of}
 use Rattle.aes_wide.specs.Circuit.{run, circuit}
 use Rattle.aes_wide.specs.Gates.{top_gates, top_outs, shared_gates, shared_outs, inverted_gates, inverted_outs, products_gates, products_outs, bottom_gates, bottom_outs, unlinear_gates, unlinear_outs}
-use Rattle.aes_wide.specs.Planes.{lanes, made, column, block, bits_to_byte, planes_of, at, IsWhole}
+use Rattle.aes_wide.specs.Planes.{lanes, made, column, block, by_rows, standing, bits_to_byte, planes_of, at, IsWhole}
 use Rattle.aes_wide.specs.Boxes.{box_wires, unlinear_wires, unbox_wires}
 use Rattle.aes_wide.specs.Steps.{constant}
 use Rattle.aes_wide.proofs.Wires.{bits, circuit_bits}
 use Rattle.aes_wide.proofs.Lanes.{column_made, lanes_same}
+use Rattle.aes_wide.proofs.Standing.{by_rows_sum, by_rows_unsubbed, by_rows_constant}
 use Rattle.aes_wide.proofs.BoxLemmas.{box_bits}
 use Rattle.aes_wide.proofs.StepLemmas.{eight, byte_below, bits_below, column_whole}
 
@@ -62,7 +63,12 @@ unboxed_block : (y z : List (List ℕ)) (b : ℕ) → IsWhole 8 y → ((j : ℕ)
 unfolding block lanes add_round_key inv_sub_bytes constant state_of
 unboxed_block y z b e unboxed = unboxed_of y z (at y) b e unboxed ∙ ap (λ t. inv_sub_bytes (add_round_key (block t b) constant)) (sym e)
 
-pub unboxed_blocks : (x y z : List (List ℕ)) (b : ℕ) → IsWhole 8 y → ((j : ℕ) → j < 16 → column z j ≡ unbox_wires (column y j)) →
-    block y b ≡ add_round_key (block x b) constant → add_round_key (add_round_key (block x b) constant) constant ≡ block x b → block z b ≡ inv_sub_bytes (block x b)
-unboxed_blocks x y z b e unboxed is_y undone =
-    unboxed_block y z b e unboxed ∙ ap (λ t. inv_sub_bytes (add_round_key t constant)) is_y ∙ ap inv_sub_bytes undone
+pub unboxed_standing : (x y z : List (List ℕ)) (b : ℕ) → IsWhole 8 y → ((j : ℕ) → j < 16 → column z j ≡ unbox_wires (column y j)) →
+    standing y b ≡ add_round_key (standing x b) constant → add_round_key (add_round_key (standing x b) constant) constant ≡ standing x b → standing z b ≡ inv_sub_bytes (standing x b)
+unfolding standing
+unboxed_standing x y z b e unboxed is_y undone =
+    ap by_rows (unboxed_block y z b e unboxed)
+    ∙ by_rows_unsubbed (add_round_key (block y b) constant)
+    ∙ ap inv_sub_bytes (by_rows_sum (block y b) constant ∙ ap (add_round_key (by_rows (block y b))) by_rows_constant)
+    ∙ ap (λ t. inv_sub_bytes (add_round_key t constant)) is_y
+    ∙ ap inv_sub_bytes undone

@@ -1,8 +1,10 @@
--- Eight blocks in planes: bit b of lane j of plane i is bit i of byte j of block b.
+-- Eight blocks in planes: bit b of lane j of plane i is bit i of byte j of block b. Between the rounds the state of each stands
+-- row by row in them, so that a column is turned by moving rows of four lanes.
 use Rattle.std.specs.Prelude.{ℕ, ◌≡◌, List, [], ◌∷◌, map, slice_index, slice_index_or}
 use Rattle.std.specs.Int.{bit_at}
 use Rattle.std.specs.List.{range_with_len}
 use Rattle.std.specs.Simd.Lanes.{number_l}
+use Rattle.aes_core.specs.State.{byte_at, state_of}
 use Rattle.aes_wide.specs.Circuit.{Gate, run}
 
 -- sixteen lanes
@@ -36,3 +38,11 @@ bits_to_byte column b = number_l 2 (map (λ lane. bit_at lane b) column)
 -- block b
 unfoldable pub block : List (List ℕ) → ℕ → List ℕ
 block planes b = lanes (λ j. bits_to_byte (column planes j) b)
+
+-- a block with its state turned about: the byte of row r and column c at place 4 r + c, where a block has it at r + 4 c
+unfoldable pub by_rows : List ℕ → List ℕ
+by_rows s = state_of (λ r c. byte_at s c r)
+
+-- the block whose state stands in block b row by row
+unfoldable pub standing : List (List ℕ) → ℕ → List ℕ
+standing planes b = by_rows (block planes b)

@@ -8,8 +8,6 @@
 mod circuit;
 mod planes;
 mod single;
-#[cfg(test)]
-mod tests;
 mod transpose;
 mod wide_aes;
 

@@ -1,8 +1,8 @@
-//! The steps of a round on planes.
+//! The steps of a round on planes. The states stand in them row by row: lane 4 r + c has the byte of row r and column c.
 
 ghost use Rattle.std.specs.Prelude.{◌≡◌, ℕ, ◌<◌, [], ◌∷◌};
 ghost use Rattle.aes_core.specs.State.{sub_bytes, shift_rows, mix_columns, add_round_key, inv_sub_bytes, inv_shift_rows, inv_mix_columns};
-ghost use Rattle.aes_wide.specs.Planes.{IsWhole, block, made};
+ghost use Rattle.aes_wide.specs.Planes.{IsWhole, standing, made};
 ghost use Rattle.aes_wide.specs.Steps.{turned, doubled, constant, double_gates, double_outs};
 
 use crate::circuit::{boxed, unboxed};
@@ -14,7 +14,7 @@ pub(crate) fn added(x: [u8x16; 8], y: [u8x16; 8]) -> [u8x16; 8]
     requires x { IsWhole 8 x }
     requires y { IsWhole 8 y }
     ensures whole { IsWhole 8 result }
-    ensures blocks { (b : ℕ) → block result b ≡ add_round_key (block x b) (block y b) }
+    ensures blocks { (b : ℕ) → standing result b ≡ add_round_key (standing x b) (standing y b) }
 {
     [
         x[0] ^ y[0],
@@ -33,17 +33,17 @@ pub(crate) fn added(x: [u8x16; 8], y: [u8x16; 8]) -> [u8x16; 8]
 fn rows_shifted(x: [u8x16; 8]) -> [u8x16; 8]
     requires { IsWhole 8 x }
     ensures whole { IsWhole 8 result }
-    ensures blocks { (b : ℕ) → block result b ≡ shift_rows (block x b) }
+    ensures blocks { (b : ℕ) → standing result b ≡ shift_rows (standing x b) }
 {
     [
-        x[0].swizzle([0, 5, 10, 15, 4, 9, 14, 3, 8, 13, 2, 7, 12, 1, 6, 11]),
-        x[1].swizzle([0, 5, 10, 15, 4, 9, 14, 3, 8, 13, 2, 7, 12, 1, 6, 11]),
-        x[2].swizzle([0, 5, 10, 15, 4, 9, 14, 3, 8, 13, 2, 7, 12, 1, 6, 11]),
-        x[3].swizzle([0, 5, 10, 15, 4, 9, 14, 3, 8, 13, 2, 7, 12, 1, 6, 11]),
-        x[4].swizzle([0, 5, 10, 15, 4, 9, 14, 3, 8, 13, 2, 7, 12, 1, 6, 11]),
-        x[5].swizzle([0, 5, 10, 15, 4, 9, 14, 3, 8, 13, 2, 7, 12, 1, 6, 11]),
-        x[6].swizzle([0, 5, 10, 15, 4, 9, 14, 3, 8, 13, 2, 7, 12, 1, 6, 11]),
-        x[7].swizzle([0, 5, 10, 15, 4, 9, 14, 3, 8, 13, 2, 7, 12, 1, 6, 11]),
+        x[0].swizzle([0, 1, 2, 3, 5, 6, 7, 4, 10, 11, 8, 9, 15, 12, 13, 14]),
+        x[1].swizzle([0, 1, 2, 3, 5, 6, 7, 4, 10, 11, 8, 9, 15, 12, 13, 14]),
+        x[2].swizzle([0, 1, 2, 3, 5, 6, 7, 4, 10, 11, 8, 9, 15, 12, 13, 14]),
+        x[3].swizzle([0, 1, 2, 3, 5, 6, 7, 4, 10, 11, 8, 9, 15, 12, 13, 14]),
+        x[4].swizzle([0, 1, 2, 3, 5, 6, 7, 4, 10, 11, 8, 9, 15, 12, 13, 14]),
+        x[5].swizzle([0, 1, 2, 3, 5, 6, 7, 4, 10, 11, 8, 9, 15, 12, 13, 14]),
+        x[6].swizzle([0, 1, 2, 3, 5, 6, 7, 4, 10, 11, 8, 9, 15, 12, 13, 14]),
+        x[7].swizzle([0, 1, 2, 3, 5, 6, 7, 4, 10, 11, 8, 9, 15, 12, 13, 14]),
     ]
 }
 
@@ -52,17 +52,17 @@ fn rows_shifted(x: [u8x16; 8]) -> [u8x16; 8]
 fn turned_once(x: [u8x16; 8]) -> [u8x16; 8]
     requires { IsWhole 8 x }
     ensures whole { IsWhole 8 result }
-    ensures blocks { (b : ℕ) → block result b ≡ turned 1 (block x b) }
+    ensures blocks { (b : ℕ) → standing result b ≡ turned 1 (standing x b) }
 {
     [
-        x[0].swizzle([1, 2, 3, 0, 5, 6, 7, 4, 9, 10, 11, 8, 13, 14, 15, 12]),
-        x[1].swizzle([1, 2, 3, 0, 5, 6, 7, 4, 9, 10, 11, 8, 13, 14, 15, 12]),
-        x[2].swizzle([1, 2, 3, 0, 5, 6, 7, 4, 9, 10, 11, 8, 13, 14, 15, 12]),
-        x[3].swizzle([1, 2, 3, 0, 5, 6, 7, 4, 9, 10, 11, 8, 13, 14, 15, 12]),
-        x[4].swizzle([1, 2, 3, 0, 5, 6, 7, 4, 9, 10, 11, 8, 13, 14, 15, 12]),
-        x[5].swizzle([1, 2, 3, 0, 5, 6, 7, 4, 9, 10, 11, 8, 13, 14, 15, 12]),
-        x[6].swizzle([1, 2, 3, 0, 5, 6, 7, 4, 9, 10, 11, 8, 13, 14, 15, 12]),
-        x[7].swizzle([1, 2, 3, 0, 5, 6, 7, 4, 9, 10, 11, 8, 13, 14, 15, 12]),
+        x[0].swizzle([4, 5, 6, 7, 8, 9, 10, 11, 12, 13, 14, 15, 0, 1, 2, 3]),
+        x[1].swizzle([4, 5, 6, 7, 8, 9, 10, 11, 12, 13, 14, 15, 0, 1, 2, 3]),
+        x[2].swizzle([4, 5, 6, 7, 8, 9, 10, 11, 12, 13, 14, 15, 0, 1, 2, 3]),
+        x[3].swizzle([4, 5, 6, 7, 8, 9, 10, 11, 12, 13, 14, 15, 0, 1, 2, 3]),
+        x[4].swizzle([4, 5, 6, 7, 8, 9, 10, 11, 12, 13, 14, 15, 0, 1, 2, 3]),
+        x[5].swizzle([4, 5, 6, 7, 8, 9, 10, 11, 12, 13, 14, 15, 0, 1, 2, 3]),
+        x[6].swizzle([4, 5, 6, 7, 8, 9, 10, 11, 12, 13, 14, 15, 0, 1, 2, 3]),
+        x[7].swizzle([4, 5, 6, 7, 8, 9, 10, 11, 12, 13, 14, 15, 0, 1, 2, 3]),
     ]
 }
 
@@ -71,17 +71,17 @@ fn turned_once(x: [u8x16; 8]) -> [u8x16; 8]
 fn turned_twice(x: [u8x16; 8]) -> [u8x16; 8]
     requires { IsWhole 8 x }
     ensures whole { IsWhole 8 result }
-    ensures blocks { (b : ℕ) → block result b ≡ turned 2 (block x b) }
+    ensures blocks { (b : ℕ) → standing result b ≡ turned 2 (standing x b) }
 {
     [
-        x[0].swizzle([2, 3, 0, 1, 6, 7, 4, 5, 10, 11, 8, 9, 14, 15, 12, 13]),
-        x[1].swizzle([2, 3, 0, 1, 6, 7, 4, 5, 10, 11, 8, 9, 14, 15, 12, 13]),
-        x[2].swizzle([2, 3, 0, 1, 6, 7, 4, 5, 10, 11, 8, 9, 14, 15, 12, 13]),
-        x[3].swizzle([2, 3, 0, 1, 6, 7, 4, 5, 10, 11, 8, 9, 14, 15, 12, 13]),
-        x[4].swizzle([2, 3, 0, 1, 6, 7, 4, 5, 10, 11, 8, 9, 14, 15, 12, 13]),
-        x[5].swizzle([2, 3, 0, 1, 6, 7, 4, 5, 10, 11, 8, 9, 14, 15, 12, 13]),
-        x[6].swizzle([2, 3, 0, 1, 6, 7, 4, 5, 10, 11, 8, 9, 14, 15, 12, 13]),
-        x[7].swizzle([2, 3, 0, 1, 6, 7, 4, 5, 10, 11, 8, 9, 14, 15, 12, 13]),
+        x[0].swizzle([8, 9, 10, 11, 12, 13, 14, 15, 0, 1, 2, 3, 4, 5, 6, 7]),
+        x[1].swizzle([8, 9, 10, 11, 12, 13, 14, 15, 0, 1, 2, 3, 4, 5, 6, 7]),
+        x[2].swizzle([8, 9, 10, 11, 12, 13, 14, 15, 0, 1, 2, 3, 4, 5, 6, 7]),
+        x[3].swizzle([8, 9, 10, 11, 12, 13, 14, 15, 0, 1, 2, 3, 4, 5, 6, 7]),
+        x[4].swizzle([8, 9, 10, 11, 12, 13, 14, 15, 0, 1, 2, 3, 4, 5, 6, 7]),
+        x[5].swizzle([8, 9, 10, 11, 12, 13, 14, 15, 0, 1, 2, 3, 4, 5, 6, 7]),
+        x[6].swizzle([8, 9, 10, 11, 12, 13, 14, 15, 0, 1, 2, 3, 4, 5, 6, 7]),
+        x[7].swizzle([8, 9, 10, 11, 12, 13, 14, 15, 0, 1, 2, 3, 4, 5, 6, 7]),
     ]
 }
 
@@ -108,7 +108,7 @@ fn doubled_planes(x: [u8x16; 8]) -> [u8x16; 8]
 fn doubled(x: [u8x16; 8]) -> [u8x16; 8]
     requires { IsWhole 8 x }
     ensures whole { IsWhole 8 result }
-    ensures blocks { (b : ℕ) → block result b ≡ doubled (block x b) }
+    ensures blocks { (b : ℕ) → standing result b ≡ doubled (standing x b) }
 {
     doubled_planes(x)
 }
@@ -117,7 +117,7 @@ fn doubled(x: [u8x16; 8]) -> [u8x16; 8]
 #[inline(always)]
 fn constant() -> [u8x16; 8]
     ensures whole { IsWhole 8 result }
-    ensures blocks { (b : ℕ) → b < 8 → block result b ≡ constant }
+    ensures blocks { (b : ℕ) → b < 8 → standing result b ≡ constant }
 {
     let none = u8x16::splat(0);
     let all = u8x16::splat(0xff);
@@ -129,7 +129,7 @@ fn constant() -> [u8x16; 8]
 fn subbed(x: [u8x16; 8]) -> [u8x16; 8]
     requires { IsWhole 8 x }
     ensures whole { IsWhole 8 result }
-    ensures blocks { (b : ℕ) → b < 8 → block result b ≡ sub_bytes (block x b) }
+    ensures blocks { (b : ℕ) → b < 8 → standing result b ≡ sub_bytes (standing x b) }
 {
     added(boxed(x), constant())
 }
@@ -139,7 +139,7 @@ fn subbed(x: [u8x16; 8]) -> [u8x16; 8]
 fn mixed(x: [u8x16; 8]) -> [u8x16; 8]
     requires { IsWhole 8 x }
     ensures whole { IsWhole 8 result }
-    ensures blocks { (b : ℕ) → block result b ≡ mix_columns (block x b) }
+    ensures blocks { (b : ℕ) → standing result b ≡ mix_columns (standing x b) }
 {
     let next = turned_once(x);
     let pair = added(x, next);
@@ -149,15 +149,15 @@ fn mixed(x: [u8x16; 8]) -> [u8x16; 8]
     added(double, rest)
 }
 
-/// A round with a round key.
+/// A round with a round key. ShiftRows goes before SubBytes, with which it changes places, so that no shuffle needs a copy.
 #[inline(always)]
 pub(crate) fn round(x: [u8x16; 8], key: [u8x16; 8]) -> [u8x16; 8]
     requires x { IsWhole 8 x }
     requires key { IsWhole 8 key }
     ensures whole { IsWhole 8 result }
-    ensures blocks { (b : ℕ) → b < 8 → block result b ≡ add_round_key (mix_columns (shift_rows (sub_bytes (block x b)))) (block key b) }
+    ensures blocks { (b : ℕ) → b < 8 → standing result b ≡ add_round_key (mix_columns (shift_rows (sub_bytes (standing x b)))) (standing key b) }
 {
-    added(mixed(rows_shifted(subbed(x))), key)
+    added(mixed(subbed(rows_shifted(x))), key)
 }
 
 /// The last round, without MixColumns.
@@ -166,9 +166,9 @@ pub(crate) fn last_round(x: [u8x16; 8], key: [u8x16; 8]) -> [u8x16; 8]
     requires x { IsWhole 8 x }
     requires key { IsWhole 8 key }
     ensures whole { IsWhole 8 result }
-    ensures blocks { (b : ℕ) → b < 8 → block result b ≡ add_round_key (shift_rows (sub_bytes (block x b))) (block key b) }
+    ensures blocks { (b : ℕ) → b < 8 → standing result b ≡ add_round_key (shift_rows (sub_bytes (standing x b))) (standing key b) }
 {
-    added(rows_shifted(subbed(x)), key)
+    added(subbed(rows_shifted(x)), key)
 }
 
 /// InvShiftRows.
@@ -176,17 +176,17 @@ pub(crate) fn last_round(x: [u8x16; 8], key: [u8x16; 8]) -> [u8x16; 8]
 fn rows_unshifted(x: [u8x16; 8]) -> [u8x16; 8]
     requires { IsWhole 8 x }
     ensures whole { IsWhole 8 result }
-    ensures blocks { (b : ℕ) → block result b ≡ inv_shift_rows (block x b) }
+    ensures blocks { (b : ℕ) → standing result b ≡ inv_shift_rows (standing x b) }
 {
     [
-        x[0].swizzle([0, 13, 10, 7, 4, 1, 14, 11, 8, 5, 2, 15, 12, 9, 6, 3]),
-        x[1].swizzle([0, 13, 10, 7, 4, 1, 14, 11, 8, 5, 2, 15, 12, 9, 6, 3]),
-        x[2].swizzle([0, 13, 10, 7, 4, 1, 14, 11, 8, 5, 2, 15, 12, 9, 6, 3]),
-        x[3].swizzle([0, 13, 10, 7, 4, 1, 14, 11, 8, 5, 2, 15, 12, 9, 6, 3]),
-        x[4].swizzle([0, 13, 10, 7, 4, 1, 14, 11, 8, 5, 2, 15, 12, 9, 6, 3]),
-        x[5].swizzle([0, 13, 10, 7, 4, 1, 14, 11, 8, 5, 2, 15, 12, 9, 6, 3]),
-        x[6].swizzle([0, 13, 10, 7, 4, 1, 14, 11, 8, 5, 2, 15, 12, 9, 6, 3]),
-        x[7].swizzle([0, 13, 10, 7, 4, 1, 14, 11, 8, 5, 2, 15, 12, 9, 6, 3]),
+        x[0].swizzle([0, 1, 2, 3, 7, 4, 5, 6, 10, 11, 8, 9, 13, 14, 15, 12]),
+        x[1].swizzle([0, 1, 2, 3, 7, 4, 5, 6, 10, 11, 8, 9, 13, 14, 15, 12]),
+        x[2].swizzle([0, 1, 2, 3, 7, 4, 5, 6, 10, 11, 8, 9, 13, 14, 15, 12]),
+        x[3].swizzle([0, 1, 2, 3, 7, 4, 5, 6, 10, 11, 8, 9, 13, 14, 15, 12]),
+        x[4].swizzle([0, 1, 2, 3, 7, 4, 5, 6, 10, 11, 8, 9, 13, 14, 15, 12]),
+        x[5].swizzle([0, 1, 2, 3, 7, 4, 5, 6, 10, 11, 8, 9, 13, 14, 15, 12]),
+        x[6].swizzle([0, 1, 2, 3, 7, 4, 5, 6, 10, 11, 8, 9, 13, 14, 15, 12]),
+        x[7].swizzle([0, 1, 2, 3, 7, 4, 5, 6, 10, 11, 8, 9, 13, 14, 15, 12]),
     ]
 }
 
@@ -195,7 +195,7 @@ fn rows_unshifted(x: [u8x16; 8]) -> [u8x16; 8]
 fn unsubbed(x: [u8x16; 8]) -> [u8x16; 8]
     requires { IsWhole 8 x }
     ensures whole { IsWhole 8 result }
-    ensures blocks { (b : ℕ) → b < 8 → block result b ≡ inv_sub_bytes (block x b) }
+    ensures blocks { (b : ℕ) → b < 8 → standing result b ≡ inv_sub_bytes (standing x b) }
 {
     let plain = added(x, constant());
     unboxed(plain)
@@ -206,7 +206,7 @@ fn unsubbed(x: [u8x16; 8]) -> [u8x16; 8]
 fn unmixed(x: [u8x16; 8]) -> [u8x16; 8]
     requires { IsWhole 8 x }
     ensures whole { IsWhole 8 result }
-    ensures blocks { (b : ℕ) → block result b ≡ inv_mix_columns (block x b) }
+    ensures blocks { (b : ℕ) → standing result b ≡ inv_mix_columns (standing x b) }
 {
     let far = turned_twice(x);
     let pair = added(x, far);
@@ -222,7 +222,7 @@ pub(crate) fn unround(x: [u8x16; 8], key: [u8x16; 8]) -> [u8x16; 8]
     requires x { IsWhole 8 x }
     requires key { IsWhole 8 key }
     ensures whole { IsWhole 8 result }
-    ensures blocks { (b : ℕ) → b < 8 → block result b ≡ inv_mix_columns (add_round_key (inv_sub_bytes (inv_shift_rows (block x b))) (block key b)) }
+    ensures blocks { (b : ℕ) → b < 8 → standing result b ≡ inv_mix_columns (add_round_key (inv_sub_bytes (inv_shift_rows (standing x b))) (standing key b)) }
 {
     unmixed(added(unsubbed(rows_unshifted(x)), key))
 }
@@ -233,7 +233,7 @@ pub(crate) fn last_unround(x: [u8x16; 8], key: [u8x16; 8]) -> [u8x16; 8]
     requires x { IsWhole 8 x }
     requires key { IsWhole 8 key }
     ensures whole { IsWhole 8 result }
-    ensures blocks { (b : ℕ) → b < 8 → block result b ≡ add_round_key (inv_sub_bytes (inv_shift_rows (block x b))) (block key b) }
+    ensures blocks { (b : ℕ) → b < 8 → standing result b ≡ add_round_key (inv_sub_bytes (inv_shift_rows (standing x b))) (standing key b) }
 {
     added(unsubbed(rows_unshifted(x)), key)
 }

@@ -2,7 +2,7 @@
 
 ghost use Rattle.std.specs.Prelude.{◌≡◌, ℕ, map, slice_index};
 ghost use Rattle.std.specs.List.{range_with_len};
-ghost use Rattle.aes_wide.specs.Planes.{IsWhole, lanes, block};
+ghost use Rattle.aes_wide.specs.Planes.{IsWhole, lanes, block, by_rows};
 ghost use Rattle.aes_wide.specs.Swaps.{low_1, high_1, low_2, high_2, low_4, high_4};
 
 use std::simd::prelude::*;
@@ -57,4 +57,22 @@ pub(crate) fn transposed(x: [u8x16; 8]) -> [u8x16; 8]
     let (w2, w6) = swapped_4(z2, z6);
     let (w3, w7) = swapped_4(z3, z7);
     [w0, w1, w2, w3, w4, w5, w6, w7]
+}
+
+/// Eight blocks with their states turned about, so that they stand row by row, or as blocks again.
+#[inline(always)]
+pub(crate) fn rows_of(x: [u8x16; 8]) -> [u8x16; 8]
+    requires { IsWhole 8 x }
+    ensures { result ≡ map by_rows x }
+{
+    [
+        x[0].swizzle([0, 4, 8, 12, 1, 5, 9, 13, 2, 6, 10, 14, 3, 7, 11, 15]),
+        x[1].swizzle([0, 4, 8, 12, 1, 5, 9, 13, 2, 6, 10, 14, 3, 7, 11, 15]),
+        x[2].swizzle([0, 4, 8, 12, 1, 5, 9, 13, 2, 6, 10, 14, 3, 7, 11, 15]),
+        x[3].swizzle([0, 4, 8, 12, 1, 5, 9, 13, 2, 6, 10, 14, 3, 7, 11, 15]),
+        x[4].swizzle([0, 4, 8, 12, 1, 5, 9, 13, 2, 6, 10, 14, 3, 7, 11, 15]),
+        x[5].swizzle([0, 4, 8, 12, 1, 5, 9, 13, 2, 6, 10, 14, 3, 7, 11, 15]),
+        x[6].swizzle([0, 4, 8, 12, 1, 5, 9, 13, 2, 6, 10, 14, 3, 7, 11, 15]),
+        x[7].swizzle([0, 4, 8, 12, 1, 5, 9, 13, 2, 6, 10, 14, 3, 7, 11, 15]),
+    ]
 }

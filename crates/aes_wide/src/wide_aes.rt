@@ -4,12 +4,12 @@ ghost use Rattle.std.specs.Prelude.{◌≡◌, ℕ, ◌+◌, ◌<◌, ◌≤◌,
 ghost use Rattle.aes_core.specs.Cipher.{cipher};
 ghost use Rattle.aes_core.specs.KeyOf.{key_of};
 ghost use Rattle.aes_wide.specs.Held.{HasAllKeys};
-ghost use Rattle.aes_wide.specs.Planes.{IsWhole, block};
+ghost use Rattle.aes_wide.specs.Planes.{IsWhole, standing};
 ghost use Rattle.aes_wide.specs.Single.{HasRows};
 
 use crate::planes::{added, last_round, last_unround, round, unround};
 use crate::single::{RoundKey, key_rows, last_tower_round, sum, tower_round};
-use crate::transpose::transposed;
+use crate::transpose::{rows_of, transposed};
 use aes_core::{AesKey, BlockCipher, ManyBlocks, to_tower};
 use std::simd::prelude::*;
 
@@ -71,9 +71,9 @@ pub struct WideAes {
 /// A block, as each of eight, in planes.
 fn spread(x: u8x16) -> [u8x16; 8]
     ensures whole { IsWhole 8 result }
-    ensures blocks { (b : ℕ) → b < 8 → block result b ≡ x }
+    ensures blocks { (b : ℕ) → b < 8 → standing result b ≡ x }
 {
-    transposed([x, x, x, x, x, x, x, x])
+    transposed(rows_of([x, x, x, x, x, x, x, x]))
 }
 
 /// The round keys of a key in planes.
@@ -93,7 +93,7 @@ fn key_planes(plain: &AesKey) -> [KeyPlanes; 15]
 impl WideAes {
     ghost use Rattle.std.specs.Prelude.{◌≡◌, ℕ, ◌<◌, ◌≤◌, [], ◌∷◌, map, length, is_some, IfSome};
     ghost use Rattle.aes_core.specs.Cipher.{is_key_size, cipher, inverse_cipher};
-    ghost use Rattle.aes_wide.specs.Planes.{IsWhole, block};
+    ghost use Rattle.aes_wide.specs.Planes.{IsWhole, standing};
     ghost use Rattle.aes_wide.specs.WideKey.{wide_key_of};
 
     /// The key of these bytes. `None` comes exactly for a length other than 16, 24 and 32 bytes.
@@ -124,7 +124,7 @@ impl WideAes {
     fn encrypt_planes(&self, x: [u8x16; 8]) -> [u8x16; 8]
         requires { IsWhole 8 x }
         ensures whole { IsWhole 8 result }
-        ensures blocks { (b : ℕ) → b < 8 → block result b ≡ cipher (wide_key_of self.now) (block x b) }
+        ensures blocks { (b : ℕ) → b < 8 → standing result b ≡ cipher (wide_key_of self.now) (standing x b) }
     {
         let count = self.plain.rounds();
         let mut state = added(x, self.keys[0].planes());
@@ -149,9 +149,9 @@ impl WideAes {
     ) -> [u8x16; 8]
         ensures { result ≡ map (cipher (wide_key_of self.now)) (x0 ∷ x1 ∷ x2 ∷ x3 ∷ x4 ∷ x5 ∷ x6 ∷ x7 ∷ []) }
     {
-        let planes = transposed([x0, x1, x2, x3, x4, x5, x6, x7]);
+        let planes = transposed(rows_of([x0, x1, x2, x3, x4, x5, x6, x7]));
         let done = self.encrypt_planes(planes);
-        transposed(done)
+        rows_of(transposed(done))
     }
 
     /// The cipher of eight blocks.
@@ -195,7 +195,7 @@ impl WideAes {
     fn decrypt_planes(&self, x: [u8x16; 8]) -> [u8x16; 8]
         requires { IsWhole 8 x }
         ensures whole { IsWhole 8 result }
-        ensures blocks { (b : ℕ) → b < 8 → block result b ≡ inverse_cipher (wide_key_of self.now) (block x b) }
+        ensures blocks { (b : ℕ) → b < 8 → standing result b ≡ inverse_cipher (wide_key_of self.now) (standing x b) }
     {
         let count = self.plain.rounds();
         let mut state = added(x, self.keys[count].planes());
@@ -220,9 +220,9 @@ impl WideAes {
     ) -> [u8x16; 8]
         ensures { result ≡ map (inverse_cipher (wide_key_of self.now)) (x0 ∷ x1 ∷ x2 ∷ x3 ∷ x4 ∷ x5 ∷ x6 ∷ x7 ∷ []) }
     {
-        let planes = transposed([x0, x1, x2, x3, x4, x5, x6, x7]);
+        let planes = transposed(rows_of([x0, x1, x2, x3, x4, x5, x6, x7]));
         let done = self.decrypt_planes(planes);
-        transposed(done)
+        rows_of(transposed(done))
     }
 
     /// The inverse cipher of eight blocks.

@@ -1,3 +1,4 @@
+pub mod LastByte
 pub mod XorLemmas
 pub mod PieceLemmas
 pub mod StepLemmas

@@ -1,13 +1,13 @@
 -- Many blocks that go through while none is held.
-use Rattle.std.proofs.Common.{◌≡◌, ℕ, zero, suc, ◌+◌, ◌*◌, ◌/◌, ◌<◌, ◌≤◌, List, [], ◌∷◌, ◌++◌, length, take, drop, refl, sym, ◌∙◌, ap, subst, arith, append_assoc, append-nil, length-append, length-drop, length-take}
+use Rattle.std.proofs.Common.{◌≡◌, ℕ, zero, suc, ◌+◌, ◌*◌, ◌≤◌, List, [], ◌∷◌, ◌++◌, length, take, drop, refl, sym, ◌∙◌, ap, subst, arith, append_assoc, append-nil, length-append, length-drop}
 use Rattle.std.specs.List.{concat}
 use Rattle.std.specs.Simd.{first_chunks}
-use Rattle.std.proofs.lemmas.List.{take-append-drop, length-take-le}
+use Rattle.std.proofs.lemmas.List.{length-take-le}
 use Rattle.std.proofs.lemmas.List.Folds.{concat-append}
 use Rattle.std.proofs.Math.Seq.{take-add}
 use Rattle.tags.specs.declared.plan.Plan.{Plan}
 use Rattle.block_modes.specs.declared.engine.Blocks.{Blocks}
-use Rattle.block_modes.specs.Texts.{AreBlocks, pieces_of, xor_bytes}
+use Rattle.block_modes.specs.Texts.{AreBlocks, pieces_of}
 use Rattle.block_modes.specs.Steps.{step_out, step_chain, through, chain_after}
 use Rattle.block_modes.specs.Holds.{Going, after_blocks, outs_of}
 

@@ -1,6 +1,7 @@
 //! What a mode makes of many blocks, most of them by one call of the cipher.
 
-ghost use Rattle.std.specs.Prelude.{◌≡◌, true, false, length};
+ghost use Rattle.std.specs.Prelude.{◌≡◌, ◌+◌, ◌<◌, ◌%◌, ◌^◌, true, false, length};
+ghost use Rattle.std.specs.Int.{w128, to_be_bytes};
 ghost use Rattle.tags.specs.declared.plan.Plan.TheVariants.{Cbc};
 ghost use Rattle.std.specs.Simd.Lanes.{zip2};
 ghost use Rattle.block_modes.specs.Texts.{xor_bytes};
@@ -32,6 +33,31 @@ fn seal_chain<C: ManyBlocks>(
     before.to_array()
 }
 
+/// What is added to a block for the next number, where its last byte can go up.
+const ONE: [u8; 16] = [0, 0, 0, 0, 0, 0, 0, 0, 0, 0, 0, 0, 0, 0, 0, 1];
+
+/// The counter block behind that of a number whose last byte can go up.
+#[inline(always)]
+fn raised(block: u8x16, _number: u128) -> u8x16
+    requires last { _number % 256 < 255 }
+    requires spells { block ≡ to_be_bytes w128 _number }
+    ensures { result ≡ to_be_bytes w128 ((_number + 1) % 2 ^ 128) }
+{
+    block + u8x16::from_array(ONE)
+}
+
+/// The counter block behind that of a number. It is spelled anew where the last byte carries.
+#[inline(always)]
+fn next_block(block: u8x16, number: u128) -> u8x16
+    requires { block ≡ to_be_bytes w128 number }
+    ensures { result ≡ to_be_bytes w128 ((number + 1) % 2 ^ 128) }
+{
+    if number % 256 < 255 {
+        return raised(block, number);
+    }
+    u8x16::from_array(number.wrapping_add(1).to_be_bytes())
+}
+
 /// Puts the counter blocks from `first` on, and gives the one behind them.
 fn put_counters(first: [u8; 16], out: &mut [[u8; 16]]) -> [u8; 16]
     ensures blocks { out.new ≡ counter_blocks (length out.old) first }
@@ -42,11 +68,14 @@ fn put_counters(first: [u8; 16], out: &mut [[u8; 16]]) -> [u8; 16]
     }
     out[0] = first;
     let mut number = u128::from_be_bytes(first).wrapping_add(1);
+    let mut block = u8x16::from_array(number.to_be_bytes());
     'each: for i in 1..out.len() {
-        out[i] = number.to_be_bytes();
+        out[i] = block.to_array();
+        let next = next_block(block, number);
+        block = next;
         number = number.wrapping_add(1);
     }
-    number.to_be_bytes()
+    block.to_array()
 }
 
 /// Adds a key stream to texts: each block of it becomes its sum with the text.

@@ -10,8 +10,6 @@ mod lanes;
 mod padding;
 mod partial;
 mod step;
-#[cfg(test)]
-mod tests;
 
 pub use engine::Blocks;
 pub use fault::ModeFault;

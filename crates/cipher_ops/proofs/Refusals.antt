@@ -1,10 +1,10 @@
 -- The codes with which an output is refused.
-use Rattle.std.proofs.Common.{◌≡◌, ℕ, Bool, true, false, ◌&&◌, if◌then◌else◌, List, [], ◌++◌, length, Option, Some, None, Result, Ok, Err, refl, sym, subst, ap, ◌∙◌}
+use Rattle.std.proofs.Common.{◌≡◌, ℕ, Bool, true, false, if◌then◌else◌, List, [], ◌++◌, length, Option, Some, None, Result, Ok, Err, refl, sym, subst, ◌∙◌}
 use Rattle.std.specs.Prelude.{IfErr}
 use Rattle.std.specs.Option.{ok_or}
 use Rattle.std.proofs.Props.{props}
 use Rattle.tags.specs.declared.code.Code.{Code}
-use Rattle.tags.specs.declared.code.Code.TheVariants.{VerificationFailed, InvalidInputLength}
+use Rattle.tags.specs.declared.code.Code.TheVariants.{VerificationFailed}
 use Rattle.tags.specs.declared.plan.Plan.{Plan}
 use Rattle.tags.specs.declared.plan.Plan.TheVariants.{Ecb, Cbc, Ctr, Gcm, HmacSign, HmacVerify}
 use Rattle.tags.specs.Plan.{is_whole, may_end}

@@ -3,7 +3,7 @@ use Rattle.std.specs.Prelude.{ℕ, ◌-◌, Bool, true, false, ◌&&◌, if◌th
 use Rattle.std.specs.Option.{ok_or}
 use Rattle.std.specs.Str.{bytes_eq}
 use Rattle.tags.specs.declared.plan.Plan.{Plan}
-use Rattle.tags.specs.declared.plan.Plan.TheVariants.{Ecb, Cbc, Gcm, HmacSign, HmacVerify}
+use Rattle.tags.specs.declared.plan.Plan.TheVariants.{Ecb, Gcm, HmacSign, HmacVerify}
 use Rattle.tags.specs.declared.code.Code.{Code}
 use Rattle.tags.specs.declared.code.Code.TheVariants.{VerificationFailed, InvalidKeyArgument, InvalidInputLength}
 use Rattle.aes_core.specs.Cipher.{cipher, inverse_cipher}

@@ -8,3 +8,4 @@ pub mod Streaming
 pub mod Tagging
 pub mod Opening
 pub mod Standing
+mod Undoing

@@ -11,7 +11,7 @@ use Rattle.gcm_mode.specs.Parts.{hashed}
 use Rattle.gcm_mode.proofs.Cutting.{length-padded, padded-append}
 use Rattle.gcm_mode.proofs.KeyStream.{gctr_one, take-raw}
 
-not_below : (a b : ℕ) → b ≤ a → nat_lt a b ≡ false
+pub not_below : (a b : ℕ) → b ≤ a → nat_lt a b ≡ false
 not_below a b h = grind (arith, nat_tests)
 
 below : (a b : ℕ) → a < b → nat_lt a b ≡ true

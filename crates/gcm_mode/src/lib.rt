@@ -13,10 +13,6 @@ mod open;
 mod seal;
 mod stream;
 mod tag_size;
-#[cfg(test)]
-mod test_cases;
-#[cfg(test)]
-mod tests;
 
 pub use open::{GcmOpen, TagWrong};
 pub use seal::GcmSeal;

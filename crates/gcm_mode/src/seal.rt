@@ -1,7 +1,7 @@
 // Authenticated encryption (SP 800-38D section 7.1), in any pieces.
 
-ghost use Rattle.std.specs.Prelude.{◌≡◌, ℕ, ◌≤◌, ◌++◌, [], List, drop, length, slice_range, take};
-ghost use Rattle.gcm_mode.specs.Gcm.{gcm_seal, raw, seal_front, seal_given};
+ghost use Rattle.std.specs.Prelude.{◌≡◌, ℕ, ◌≤◌, ◌++◌, [], List, Some, drop, length, slice_range, take};
+ghost use Rattle.gcm_mode.specs.Gcm.{gcm_open, gcm_seal, raw, seal_front, seal_given};
 ghost use Rattle.gcm_mode.specs.Holds.{Seals, SealsNoText, tag_size};
 
 use crate::authenticator::Authenticator;
@@ -73,6 +73,10 @@ impl<C: ManyBlocks + Drop> GcmSeal<C> {
         ensures sealed { (cipher : List ℕ → List ℕ) (nonce : List ℕ) (tag : ℕ) (aad text : List ℕ)
             → Seals C.cipher self cipher nonce tag aad text
             → seal_given cipher nonce text ++ take result out.new ≡ gcm_seal cipher nonce tag aad text }
+        // Opening gives the text again.
+        ensures opens { (cipher : List ℕ → List ℕ) (nonce : List ℕ) (tag : ℕ) (aad text : List ℕ)
+            → Seals C.cipher self cipher nonce tag aad text
+            → gcm_open cipher nonce tag aad (gcm_seal cipher nonce tag aad text) ≡ Some text }
     {
         let size = self.tag.bytes();
         let whole = xor_blocks(self.hash.value(), &self.stream.tag_key());

@@ -21,12 +21,21 @@ pub(crate) struct Gctr<C> {
     used: usize,
 }
 
+// Puts a counter block. Its parts are stored by themselves, since a vector that is read back from several stores waits for
+// all of them.
+#[inline(always)]
+fn put_counter(out: &mut [u8; 16], nonce: &[u8; 12], counter: u32)
+    ensures { out.new ≡ nonce.now ++ to_be_bytes w32 counter }
+{
+    out[..12].copy_from_slice(nonce);
+    out[12..].copy_from_slice(&counter.to_be_bytes());
+}
+
 fn counter_block(nonce: &[u8; 12], counter: u32) -> [u8; 16]
     ensures { result ≡ nonce.now ++ to_be_bytes w32 counter }
 {
     let mut block = [0; 16];
-    block[..12].copy_from_slice(nonce);
-    block[12..].copy_from_slice(&counter.to_be_bytes());
+    put_counter(&mut block, nonce, counter);
     block
 }
 
@@ -114,8 +123,8 @@ impl<C: ManyBlocks> Gctr<C> {
             → Streams C.cipher self.old cipher nonce n → n % 16 ≡ 0 → Streams C.cipher self.new cipher nonce (n + 16 * length out.old) }
     {
         'each: for i in 0..out.len() {
-            let block = self.next_counter();
-            out[i] = block;
+            put_counter(&mut out[i], &self.nonce, self.counter);
+            self.counter = self.counter.wrapping_add(1);
         }
     }
 

@@ -10,9 +10,8 @@ mod hashing;
 mod laws;
 mod state;
 mod table;
-#[cfg(test)]
-mod tests;
 mod wide;
 
+pub use field::{element, product};
 pub use laws::field_laws;
 pub use state::Ghash;

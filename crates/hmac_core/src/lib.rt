@@ -18,7 +18,5 @@
 mod hash;
 mod keyed;
 mod mac;
-#[cfg(test)]
-mod tests;
 
 pub use mac::{Hmac, digest_size};

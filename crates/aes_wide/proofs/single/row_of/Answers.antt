@@ -1,5 +1,5 @@
-use Rattle.std.proofs.Common.{◌≡◌, ◌<◌, ◌≤◌, length, map, replicate, ◌∙◌, ap, arith, rules}
-use Rattle.aes_core.specs.Expansion.{key_expansion, round_key, rounds_of}
+use Rattle.std.proofs.Common.{◌≡◌, ◌<◌, ◌≤◌, length, map, ◌∙◌, ap, arith, rules}
+use Rattle.aes_core.specs.Expansion.{rounds_of}
 use Rattle.aes_core.specs.KeyOf.{key_of}
 use Rattle.aes_core.specs.State.{add_round_key}
 use Rattle.aes_core.specs.Tower.{to_tower}

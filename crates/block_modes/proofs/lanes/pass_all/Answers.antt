@@ -1,7 +1,7 @@
-use Rattle.std.proofs.Common.{◌≡◌, length, map, ap, sym, ◌∙◌}
+use Rattle.std.proofs.Common.{map, ap, sym, ◌∙◌}
 use Rattle.std.specs.Simd.Lanes.{zip2}
 use Rattle.block_modes.specs.Texts.{xor_bytes}
-use Rattle.block_modes.specs.Steps.{before_each, before_next, counter_blocks, counter_after}
+use Rattle.block_modes.specs.Steps.{before_each, counter_blocks, counter_after}
 use Rattle.block_modes.proofs.LaneLemmas.{ecb_seal, ecb_open, ecb_chain, cbc_open_outs, cbc_open_chain, sealed_any, sealed_after, counts, counted_outs, counted_chain}
 use Rattle.block_modes.proofs.lanes.pass_all.Goals as goal
 

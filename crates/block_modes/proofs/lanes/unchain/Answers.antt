@@ -1,8 +1,8 @@
-use Rattle.std.proofs.Common.{◌≡◌, ◌<◌, ◌++◌, length, take, drop, get_or, [], ap, sym, ◌∙◌, arith, length-take}
+use Rattle.std.proofs.Common.{◌≡◌, ◌<◌, length, take, get_or, [], ap, ◌∙◌, arith, length-take}
 use Rattle.std.specs.Simd.Lanes.{zip2}
 use Rattle.std.proofs.lemmas.Simd.{length-zip2}
 use Rattle.block_modes.specs.Texts.{xor_bytes}
-use Rattle.block_modes.specs.Steps.{before_each, before_next}
+use Rattle.block_modes.specs.Steps.{before_each}
 use Rattle.block_modes.proofs.LaneLemmas.{filled_more, get_next, unchained_next, before_next_more, length-before_each}
 use Rattle.block_modes.proofs.lanes.unchain.Goals as goal
 

@@ -1,6 +1,6 @@
 use Rattle.std.proofs.Common.{◌≡◌, ◌-◌, ◌<◌, ◌+◌, ◌∙◌, ap, arith}
 use Rattle.aes_core.specs.Expansion.{key_expansion, rounds_of}
-use Rattle.aes_wide.specs.Planes.{block}
+use Rattle.aes_wide.specs.Planes.{standing}
 use Rattle.aes_wide.specs.WideKey.{wide_key_of}
 use Rattle.aes_wide.proofs.GroupLemmas.{rounds_few}
 use Rattle.aes_wide.proofs.BackLemmas.{back_begun, back_on, back_ended}
@@ -19,7 +19,7 @@ rounds-init c =
     let all : c.rounds-count.result - 1 - 0 ≡ c.rounds-count.result - 1 = omega arith in
     let last : c.rounds-count.result < rounds_of key + 1 = omega (arith, is_count) in
     back_begun (key_expansion key) c.rounds-count.result (c.rounds-count.result - 1 - 0) c.args.x c.added-state.result c.planes.result all c.added-state.ensures.whole c.added-state.ensures.blocks
-    (λ b h. ap (λ t. block t b) c.planes.ensures ∙ c.args.self.now.has_keys.blocks c.rounds-count.result b last h)
+    (λ b h. ap (λ t. standing t b) c.planes.ensures ∙ c.args.self.now.has_keys.blocks c.rounds-count.result b last h)
 
 pub rounds-preserved : goal.rounds-preserved
 rounds-preserved c =
@@ -28,7 +28,7 @@ rounds-preserved c =
     let few : c.rounds-count.result - 1 - c.rounds.done < rounds_of key + 1 = omega (arith, c.rounds-count.ensures) in
     back_on (key_expansion key) c.rounds-count.result (c.rounds-count.result - 1 - (c.rounds.done + 1)) (c.rounds-count.result - 1 - c.rounds.done)
     c.args.x c.rounds.state c.unround-next.result c.planes-in-rounds.result one c.rounds.invariant c.unround-next.ensures.whole c.unround-next.ensures.blocks
-    (λ b h. ap (λ t. block t b) c.planes-in-rounds.ensures ∙ c.args.self.now.has_keys.blocks (c.rounds-count.result - 1 - c.rounds.done) b few h)
+    (λ b h. ap (λ t. standing t b) c.planes-in-rounds.ensures ∙ c.args.self.now.has_keys.blocks (c.rounds-count.result - 1 - c.rounds.done) b few h)
 
 pub returns-clause-blocks : goal.returns-clause-blocks
 returns-clause-blocks c =
@@ -36,4 +36,4 @@ returns-clause-blocks c =
     let none : c.rounds-count.result - 1 - c.rounds.done ≡ 0 = omega arith in
     let some : 0 < rounds_of key + 1 = omega arith in
     back_ended key c.rounds-count.result (c.rounds-count.result - 1 - c.rounds.done) c.args.x c.rounds.state c.last_unround.result c.planes-2.result c.rounds-count.ensures none c.rounds.invariant c.last_unround.ensures.blocks
-    (λ b h. ap (λ t. block t b) c.planes-2.ensures ∙ c.args.self.now.has_keys.blocks 0 b some h)
+    (λ b h. ap (λ t. standing t b) c.planes-2.ensures ∙ c.args.self.now.has_keys.blocks 0 b some h)

@@ -1,4 +1,4 @@
-use Rattle.std.proofs.Common.{◌≡◌, ℕ, List, ◌-◌, ◌<◌, ◌≤◌, ◌+◌, ◌∙◌, ap, sym, arith}
+use Rattle.std.proofs.Common.{◌≡◌, ◌-◌, ◌<◌, ◌≤◌, ◌+◌, ◌∙◌, ap, sym, arith}
 use Rattle.aes_core.specs.Block.{IsBytes}
 use Rattle.aes_core.specs.Cipher.{rounds}
 use Rattle.aes_core.specs.Expansion.{key_expansion, round_key, rounds_of}

@@ -1,7 +1,7 @@
-use Rattle.std.proofs.Common.{◌≡◌, ◌+◌, ◌-◌, ◌*◌, ◌/◌, ◌≤◌, ◌++◌, length, take, drop, ap, sym, ◌∙◌, arith, length-take}
+use Rattle.std.proofs.Common.{◌≡◌, ◌*◌, ◌/◌, ◌≤◌, length, take, ap, ◌∙◌, arith}
 use Rattle.std.proofs.lemmas.List.{nil_from_length, length-take-le}
 use Rattle.block_modes.proofs.SettleLemmas.{drop_further}
-use Rattle.block_modes.proofs.RunLemmas.{chunks_front, going_on, going_stay}
+use Rattle.block_modes.proofs.RunLemmas.{chunks_front, going_on}
 use Rattle.block_modes.proofs.engine.Blocks.make_way.Goals as goal
 
 pub returns-clause-goes : goal.returns-clause-goes

@@ -1,4 +1,4 @@
-use Rattle.std.proofs.Common.{◌≡◌, ◌++◌, take, ap, ◌∙◌}
+use Rattle.std.proofs.Common.{◌++◌, take, ap, ◌∙◌}
 use Rattle.std.specs.List.{concat}
 use Rattle.block_modes.proofs.LaneLemmas.{through_outs}
 use Rattle.block_modes.proofs.engine.Blocks.pass.Goals as goal

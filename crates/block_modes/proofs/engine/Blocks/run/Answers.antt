@@ -1,6 +1,5 @@
-use Rattle.std.proofs.Common.{◌≡◌, ℕ, ◌+◌, ◌-◌, ◌*◌, ◌≤◌, ◌++◌, List, length, take, drop, ap, sym, ◌∙◌, arith, length-take, length-drop}
+use Rattle.std.proofs.Common.{◌≡◌, ◌+◌, ◌-◌, ◌++◌, length, take, drop, ap, sym, ◌∙◌, arith, length-take, length-drop}
 use Rattle.std.proofs.Math.Seq.{take-add}
-use Rattle.block_modes.specs.Holds.{after_blocks, outs_of}
 use Rattle.block_modes.proofs.SettleLemmas.{drop_further}
 use Rattle.block_modes.proofs.RunLemmas.{after_more, outs_more}
 use Rattle.block_modes.proofs.engine.Blocks.run.Goals as goal

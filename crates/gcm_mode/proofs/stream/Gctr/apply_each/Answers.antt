@@ -1,5 +1,5 @@
 -- One more byte was changed, and all were.
-use Rattle.std.proofs.Common.{◌≡◌, ℕ, ◌+◌, length, ◌∙◌, arith, add_assoc}
+use Rattle.std.proofs.Common.{◌≡◌, ◌+◌, length, ◌∙◌, arith, add_assoc}
 use Rattle.std.proofs.lemmas.List.{take_all, drop_all, append-nil}
 use Rattle.gcm_mode.specs.Bytewise.{xor_by}
 use Rattle.gcm_mode.specs.Parts.{key_byte}

@@ -1,6 +1,6 @@
 -- The cipher of the counter blocks was added.
-use Rattle.std.proofs.Common.{◌≡◌, ℕ, ◌+◌, ◌*◌, ◌/◌, ◌≤◌, List, length, map, ap, subst, ◌∙◌, arith, rules}
-use Rattle.gcm_mode.specs.Parts.{Streams, counter_blocks}
+use Rattle.std.proofs.Common.{ℕ, List, map, ap, subst, ◌∙◌, rules}
+use Rattle.gcm_mode.specs.Parts.{Streams}
 use Rattle.gcm_mode.proofs.Blockwise.{group_added}
 use Rattle.gcm_mode.proofs.stream.Gctr.apply_group.Goals as goal
 

@@ -1,6 +1,6 @@
 //! The cases of RFC 4231, whole and in pieces.
 
-use crate::{Hmac, digest_size};
+use hmac_core::{Hmac, digest_size};
 use std::process::Abort;
 use std::test::Fail;
 

@@ -1,13 +1,13 @@
-// Vectors, through a caller whose contract is that of a whole sealing or opening.
+//! Vectors of GCM, through a caller whose contract is that of a whole sealing or opening.
 
 ghost use Rattle.std.specs.Prelude.{◌≡◌, ◌≤◌, ◌++◌, IfOk, MatchResult, Some, None, length, take};
 ghost use Rattle.aes_core.specs.Cipher.{cipher};
 ghost use Rattle.aes_core.specs.KeyOf.{key_of};
 ghost use Rattle.gcm_mode.specs.Gcm.{gcm_open, gcm_seal};
 
-use super::{GcmOpen, GcmSeal, TagWrong};
-use crate::test_cases::{CASES, Case};
+use super::gcm_cases::{CASES, Case};
 use aes_core::AesKey;
+use gcm_mode::{GcmOpen, GcmSeal, TagWrong};
 use std::process::Abort;
 use std::test::Fail;
 

@@ -1,5 +1,6 @@
-use super::Ghash;
-use crate::field::{element, product};
+//! Vectors of GHASH, and many blocks beside the product bit by bit.
+
+use ghash::{Ghash, element, product};
 
 // The hash subkey, the blocks and the hash of each test case.
 struct Case {
@@ -9,7 +10,7 @@ struct Case {
 }
 
 // Test cases 1 to 6 and 13 to 18 of the GCM specification (McGrew and Viega, appendix B).
-const CASES: [Case; 12] = [
+static CASES: [Case; 12] = [
     // case 1
     Case {
         subkey: 0x66e94bd4_ef8a2c3b_884cfa59_ca342b2e,

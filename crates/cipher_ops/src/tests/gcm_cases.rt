@@ -1,4 +1,4 @@
-// Vectors of the GCM specification.
+//! Vectors of the GCM specification.
 
 /// What goes in, and the ciphertext with its tag of 16 bytes behind it.
 pub(crate) struct Case {
@@ -58,7 +58,7 @@ const SHORT_TEXT: &[u8] = &[
 
 // Test cases 1 to 4, 7 to 10 and 13 to 16 of the GCM specification (McGrew and Viega, appendix B), which have nonces
 // of 12 bytes: the ciphertext with its tag behind it.
-pub(crate) const CASES: [Case; 12] = [
+pub(crate) static CASES: [Case; 12] = [
     // case 1
     Case {
         key: ZEROS_16,

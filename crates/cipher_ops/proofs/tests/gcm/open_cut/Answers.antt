@@ -3,7 +3,7 @@ use Rattle.std.proofs.Common.{◌≡◌, ℕ, ◌-◌, List, [], ◌++◌, take,
 use Rattle.aes_core.specs.Cipher.{cipher}
 use Rattle.aes_core.specs.KeyOf.{key_of}
 use Rattle.gcm_mode.specs.Gcm.{raw, open_given}
-use Rattle.gcm_mode.proofs.tests.open_cut.Goals as goal
+use Rattle.cipher_ops.proofs.tests.gcm.open_cut.Goals as goal
 
 nothing : (f : List ℕ → List ℕ) (nonce : List ℕ) (tag : ℕ) → open_given f nonce tag [] ≡ []
 nothing f nonce tag =

@@ -2,7 +2,7 @@
 use Rattle.std.proofs.Common.{ℕ, List, [], ◌++◌, ◌∙◌}
 use Rattle.aes_core.specs.Cipher.{cipher}
 use Rattle.aes_core.specs.KeyOf.{key_of}
-use Rattle.gcm_mode.proofs.tests.seal_cut.Goals as goal
+use Rattle.cipher_ops.proofs.tests.gcm.seal_cut.Goals as goal
 
 pub finish-requires : goal.finish-requires
 finish-requires c =

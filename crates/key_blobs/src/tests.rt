@@ -1,0 +1,98 @@
+//! Blobs of another tool, both ways, and what does not open.
+
+ghost use Rattle.std.specs.Prelude.{IfOk};
+ghost use Rattle.key_blobs.specs.Text.{IsShort};
+
+use crate::test_blobs::{KNOWN, Known, REFUSED};
+use crate::{BlobFault, Opened, Sealed, seal, unseal};
+use std::alloc::Global;
+use std::process::Abort;
+use std::test::Fail;
+use tag_lists::AuthList;
+use tags::{Bytes, DeviceSecrets, NoMemory};
+
+/// What a caller with an id and without data is answered.
+fn answer(alloc: Global, blob: &[u8]) -> Result<Opened, BlobFault> {
+    unseal(alloc, &DeviceSecrets::demo(), blob, Some(b"ab"), None)
+}
+
+/// The fault, or none.
+fn fault(alloc: Global, blob: &[u8]) -> Option<BlobFault> {
+    answer(alloc, blob).err()
+}
+
+/// A copy of bytes that may be absent, of at most 65,535.
+fn copied(alloc: Global, bytes: Option<&[u8]>) -> Result<Option<Bytes>, NoMemory>
+    ensures { IfOk result (λ copy. IsShort copy) }
+{
+    match bytes {
+        Some(bytes) => {
+            if bytes.len() > 65535 {
+                return Ok(None);
+            }
+            Ok(Some(Bytes::copy_of(alloc, bytes)?))
+        }
+        None => Ok(None),
+    }
+}
+
+/// Opens to the list and the material, and sealing these gives the blob.
+fn is_known(rt: &impl Abort, alloc: Global, known: &Known) -> Result<(), Fail> {
+    let device = DeviceSecrets::demo();
+    let opened = unseal(alloc, &device, known.blob, known.app_id, known.app_bytes).map_err(
+        |_| "it opens",
+    )?;
+    let list = opened.list.write(alloc).map_err(|_| "memory")?;
+    assert_eq!(rt; list.as_slice(), known.list);
+    assert_eq!(rt; opened.material.as_slice(), known.material);
+    if list.len() > 65535 || opened.material.len() > 255 {
+        return Err("short".into());
+    }
+    let sealed = Sealed {
+        root: device.root,
+        app_id: copied(alloc, known.app_id).map_err(|_| "memory")?,
+        app_bytes: copied(alloc, known.app_bytes).map_err(|_| "memory")?,
+        list: opened.list,
+        material: opened.material,
+    };
+    let blob = seal(alloc, &device, known.nonce, &sealed).map_err(|_| "memory")?;
+    assert_eq!(rt; blob.as_slice(), known.blob);
+    Ok(())
+}
+
+#[test]
+fn blobs_of_another_tool_open_and_are_made_again(rt: HostRuntime) -> Result<(), Fail> {
+    for known in &KNOWN {
+        is_known(&rt, rt.alloc(), known)?;
+    }
+    Ok(())
+}
+
+#[test]
+fn what_is_wrong_is_told_in_its_order(rt: HostRuntime) -> Result<(), Fail> {
+    for (what, told, blob) in &REFUSED {
+        assert_eq!(rt; fault(rt.alloc(), blob), Some(*told), "{what}");
+    }
+    let blob = KNOWN[1].blob;
+    for place in 0..blob.len() {
+        let mut changed = Vec::from_slice(rt.alloc(), blob)?;
+        changed[place] ^= 1;
+        let told = if place < 4 {
+            BlobFault::Format
+        } else {
+            BlobFault::Tag
+        };
+        assert_eq!(rt; fault(rt.alloc(), &changed), Some(told), "byte {place}");
+        let cut = if place < 32 {
+            BlobFault::Format
+        } else {
+            BlobFault::Tag
+        };
+        assert_eq!(rt;
+            fault(rt.alloc(), &blob[..place]),
+            Some(cut),
+            "the first {place} bytes"
+        );
+    }
+    Ok(())
+}
