@@ -71,7 +71,8 @@ ODD_LINES = [
     b"[1]",
     b"\xff",
     b'{"t":[0,1],"do":"connect"}',
-    b'{"t":[0,1],"c":1,"do":"disconnect"}',
+    b'{"t":[0,1],"do":"restart"}',
+    b'{"t":[0,1],"c":1,"do":"leave"}',
     b'{"t":[0,1000],"c":1,"do":"createOperation","key":{"domain":0,"alias":"a"},"forced":true}',
 ]
 MORE_MEMBERS = [
@@ -100,11 +101,12 @@ def shows_drawn_bytes(service, line):
 
 
 class Maker:
-    """Makes one script, line by line, each with an eye on what the model's service holds by then."""
+    """Makes one script and its number of slots, line by line, each with an eye on what the model's service holds by then."""
 
     def __init__(self, seed):
         self.random = random.Random(seed)
-        self.service = Service()
+        self.slots = self.random.choice([1, 2, 3, 5, 16, 16])
+        self.service = Service(slots=self.slots)
         self.outputs = []
         self.lines = []
         self.replies = []
@@ -235,10 +237,12 @@ class Maker:
         return key
 
     def client(self):
-        """A client's number, rarely one that may not be connected."""
+        """The number of a client that is connected, rarely of one that may not be."""
+        uids = self.service.uids
         if self.chance(0.05):
-            return self.random.choice([0, 4])
-        return self.random.choice([1, 1, 1, 1, 2, 2, 2, 3, 3])
+            return self.random.randrange(len(uids) + 2)
+        connected = [number for number, uid in enumerate(uids, 1) if uid is not None]
+        return self.random.choice(connected or [1])
 
     def new_key(self, members):
         """Imports a key, or generates one that has no purpose."""
@@ -295,6 +299,16 @@ class Maker:
             members["input"] = self.input()
         if members["do"] == "finish":
             members.update(self.end(operation))
+        if members["do"] != "abort" and self.chance(0.25):
+            members["hold"] = self.chance(0.9)
+
+    def leave(self, members):
+        """Brings back a work that is out, or rarely one that may not be."""
+        del members["c"]
+        members["do"] = "leave"
+        members["ticket"] = self.random.randrange(self.service.tickets + 2)
+        if self.service.out and self.chance(0.9):
+            members["ticket"] = self.random.choice(list(self.service.out))
 
     def end(self, operation):
         """What a finish is given: for half of the openings and verifications what ends them well, or nearly so."""
@@ -331,6 +345,8 @@ class Maker:
     def fill(self, number):
         """Gives an operation as much input as one may have, or ends it by more; additional data where it takes any."""
         operation = self.service.operations[number]
+        if operation.work is not None:
+            return
         act = "updateAad" if operation.plan.mode == GCM and not operation.text else "update"
         members = {"t": [0, 0], "c": operation.client, "do": act, "op": number, "input": "00" * MOST_STEP_BYTES}
         for _ in range(MOST_OPERATION_BYTES // MOST_STEP_BYTES):
@@ -359,19 +375,24 @@ class Maker:
         if kind < 0.04:
             members["do"] = "connect"
             members["uid"] = self.random.choice([10001, 10002])
+        elif kind < 0.045:
+            members["do"] = "disconnect"
         elif kind < 0.15:
             self.new_key(members)
-        elif kind < 0.35 or len(self.service.operations) < 4 and self.chance(0.7):
+        elif kind < 0.35 or len(self.service.operations) < min(4, self.slots) and self.chance(0.7):
             self.begin(members)
+        elif kind < 0.45 or self.service.out and self.chance(0.2):
+            self.leave(members)
         else:
             self.step(members)
         return self.spoiled(members) if self.chance(0.02) else text_of(members)
 
 
-def output_of(program, script):
+def output_of(program, script, slots):
     """What the program writes over a script, and how the run ended where that is not with status 0."""
+    words = [program, "run", "--fresh", "--slots", str(slots)]
     try:
-        ended = subprocess.run([program, "run", "--fresh"], input=script, capture_output=True, timeout=MOST_SECONDS)
+        ended = subprocess.run(words, input=script, capture_output=True, timeout=MOST_SECONDS)
     except subprocess.TimeoutExpired as expired:
         return expired.stdout or b"", f"no end within {MOST_SECONDS} seconds"
     if ended.returncode != 0:
@@ -417,7 +438,7 @@ def compare(program, seed, count):
         maker = Maker(f"{seed} {number}")
         maker.script()
         replies += maker.replies
-        output, fault = output_of(program, b"".join(line + b"\n" for line in maker.lines))
+        output, fault = output_of(program, b"".join(line + b"\n" for line in maker.lines), maker.slots)
         if fault is not None or output != b"".join(reply + b"\n" for reply in maker.replies):
             differing += 1
             print_difference(number, maker, output, fault)

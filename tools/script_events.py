@@ -208,6 +208,14 @@ def check_false(members, name):
         raise Malformed()
 
 
+def flag_of(members, name):
+    """A truth value that is false where it is absent."""
+    value = members.get(name, False)
+    if type(value) is not bool:
+        raise Malformed()
+    return value
+
+
 def check_reading(members):
     """The clocks' reading, at which no rule looks yet."""
     reading = needed(members, "t")
@@ -283,8 +291,7 @@ def operation_fields(members):
 
 
 def step_fields(members):
-    check_false(members, "hold")
-    return {**operation_fields(members), "input": bytes_of(members.get("input", ""))}
+    return {**operation_fields(members), "input": bytes_of(members.get("input", "")), "hold": flag_of(members, "hold")}
 
 
 def finish_fields(members):
@@ -292,15 +299,25 @@ def finish_fields(members):
     return {**step_fields(members), "signature": signature}
 
 
+def leave_fields(members):
+    return {"ticket": number_of(needed(members, "ticket"), 64)}
+
+
+def no_fields(members):
+    return {}
+
+
 # The acts that are built, and what reads the fields of each.
 FIELDS = {
     "connect": connect_fields,
+    "disconnect": no_fields,
     "generateKey": key_fields,
     "importKey": import_fields,
     "createOperation": begin_fields,
     "updateAad": step_fields,
     "update": step_fields,
     "finish": finish_fields,
+    "leave": leave_fields,
     "abort": operation_fields,
 }
 
@@ -313,6 +330,6 @@ def event_of(line):
     if type(act) is not str or act not in FIELDS:
         raise Malformed()
     event = {"act": act, **FIELDS[act](members)}
-    if act != "connect":
+    if act not in ("connect", "leave"):
         event["client"] = number_of(needed(members, "c"), 64)
     return event

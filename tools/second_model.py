@@ -1,7 +1,7 @@
 #!/usr/bin/env python3
 """A second model of the rules: reads a script on standard input and writes the reply lines.
 
-    python3 tools/second_model.py [--fail N,N,..] < SCRIPT
+    python3 tools/second_model.py [--fail N,N,..] [--slots N] < SCRIPT
 
 It is written from docs/RULES.md's rules, apart from the proved code, so that the two can be compared. Its entropy
 counts 00, 01 .. ff, 00 ..; the draws whose numbers --fail gives, counted from 1, fail. AES, its modes and GCM are those
@@ -97,12 +97,18 @@ class Plan:
 
 @dataclass
 class Operation:
+    """An open operation; `work` is the event that entered it while that is out, and `touched` the step that last did."""
+
+    number: int
     client: int
+    uid: int
     key: Key
     plan: Plan
     nonce: bytes | None
+    touched: int
     additional: bytes = b""
     text: bytes = b""
+    work: dict | None = None
 
 
 # Output.
@@ -406,18 +412,34 @@ class Entropy:
 
 
 class Service:
-    """The service over a fresh store; the draws with the numbers `failing`, counted from 1, fail."""
+    """The service over a fresh store with so many slots; the draws with the numbers `failing`, counted from 1, fail."""
 
-    def __init__(self, failing=()):
+    def __init__(self, failing=(), slots=16):
         self.entropy = Entropy(failing)
+        self.slots = slots
         self.uids = []
         self.keys = []
         self.operations = {}
         self.begun = 0
+        self.out = {}
+        self.tickets = 0
+        self.step = 0
 
     def uid_of(self, client):
         """The uid of a client that is connected, or None."""
         return self.uids[client - 1] if 1 <= client <= len(self.uids) else None
+
+    def open_count(self, uid):
+        """How many operations of a uid are open, idle and busy."""
+        return sum(operation.uid == uid for operation in self.operations.values())
+
+    def victim(self, uid):
+        """The operation that gives way to a begin of a uid, or None where none does."""
+        idle = [operation for operation in self.operations.values() if operation.work is None]
+        maluses = [(self.open_count(o.uid) + (self.step - o.touched).bit_length(), -o.touched, o.number) for o in idle]
+        if not maluses or max(maluses)[0] <= self.open_count(uid) + 1:
+            return None
+        return max(maluses)[2]
 
     def live_key(self, uid, alias):
         """The live key of a uid under an alias, or None."""
@@ -430,14 +452,17 @@ class Service:
         """The reply to an event, as its fields by name."""
         answers = {
             "connect": self.connect,
+            "disconnect": self.disconnect,
             "generateKey": self.make_key,
             "importKey": self.make_key,
             "createOperation": self.create_operation,
-            "updateAad": self.update_aad,
-            "update": self.update,
-            "finish": self.finish,
+            "updateAad": self.enter,
+            "update": self.enter,
+            "finish": self.enter,
+            "leave": self.leave,
             "abort": self.abort,
         }
+        self.step += 1
         try:
             return {"code": 0, **answers[event["act"]](event)}
         except Denied as denied:
@@ -448,6 +473,16 @@ class Service:
     def connect(self, event):
         self.uids.append(event["uid"])
         return {"client": len(self.uids)}
+
+    def disconnect(self, event):
+        client = event["client"]
+        if self.uid_of(client) is None:
+            raise Denied(20, "A1")
+        if any(operation.client == client and operation.work is not None for operation in self.operations.values()):
+            raise Denied(19, "A10")
+        self.uids[client - 1] = None
+        self.operations = {number: o for number, o in self.operations.items() if o.client != client}
+        return {}
 
     def make_key(self, event):
         """Generates a key, or imports it where there is material."""
@@ -482,63 +517,87 @@ class Service:
         check_begin(asked, key.params)
         plan = plan_of(asked, key.params)
         nonce = one(asked, "NONCE") if plan.mode in NONCE_BYTES else None
-        drawn = {}
+        told = {}
+        pruned = None
+        if len(self.operations) == self.slots:
+            pruned = self.victim(uid)
+            if pruned is None:
+                raise Denied(18, "B22")
+            told["pruned"] = pruned
         if plan.mode in NONCE_BYTES and nonce is None:
             nonce = self.entropy.draw(NONCE_BYTES[plan.mode])
-            drawn = {"nonce": nonce.hex()}
+            told["nonce"] = nonce.hex()
+        self.operations.pop(pruned, None)
         self.begun += 1
-        self.operations[self.begun] = Operation(event["client"], key, plan, nonce)
-        return {"op": self.begun, **drawn}
+        self.operations[self.begun] = Operation(self.begun, event["client"], uid, key, plan, nonce, self.step)
+        return {"op": self.begun, **told}
 
     def own_operation(self, event):
-        """The open operation of a step, by S1."""
+        """The open operation of a step, by S1 and S2."""
         operation = self.operations.get(event["op"])
         if operation is None or operation.client != event["client"]:
             raise Denied(-28, "S1")
+        if operation.work is not None:
+            raise Denied(19, "S2")
         return operation
 
     def enter(self, event):
-        """The operation of a step that breaks no rule."""
+        """Lets a step that breaks no rule go out with its operation."""
         operation = self.own_operation(event)
         if len(event["input"]) > MOST_STEP_BYTES or len(event.get("signature") or b"") > MOST_STEP_BYTES:
             raise Denied(21, "S3")
         try:
             check_step(operation, event)
         except Denied:
-            del self.operations[event["op"]]
+            del self.operations[operation.number]
             raise
-        return operation
+        self.tickets += 1
+        self.out[self.tickets] = operation
+        operation.work = event
+        operation.touched = self.step
+        return {"ticket": self.tickets}
 
-    def update_aad(self, event):
-        self.enter(event).additional += event["input"]
-        return {}
+    def leave(self, event):
+        """Brings back what went out, with its output."""
+        operation = self.out.pop(event["ticket"], None)
+        if operation is None:
+            raise Denied(1006)
+        work = operation.work
+        operation.work = None
+        operation.touched = self.step
+        if work["act"] == "updateAad":
+            operation.additional += work["input"]
+            return {}
+        if work["act"] == "update":
+            return self.update(operation, work)
+        del self.operations[operation.number]
+        return self.finish(operation, work)
 
-    def update(self, event):
-        operation = self.enter(event)
+    def update(self, operation, work):
         before = front(operation.plan, len(operation.text))
-        operation.text += event["input"]
+        operation.text += work["input"]
         after = front(operation.plan, len(operation.text))
         return {"out": raw_output(operation, operation.text)[before:after].hex()}
 
-    def finish(self, event):
-        operation = self.enter(event)
-        del self.operations[event["op"]]
+    def finish(self, operation, work):
         before = front(operation.plan, len(operation.text))
-        output = whole_output(operation, operation.text + event["input"], event["signature"])
+        output = whole_output(operation, operation.text + work["input"], work["signature"])
         return {"out": output[before:].hex()}
 
     def abort(self, event):
-        self.own_operation(event)
-        del self.operations[event["op"]]
+        del self.operations[self.own_operation(event).number]
         return {}
 
 
 def reply_line(service, line):
     """The reply to a line of a script, both bytes without LF."""
     try:
-        reply = service.reply(event_of(line))
+        event = event_of(line)
     except Malformed:
-        reply = {"code": 20, "rule": "L1"}
+        return json.dumps({"code": 20, "rule": "L1"}, separators=(",", ":"), sort_keys=True).encode()
+    reply = service.reply(event)
+    if "ticket" in reply and not event["hold"]:
+        reply = service.reply({"act": "leave", "ticket": reply["ticket"]})
     return json.dumps(reply, separators=(",", ":"), sort_keys=True).encode()
 
 
@@ -550,7 +609,9 @@ def numbers_of(text):
 def main():
     parser = argparse.ArgumentParser(description="Writes the reply lines of the script on standard input.")
     parser.add_argument("--fail", type=numbers_of, default=set(), metavar="N,N,..", help="draws that fail, from 1")
-    service = Service(parser.parse_args().fail)
+    parser.add_argument("--slots", type=int, default=16, metavar="N", help="how many operations may be open")
+    words = parser.parse_args()
+    service = Service(words.fail, words.slots)
     for line in sys.stdin.buffer:
         sys.stdout.buffer.write(reply_line(service, line.removesuffix(b"\n")) + b"\n")
 

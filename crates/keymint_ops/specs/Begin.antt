@@ -12,6 +12,7 @@ use Rattle.keymint_ops.specs.declared.begin.BeginFault.TheVariants.{Broken, Memo
 pub record MayBegin (begin : Begin) (facts : BeginFacts) : Type 0 where
   pub answers : answer facts ≡ Ok begin.plan
   pub is_found : facts.found ≡ true
+  pub has_room : facts.room ≡ true
   pub plan_is : begin.plan ≡ plan_of (asked_of facts) (key_of facts)
   pub nonce_is : begin.nonce ≡ nonce_given (asked_of facts) (key_of facts)
   pub wanted_is : begin.wanted ≡ nonce_wanted (asked_of facts) (key_of facts)

@@ -1,13 +1,15 @@
 -- The beginning of an operation: its answer, and the tables after it.
-use Rattle.std.proofs.Common.{◌≡◌, ℕ, ◌+◌, ◌<◌, ◌≤◌, ◌==◌, Bool, true, false, if◌then◌else◌, List, [], ◌∷◌, length, Option, Some, None, Err, is_some, unwrap_or, refl, sym, ap, ◌∙◌, subst, arith}
+use Rattle.std.proofs.Common.{◌≡◌, ℕ, ◌+◌, ◌<◌, ◌≤◌, ◌==◌, ◌||◌, Bool, true, false, not, if◌then◌else◌, List, [], ◌∷◌, ◌++◌, length, find, filter, Option, Some, None, Result, Err, is_some, unwrap_or, refl, sym, ap, ◌∙◌, subst, arith, inl, inr}
 use Rattle.std.specs.Option.{option_and_then}
+use Rattle.std.specs.Prelude.{IfNone, IfSome, IsSome}
+use Rattle.std.proofs.lemmas.Bool.{cases_Bool, eqb-true}
 use Rattle.tags.specs.declared.code.Code.{Code}
 use Rattle.tags.specs.declared.code.Code.TheVariants.{EntropyFault, MemoryAllocationFailed}
 use Rattle.tags.specs.declared.descriptor.Descriptor.{Descriptor}
 use Rattle.tags.specs.declared.rule.Rule.{Rule}
 use Rattle.use_rules.specs.declared.facts.BeginFacts.{BeginFacts}
 use Rattle.use_rules.specs.Plans.{nonce_given}
-use Rattle.use_rules.specs.Table as table
+use Rattle.use_rules.specs.Table as begin_table
 use Rattle.use_rules.specs.Table.{asked_of, key_of}
 use Rattle.cipher_ops.specs.declared.state.CipherState.{CipherState}
 use Rattle.cipher_ops.specs.Standing.{StandsFor}
@@ -22,31 +24,41 @@ use Rattle.rule_model.specs.declared.reply.Reply.{Reply}
 use Rattle.rule_model.specs.declared.reply.Reply.TheVariants.{Done, Broken, Stopped}
 use Rattle.rule_model.specs.Acts.{is_begin}
 use Rattle.rule_model.specs.Answer.{answer_by_rules, broken_or, drawn_nonce, no_fields}
-use Rattle.rule_model.specs.BeginFacts.{begin_facts, facts_on}
+use Rattle.rule_model.specs.BeginFacts.{facts_on}
 use Rattle.rule_model.specs.Clients.{caller_of}
 use Rattle.rule_model.specs.Drawn.{size_of, wanted_by_begin, wanted_by_rules}
 use Rattle.rule_model.specs.Entries.{History, count_of}
-use Rattle.rule_model.specs.Keys.{alias_of, key_found}
+use Rattle.rule_model.specs.Keys.{alias_of, key_found, owner_of}
 use Rattle.rule_model.specs.Legal.{MayFollow, Answered, WithoutMemory, WithoutEntropy}
-use Rattle.rule_model.specs.Operations.{OperationChange, Opens, SameOperations, aad_after, aad_of, found_after, is_limited, nonce_of, operation_at, operation_change, operation_on, opens, text_after, text_of}
+use Rattle.rule_model.specs.Operations.{Open, OperationChange, Opens, SameOperations, as_begun, has_number, facts_of_begin, is_busy, is_limited, nonce_of, open_after, open_of, operation_at, operation_change, operation_on, opens, step_of, without, without_pruned}
 use Rattle.rule_model.specs.Setup.{Setup}
+use Rattle.rule_model.specs.Slots.{begin_facts, facts_of_open, has_free, has_room, open_facts, pruned_for}
+use Rattle.rule_model.specs.Jobs.{Stays}
 use Rattle.keystore_core.specs.declared.operations.Operation.{Operation}
-use Rattle.keystore_core.specs.declared.operations.Operations.{Operations}
-use Rattle.keystore_core.specs.declared.ciphers.Ciphers.{Ciphers}
 use Rattle.keystore_core.specs.declared.tables.Tables.{Tables}
-use Rattle.keystore_core.specs.Beginning.{IsNewRow}
-use Rattle.keystore_core.specs.Ciphers.{IsCipher, SetsCipher, cipher_in}
+use Rattle.operation_slots.specs.declared.operation.Operation.{Operation as Slot}
+use Rattle.operation_slots.specs.Table as table
+use Rattle.operation_slots.specs.Table.{IsLater, SlotTable, capacity_of, held, idle_operation, idle_value, operations_of}
+use Rattle.pruning.specs.Facts as seen
+use Rattle.pruning.specs.Victim.{OpenFacts, victim}
+use Rattle.rule_model.specs.Answer.{begun_with}
+use Rattle.keystore_core.specs.Alike.{Alike}
+use Rattle.keystore_core.specs.Beginning.{IsNewRow, MakesWay, OpensOne}
 use Rattle.keystore_core.specs.Keys.{key_named_in}
-use Rattle.keystore_core.specs.Operations.{OtherRowsStay, SameOperation, operation_in, operations_given}
+use Rattle.keystore_core.specs.Leaving.{ClosesOne}
+use Rattle.keystore_core.specs.Operations.{IsRow, has_row, operations_given, rows_in}
+use Rattle.keystore_core.specs.Slots.{IsKept, IsSlot}
 use Rattle.keystore_core.specs.Tables.{AnswersAfter, IsCaller, SameTables, TablesStand, event_by}
-use Rattle.keystore_core.proofs.Pointwise.{pointwise}
+use Rattle.keystore_core.proofs.Alike.{alike_filter, alike_images, alike_length, alike_more}
 use Rattle.keystore_core.proofs.KeyTable.{keys_stay, same_keys}
-use Rattle.keystore_core.proofs.Standing.{called, clients_stay, denied_tables, same_tables, still, without_memory}
+use Rattle.keystore_core.proofs.Opened.{found_more, is_other, stays_by, stays_same, without_keeps}
+use Rattle.keystore_core.proofs.Standing.{called, clients_stay, denied_tables, rows_after, same_tables, slots_after, still, tickets_stay}
+use Rattle.keystore_core.proofs.Stepped.{idle_there, row_named, slot_found, slot_named}
 
 -- no key is found where none is there
 pub no_key : (facts : BeginFacts) (found : Option KeyRecord) (caller : Caller) (key : Descriptor) (params : List ℕ) (begin : Begin)
-    → facts ≡ facts_on found caller key params → found ≡ None → MayBegin begin facts → ⊥
-no_key facts found caller key params begin e none may =
+    → (room : Bool) → facts ≡ facts_on found caller key params room → found ≡ None → MayBegin begin facts → ⊥
+no_key facts found caller key params begin room e none may =
     let there : facts.found ≡ is_some found = ap (λ (f : BeginFacts). f.found) e in
     let no : is_some found ≡ false = rw none refl in
     cc (there, no, may.is_found)
@@ -62,8 +74,57 @@ nonce_is facts begin drawn may = ap (λ n. nonce_used n drawn) may.nonce_is ∙ 
 pub may_begin : (begin : Begin) (gathered facts : BeginFacts) → gathered ≡ facts → MayBegin begin gathered → MayBegin begin facts
 may_begin begin gathered facts e may = subst (MayBegin begin) e may
 
+-- what the choice of the operation that gives way reads of a slot is what it reads of the open operation
+facts_alike : (slot : Slot CipherState) (o : Open) → IsSlot slot o → seen.facts slot ≡ facts_of_open o
+facts_alike slot o r = by_state (idle_value (Some slot)) o.ticket r.state where
+  by_state : (v : Option CipherState) (t : Option ℕ) → IsKept v slot.stamp o t
+      → ◌≡◌ {A = OpenFacts} (record { number = slot.number; uid = slot.uid; idle_since = if is_some v then Some slot.stamp else None }) (record { number = o.operation.number; uid = o.operation.uid; idle_since = if is_some t then None else Some o.touched })
+  by_state None (Some ticket) kept = rw (r.number, r.uid) refl
+  by_state (Some state) None kept = rw (r.number, r.uid, kept.0) refl
+  by_state None None kept = absurd kept
+  by_state (Some state) (Some ticket) kept = absurd kept
+
+-- the step in which no slot is free is told by the table as by the history
+pub free_is : (setup : Setup) (past : History) (tables : Tables) → TablesStand setup tables past → table.has_room tables.slots ≡ has_free setup past
+free_is setup past tables stands = rw (alike_length IsSlot (operations_of tables.slots) (open_of setup past) stands.slots.slots_are, stands.slots.capacity_is) refl
+
+pub pruned_is : (setup : Setup) (past : History) (tables : Tables) (uid step : ℕ) (forced : Bool) → TablesStand setup tables past → step ≡ step_of past
+    → (if table.has_room tables.slots then None else victim (seen.open_facts tables.slots) step uid forced) ≡ pruned_for setup past uid forced
+pruned_is setup past tables uid step forced stands is_step =
+    rw (free_is setup past tables stands, alike_images IsSlot seen.facts facts_of_open facts_alike (operations_of tables.slots) (open_of setup past) stands.slots.slots_are, is_step) refl
+
+pub room_is : (setup : Setup) (past : History) (tables : Tables) (uid : ℕ) (forced : Bool) (pruned : Option ℕ) → TablesStand setup tables past → pruned ≡ pruned_for setup past uid forced
+    → (table.has_room tables.slots || is_some pruned) ≡ has_room setup past uid forced
+room_is setup past tables uid forced pruned stands told = rw (free_is setup past tables stands, told) refl
+
+-- an admitted begin has a slot: a free one where nothing gives way
+pub is_free : (free room : Bool) (pruned : Option ℕ) → room ≡ (free || is_some pruned) → room ≡ true → IfNone pruned (free ≡ true)
+is_free true room None f e = refl
+is_free true room (Some op) f e = tt
+is_free false room None f e = cc
+is_free false room (Some op) f e = tt
+
+-- the facts that were gathered say whether there was a slot
+pub gathered_room : (facts : BeginFacts) (found : Option KeyRecord) (caller : Caller) (key : Descriptor) (params : List ℕ) (room : Bool) → facts ≡ facts_on found caller key params room → facts.room ≡ room
+gathered_room facts found caller key params room e = ap (λ (f : BeginFacts). f.room) e
+
+pub idle_pruned : (slots : SlotTable Rattle.cipher_ops.specs.declared.state.CipherState.CipherState) (pruned : Option ℕ) → IfSome pruned (λ op. IsSome (idle_value (held slots op))) → (op : ℕ) → pruned ≡ Some op → is_some (idle_value (held slots op)) ≡ true
+idle_pruned slots None idle op e = cc
+idle_pruned slots (Some own) idle op e =
+    let same : own ≡ op = cc in
+    subst (λ n. IsSome (idle_value (held slots n))) same idle
+
 module _ (setup : Setup) (past : History) (tables : Tables) (caller : Caller) (key : Descriptor) (params : List ℕ) (stands : TablesStand setup tables past) (is_caller : IsCaller tables caller) where
-  same : caller ≡ caller_of past (event_by caller (CreateOperation key params false))
+  abbrev Beginning : Event
+  Beginning = event_by caller (CreateOperation key params false)
+
+  abbrev Facts : BeginFacts
+  Facts = begin_facts setup past caller key params false
+
+  abbrev Answer : Result Rattle.tags.specs.declared.plan.Plan.Plan (Rule × Code)
+  Answer = begin_table.answer Facts
+
+  same : caller ≡ caller_of past Beginning
   same = called past tables caller (CreateOperation key params false) stands.clients is_caller
 
   -- the key that the tables find is that of the history
@@ -74,108 +135,182 @@ module _ (setup : Setup) (past : History) (tables : Tables) (caller : Caller) (k
     by_uid (Some uid) = stands.keys.named 0 uid (alias_of key)
 
   -- what the rules read is that of the history
-  pub facts_are : (found : Option KeyRecord) → found ≡ option_and_then (λ uid. key_named_in tables.keys 0 uid (alias_of key)) caller.uid
-      → facts_on found caller key params ≡ begin_facts setup past caller key params
-  facts_are found is = ap (λ f. facts_on f caller key params) (is ∙ found_key)
+  pub facts_are : (found : Option KeyRecord) (room : Bool) → found ≡ option_and_then (λ uid. key_named_in tables.keys 0 uid (alias_of key)) caller.uid → room ≡ has_room setup past (owner_of caller) false
+      → facts_on found caller key params room ≡ Facts
+  facts_are found room is has = ap (λ f. facts_on f caller key params room) (is ∙ found_key) ∙ ap (facts_on (key_found setup past caller key) caller key params) has
 
-  answered : (drawn : List ℕ) (reply : Reply) → length drawn ≡ size_of (wanted_by_begin (table.answer (begin_facts setup past caller key params)) (begin_facts setup past caller key params))
-      → reply ≡ answer_by_rules (CreateOperation key params false) setup past caller drawn → MayFollow setup past (event_by caller (CreateOperation key params false)) drawn reply
+  answered : (drawn : List ℕ) (reply : Reply) → length drawn ≡ size_of (wanted_by_begin Answer Facts)
+      → reply ≡ answer_by_rules (CreateOperation key params false) setup past caller drawn → MayFollow setup past Beginning drawn reply
   answered drawn reply drew is = Answered (record {
     drew = drew ∙ ap (λ c. size_of (wanted_by_rules (CreateOperation key params false) setup past c)) same;
     is_answer = is ∙ ap (λ c. answer_by_rules (CreateOperation key params false) setup past c drawn) same;
   })
 
-  -- a broken rule
-  pub refused : (rule : Rule) (code : Code) → table.answer (begin_facts setup past caller key params) ≡ Err (rule, code)
-      → AnswersAfter setup past tables (event_by caller (CreateOperation key params false)) (record { reply = Broken rule code; drawn = [] })
-  refused rule code e = record {
-    follows = answered [] (Broken rule code)
-        (sym (ap (λ found. size_of (wanted_by_begin found (begin_facts setup past caller key params))) e))
-        (sym (ap (λ found. broken_or found (Done (record no_fields { op = Some (count_of is_begin past + 1); nonce = drawn_nonce (begin_facts setup past caller key params) [] }))) e));
-    stands = denied_tables setup past (event_by caller (CreateOperation key params false)) [] (Broken rule code) tables tables stands (same_tables tables) refl (either (Rattle.step_rules.specs.Table.ends_operation rule));
-  } where
-    either : (b : Bool) → (if b then SameOperations else SameOperations) ≡ SameOperations
-    either true = refl
-    either false = refl
+  -- the reply of a begin that no rule denies
+  abbrev Admitted : List ℕ → Reply
+  Admitted drawn = begun_with (count_of is_begin past + 1) (drawn_nonce Facts drawn) (pruned_for setup past (owner_of caller) false)
 
-  wanted_is : (begin : Begin) → MayBegin begin (begin_facts setup past caller key params)
-      → size_of (wanted_by_begin (table.answer (begin_facts setup past caller key params)) (begin_facts setup past caller key params)) ≡ begin.wanted
-  wanted_is begin may = ap (λ found. size_of (wanted_by_begin found (begin_facts setup past caller key params))) may.answers ∙ omega (arith, may.wanted_is)
+  -- a broken rule
+  pub refused : (rule : Rule) (code : Code) → Answer ≡ Err (rule, code)
+      → AnswersAfter setup past tables Beginning (record { reply = Broken rule code; job = None; drawn = [] })
+  refused rule code e =
+      let none : operation_change setup past Beginning [] (Broken rule code) ≡ SameOperations = either (Rattle.step_rules.specs.Table.ends_operation rule) in
+      record {
+        follows = answered [] (Broken rule code)
+            (sym (ap (λ found. size_of (wanted_by_begin found Facts)) e))
+            (sym (ap (λ found. broken_or found (Admitted [])) e));
+        stands = denied_tables setup past Beginning [] (Broken rule code) tables tables stands (same_tables tables) refl none refl;
+        has_job = refl;
+        stays = stays_same setup past Beginning [] (Broken rule code) none;
+      } where
+        either : (b : Bool) → (if b then SameOperations else SameOperations) ≡ SameOperations
+        either true = refl
+        either false = refl
+
+  wanted_is : (begin : Begin) → MayBegin begin Facts → size_of (wanted_by_begin Answer Facts) ≡ begin.wanted
+  wanted_is begin may = ap (λ found. size_of (wanted_by_begin found Facts)) may.answers ∙ omega (arith, may.wanted_is)
 
   -- a draw that failed
-  pub without_entropy : (new : Tables) (begin : Begin) (drawn : List ℕ) → MayBegin begin (begin_facts setup past caller key params) → SameTables tables new → length drawn < begin.wanted
-      → AnswersAfter setup past new (event_by caller (CreateOperation key params false)) (record { reply = Stopped EntropyFault; drawn = drawn })
+  pub without_entropy : (new : Tables) (begin : Begin) (drawn : List ℕ) → MayBegin begin Facts → SameTables tables new → length drawn < begin.wanted
+      → AnswersAfter setup past new Beginning (record { reply = Stopped EntropyFault; job = None; drawn = drawn })
   without_entropy new begin drawn may still few = record {
     follows = WithoutEntropy (record {
       drew = subst (λ c. length drawn < size_of (wanted_by_rules (CreateOperation key params false) setup past c)) same (subst (λ n. length drawn < n) (sym (wanted_is begin may)) few);
       is_fault = refl;
     });
-    stands = denied_tables setup past (event_by caller (CreateOperation key params false)) drawn (Stopped EntropyFault) tables new stands still refl refl;
+    stands = denied_tables setup past Beginning drawn (Stopped EntropyFault) tables new stands still refl refl refl;
+    has_job = refl;
+    stays = stays_same setup past Beginning drawn (Stopped EntropyFault) refl;
   }
 
   -- want of memory for the cipher's state
-  pub unkept : (new : Tables) (begin : Begin) (drawn : List ℕ) → MayBegin begin (begin_facts setup past caller key params) → SameTables tables new → length drawn ≡ begin.wanted
-      → AnswersAfter setup past new (event_by caller (CreateOperation key params false)) (record { reply = Stopped MemoryAllocationFailed; drawn = drawn })
+  pub unkept : (new : Tables) (begin : Begin) (drawn : List ℕ) → MayBegin begin Facts → SameTables tables new → length drawn ≡ begin.wanted
+      → AnswersAfter setup past new Beginning (record { reply = Stopped MemoryAllocationFailed; job = None; drawn = drawn })
   unkept new begin drawn may still long = record {
     follows = WithoutMemory (record {
       drew = subst (λ c. length drawn ≤ size_of (wanted_by_rules (CreateOperation key params false) setup past c)) same (omega (arith, long, wanted_is begin may));
       takes = refl;
       is_want = refl;
     });
-    stands = without_memory setup past tables new (event_by caller (CreateOperation key params false)) drawn stands still;
+    stands = denied_tables setup past Beginning drawn (Stopped MemoryAllocationFailed) tables new stands still refl refl refl;
+    has_job = refl;
+    stays = stays_same setup past Beginning drawn (Stopped MemoryAllocationFailed) refl;
   }
 
   -- the operation that begins
-  opened : (found : KeyRecord) (drawn : List ℕ) (number : ℕ) (nonce : Option (List ℕ)) → key_found setup past caller key ≡ Some found
-      → operation_change setup past (event_by caller (CreateOperation key params false)) drawn (Done (record no_fields { op = Some number; nonce = nonce }))
-      ≡ Opens (operation_on found (begin_facts setup past caller key params) caller number drawn)
-  opened found drawn number nonce is =
-      sym (ap (λ c. opens (key_found setup past c key) (begin_facts setup past c key params) c (Some number) drawn) same)
-      ∙ ap (λ k. opens k (begin_facts setup past caller key params) caller (Some number) drawn) is
+  opened : (found : KeyRecord) (drawn : List ℕ) (number : ℕ) (nonce : Option (List ℕ)) (pruned : Option ℕ) → key_found setup past caller key ≡ Some found
+      → operation_change setup past Beginning drawn (begun_with number nonce pruned)
+      ≡ Opens pruned (operation_on found (facts_of_begin setup past caller key params) caller number drawn)
+  opened found drawn number nonce pruned is =
+      sym (ap (λ c. opens (key_found setup past c key) (facts_of_begin setup past c key params) c (record no_fields { op = Some number; nonce = nonce; pruned = pruned }) drawn) same)
+      ∙ ap (λ k. opens k (facts_of_begin setup past caller key params) caller (record no_fields { op = Some number; nonce = nonce; pruned = pruned }) drawn) is
 
-  pub begins : (middle : Tables) (rows : Operations) (states : Ciphers) (found : KeyRecord) (begin : Begin) (row : Operation) (state : CipherState) (drawn : List ℕ) (number : ℕ) (nonce : Option (List ℕ))
-      → key_found setup past caller key ≡ Some found → MayBegin begin (begin_facts setup past caller key params) → SameTables tables middle → length drawn ≡ begin.wanted
-      → number ≡ operations_given middle.operations + 1 → nonce ≡ (if begin.wanted == 0 then None else Some drawn)
-      → IsNewRow row caller.client found begin.plan → operation_in rows number ≡ Some row → OtherRowsStay number middle.operations rows → operations_given rows ≡ number
-      → StandsFor state begin.plan (is_limited found.limit) found.blob (nonce_used begin.nonce drawn) [] [] → SetsCipher number (Some state) middle.ciphers states
-      → AnswersAfter setup past (record middle { operations = rows; ciphers = states }) (event_by caller (CreateOperation key params false))
-      (record { reply = Done (record no_fields { op = Some number; nonce = nonce }); drawn = drawn })
-  begins middle rows states found begin row state drawn number nonce is may still_same long next nonce_told row_is here there given standing sets =
-      let facts : BeginFacts = begin_facts setup past caller key params in
-      let o : Rattle.rule_model.specs.Operations.Operation = operation_on found facts caller number drawn in
-      let ev : Event = event_by caller (CreateOperation key params false) in
-      let reply : Reply = Done (record no_fields { op = Some number; nonce = nonce }) in
-      let now : TablesStand setup middle past = still setup past tables middle stands still_same in
-      let first : number ≡ count_of is_begin past + 1 = next ∙ ap (λ n. n + 1) now.operations.given in
-      let told : nonce ≡ drawn_nonce facts drawn = nonce_told ∙ ap (λ w. if w == 0 then None else Some drawn) may.wanted_is in
-      let change : operation_change setup past ev drawn reply ≡ Opens o = opened found drawn number nonce is in
-      let plan : begin.plan ≡ o.plan = may.plan_is in
-      let same_nonce : nonce_used begin.nonce drawn ≡ o.nonce = nonce_is facts begin drawn may in
+  -- what the operation that gives way leaves
+  pub record Way (pruned : Option ℕ) (middle : Tables) : Type 0 where
+    pub clients : Rattle.keystore_core.specs.Clients.SameClients tables.clients middle.clients
+    pub keys : Rattle.keystore_core.specs.Keys.SameKeys tables.keys middle.keys
+    pub rows : Alike IsRow (rows_in middle.operations) (without_pruned pruned (open_of setup past))
+    pub given : operations_given middle.operations ≡ operations_given tables.operations
+    pub slots : Alike IsSlot (operations_of middle.slots) (without_pruned pruned (open_of setup past))
+    pub capacity : capacity_of middle.slots ≡ capacity_of tables.slots
+    pub fresh : (number : ℕ) → held tables.slots number ≡ None → held middle.slots number ≡ None
+    pub later : (next : ℕ) → IsLater tables.slots next → IsLater middle.slots next
+    pub tickets : Rattle.keystore_core.specs.Tickets.SameTickets tables.tickets middle.tickets
+    pub keeps : (n : ℕ) (x : Open) → is_busy x ≡ true → find (has_number n) (open_of setup past) ≡ Some x → find (has_number n) (without_pruned pruned (open_of setup past)) ≡ Some x
+
+  makes_way : (start : Tables) (pruned : Option ℕ) (middle : Tables) → SameTables tables start → ((op : ℕ) → pruned ≡ Some op → is_some (idle_value (held tables.slots op)) ≡ true) → MakesWay pruned start middle → Way pruned middle
+  makes_way start None middle still idle way = record {
+    clients = rw way still.clients;
+    keys = rw way still.keys;
+    rows = rw (way, still.operations.rows) stands.operations.rows;
+    given = rw way still.operations.given;
+    slots = rw (way, still.slots) stands.slots.slots_are;
+    capacity = rw (way, still.slots) refl;
+    fresh = λ number none. rw (way, still.slots) none;
+    later = λ next l. rw (way, still.slots) l;
+    tickets = rw way still.tickets;
+    keeps = λ n x busy found. found;
+  }
+  makes_way start (Some op) middle still idle way =
+      let now : TablesStand setup start past = Rattle.keystore_core.proofs.Standing.still setup past tables start stands still in
       record {
-        follows = answered drawn reply (long ∙ sym (wanted_is begin may)) (rw (first, told)
-            (sym (ap (λ found. broken_or found (Done (record no_fields { op = Some (count_of is_begin past + 1); nonce = drawn_nonce facts drawn }))) may.answers)));
-        stands = record {
-          clients = clients_stay setup past ev drawn reply middle.clients middle.clients now.clients (same_tables middle).clients refl refl;
-          keys = keys_stay setup past (Acted ev drawn reply ∷ past) middle.keys middle.keys now.keys (same_keys middle.keys) refl refl;
-          operations = record {
-            rows = λ n. subst (λ change. SameOperation (length (aad_after change n (aad_of setup past n))) (length (text_after change n (text_of setup past n))) (operation_in rows n) (found_after change n (operation_at setup past n))) (sym change)
-                (pointwise (λ aad text entry at. SameOperation (length aad) (length text) entry at) (Opens o) number (aad_of setup past) (text_of setup past) (operation_at setup past)
-                (operation_in middle.operations) (operation_in rows) now.operations.rows refl there
-                (subst (λ entry. SameOperation 0 0 entry (Some o)) (sym here) (record {
-                  client = row_is.client_is;
-                  key = row_is.key_is;
-                  plan = row_is.plan_is ∙ plan;
-                  limited = row_is.limited_is;
-                  aad_is = row_is.aad_is;
-                  text_is = row_is.text_is;
-                })) n);
-            given = given ∙ first;
-          };
-          ciphers = record {
-            states = λ n. subst (λ change. IsCipher (aad_after change n (aad_of setup past n)) (text_after change n (text_of setup past n)) (cipher_in states n) (found_after change n (operation_at setup past n))) (sym change)
-                (pointwise IsCipher (Opens o) number (aad_of setup past) (text_of setup past) (operation_at setup past)
-                (cipher_in middle.ciphers) (cipher_in states) now.ciphers.states refl sets.there
-                (subst (λ entry. IsCipher [] [] entry (Some o)) (sym sets.here) (rw (plan, same_nonce) at standing)) n);
-          };
+        clients = record { uids = λ client. way.clients.uids client ∙ still.clients.uids client; given = way.clients.given ∙ still.clients.given };
+        keys = record {
+          named = λ domain nspace alias. way.keys.named domain nspace alias ∙ still.keys.named domain nspace alias;
+          count = λ test. way.keys.count test ∙ still.keys.count test;
+          next = way.keys.next ∙ still.keys.next;
         };
+        rows = rw way.rows.rows (alike_filter IsRow (λ row. not (has_row op row)) (λ o. not (has_number op o)) (λ row o r. ap not (row_named op row o r)) (rows_in start.operations) (open_of setup past) now.operations.rows);
+        given = way.rows.given ∙ still.operations.given;
+        slots = rw way.slots.operations (alike_filter IsSlot (λ slot. not (table.has_number op slot)) (λ o. not (has_number op o)) (λ slot o r. ap not (slot_named op slot o r)) (operations_of start.slots) (open_of setup past) now.slots.slots_are);
+        capacity = way.slots.capacity ∙ ap capacity_of still.slots;
+        fresh = λ number none. way.fresh number (rw still.slots none);
+        later = λ next l. way.later next (rw still.slots l);
+        tickets = record { outs = λ ticket. way.tickets.outs ticket ∙ still.tickets.outs ticket; given = way.tickets.given ∙ still.tickets.given };
+        keeps = λ n x busy found. without_keeps op (open_of setup past) n x
+            (is_other op n (open_of setup past) x (idle_there (held tables.slots op) (operation_at setup past op) (slot_found setup past tables op stands) (idle op refl)) found busy) found;
       }
+
+  pub begins : (start new : Tables) (found : KeyRecord) (begin : Begin) (row : Operation) (state : CipherState) (drawn : List ℕ) (number step : ℕ) (nonce : Option (List ℕ)) (pruned : Option ℕ)
+      → key_found setup past caller key ≡ Some found → MayBegin begin Facts → SameTables tables start → length drawn ≡ begin.wanted
+      → number ≡ operations_given start.operations + 1 → nonce ≡ (if begin.wanted == 0 then None else Some drawn) → pruned ≡ pruned_for setup past (owner_of caller) false
+      → ((op : ℕ) → pruned ≡ Some op → is_some (idle_value (held tables.slots op)) ≡ true) → step ≡ step_of past
+      → IsNewRow row number caller.client found begin.plan → StandsFor state begin.plan (is_limited found.limit) found.blob (nonce_used begin.nonce drawn) [] []
+      → OpensOne pruned step (owner_of caller) row state start new
+      → AnswersAfter setup past new Beginning (record { reply = begun_with number nonce pruned; job = None; drawn = drawn })
+  begins start new found begin row state drawn number step nonce pruned is may still_same long next nonce_told pruned_told idle is_step row_is standing one =
+      let o : Rattle.rule_model.specs.Operations.Operation = operation_on found (facts_of_begin setup past caller key params) caller number drawn in
+      let reply : Reply = begun_with number nonce pruned in
+      let way : Way pruned one.middle = makes_way start pruned one.middle still_same idle one.way in
+      let first : number ≡ count_of is_begin past + 1 = next ∙ ap (λ n. n + 1) (still_same.operations.given ∙ stands.operations.given) in
+      let told : nonce ≡ drawn_nonce Facts drawn = nonce_told ∙ ap (λ w. if w == 0 then None else Some drawn) may.wanted_is in
+      let change : operation_change setup past Beginning drawn reply ≡ Opens pruned o = opened found drawn number nonce pruned is in
+      let plan : begin.plan ≡ o.plan = may.plan_is in
+      let same_nonce : nonce_used begin.nonce drawn ≡ o.nonce = nonce_is Facts begin drawn may in
+      let stays : Stays setup past (Acted Beginning drawn reply ∷ past) = stays_by setup past Beginning drawn reply (Opens pruned o) change stands.tickets.busy
+      (λ ticket entered x after named busy there. found_more entered.op (without_pruned pruned (open_of setup past)) (as_begun (step_of past) o ∷ []) x (way.keeps entered.op x busy there)) in
+      record {
+        follows = answered drawn reply (long ∙ sym (wanted_is begin may)) (rw (first, told, pruned_told)
+            (sym (ap (λ found. broken_or found (Admitted drawn)) may.answers)));
+        stands = record {
+          clients = clients_stay setup past Beginning drawn reply tables.clients new.clients stands.clients
+              (record { uids = λ client. one.clients.uids client ∙ way.clients.uids client; given = one.clients.given ∙ way.clients.given }) refl refl;
+          keys = keys_stay setup past (Acted Beginning drawn reply ∷ past) tables.keys new.keys stands.keys
+              (record {
+                named = λ domain nspace alias. one.keys.named domain nspace alias ∙ way.keys.named domain nspace alias;
+                count = λ test. one.keys.count test ∙ way.keys.count test;
+                next = one.keys.next ∙ way.keys.next;
+              }) refl refl;
+          operations = rows_after setup past Beginning drawn reply (Opens pruned o) new.operations change
+              (rw one.rows.rows (alike_more IsRow (rows_in one.middle.operations) (without_pruned pruned (open_of setup past)) row (as_begun (step_of past) o) way.rows (record {
+                number = row_is.number_is;
+                client = row_is.client_is;
+                key = row_is.key_is;
+                plan = row_is.plan_is ∙ plan;
+                limited = row_is.limited_is;
+                aad_is = row_is.aad_is;
+                text_is = row_is.text_is;
+                busy_is = row_is.busy_is;
+              })))
+              (one.rows.given ∙ ap (λ n. n + 1) (way.given ∙ stands.operations.given));
+          slots = slots_after setup past Beginning drawn reply (Opens pruned o) tables.slots new.slots stands.slots change
+              (rw one.slots.operations (alike_more IsSlot (operations_of one.middle.slots) (without_pruned pruned (open_of setup past)) (idle_operation row.number (owner_of caller) row.client step state) (as_begun (step_of past) o) way.slots (record {
+                number = row_is.number_is;
+                uid = refl;
+                client = row_is.client_is;
+                state = (is_step, rw (plan, same_nonce) at standing);
+              })))
+              (one.slots.capacity ∙ way.capacity)
+              (λ n l. one.found n ∙ fresh n l)
+              (λ next l. one.later next (way.later next (stands.slots.later next (omega (arith, l)))) (omega (arith, l, is_step)));
+          tickets = tickets_stay setup past Beginning drawn reply tables.tickets new.tickets stands.tickets
+              (record { outs = λ ticket. one.tickets.outs ticket ∙ way.tickets.outs ticket; given = one.tickets.given ∙ way.tickets.given }) refl refl stays;
+        };
+        has_job = refl;
+        stays = stays;
+      } where
+        fresh : (n : ℕ) → count_of is_begin past + 1 < n → (if n == row.number then Some (idle_operation row.number (owner_of caller) row.client step state) else held one.middle.slots n) ≡ None
+        fresh n l = elim (cases_Bool (n == row.number)) [
+          | inl e ↦ absurd (let same_n : n ≡ row.number = eqb-true n row.number e in omega (arith, same_n, row_is.number_is, next, still_same.operations.given, stands.operations.given, l))
+          | inr e ↦ rw e ((makes_way start pruned one.middle still_same idle one.way).fresh n (stands.slots.fresh n (omega (arith, l))))
+        ]

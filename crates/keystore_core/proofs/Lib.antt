@@ -1,8 +1,11 @@
 pub mod KeyTable
 pub mod Drawn
-pub mod Pointwise
+pub mod RowTable
+pub mod Alike
+pub mod Opened
 pub mod Standing
 pub mod Reading
 pub mod Making
 pub mod Begun
 pub mod Stepped
+pub mod Left

@@ -21,7 +21,7 @@ use Rattle.rule_model.specs.declared.reply.Reply.{Reply}
 use Rattle.rule_model.specs.declared.reply.Reply.TheVariants.{Done, Broken, Stopped}
 use Rattle.rule_model.specs.declared.event.Event.{Event}
 use Rattle.rule_model.specs.declared.reply.Fields.{Fields}
-use Rattle.rule_model.specs.Acts.{is_begin, is_connect}
+use Rattle.rule_model.specs.Acts.{is_begin, is_connect, is_enter}
 use Rattle.rule_model.specs.Answer.{answer_by_rules, broken_or, no_fields}
 use Rattle.rule_model.specs.Clients.{caller_of}
 use Rattle.rule_model.specs.Drawn.{size_of, wanted_by_key, wanted_by_rules}
@@ -32,7 +32,9 @@ use Rattle.rule_model.specs.NewFacts.{new_facts}
 use Rattle.rule_model.specs.Operations.{SameOperations, operation_change}
 use Rattle.rule_model.specs.Setup.{Setup}
 use Rattle.rule_model.proofs.Clients.{moves_clients, same_clients}
+use Rattle.rule_model.specs.Tickets.{SameTickets as NoTickets, ticket_change}
 use Rattle.rule_model.proofs.Operations.{moves_operations, same_operations}
+use Rattle.rule_model.proofs.Tickets.{moves_tickets, same_tickets}
 use Rattle.keystore_core.specs.declared.creating.Import.{Import}
 use Rattle.keystore_core.specs.declared.keys.Keys.{Keys}
 use Rattle.keystore_core.specs.declared.tables.Tables.{Tables}
@@ -40,7 +42,8 @@ use Rattle.keystore_core.specs.Creating.{facts_of_import, making, planned_record
 use Rattle.keystore_core.specs.Keys.{KeysStand, PutsKey, SameKeys, apart, next_in}
 use Rattle.keystore_core.specs.Tables.{AnswersAfter, IsCaller, SameTables, TablesStand, event_by}
 use Rattle.keystore_core.proofs.KeyTable.{keys_put, keys_stay}
-use Rattle.keystore_core.proofs.Standing.{called, ciphers_stay, clients_stay, denied_tables, operations_stay, same_tables}
+use Rattle.keystore_core.proofs.Opened.{stays_same}
+use Rattle.keystore_core.proofs.Standing.{called, clients_stay, denied_tables, operations_stay, quiet, same_tables, slots_stay, tickets_stay}
 
 abbrev facts_of : Caller → Descriptor → List ℕ → Option Import → NewFacts
 facts_of caller key params import = new_facts caller key params (option_map facts_of_import import)
@@ -66,6 +69,14 @@ connects_none key params (Some import) = refl
 begins_none : (key : Descriptor) (params : List ℕ) (import : Option Import) → is_begin (making key params import) ≡ false
 begins_none key params None = refl
 begins_none key params (Some import) = refl
+
+enters_none : (key : Descriptor) (params : List ℕ) (import : Option Import) → is_enter (making key params import) ≡ false
+enters_none key params None = refl
+enters_none key params (Some import) = refl
+
+no_tickets : (key : Descriptor) (params : List ℕ) (import : Option Import) → moves_tickets (making key params import) ≡ false
+no_tickets key params None = refl
+no_tickets key params (Some import) = refl
 
 -- a broken rule of the plan is one of the table
 broken_rule : (import : Option ImportFacts) (found : Result KeyPlan (Rule × Code)) (broken : Rule × Code) → where_planned import found ≡ Err broken → found ≡ Err broken
@@ -118,6 +129,9 @@ module _ (setup : Setup) (past : History) (tables : Tables) (caller : Caller) (k
   none : (import : Option Import) (drawn : List ℕ) (reply : Reply) → operation_change setup past (event_by caller (making key params import)) drawn reply ≡ SameOperations
   none import drawn reply = same_operations setup past (event_by caller (making key params import)) drawn reply (none_moves key params import)
 
+  unticketed : (import : Option Import) (reply : Reply) → ticket_change (event_by caller (making key params import)) reply ≡ NoTickets
+  unticketed import reply = same_tickets (event_by caller (making key params import)) reply (no_tickets key params import)
+
   answered : (import : Option Import) (drawn : List ℕ) (reply : Reply) → length drawn ≡ size_of (wanted_by_rules (making key params import) setup past caller)
       → reply ≡ answer_by_rules (making key params import) setup past caller drawn → MayFollow setup past (event_by caller (making key params import)) drawn reply
   answered None drawn reply drew is = Answered (record {
@@ -142,25 +156,29 @@ module _ (setup : Setup) (past : History) (tables : Tables) (caller : Caller) (k
 
   -- a broken rule
   pub refused : (import : Option Import) (rule : Rule) (code : Code) → planned (facts_of caller key params import) ≡ Err (rule, code)
-      → AnswersAfter setup past tables (event_by caller (making key params import)) (record { reply = Broken rule code; drawn = [] })
+      → AnswersAfter setup past tables (event_by caller (making key params import)) (record { reply = Broken rule code; job = None; drawn = [] })
   refused import rule code e =
       let broken = is_broken (facts_of caller key params import) rule code e in
       record {
         follows = answered import [] (Broken rule code)
             (sym (ap size_of (making_wanted setup past caller key params import ∙ ap (λ found. wanted_by_key found (option_map facts_of_import import)) broken)))
             (sym (making_answer setup past caller key params import [] ∙ ap (λ found. broken_or found (Done (record no_fields { key = Some (next_key setup past) }))) broken));
-        stands = denied_tables setup past (event_by caller (making key params import)) [] (Broken rule code) tables tables stands (same_tables tables) refl (none import [] (Broken rule code));
+        stands = denied_tables setup past (event_by caller (making key params import)) [] (Broken rule code) tables tables stands (same_tables tables) refl (none import [] (Broken rule code)) (unticketed import (Broken rule code));
+        has_job = refl;
+        stays = stays_same setup past (event_by caller (making key params import)) [] (Broken rule code) (none import [] (Broken rule code));
       }
 
   -- a draw that failed
   pub without_entropy : (import : Option Import) (new : Tables) (plan : NewKey) (drawn : List ℕ) → planned (facts_of caller key params import) ≡ Ok plan
       → SameTables tables new → length drawn < plan.size + 12
-      → AnswersAfter setup past new (event_by caller (making key params import)) (record { reply = Stopped EntropyFault; drawn = drawn })
+      → AnswersAfter setup past new (event_by caller (making key params import)) (record { reply = Stopped EntropyFault; job = None; drawn = drawn })
   without_entropy import new plan drawn e still few =
       let is = is_planned (facts_of caller key params import) plan e in
       record {
         follows = undrawn import drawn (subst (λ n. length drawn < n) (sym (planned_wanted setup past caller key params import plan is)) few);
-        stands = denied_tables setup past (event_by caller (making key params import)) drawn (Stopped EntropyFault) tables new stands still refl (none import drawn (Stopped EntropyFault));
+        stands = denied_tables setup past (event_by caller (making key params import)) drawn (Stopped EntropyFault) tables new stands still refl (none import drawn (Stopped EntropyFault)) (unticketed import (Stopped EntropyFault));
+        has_job = refl;
+        stays = stays_same setup past (event_by caller (making key params import)) drawn (Stopped EntropyFault) (none import drawn (Stopped EntropyFault));
       }
 
   -- the record of a key that is made
@@ -188,7 +206,7 @@ module _ (setup : Setup) (past : History) (tables : Tables) (caller : Caller) (k
 
   pub made : (import : Option Import) (middle : Tables) (new : Keys) (plan : NewKey) (drawn : List ℕ) (number : ℕ) → planned (facts_of caller key params import) ≡ Ok plan
       → length drawn ≡ plan.size + 12 → number ≡ next_in middle.keys → SameTables tables middle → PutsKey (planned_record number (owner_of caller) key plan import drawn) middle.keys new
-      → AnswersAfter setup past (record middle { keys = new }) (event_by caller (making key params import)) (record { reply = Done (record no_fields { key = Some number }); drawn = drawn })
+      → AnswersAfter setup past (record middle { keys = new }) (event_by caller (making key params import)) (record { reply = Done (record no_fields { key = Some number }); job = None; drawn = drawn })
   made import middle new plan drawn number e long first still puts =
       let is = is_planned (facts_of caller key params import) plan e in
       let next : number ≡ next_key setup past = first ∙ still.keys.next ∙ stands.keys.next in
@@ -202,6 +220,9 @@ module _ (setup : Setup) (past : History) (tables : Tables) (caller : Caller) (k
               (ap (λ c. key_change (making key params import) c drawn (next_key setup past)) (sym (same import)) ∙ ap (λ n. key_change (making key params import) caller drawn n) (sym next)
               ∙ made_record import plan number drawn is);
           operations = operations_stay setup past event drawn reply tables.operations middle.operations stands.operations still.operations (none import drawn reply) (begins_none key params import);
-          ciphers = ciphers_stay setup past event drawn reply tables.ciphers middle.ciphers stands.ciphers still.ciphers (none import drawn reply);
+          slots = slots_stay setup past event drawn reply tables.slots middle.slots stands.slots still.slots (none import drawn reply);
+          tickets = tickets_stay setup past event drawn reply tables.tickets middle.tickets stands.tickets still.tickets (unticketed import reply) (quiet is_enter past event drawn reply (enters_none key params import)) (stays_same setup past event drawn reply (none import drawn reply));
         };
+        has_job = refl;
+        stays = stays_same setup past event drawn reply (none import drawn reply);
       }

@@ -1,45 +1,67 @@
--- The parts of the relation between the tables and a history, each after an entry that leaves it as it is.
-use Rattle.std.proofs.Common.{◌≡◌, ℕ, ◌+◌, ◌<◌, ◌-◌, ◌^◌, Bool, true, false, ◌&&◌, if◌then◌else◌, List, ◌∷◌, length, Option, refl, sym, ap, ◌∙◌, subst, arith}
+-- The parts of the relation between the tables and a history, each after an entry that leaves it as it is, or makes a change.
+use Rattle.std.proofs.Common.{◌≡◌, ℕ, ◌+◌, ◌<◌, ◌≤◌, ◌-◌, ◌^◌, Bool, true, false, IsTrue, ◌&&◌, if◌then◌else◌, List, ◌∷◌, length, Option, Some, None, Result, Ok, Err, refl, sym, ap, ◌∙◌, subst, arith}
 use Rattle.std.proofs.Math.Bridge.{le_prop}
-use mathlib.Core.Logic.{∥∥₁_elim}
+use Rattle.std.proofs.Props.{props}
+use mathlib.Core.Logic.{∥∥₁_elim, ∥∥₁_map}
+use Rattle.tags.specs.declared.bytes.NoMemory.{NoMemory}
 use Rattle.tags.specs.declared.code.Code.TheVariants.{MemoryAllocationFailed}
+use Rattle.tags.specs.declared.descriptor.Descriptor.{Descriptor}
+use Rattle.cipher_ops.specs.declared.job.Done.{Done as JobDone}
+use Rattle.cipher_ops.specs.declared.state.CipherState.{CipherState}
+use Rattle.operation_slots.specs.Table.{IsLater, SlotTable, capacity_of, held, operations_of}
 use Rattle.rule_model.specs.declared.entry.Entry.TheVariants.{Acted}
 use Rattle.rule_model.specs.declared.event.Act.{Act}
+use Rattle.rule_model.specs.declared.event.Act.TheVariants.{CreateOperation, Leave}
 use Rattle.rule_model.specs.declared.event.Event.{Event}
 use Rattle.rule_model.specs.declared.facts.Caller.{Caller}
 use Rattle.rule_model.specs.declared.reply.Reply.{Reply}
 use Rattle.rule_model.specs.declared.reply.Reply.TheVariants.{Done, Broken, Stopped}
-use Rattle.rule_model.specs.Acts.{is_begin, is_connect}
+use Rattle.rule_model.specs.Acts.{fixed_for, is_begin, is_connect, is_enter}
 use Rattle.rule_model.specs.Clients.{SameClients as NoClients, caller_of, client_change, uid_after, uid_of}
 use Rattle.rule_model.specs.Entries.{History, admits, count_of, is_done}
-use Rattle.rule_model.specs.Operations.{SameOperations, aad_after, aad_of, found_after, operation_at, operation_change, text_after, text_of}
+use Rattle.rule_model.specs.Jobs.{Stays}
+use Rattle.rule_model.specs.Operations.{OperationChange, SameOperations, open_after, open_of, operation_at, operation_change, step_of, stopped_operation}
 use Rattle.rule_model.specs.Setup.{Setup}
+use Rattle.rule_model.specs.Tickets.{Entered, SameTickets as NoTickets, stopped_ticket, ticket_after, ticket_at, ticket_change}
 use Rattle.rule_model.proofs.Counting.{count_few, next_few}
 use Rattle.rule_model.proofs.Keys.{denied_keys, denied_next}
-use Rattle.keystore_core.specs.declared.ciphers.Ciphers.{Ciphers}
+use Rattle.keystore_core.specs.declared.answered.Answered.{Answered}
 use Rattle.keystore_core.specs.declared.clients.Clients.{Clients}
 use Rattle.keystore_core.specs.declared.keys.Keys.{Keys}
 use Rattle.keystore_core.specs.declared.operations.Operations.{Operations}
 use Rattle.keystore_core.specs.declared.tables.Tables.{Tables}
-use Rattle.keystore_core.specs.Ciphers.{CiphersStand, IsCipher, SameCiphers, cipher_in}
+use Rattle.keystore_core.specs.declared.tickets.Tickets.{Tickets}
+use Rattle.keystore_core.specs.Alike.{Alike}
 use Rattle.keystore_core.specs.Clients.{ClientsStand, SameClients, clients_given}
 use Rattle.keystore_core.specs.Keys.{SameKeys, next_in}
-use Rattle.keystore_core.specs.Operations.{OperationsStand, SameOperation, SameRows, operation_in, operations_given}
-use Rattle.keystore_core.specs.Tables.{IsCaller, IsTables, SameTables, TablesStand, event_by}
+use Rattle.keystore_core.specs.Operations.{IsRow, OperationsStand, SameRows, operations_given, rows_in}
+use Rattle.keystore_core.specs.Slots.{IsSlot, SlotsStand}
+use Rattle.keystore_core.specs.Tables.{IsAt, IsCaller, IsTables, SameTables, ServesAfter, ServesAt, TablesStand, event_by}
+use Rattle.keystore_core.specs.Tickets.{BusyWith, SameOut, SameTickets, TicketsStand, out_in, tickets_given}
 use Rattle.keystore_core.proofs.KeyTable.{keys_stay, same_keys}
+use Rattle.keystore_core.proofs.Opened.{AreBusy, stays_same}
 
 pub same_tables : (tables : Tables) → SameTables tables tables
 same_tables tables = record {
   clients = record { uids = λ client. refl; given = refl };
   keys = same_keys tables.keys;
-  operations = record { rows = λ number. refl; given = refl };
-  ciphers = record { states = λ number. refl };
+  operations = record { rows = refl; given = refl };
+  slots = refl;
+  tickets = record { outs = λ ticket. refl; given = refl };
 }
 
 -- an entry that no count looks at
 pub uncounted : (test : Act → Bool) (past : History) (event : Event) (drawn : List ℕ) (reply : Reply) → admits test (Acted event drawn reply) ≡ false
     → count_of test (Acted event drawn reply ∷ past) ≡ count_of test past
 uncounted test past event drawn reply e = ap (λ b. if b then count_of test past + 1 else count_of test past) e
+
+-- a count never falls
+one_more : (b : Bool) (n : ℕ) → n ≤ (if b then n + 1 else n)
+one_more true n = omega arith
+one_more false n = omega arith
+
+pub count_grows : (test : Act → Bool) (past : History) (event : Event) (drawn : List ℕ) (reply : Reply) → count_of test past ≤ count_of test (Acted event drawn reply ∷ past)
+count_grows test past event drawn reply = one_more (admits test (Acted event drawn reply)) (count_of test past)
 
 and_false : (b : Bool) → (b && false) ≡ false
 and_false true = refl
@@ -56,27 +78,57 @@ module _ (setup : Setup) (past : History) (event : Event) (drawn : List ℕ) (re
     given = same.given ∙ stands.given ∙ sym (uncounted is_connect past event drawn reply uncounts);
   }
 
+  -- the rows after a change of the operations
+  pub rows_after : (change : OperationChange) (new : Operations) → operation_change setup past event drawn reply ≡ change
+      → Alike IsRow (rows_in new) (open_after (step_of past) change (open_of setup past)) → operations_given new ≡ count_of is_begin (Acted event drawn reply ∷ past)
+      → OperationsStand setup new (Acted event drawn reply ∷ past)
+  rows_after change new is alike given = record {
+    rows = subst (λ c. Alike IsRow (rows_in new) (open_after (step_of past) c (open_of setup past))) (sym is) alike;
+    given = given;
+  }
+
   pub operations_stay : (old new : Operations) → OperationsStand setup old past → SameRows old new → operation_change setup past event drawn reply ≡ SameOperations
       → admits is_begin (Acted event drawn reply) ≡ false → OperationsStand setup new (Acted event drawn reply ∷ past)
-  operations_stay old new stands same none uncounts = record {
-    rows = λ number.
-        subst (λ change. SameOperation (length (aad_after change number (aad_of setup past number))) (length (text_after change number (text_of setup past number)))
-        (operation_in new number) (found_after change number (operation_at setup past number))) (sym none)
-        (subst (λ row. SameOperation (length (aad_of setup past number)) (length (text_of setup past number)) row (operation_at setup past number)) (sym (same.rows number)) (stands.rows number));
-    given = same.given ∙ stands.given ∙ sym (uncounted is_begin past event drawn reply uncounts);
+  operations_stay old new stands same none uncounts =
+      rows_after SameOperations new none (rw same.rows stands.rows) (same.given ∙ stands.given ∙ sym (uncounted is_begin past event drawn reply uncounts))
+
+  -- the slots after a change of the operations
+  pub slots_after : (change : OperationChange) (old new : SlotTable CipherState) → SlotsStand setup old past → operation_change setup past event drawn reply ≡ change
+      → Alike IsSlot (operations_of new) (open_after (step_of past) change (open_of setup past)) → capacity_of new ≡ capacity_of old
+      → ((number : ℕ) → count_of is_begin (Acted event drawn reply ∷ past) < number → held new number ≡ None) → ((next : ℕ) → length past + 1 < next → IsLater new next)
+      → SlotsStand setup new (Acted event drawn reply ∷ past)
+  slots_after change old new stands is alike capacity fresh later = record {
+    slots_are = subst (λ c. Alike IsSlot (operations_of new) (open_after (step_of past) c (open_of setup past))) (sym is) alike;
+    capacity_is = capacity ∙ stands.capacity_is;
+    fresh = fresh;
+    later = λ next l. later next (omega (arith, l));
   }
 
-  pub ciphers_stay : (old new : Ciphers) → CiphersStand setup old past → SameCiphers old new → operation_change setup past event drawn reply ≡ SameOperations
-      → CiphersStand setup new (Acted event drawn reply ∷ past)
-  ciphers_stay old new stands same none = record {
-    states = λ number.
-        subst (λ change. IsCipher (aad_after change number (aad_of setup past number)) (text_after change number (text_of setup past number))
-        (cipher_in new number) (found_after change number (operation_at setup past number))) (sym none)
-        (subst (λ state. IsCipher (aad_of setup past number) (text_of setup past number) state (operation_at setup past number)) (sym (same.states number)) (stands.states number));
+  pub slots_stay : (old new : SlotTable CipherState) → SlotsStand setup old past → new ≡ old → operation_change setup past event drawn reply ≡ SameOperations
+      → SlotsStand setup new (Acted event drawn reply ∷ past)
+  slots_stay old new stands same none =
+      slots_after SameOperations old new stands none (rw same stands.slots_are) (ap capacity_of same)
+      (λ number l. rw same (stands.fresh number (let grows = count_grows is_begin past event drawn reply in omega (arith, l, grows))))
+      (λ next l. rw same (stands.later next (omega (arith, l))))
+
+  -- an operation that was busy with a work and stays is so later
+  pub busy_after : Stays setup past (Acted event drawn reply ∷ past) → AreBusy setup past event drawn reply → (ticket : ℕ) (entered : Entered) → ticket_at past ticket ≡ Some entered
+      → ticket_at (Acted event drawn reply ∷ past) ticket ≡ Some entered → BusyWith ticket entered.work (operation_at setup (Acted event drawn reply ∷ past) entered.op)
+  busy_after stays busy ticket entered before after = subst (BusyWith ticket entered.work) (sym (stays ticket entered before after)) (busy ticket entered before)
+
+  pub tickets_stay : (old new : Tickets) → TicketsStand setup old past → SameTickets old new → ticket_change event reply ≡ NoTickets
+      → admits is_enter (Acted event drawn reply) ≡ false → Stays setup past (Acted event drawn reply ∷ past) → TicketsStand setup new (Acted event drawn reply ∷ past)
+  tickets_stay old new stands same none uncounts stays = record {
+    outs = λ ticket. subst (λ c. SameOut (out_in new ticket) (ticket_after c ticket (ticket_at past ticket))) (sym none)
+        (subst (λ out. SameOut out (ticket_at past ticket)) (sym (same.outs ticket)) (stands.outs ticket));
+    given = same.given ∙ stands.given ∙ sym (uncounted is_enter past event drawn reply uncounts);
+    busy = λ ticket entered after.
+        let before : ticket_at past ticket ≡ Some entered = sym (ap (λ c. ticket_after c ticket (ticket_at past ticket)) none) ∙ after in
+        busy_after stays stands.busy ticket entered before after;
   }
 
-  not_connect : is_done reply ≡ false → (test : Act → Bool) → admits test (Acted event drawn reply) ≡ false
-  not_connect denied test = ap (λ b. b && test event.act) denied
+  not_admitted : is_done reply ≡ false → (test : Act → Bool) → admits test (Acted event drawn reply) ≡ false
+  not_admitted denied test = ap (λ b. b && test event.act) denied
 
   denied_clients : is_done reply ≡ false → client_change event reply ≡ NoClients
   denied_clients denied = by_reply reply denied where
@@ -85,14 +137,15 @@ module _ (setup : Setup) (past : History) (event : Event) (drawn : List ℕ) (re
     by_reply (Broken rule code) e = refl
     by_reply (Stopped code) e = refl
 
-  -- an event that is not admitted, and changes no operation
+  -- an event that is not admitted, and changes no operation and no ticket
   pub denied_tables : (old new : Tables) → TablesStand setup old past → SameTables old new → is_done reply ≡ false
-      → operation_change setup past event drawn reply ≡ SameOperations → TablesStand setup new (Acted event drawn reply ∷ past)
-  denied_tables old new stands same denied none = record {
-    clients = clients_stay old.clients new.clients stands.clients same.clients (denied_clients denied) (not_connect denied is_connect);
+      → operation_change setup past event drawn reply ≡ SameOperations → ticket_change event reply ≡ NoTickets → TablesStand setup new (Acted event drawn reply ∷ past)
+  denied_tables old new stands same denied none no_ticket = record {
+    clients = clients_stay old.clients new.clients stands.clients same.clients (denied_clients denied) (not_admitted denied is_connect);
     keys = keys_stay setup past (Acted event drawn reply ∷ past) old.keys new.keys stands.keys same.keys (denied_keys setup past event drawn reply denied) (denied_next setup past event drawn reply denied);
-    operations = operations_stay old.operations new.operations stands.operations same.operations none (not_connect denied is_begin);
-    ciphers = ciphers_stay old.ciphers new.ciphers stands.ciphers same.ciphers none;
+    operations = operations_stay old.operations new.operations stands.operations same.operations none (not_admitted denied is_begin);
+    slots = slots_stay old.slots new.slots stands.slots same.slots none;
+    tickets = tickets_stay old.tickets new.tickets stands.tickets same.tickets no_ticket (not_admitted denied is_enter) (stays_same setup past event drawn reply none);
   }
 
 -- tables that answer as others do stand for what those stood for
@@ -103,21 +156,14 @@ still setup past old new stands same = record {
     given = same.clients.given ∙ stands.clients.given;
   };
   keys = keys_stay setup past past old.keys new.keys stands.keys same.keys refl refl;
-  operations = record {
-    rows = λ number.
-        subst (λ row. SameOperation (length (aad_of setup past number)) (length (text_of setup past number)) row (operation_at setup past number)) (sym (same.operations.rows number)) (stands.operations.rows number);
-    given = same.operations.given ∙ stands.operations.given;
-  };
-  ciphers = record {
-    states = λ number.
-        subst (λ state. IsCipher (aad_of setup past number) (text_of setup past number) state (operation_at setup past number)) (sym (same.ciphers.states number)) (stands.ciphers.states number);
+  operations = record { rows = rw same.operations.rows stands.operations.rows; given = same.operations.given ∙ stands.operations.given };
+  slots = rw same.slots stands.slots;
+  tickets = record {
+    outs = λ ticket. subst (λ out. SameOut out (ticket_at past ticket)) (sym (same.tickets.outs ticket)) (stands.tickets.outs ticket);
+    given = same.tickets.given ∙ stands.tickets.given;
+    busy = stands.tickets.busy;
   };
 }
-
--- a call that is given up for want of memory
-pub without_memory : (setup : Setup) (past : History) (old new : Tables) (event : Event) (drawn : List ℕ) → TablesStand setup old past → SameTables old new
-    → TablesStand setup new (Acted event drawn (Stopped MemoryAllocationFailed) ∷ past)
-without_memory setup past old new event drawn stands same = denied_tables setup past event drawn (Stopped MemoryAllocationFailed) old new stands same refl refl
 
 -- who makes a call, by the history
 pub called : (past : History) (tables : Tables) (caller : Caller) (act : Act) → ClientsStand tables.clients past → IsCaller tables caller
@@ -131,23 +177,84 @@ few_clients tables is = ∥∥₁_elim is le_prop (λ t. omega (arith, t.stands.
 pub few_operations : (tables : Tables) → ∥ IsTables tables (2 ^ 62 - 1) ∥₁ → operations_given tables.operations < 2 ^ 62
 few_operations tables is = ∥∥₁_elim is le_prop (λ t. omega (arith, t.stands.operations.given, count_few is_begin t.past, t.few))
 
+pub few_tickets : (tables : Tables) → ∥ IsTables tables (2 ^ 62 - 1) ∥₁ → tickets_given tables.tickets < 2 ^ 62
+few_tickets tables is = ∥∥₁_elim is le_prop (λ t. omega (arith, t.stands.tickets.given, count_few is_enter t.past, t.few))
+
 pub few_keys : (tables : Tables) → ∥ IsTables tables (2 ^ 62 - 1) ∥₁ → next_in tables.keys < 2 ^ 63
 few_keys tables is = ∥∥₁_elim is le_prop (λ t. omega (arith, t.stands.keys.next, next_few t.setup t.past, t.few, t.first))
+
+-- tables at a step are tables of few entries
+pub at_few : (tables : Tables) (step : ℕ) (act : Act) (done : Option JobDone) → step ≤ 2 ^ 62 → ∥ IsAt tables step act done ∥₁ → ∥ IsTables tables (2 ^ 62 - 1) ∥₁
+at_few tables step act done few at = ∥∥₁_map at (λ t. record {
+  setup = t.setup;
+  past = t.past;
+  stands = t.stands.tables_stand;
+  few = omega (arith, t.stands.step_is, few);
+  first = t.first;
+})
+
+pub IsLater-prop : (slots : SlotTable CipherState) (next : ℕ) → IsProp (IsLater slots next)
+IsLater-prop slots next = hlevel props
+
+-- the stamps of the slots are of steps before this one
+pub at_later : (tables : Tables) (step : ℕ) (act : Act) (done : Option JobDone) → ∥ IsAt tables step act done ∥₁ → IsLater tables.slots step
+at_later tables step act done at = ∥∥₁_elim at (IsLater-prop tables.slots step) (λ t. t.stands.tables_stand.slots.later step (omega (arith, t.stands.step_is)))
 
 -- tables in which one part is another that answers the same
 pub same_but_keys : (tables : Tables) (new : Keys) → SameKeys tables.keys new → SameTables tables (record tables { keys = new })
 same_but_keys tables new same = record {
   clients = record { uids = λ client. refl; given = refl };
   keys = same;
-  operations = record { rows = λ number. refl; given = refl };
-  ciphers = record { states = λ number. refl };
+  operations = record { rows = refl; given = refl };
+  slots = refl;
+  tickets = record { outs = λ ticket. refl; given = refl };
 }
 
-pub same_but_operations : (tables : Tables) (rows : Operations) (states : Ciphers) → SameRows tables.operations rows → SameCiphers tables.ciphers states
-    → SameTables tables (record tables { operations = rows; ciphers = states })
-same_but_operations tables rows states same_rows same_states = record {
+pub same_but_operations : (tables : Tables) (rows : Operations) → SameRows tables.operations rows → SameTables tables (record tables { operations = rows })
+same_but_operations tables rows same_rows = record {
   clients = record { uids = λ client. refl; given = refl };
   keys = same_keys tables.keys;
   operations = same_rows;
-  ciphers = same_states;
+  slots = refl;
+  tickets = record { outs = λ ticket. refl; given = refl };
 }
+
+pub same_but_tickets : (tables : Tables) (tickets : Tickets) → SameTickets tables.tickets tickets → SameTables tables (record tables { tickets = tickets })
+same_but_tickets tables tickets same = record {
+  clients = record { uids = λ client. refl; given = refl };
+  keys = same_keys tables.keys;
+  operations = record { rows = refl; given = refl };
+  slots = refl;
+  tickets = same;
+}
+
+-- what serves after every history serves at a step
+pub at_any : (old new : Tables) (event : Event) (result : Result Answered NoMemory) (step : ℕ) (done : Option JobDone) → ServesAfter old new event result → ServesAt step done old new event result
+at_any old new event (Ok answered) step done serves = λ setup past at. serves setup past at.tables_stand
+at_any old new event (Err fault) step done serves = serves
+
+-- a begin looks at no job
+pub begin_at : (old new : Tables) (caller : Caller) (key : Descriptor) (params : List ℕ) (result : Result Answered NoMemory) (step : ℕ) (done : Option JobDone)
+    → ServesAt step None old new (event_by caller (CreateOperation key params false)) result → ServesAt step done old new (event_by caller (CreateOperation key params false)) result
+begin_at old new caller key params (Ok answered) step done serves = λ setup past at. serves setup past (record { tables_stand = at.tables_stand; step_is = at.step_is; done_is = tt })
+begin_at old new caller key params (Err fault) step done serves = serves
+
+pub at_begin : (tables : Tables) (step : ℕ) (act : Act) (done : Option JobDone) (key : Descriptor) (params : List ℕ) → ∥ IsAt tables step act done ∥₁ → ∥ IsAt tables step (CreateOperation key params false) None ∥₁
+at_begin tables step act done key params at = ∥∥₁_map at (λ t. record {
+  setup = t.setup;
+  past = t.past;
+  stands = record { tables_stand = t.stands.tables_stand; step_is = t.stands.step_is; done_is = tt };
+  first = t.first;
+})
+
+-- an act that takes memory is no leave
+takes_memory : (act : Act) (past : History) → IsTrue (fixed_for act).takes_memory → (stopped_operation act past ≡ SameOperations) × (stopped_ticket act ≡ NoTickets)
+takes_memory (Leave ticket) past takes = cc
+takes_memory _ past takes = (refl, refl)
+
+-- a call that is given up for want of memory
+pub without_memory : (setup : Setup) (past : History) (old new : Tables) (event : Event) (drawn : List ℕ) → TablesStand setup old past → IsTrue (fixed_for event.act).takes_memory → SameTables old new
+    → TablesStand setup new (Acted event drawn (Stopped MemoryAllocationFailed) ∷ past) × Stays setup past (Acted event drawn (Stopped MemoryAllocationFailed) ∷ past)
+without_memory setup past old new event drawn stands takes same =
+    let none = takes_memory event.act past takes in
+    (denied_tables setup past event drawn (Stopped MemoryAllocationFailed) old new stands same refl none.0 none.1, stays_same setup past event drawn (Stopped MemoryAllocationFailed) none.0)

@@ -1,11 +1,14 @@
 pub mod Clients
 pub mod Keys
+pub mod Alike
 pub mod Operations
-pub mod Ciphers
+pub mod Slots
+pub mod Tickets
 pub mod Room
 pub mod Drawn
 pub mod Creating
-pub mod Beginning
 pub mod Tables
+pub mod Leaving
+pub mod Beginning
 pub mod Stepping
 pub mod Engine

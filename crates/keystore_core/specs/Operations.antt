@@ -1,79 +1,90 @@
 -- The table of the open operations, with what the rules read of each: what a look-up finds in it, and what a change of it is.
-use Rattle.std.specs.Prelude.{◌≡◌, ℕ, ◌+◌, ◌≤◌, true, false, ◌==◌, length, Option, Some, None, is_some}
-use Rattle.std.specs.BTreeMap.{get}
-use Rattle.std.specs.Option.{option_flatten}
-use Rattle.std.specs.Ordering.{nat_cmp}
-use Rattle.tags.specs.Plan.{OPERATION_BYTES}
+use Rattle.std.specs.Prelude.{◌≡◌, ℕ, ◌+◌, ◌-◌, ◌^◌, ◌<◌, Bool, true, false, ◌&&◌, not, ◌==◌, min, List, [], ◌∷◌, ◌++◌, length, map, filter, find, Option, if◌then◌else◌, vec_len, vec_capacity}
+use Rattle.std.specs.List.{list_any}
 use Rattle.rule_model.specs.Acts.{is_begin}
 use Rattle.rule_model.specs.Entries.{History, count_of}
-use Rattle.rule_model.specs.Operations as model
-use Rattle.rule_model.specs.Operations.{aad_of, is_limited, operation_at, text_of}
+use Rattle.rule_model.specs.Operations.{Open, is_busy, is_limited, open_of}
 use Rattle.rule_model.specs.Setup.{Setup}
-use Rattle.keystore_core.specs.declared.operations.Added.{Added}
 use Rattle.keystore_core.specs.declared.operations.Operation.{Operation}
 use Rattle.keystore_core.specs.declared.operations.Operations.{Operations}
+use Rattle.keystore_core.specs.declared.operations.RowChange.{RowChange}
+use Rattle.keystore_core.specs.declared.operations.RowChange.TheVariants.{Enters, Returns}
+use Rattle.keystore_core.specs.Alike.{Alike}
 
--- the place of an operation: a place without a row is room for one
-abbrev pub place_of : Operations → ℕ → Option (Option Operation)
-place_of operations number = get nat_cmp operations.rows number
+-- the rows, in the order of their begins
+abbrev pub rows_in : Operations → List Operation
+rows_in operations = operations.rows.items
+
+abbrev pub has_row : ℕ → Operation → Bool
+has_row number row = row.number == number
+
+abbrev pub is_row_of : ℕ → Operation → Bool
+is_row_of client row = row.client == client
 
 -- the open operation of a number
 abbrev pub operation_in : Operations → ℕ → Option Operation
-operation_in operations number = option_flatten (place_of operations number)
+operation_in operations number = find (has_row number) (rows_in operations)
+
+-- whether a work on an operation of a client is out
+abbrev pub has_busy_row : Operations → ℕ → Bool
+has_busy_row operations client = list_any (λ (row : Operation). is_row_of client row && row.busy) (rows_in operations)
 
 -- how many numbers the table gave to operations
 abbrev pub operations_given : Operations → ℕ
-operations_given operations = operations.made
+operations_given operations = operations.given
 
--- the table has taken room for the next operation
+-- the table has taken room for one operation more
 abbrev pub HasRoomForOperation : Operations → Type 0
-HasRoomForOperation operations = is_some (place_of operations (operations_given operations + 1)) ≡ true
+HasRoomForOperation operations = vec_len operations.rows < vec_capacity operations.rows
 
--- a row is what the rules read of an operation that has taken so many bytes
-pub record IsRow (aad text : ℕ) (row : Operation) (o : model.Operation) : Type 0 where
-  pub client : row.client ≡ o.client
-  pub key : row.key ≡ o.key
-  pub plan : row.plan ≡ o.plan
-  pub limited : row.limited ≡ is_limited o.limit
-  pub aad_is : row.aad ≡ aad
-  pub text_is : row.text ≡ text
+-- a length that has grown, and stays at the greatest number that there is
+abbrev pub grown : ℕ → ℕ → ℕ
+grown before more = min (before + more) (2 ^ 64 - 1)
 
--- a row is there exactly where the operation is open
-abbrev pub SameOperation : ℕ → ℕ → Option Operation → Option model.Operation → Type 0
-SameOperation aad text None None = Unit {0}
-SameOperation aad text None (Some o) = ⊥
-SameOperation aad text (Some row) None = ⊥
-SameOperation aad text (Some row) (Some o) = IsRow aad text row o
+-- a row after a change: a work went out, or came back and was taken
+abbrev pub changed : RowChange → Operation → Operation
+changed Enters row = record row { busy = true }
+changed (Returns added) row = record row { aad = grown row.aad added.aad; text = grown row.text added.text; busy = false }
 
--- a row that has taken so many bytes more
-pub record IsLonger (aad text : ℕ) (old new : Operation) : Type 0 where
-  pub client : new.client ≡ old.client
-  pub key : new.key ≡ old.key
-  pub plan : new.plan ≡ old.plan
-  pub limited : new.limited ≡ old.limited
-  pub aad_is : new.aad ≡ old.aad + aad
-  pub text_is : new.text ≡ old.text + text
+abbrev pub with_row : ℕ → (Operation → Operation) → List Operation → List Operation
+with_row number change = map (λ row. if has_row number row then change row else row)
 
-abbrev pub Lengthens : ℕ → ℕ → Option Operation → Option Operation → Type 0
-Lengthens aad text None new = ⊥
-Lengthens aad text (Some old) None = ⊥
-Lengthens aad text (Some old) (Some new) = IsLonger aad text old new
+-- the row of one number changes, and the others are as they were
+pub record ChangesRow (op : ℕ) (change : RowChange) (old new : Operations) : Type 0 where
+  pub rows : rows_in new ≡ with_row op (changed change) (rows_in old)
+  pub given : operations_given new ≡ operations_given old
 
--- the rows but that of one number are as they were
-abbrev pub OtherRowsStay : ℕ → Operations → Operations → Type 0
-OtherRowsStay op old new = (number : ℕ) → (op == number) ≡ false → operation_in new number ≡ operation_in old number
+-- the row of one number is gone, and the others are as they were
+pub record DropsRow (op : ℕ) (old new : Operations) : Type 0 where
+  pub rows : rows_in new ≡ filter (λ row. not (has_row op row)) (rows_in old)
+  pub given : operations_given new ≡ operations_given old
+
+-- the rows of a client are gone, and the others are as they were
+pub record DropsRowsOf (client : ℕ) (old new : Operations) : Type 0 where
+  pub rows : rows_in new ≡ filter (λ row. not (is_row_of client row)) (rows_in old)
+  pub given : operations_given new ≡ operations_given old
+
+-- a row comes behind the others, under the next number
+pub record AddsRow (row : Operation) (old new : Operations) : Type 0 where
+  pub rows : rows_in new ≡ rows_in old ++ row ∷ []
+  pub given : operations_given new ≡ operations_given old + 1
 
 pub record SameRows (old new : Operations) : Type 0 where
-  pub rows : (number : ℕ) → operation_in new number ≡ operation_in old number
+  pub rows : rows_in new ≡ rows_in old
   pub given : operations_given new ≡ operations_given old
+
+-- a row is what the rules read of an open operation
+pub record IsRow (row : Operation) (o : Open) : Type 0 where
+  pub number : row.number ≡ o.operation.number
+  pub client : row.client ≡ o.operation.client
+  pub key : row.key ≡ o.operation.key
+  pub plan : row.plan ≡ o.operation.plan
+  pub limited : row.limited ≡ is_limited o.operation.limit
+  pub aad_is : row.aad ≡ length o.aad
+  pub text_is : row.text ≡ length o.text
+  pub busy_is : row.busy ≡ is_busy o
 
 -- the table stands for a history
 pub record OperationsStand (setup : Setup) (operations : Operations) (past : History) : Type 0 where
-  pub rows : (number : ℕ) → SameOperation (length (aad_of setup past number)) (length (text_of setup past number))
-      (operation_in operations number) (operation_at setup past number)
+  pub rows : Alike IsRow (rows_in operations) (open_of setup past)
   pub given : operations_given operations ≡ count_of is_begin past
-
--- the operation is there, and may take so many bytes more
-abbrev pub MayLengthen : Option Operation → Added → Type 0
-MayLengthen None added = ⊥
-MayLengthen (Some row) added = row.aad + added.aad + (row.text + added.text) ≤ OPERATION_BYTES

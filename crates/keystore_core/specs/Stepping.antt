@@ -1,5 +1,5 @@
 -- The steps of an open operation.
-use Rattle.std.specs.Prelude.{◌≡◌, ℕ, ◌+◌, ◌≤◌, Bool, true, false, List, length, Option, Some, None, Result, Ok, Err, IfErr}
+use Rattle.std.specs.Prelude.{◌≡◌, ℕ, ◌+◌, ◌≤◌, Bool, true, false, List, length, Option, Some, None, Result, Ok, Err}
 use Rattle.tags.specs.declared.code.Code.{Code}
 use Rattle.tags.specs.declared.plan.Plan.{Plan}
 use Rattle.tags.specs.declared.rule.Rule.{Rule}
@@ -7,14 +7,15 @@ use Rattle.tags.specs.Plan.{OPERATION_BYTES}
 use Rattle.step_rules.specs.declared.facts.StepKind.{StepKind}
 use Rattle.step_rules.specs.declared.facts.StepKind.TheVariants as kinds
 use Rattle.step_rules.specs.Table.{ends_operation}
-use Rattle.cipher_ops.specs.declared.job.Done.{Done}
+use Rattle.cipher_ops.specs.declared.job.Job.{Job}
 use Rattle.cipher_ops.specs.declared.room.JobRoom.{JobRoom}
 use Rattle.cipher_ops.specs.declared.room.Work.{Work}
 use Rattle.cipher_ops.specs.declared.room.Work.TheVariants.{Aad, Text, Last}
 use Rattle.cipher_ops.specs.declared.state.CipherState.{CipherState}
-use Rattle.cipher_ops.specs.Jobs.{ComesTo, is_refusal}
+use Rattle.cipher_ops.specs.Jobs.{JobFor, ticket_of}
 use Rattle.cipher_ops.specs.Running.{CanRun, GoesOn, IsRoom, MayCome}
 use Rattle.cipher_ops.specs.Sizes.{own_text}
+use Rattle.operation_slots.specs.Table.{FindsChanged, FindsNoMore, Gives, IsSound, KeepsLater, KeepsLaterThan, Takes, TakesOut, given_back, made_busy}
 use Rattle.rule_model.specs.declared.event.Act.{Act}
 use Rattle.rule_model.specs.declared.event.Act.TheVariants.{EnterAad, EnterUpdate, EnterFinish}
 use Rattle.rule_model.specs.declared.facts.Brought.{Brought}
@@ -23,9 +24,15 @@ use Rattle.rule_model.specs.declared.reply.Reply.TheVariants.{Done as done, Stop
 use Rattle.rule_model.specs.Answer.{no_fields}
 use Rattle.keystore_core.specs.declared.operations.Added.{Added}
 use Rattle.keystore_core.specs.declared.operations.Operation.{Operation}
+use Rattle.keystore_core.specs.declared.operations.RowChange.TheVariants.{Enters, Returns}
 use Rattle.keystore_core.specs.declared.tables.Tables.{Tables}
-use Rattle.keystore_core.specs.Operations.{Lengthens, MayLengthen}
-use Rattle.keystore_core.specs.Tables.{OneOperation, row_at, state_at}
+use Rattle.keystore_core.specs.declared.tickets.Out.{Out}
+use Rattle.keystore_core.specs.Clients.{SameClients}
+use Rattle.keystore_core.specs.Keys.{SameKeys}
+use Rattle.keystore_core.specs.Leaving.{ClosesOne}
+use Rattle.keystore_core.specs.Operations.{ChangesRow, DropsRow}
+use Rattle.keystore_core.specs.Tables.{state_at}
+use Rattle.keystore_core.specs.Tickets.{GivesTicket, TakesTicket, tickets_given}
 
 -- the act that enters an operation with a work
 abbrev pub entering : ℕ → Work → Act
@@ -56,20 +63,10 @@ abbrev pub IsRoomAt : Option Operation → Work → JobRoom → Type 0
 IsRoomAt None work room = ⊥
 IsRoomAt (Some row) work room = IsRoom room row.plan row.limited row.text work
 
--- the operation is there, and may take what a step brings
-abbrev pub MayTake : Option Operation → Brought → Type 0
-MayTake row brought = MayLengthen row (added_by brought)
-
 -- there is a state, and it can take the work of a room
 abbrev pub CanWork : Option CipherState → JobRoom → Type 0
 CanWork None room = ⊥
 CanWork (Some state) room = ∥ CanRun state room ∥₁
-
--- one operation is closed
-pub record ClosesOne (op : ℕ) (old new : Tables) : Type 0 where
-  pub one : OneOperation op old new
-  pub row : row_at new op ≡ None
-  pub state : state_at new op ≡ None
 
 -- a denial closes the operation where its rule says so
 abbrev pub DeniesBy : Bool → ℕ → Tables → Tables → Type 0
@@ -79,20 +76,29 @@ DeniesBy false op old new = new ≡ old
 abbrev pub Denies : Rule → ℕ → Tables → Tables → Type 0
 Denies rule op old new = DeniesBy (ends_operation rule) op old new
 
--- what a job comes back with is told by its state and its result
-abbrev pub done_of : Option CipherState → Result (List ℕ) Code → Done
-done_of state result = record { ticket = 0; state = state; result = result }
+-- a work went out: its operation is busy, its ticket is kept, and its job is that of the state and the room
+pub record SendsJob (out : Out) (room : JobRoom) (old new : Tables) (job : Job) : Type 0 where
+  pub clients : SameClients old.clients new.clients
+  pub keys : SameKeys old.keys new.keys
+  pub rows : ChangesRow out.op Enters old.operations new.operations
+  pub slots : Takes old.slots new.slots out.op
+  pub found : FindsChanged old.slots new.slots out.op made_busy
+  pub later : KeepsLater old.slots new.slots
+  pub tickets : GivesTicket out old.tickets new.tickets
+  pub number : ticket_of job ≡ tickets_given old.tickets + 1
+  pub job_is : (plan : Plan) (limited : Bool) (key nonce aad text : List ℕ) (work : Work) → GoesOn (state_at old out.op) plan limited key nonce aad text
+      → IsRoom room plan limited (length text) work → MayCome plan text work → JobFor job plan limited key nonce aad text work
 
--- a row after a work: it is longer by what the step brought, and where no state is left it is closed
-abbrev pub TakesRow : Option CipherState → Added → Option Operation → Option Operation → Type 0
-TakesRow None added old new = new ≡ None
-TakesRow (Some state) added old new = Lengthens added.aad added.text old new
+-- what a work leaves of its operation: it goes on with its state, or after the last work it is closed
+abbrev pub BackAs : Option CipherState → Out → ℕ → Tables → Tables → Type 0
+BackAs None out step old new = DropsRow out.op old.operations new.operations × TakesOut old.slots new.slots out.op
+    × FindsNoMore old.slots new.slots × KeepsLater old.slots new.slots
+BackAs (Some state) out step old new = ChangesRow out.op (Returns (added_by out.brought)) old.operations new.operations × Gives old.slots new.slots out.op step state
+    × FindsChanged old.slots new.slots out.op (given_back step state) × KeepsLaterThan old.slots new.slots step × IsSound old.slots
 
--- a work was done on one operation: the state that is left and the result are what the work comes to
-pub record Runs (op : ℕ) (brought : Brought) (room : JobRoom) (old new : Tables) (result : Result (List ℕ) Code) : Type 0 where
-  pub one : OneOperation op old new
-  pub row : TakesRow (state_at new op) (added_by brought) (row_at old op) (row_at new op)
-  pub comes : (plan : Plan) (limited : Bool) (key nonce aad text : List ℕ) (work : Work) → GoesOn (state_at old op) plan limited key nonce aad text
-      → IsRoom room plan limited (length text) work → MayCome plan text work
-      → ComesTo (done_of (state_at new op) result) plan limited key nonce aad text work
-  pub codes : IfErr result (λ code. is_refusal code ≡ true)
+-- a work came back: its ticket is gone
+pub record TakesBack (ticket : ℕ) (out : Out) (step : ℕ) (state : Option CipherState) (old new : Tables) : Type 0 where
+  pub clients : SameClients old.clients new.clients
+  pub keys : SameKeys old.keys new.keys
+  pub tickets : TakesTicket ticket old.tickets new.tickets
+  pub back_as : BackAs state out step old new

@@ -1,50 +1,49 @@
 -- When the engine's tables stand for a history, and what an act makes of them.
-use Rattle.std.specs.Prelude.{◌≡◌, ℕ, ◌≤◌, Bool, ◌∷◌, length, Option, Result, Ok, Err}
+use Rattle.std.specs.Prelude.{◌≡◌, ℕ, ◌+◌, ◌≤◌, Bool, ◌∷◌, length, Option, Result, Ok, Err}
 use Rattle.tags.specs.declared.bytes.NoMemory.{NoMemory}
+use Rattle.cipher_ops.specs.declared.job.Done.{Done}
+use Rattle.cipher_ops.specs.declared.state.CipherState.{CipherState}
+use Rattle.operation_slots.specs.Table.{Same, held, idle_value}
 use Rattle.rule_model.specs.declared.entry.Entry.TheVariants.{Acted}
 use Rattle.rule_model.specs.declared.event.Event.{Event}
 use Rattle.rule_model.specs.declared.event.Act.{Act}
 use Rattle.rule_model.specs.declared.facts.Caller.{Caller}
 use Rattle.rule_model.specs.Entries.{History}
+use Rattle.rule_model.specs.Jobs.{HasDone, HasJob, Stays}
 use Rattle.rule_model.specs.Legal.{MayFollow}
+use Rattle.rule_model.specs.Operations.{step_of}
 use Rattle.rule_model.specs.Setup.{Setup}
 use Rattle.keystore_core.specs.declared.answered.Answered.{Answered}
+use Rattle.keystore_core.specs.declared.operations.Operation.{Operation}
 use Rattle.keystore_core.specs.declared.tables.Tables.{Tables}
-use Rattle.keystore_core.specs.Ciphers.{CiphersStand, OthersStay, SameCiphers, cipher_in}
 use Rattle.keystore_core.specs.Clients.{ClientsStand, SameClients, uid_in}
 use Rattle.keystore_core.specs.Keys.{KeysStand, SameKeys, live_in}
-use Rattle.keystore_core.specs.Operations.{OperationsStand, OtherRowsStay, SameRows, operation_in, operations_given}
-use Rattle.cipher_ops.specs.declared.state.CipherState.{CipherState}
-use Rattle.keystore_core.specs.declared.operations.Operation.{Operation}
+use Rattle.keystore_core.specs.Operations.{OperationsStand, SameRows, operation_in}
+use Rattle.keystore_core.specs.Slots.{SlotsStand}
+use Rattle.keystore_core.specs.Tickets.{SameTickets, TicketsStand}
 
 -- the tables stand for a history: each answers as the history says
 pub record TablesStand (setup : Setup) (tables : Tables) (past : History) : Type 0 where
   pub clients : ClientsStand tables.clients past
   pub keys : KeysStand setup tables.keys past
   pub operations : OperationsStand setup tables.operations past
-  pub ciphers : CiphersStand setup tables.ciphers past
+  pub slots : SlotsStand setup tables.slots past
+  pub tickets : TicketsStand setup tables.tickets past
 
 -- the tables answer as others do
 pub record SameTables (old new : Tables) : Type 0 where
   pub clients : SameClients old.clients new.clients
   pub keys : SameKeys old.keys new.keys
   pub operations : SameRows old.operations new.operations
-  pub ciphers : SameCiphers old.ciphers new.ciphers
+  pub slots : new.slots ≡ old.slots
+  pub tickets : SameTickets old.tickets new.tickets
 
--- the row and the state of an operation
+-- the row of an operation, and its state where it is idle
 abbrev pub row_at : Tables → ℕ → Option Operation
 row_at tables op = operation_in tables.operations op
 
 abbrev pub state_at : Tables → ℕ → Option CipherState
-state_at tables op = cipher_in tables.ciphers op
-
--- all but one operation is as it was, and no number was given
-pub record OneOperation (op : ℕ) (old new : Tables) : Type 0 where
-  pub clients : SameClients old.clients new.clients
-  pub keys : SameKeys old.keys new.keys
-  pub rows : OtherRowsStay op old.operations new.operations
-  pub given : operations_given new.operations ≡ operations_given old.operations
-  pub ciphers : OthersStay op old.ciphers new.ciphers
+state_at tables op = idle_value (held tables.slots op)
 
 -- whether the key of a number has not ended
 abbrev pub live_key : Tables → ℕ → Bool
@@ -58,6 +57,20 @@ pub record IsTables (tables : Tables) (most : ℕ) : Type 0 where
   pub few : length past ≤ most
   pub first : setup.start.next_key ≤ 1
 
+-- The tables stand for a history after which this is the step's number, and a leave of a ticket that is out has what its job
+-- came back with.
+pub record StandsAt (setup : Setup) (tables : Tables) (past : History) (step : ℕ) (act : Act) (done : Option Done) : Type 0 where
+  pub tables_stand : TablesStand setup tables past
+  pub step_is : step ≡ step_of past
+  pub done_is : HasDone setup past act done
+
+-- some history is such, over a lasting part whose next key has the number 1
+pub record IsAt (tables : Tables) (step : ℕ) (act : Act) (done : Option Done) : Type 0 where
+  pub setup : Setup
+  pub past : History
+  pub stands : StandsAt setup tables past step act done
+  pub first : setup.start.next_key ≤ 1
+
 -- the uid of a caller is that of the client
 abbrev pub IsCaller : Tables → Caller → Type 0
 IsCaller tables caller = caller.uid ≡ uid_in tables.clients caller.client
@@ -66,11 +79,15 @@ IsCaller tables caller = caller.uid ≡ uid_in tables.clients caller.client
 abbrev pub event_by : Caller → Act → Event
 event_by caller act = record { reading = caller.reading; client = caller.client; act = act }
 
--- an answer may follow every history for which the tables stood, and they stand for the history with its entry
+-- An answer may follow a history, and the tables stand for the history with its entry. It has a job where it gives a ticket,
+-- and the operations of the works that are out stay.
 pub record AnswersAfter (setup : Setup) (past : History) (new : Tables) (event : Event) (answered : Answered) : Type 0 where
   pub follows : MayFollow setup past event answered.drawn answered.reply
   pub stands : TablesStand setup new (Acted event answered.drawn answered.reply ∷ past)
+  pub has_job : HasJob setup (Acted event answered.drawn answered.reply ∷ past) answered.reply answered.job
+  pub stays : Stays setup past (Acted event answered.drawn answered.reply ∷ past)
 
+-- of every history for which the tables stood
 abbrev pub Answers : Tables → Tables → Event → Answered → Type 0
 Answers old new event answered = (setup : Setup) (past : History) → TablesStand setup old past → AnswersAfter setup past new event answered
 
@@ -78,3 +95,12 @@ Answers old new event answered = (setup : Setup) (past : History) → TablesStan
 abbrev pub ServesAfter : Tables → Tables → Event → Result Answered NoMemory → Type 0
 ServesAfter old new event (Ok answered) = Answers old new event answered
 ServesAfter old new event (Err fault) = SameTables old new
+
+-- the same at a step, where a leave has what its job came back with
+abbrev pub AnswersAt : ℕ → Option Done → Tables → Tables → Event → Answered → Type 0
+AnswersAt step done old new event answered =
+    (setup : Setup) (past : History) → StandsAt setup old past step event.act done → AnswersAfter setup past new event answered
+
+abbrev pub ServesAt : ℕ → Option Done → Tables → Tables → Event → Result Answered NoMemory → Type 0
+ServesAt step done old new event (Ok answered) = AnswersAt step done old new event answered
+ServesAt step done old new event (Err fault) = SameTables old new

@@ -1,6 +1,6 @@
 //! The beginning of an operation.
 
-ghost use Rattle.std.specs.Prelude.{◌≡◌, ℕ, ◌+◌, ◌-◌, ◌^◌, ◌==◌, ◌<◌, List, [], true, false, unwrap_or, Some, None, IfOk, length, if◌then◌else◌};
+ghost use Rattle.std.specs.Prelude.{◌≡◌, ℕ, ◌^◌, ◌==◌, ◌<◌, ◌≤◌, List, [], true, false, unwrap_or, Some, None, IfNone, IfOk, IfSome, IsSome, is_some, length, if◌then◌else◌};
 ghost use Rattle.std.specs.Option.{option_copied, option_map_or};
 ghost use Rattle.tags.specs.Plan.{Fits};
 ghost use Rattle.tag_lists.specs.Lookups.{IsKey};
@@ -13,13 +13,17 @@ ghost use Rattle.rule_model.specs.BeginFacts as model;
 ghost use Rattle.rule_model.specs.Operations.{is_limited};
 ghost use Rattle.keystore_core.specs.Beginning as spec;
 ghost use Rattle.keystore_core.specs.Drawn.{DrewForResult};
-ghost use Rattle.keystore_core.specs.Tables.{IsCaller, IsTables, ServesAfter, event_by};
+ghost use Rattle.keystore_core.specs.Operations.{HasRoomForOperation, operations_given};
+ghost use Rattle.keystore_core.specs.Tables.{IsAt, IsCaller, ServesAt, event_by, state_at};
+ghost use Rattle.operation_slots.specs.Table.{IsLater, has_room as is_free, held};
+ghost use Rattle.rule_model.specs.Keys.{owner_of as owner};
 
 use crate::answered::Answered;
 use crate::draw_room::DrawRoom;
 use crate::operations::Operation;
 use crate::room::Room;
 use crate::tables::Tables;
+use crate::victims::{has_slot, pruned_for};
 use cipher_ops::CipherState;
 use key_rules::{read_asked, usable};
 use keymint_ops::{Begin, BeginFault, plan_begin};
@@ -59,8 +63,9 @@ fn begin_facts(
     caller: Caller,
     key: Descriptor,
     params: &[u8],
+    room: bool,
 ) -> Result<BeginFacts, NoMemory>
-    ensures facts { IfOk result (λ facts. facts ≡ model.facts_on (option_copied found.entry) caller key params.now) }
+    ensures facts { IfOk result (λ facts. facts ≡ model.facts_on (option_copied found.entry) caller key params.now room) }
     ensures key { IfOk result (λ facts. facts.fits ≡ true → IsKey (key_of facts) (length (option_map_or (λ (key : KeyRecord). key.blob) (option_copied found.entry) []))) }
 {
     let asked = read_asked(alloc, params)?;
@@ -79,6 +84,7 @@ fn begin_facts(
         asked,
         opened,
         fits,
+        room,
     })
 }
 
@@ -93,16 +99,18 @@ fn material_of(found: Option<&KeyRecord>) -> &[u8]
 }
 
 /// What the rules read of a new operation on a key.
-fn new_operation(client: u64, key: &KeyRecord, begin: &Begin) -> Operation
-    ensures { spec.IsNewRow result client key.now begin.now.plan }
+fn new_operation(number: u64, client: u64, key: &KeyRecord, begin: &Begin) -> Operation
+    ensures { spec.IsNewRow result number client key.now begin.now.plan }
 {
     Operation {
+        number,
         client,
         key: Some(key.id),
         plan: begin.plan,
         limited: key.limit != 0,
         aad: 0,
         text: 0,
+        busy: false,
     }
 }
 
@@ -130,23 +138,64 @@ fn drawn_nonce(room: Room, wanted: usize, drawn: &[u8]) -> Option<Bytes>
     Some(room.filled(drawn))
 }
 
+/// The uid of a caller; the rules let none begin that has none.
+fn owner_of(caller: Caller) -> u32
+    ensures { result ≡ owner caller }
+{
+    caller.uid.unwrap_or(0)
+}
+
 impl Tables {
+    /// Closes the operation that gives way, where one does; then a slot is free.
+    fn make_way(&mut self, pruned: Option<u64>)
+        requires idle { IfSome pruned (λ op. IsSome (state_at self.old op)) }
+        requires free { IfNone pruned (is_free self.old.slots ≡ true) }
+        ensures way { spec.MakesWay pruned self.old self.new }
+        ensures free { is_free self.new.slots ≡ true }
+        ensures room { HasRoomForOperation self.old.operations → HasRoomForOperation self.new.operations }
+    {
+        if let Some(op) = pruned {
+            self.close(op);
+        }
+    }
+
+    /// Opens an operation of a uid with its state, in the place of one that gives way.
+    fn open(&mut self, pruned: Option<u64>, step: u64, uid: u32, row: Operation, state: CipherState)
+        requires idle { IfSome pruned (λ op. IsSome (state_at self.old op)) }
+        requires free { IfNone pruned (is_free self.old.slots ≡ true) }
+        requires fresh { is_some (held self.old.slots row.number) ≡ false }
+        requires later { IsLater self.old.slots step }
+        requires room { HasRoomForOperation self.old.operations }
+        requires few { operations_given self.old.operations < 2 ^ 62 }
+        ensures { spec.OpensOne pruned step uid row state self.old self.new }
+    {
+        self.make_way(pruned);
+        self.slots.begin(row.number, uid, row.client, step, state);
+        self.operations.open(row);
+    }
+
     /// A client begins an operation on a key of its own.
     pub fn begin<N: Entropy>(
         &mut self,
         alloc: Global,
         entropy: &mut N,
         caller: Caller,
+        step: u64,
         key: Descriptor,
         params: Bytes,
     ) -> Result<Answered, NoMemory>
-        requires tables { ∥ IsTables self.old (2 ^ 62 - 1) ∥₁ }
+        requires at { ∥ IsAt self.old step (acts.CreateOperation key params false) None ∥₁ }
+        requires few { step ≤ 2 ^ 62 }
         requires caller { IsCaller self.old caller }
-        ensures serves { ServesAfter self.old self.new (event_by caller (acts.CreateOperation key params false)) result }
+        ensures serves { ServesAt step None self.old self.new (event_by caller (acts.CreateOperation key params false)) result }
+        ensures job { IfOk result (λ answered. answered.job ≡ None) }
         ensures drew { DrewForResult N.Entropy entropy.old entropy.new result }
     {
+        let uid = owner_of(caller);
+        let pruned = pruned_for(&self.slots, uid, false, step);
+        let room = has_slot(&self.slots, pruned);
         let found = self.keys.found(caller, &key);
-        let facts = begin_facts(alloc, found, caller, key, params.as_slice())?;
+        let facts = begin_facts(alloc, found, caller, key, params.as_slice(), room)?;
         let begin = match plan_begin(alloc, &facts, material_of(found)) {
             Ok(begin) => begin,
             Err(BeginFault::Broken(rule, code)) => return Ok(Answered::refused(alloc, rule, code)),
@@ -163,7 +212,6 @@ impl Tables {
         )?;
         let op = self.operations.next();
         self.operations.reserve()?;
-        self.ciphers.reserve(op)?;
         let drawn = match draws.draw(entropy) {
             Ok(drawn) => drawn,
             Err(drawn) => return Ok(Answered::without_entropy(drawn)),
@@ -171,16 +219,17 @@ impl Tables {
         let Ok(state) = new_cipher(alloc, found, &begin, drawn.as_slice()) else {
             return Ok(Answered::without_memory(drawn));
         };
-        self.operations
-            .open(new_operation(caller.client, found, &begin));
-        self.ciphers.put(op, state);
+        let row = new_operation(op, caller.client, found, &begin);
+        self.open(pruned, step, uid, row, state);
         let fields = Fields {
             op: Some(op),
             nonce: drawn_nonce(nonce, begin.wanted, drawn.as_slice()),
+            pruned,
             ..NO_FIELDS
         };
         Ok(Answered {
             reply: Reply::Done(fields),
+            job: None,
             drawn,
         })
     }

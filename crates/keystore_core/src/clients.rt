@@ -1,7 +1,7 @@
 //! The connected clients.
 
 ghost use Rattle.std.specs.Prelude.{◌≡◌, ◌+◌, ◌^◌, ◌<◌, IfOk, OnErr, None, ℕ};
-ghost use Rattle.rule_model.specs.Clients.{Comes};
+ghost use Rattle.rule_model.specs.Clients.{Comes, Goes};
 ghost use Rattle.keystore_core.specs.Clients.{ChangesClients, SameClients, clients_given, uid_in};
 
 use std::alloc::Global;
@@ -45,5 +45,13 @@ impl Clients {
         self.uids.insert(client, uid)?;
         self.made = client;
         Ok(client)
+    }
+
+    /// Lets a client go, where it is connected.
+    pub fn disconnect(&mut self, client: u64)
+        ensures goes { ChangesClients (Goes client) self.old self.new }
+        ensures given { clients_given self.new ≡ clients_given self.old }
+    {
+        let _ = self.uids.remove(&client);
     }
 }

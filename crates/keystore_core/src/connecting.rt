@@ -1,15 +1,36 @@
-//! A client comes.
+//! A client comes, and goes.
 
-ghost use Rattle.std.specs.Prelude.{◌-◌, ◌^◌, IfOk};
+ghost use Rattle.std.specs.Prelude.{◌≡◌, ◌-◌, ◌^◌, None, Ok, IfOk, is_some};
+ghost use Rattle.tags.specs.declared.rule.RuleTable.TheVariants.{A};
+ghost use Rattle.tags.specs.Table.{first_broken, rule_of};
 ghost use Rattle.rule_model.specs.declared.event.Act.TheVariants as acts;
+ghost use Rattle.rule_model.specs.Calls.{disconnect_rules};
 ghost use Rattle.keystore_core.specs.Drawn.{IsUndrawn};
-ghost use Rattle.keystore_core.specs.Tables.{IsTables, ServesAfter, event_by};
+ghost use Rattle.keystore_core.specs.Leaving.{EndsClient};
+ghost use Rattle.keystore_core.specs.Operations.{has_busy_row};
+ghost use Rattle.keystore_core.specs.Tables.{IsCaller, IsTables, ServesAfter, event_by};
 
 use crate::answered::Answered;
 use crate::tables::Tables;
 use rule_model::{Caller, Fields, NO_FIELDS, Reply};
 use std::alloc::Global;
-use tags::NoMemory;
+use tags::{Code, NoMemory, Rule, RuleTable, Ruling, check};
+
+/// A rule of the table by its number.
+fn rule(number: u8) -> Rule
+    ensures { result ≡ rule_of A number }
+{
+    RuleTable::A.rule(number)
+}
+
+/// The rules of a disconnect.
+fn check_disconnect(connected: bool, busy: bool) -> Ruling
+    ensures { result ≡ first_broken A (disconnect_rules connected busy) }
+{
+    check(rule(1), Code::InvalidArgument, connected)?;
+    check(rule(10), Code::OperationBusy, !busy)?;
+    Ok(())
+}
 
 impl Tables {
     /// A client comes with this uid.
@@ -21,6 +42,7 @@ impl Tables {
     ) -> Result<Answered, NoMemory>
         requires { ∥ IsTables self.old (2 ^ 62 - 1) ∥₁ }
         ensures serves { ServesAfter self.old self.new (event_by _caller (acts.Connect uid)) result }
+        ensures job { IfOk result (λ answered. answered.job ≡ None) }
         ensures drew { IfOk result (λ answered. IsUndrawn answered) }
     {
         let client = self.clients.connect(uid)?;
@@ -29,5 +51,29 @@ impl Tables {
             ..NO_FIELDS
         };
         Ok(Answered::undrawn(alloc, Reply::Done(fields)))
+    }
+
+    /// The client goes, and its operations close.
+    fn end_client(&mut self, client: u64)
+        ensures { EndsClient client self.old self.new }
+    {
+        self.operations.close_of(client);
+        self.slots.close_of(client);
+        self.clients.disconnect(client);
+    }
+
+    /// A client goes.
+    pub fn disconnect(&mut self, alloc: Global, caller: Caller) -> Answered
+        requires { IsCaller self.old caller }
+        ensures serves { ServesAfter self.old self.new (event_by caller acts.Disconnect) (Ok result) }
+        ensures job { result.job ≡ None }
+        ensures drew { IsUndrawn result }
+    {
+        let busy = self.operations.has_busy(caller.client);
+        if let Err((rule, code)) = check_disconnect(caller.uid.is_some(), busy) {
+            return Answered::refused(alloc, rule, code);
+        }
+        self.end_client(caller.client);
+        Answered::undrawn(alloc, Reply::Done(NO_FIELDS))
     }
 }

@@ -1,6 +1,6 @@
 //! A new key of an app: generated, or imported.
 
-ghost use Rattle.std.specs.Prelude.{◌≡◌, ◌+◌, ◌-◌, ◌^◌, ◌<◌, length, IfOk};
+ghost use Rattle.std.specs.Prelude.{◌≡◌, ◌+◌, ◌-◌, ◌^◌, ◌<◌, length, None, IfOk};
 ghost use Rattle.std.specs.Option.{option_map};
 ghost use Rattle.rule_model.specs.NewFacts as model;
 ghost use Rattle.keystore_core.specs.Creating as spec;
@@ -110,6 +110,7 @@ impl Tables {
         requires tables { ∥ IsTables self.old (2 ^ 62 - 1) ∥₁ }
         requires caller { IsCaller self.old caller }
         ensures serves { ServesAfter self.old self.new (event_by caller (spec.making key params import)) result }
+        ensures job { IfOk result (λ answered. answered.job ≡ None) }
         ensures drew { DrewForResult N.Entropy entropy.old entropy.new result }
     {
         let facts = new_facts(caller, key, params, &import);
@@ -144,6 +145,7 @@ impl Tables {
         };
         Ok(Answered {
             reply: Reply::Done(fields),
+            job: None,
             drawn,
         })
     }

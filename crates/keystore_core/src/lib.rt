@@ -6,7 +6,6 @@
 
 mod answered;
 mod beginning;
-mod ciphers;
 mod clients;
 mod connecting;
 mod creating;
@@ -15,9 +14,12 @@ mod draw_room;
 mod draws;
 mod engine;
 mod keys;
+mod leaving;
 mod operations;
 mod room;
 mod stepping;
 mod tables;
+mod tickets;
+mod victims;
 
 pub use engine::Engine;

@@ -1,16 +1,17 @@
 //! The open operations, with what the rules read of each.
 
-ghost use Rattle.std.specs.Prelude.{◌≡◌, ℕ, ◌+◌, ◌^◌, ◌<◌, ◌≤◌, ◌==◌, false, Some, None, OnOk, OnErr, if◌then◌else◌};
+ghost use Rattle.std.specs.Prelude.{◌≡◌, ◌+◌, ◌^◌, ◌<◌, ◌≤◌, ◌==◌, [], not, filter, if◌then◌else◌, OnOk, vec_capacity, vec_len};
 ghost use Rattle.std.specs.Option.{option_copied};
-ghost use Rattle.keystore_core.specs.Operations.{HasRoomForOperation, Lengthens, MayLengthen, OtherRowsStay, SameRows, operation_in, operations_given};
+ghost use Rattle.keystore_core.specs.Operations as spec;
+ghost use Rattle.keystore_core.specs.Operations.{AddsRow, ChangesRow, DropsRow, DropsRowsOf, HasRoomForOperation, SameRows, has_busy_row, operation_in, operations_given, rows_in, with_row};
 
 use std::alloc::Global;
-use std::collections::BTreeMap;
 use tags::{NoMemory, Plan};
 
 /// What the rules read of an open operation. Lengths are in bytes.
 #[derive(Clone, Copy, Debug, PartialEq, Eq)]
 pub struct Operation {
+    pub number: u64,
     pub client: u64,
     /// the key's number, where the key is stored
     pub key: Option<u64>,
@@ -21,6 +22,8 @@ pub struct Operation {
     pub aad: u64,
     /// how long the text is so far
     pub text: u64,
+    /// whether a work on it is out
+    pub busy: bool,
 }
 
 /// How many bytes a work adds to an operation.
@@ -30,46 +33,95 @@ pub struct Added {
     pub text: u64,
 }
 
-/// The open operations by their numbers. A place without an operation is room for one.
-#[derive(Drop)]
-pub struct Operations {
-    rows: BTreeMap<u64, Option<Operation>>,
-    made: u64,
+/// What a step makes of an operation that stays open.
+#[derive(Clone, Copy, Debug, PartialEq, Eq)]
+pub enum RowChange {
+    /// a work goes out
+    Enters,
+    /// the work comes back, and was taken
+    Returns(Added),
 }
 
-/// Counts what a work adds to the operation of a place.
-fn lengthen_row(place: &mut Option<Operation>, added: Added)
-    requires { MayLengthen place.old added }
-    ensures { Lengthens added.aad added.text place.old place.new }
+/// The open operations, in the order of their begins: as many as there are slots at the most.
+#[derive(Drop)]
+pub struct Operations {
+    rows: Vec<Operation>,
+    given: u64,
+}
+
+/// A row after the change of the row of a number.
+fn changed(row: Operation, number: u64, change: RowChange) -> Operation
+    ensures { result ≡ (if spec.has_row number row then spec.changed change row else row) }
 {
-    match place {
-        Some(row) => {
-            row.aad += added.aad;
-            row.text += added.text;
-        }
-        None => unreachable!(),
+    if row.number != number {
+        return row;
     }
+    match change {
+        RowChange::Enters => Operation { busy: true, ..row },
+        RowChange::Returns(added) => Operation {
+            aad: row.aad.saturating_add(added.aad),
+            text: row.text.saturating_add(added.text),
+            busy: false,
+            ..row
+        },
+    }
+}
+
+/// Changes the row of a number.
+fn change_row(rows: &mut [Operation], number: u64, change: RowChange)
+    ensures { rows.new ≡ with_row number (spec.changed change) rows.old }
+{
+    for row in rows.iter_mut() {
+        *row = changed(*row, number, change);
+    }
+}
+
+/// Takes out the row of a number.
+fn drop_row(rows: &mut Vec<Operation>, number: u64)
+    ensures rows { rows.new.items ≡ filter (λ row. not (spec.has_row number row)) rows.old.items }
+    ensures capacity { vec_capacity rows.new ≡ vec_capacity rows.old }
+    ensures len { vec_len rows.new ≤ vec_len rows.old }
+{
+    rows.retain(|row| row.number != number);
+}
+
+/// Takes out the rows of a client.
+fn drop_rows_of(rows: &mut Vec<Operation>, client: u64)
+    ensures { rows.new.items ≡ filter (λ row. not (spec.is_row_of client row)) rows.old.items }
+{
+    rows.retain(|row| row.client != client);
 }
 
 impl Operations {
     pub fn new(alloc: Global) -> Operations
-        ensures rows { (number : ℕ) → operation_in result number ≡ None }
+        ensures rows { rows_in result ≡ [] }
         ensures given { operations_given result ≡ 0 }
     {
         Operations {
-            rows: BTreeMap::new(alloc),
-            made: 0,
+            rows: Vec::new(alloc),
+            given: 0,
         }
+    }
+
+    /// The row of a number.
+    fn row(&self, number: u64) -> Option<&Operation>
+        ensures { option_copied result ≡ operation_in self.now number }
+    {
+        self.rows.iter().find(|row| row.number == number)
     }
 
     /// The open operation of a number.
     pub fn get(&self, number: u64) -> Option<Operation>
         ensures { result ≡ operation_in self.now number }
     {
-        match self.rows.get(&number) {
-            Some(row) => *row,
-            None => None,
-        }
+        self.row(number).copied()
+    }
+
+    /// Whether a work on an operation of a client is out.
+    pub fn has_busy(&self, client: u64) -> bool
+        ensures { result ≡ has_busy_row self.now client }
+    {
+        self.rows.iter().any(|row| row.client == client && row.busy)
     }
 
     /// The number that the next operation takes.
@@ -77,57 +129,49 @@ impl Operations {
         requires { operations_given self.now < 2 ^ 62 }
         ensures { result ≡ operations_given self.now + 1 }
     {
-        self.made + 1
+        self.given + 1
     }
 
-    /// Takes the room of the next operation.
+    /// Takes room for one operation more.
     pub fn reserve(&mut self) -> Result<(), NoMemory>
-        requires { operations_given self.old < 2 ^ 62 }
         ensures room { OnOk result (HasRoomForOperation self.new) }
         ensures same { SameRows self.old self.new }
     {
-        let number = self.next();
-        if !self.rows.contains_key(&number) {
-            self.rows.insert(number, None)?;
-        }
+        self.rows.reserve(1)?;
         Ok(())
     }
 
-    /// Opens an operation under the next number.
+    /// Opens an operation under the next number, in the place of one that gives way.
     pub fn open(&mut self, operation: Operation)
         requires room { HasRoomForOperation self.old }
         requires few { operations_given self.old < 2 ^ 62 }
-        ensures given { operations_given self.new ≡ operations_given self.old + 1 }
-        ensures here { operation_in self.new (operations_given self.old + 1) ≡ Some operation }
-        ensures there { OtherRowsStay (operations_given self.old + 1) self.old self.new }
+        ensures { AddsRow operation self.old self.new }
     {
-        let number = self.next();
-        match self.rows.get_mut(&number) {
-            Some(place) => *place = Some(operation),
-            None => unreachable!(),
-        }
-        self.made = number;
+        let Ok(()) = self.rows.push(operation) else {
+            unreachable!()
+        };
+        self.given += 1;
     }
 
-    /// Counts what a work adds to an open operation.
-    pub fn lengthen(&mut self, number: u64, added: Added)
-        requires { MayLengthen (operation_in self.old number) added }
-        ensures here { Lengthens added.aad added.text (operation_in self.old number) (operation_in self.new number) }
-        ensures there { OtherRowsStay number self.old self.new }
-        ensures given { operations_given self.new ≡ operations_given self.old }
+    /// Changes an open operation.
+    pub fn change(&mut self, number: u64, change: RowChange)
+        ensures { ChangesRow number change self.old self.new }
     {
-        match self.rows.get_mut(&number) {
-            Some(place) => lengthen_row(place, added),
-            None => unreachable!(),
-        }
+        change_row(&mut self.rows, number, change);
     }
 
     /// Closes an operation, where it is open.
     pub fn close(&mut self, number: u64)
-        ensures here { operation_in self.new number ≡ None }
-        ensures there { OtherRowsStay number self.old self.new }
-        ensures given { operations_given self.new ≡ operations_given self.old }
+        ensures closes { DropsRow number self.old self.new }
+        ensures room { HasRoomForOperation self.old → HasRoomForOperation self.new }
     {
-        let _ = self.rows.remove(&number);
+        drop_row(&mut self.rows, number);
+    }
+
+    /// Closes the operations of a client.
+    pub fn close_of(&mut self, client: u64)
+        ensures { DropsRowsOf client self.old self.new }
+    {
+        drop_rows_of(&mut self.rows, client);
     }
 }

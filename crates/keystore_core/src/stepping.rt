@@ -1,23 +1,31 @@
-//! The steps of an open operation: additional data, text, the finish, and the abort.
+//! The enters of an open operation with additional data, text and the last text, and the abort.
 
-ghost use Rattle.std.specs.Prelude.{◌≡◌, ℕ, ◌-◌, ◌^◌, [], Ok, IfOk};
+ghost use Rattle.std.specs.Prelude.{◌≡◌, ℕ, ◌+◌, ◌-◌, ◌^◌, ◌<◌, [], true, None, Ok, IfOk, IfSome, IsSome};
+ghost use Rattle.cipher_ops.specs.Jobs.{ticket_of};
+ghost use Rattle.step_rules.specs.Table.{ends_operation as ends};
+ghost use Rattle.operation_slots.specs.Table.{has_room as is_free};
 ghost use Rattle.rule_model.specs.declared.event.Act.TheVariants as acts;
 ghost use Rattle.rule_model.specs.declared.reply.Reply.TheVariants as replies;
 ghost use Rattle.rule_model.specs.Entries.{History};
 ghost use Rattle.rule_model.specs.Setup.{Setup};
 ghost use Rattle.rule_model.specs.StepFacts as model;
 ghost use Rattle.keystore_core.specs.Drawn.{IsUndrawn};
+ghost use Rattle.keystore_core.specs.Leaving.{ClosesOne};
+ghost use Rattle.keystore_core.specs.Operations.{HasRoomForOperation};
 ghost use Rattle.keystore_core.specs.Stepping as spec;
 ghost use Rattle.keystore_core.specs.Tables.{IsCaller, IsTables, ServesAfter, TablesStand, event_by, live_key, row_at, state_at};
+ghost use Rattle.keystore_core.specs.Tickets.{HasRoomForTicket, tickets_given};
 
 use crate::answered::Answered;
-use crate::operations::Added;
+use crate::operations::RowChange;
 use crate::tables::Tables;
-use cipher_ops::{Done, Job, JobRoom, Work};
-use rule_model::{Brought, Caller, Fields, NO_FIELDS, Reply};
+use crate::tickets::Out;
+use cipher_ops::{Job, JobRoom, Work};
+use operation_slots::Taken;
+use rule_model::{Brought, Caller, NO_FIELDS, Reply};
 use std::alloc::Global;
 use step_rules::{StepFacts, StepKind, check_step, ends_operation};
-use tags::{Bytes, Code, NoMemory, Plan, Rule};
+use tags::{Code, NoMemory, Plan, Rule};
 
 /// What an abort brings.
 const ABORT: Brought = Brought {
@@ -51,36 +59,6 @@ fn brought_by(work: &Work) -> Brought
     }
 }
 
-/// What an admitted step adds to its operation.
-fn added_by(brought: Brought) -> Added
-    ensures { result ≡ spec.added_by brought }
-{
-    match brought.kind {
-        StepKind::Aad => Added {
-            aad: brought.input,
-            text: 0,
-        },
-        _ => Added {
-            aad: 0,
-            text: brought.input,
-        },
-    }
-}
-
-/// The reply to a work with this result; additional data puts out nothing.
-fn reply_of(kind: StepKind, given: Result<Bytes, Code>) -> Reply
-    ensures { result ≡ spec.reply_of kind given }
-{
-    match (kind, given) {
-        (_, Err(code)) => Reply::Stopped { code },
-        (StepKind::Aad, Ok(_)) => Reply::Done(NO_FIELDS),
-        (_, Ok(out)) => Reply::Done(Fields {
-            out: Some(out),
-            ..NO_FIELDS
-        }),
-    }
-}
-
 impl Tables {
     /// Whether the key of an operation has ended; an operation on no stored key has none that could.
     fn has_ended(&self, key: Option<u64>) -> bool
@@ -105,6 +83,7 @@ impl Tables {
             Some(operation) => StepFacts {
                 kind,
                 own: operation.client == caller.client,
+                busy: operation.busy,
                 input,
                 signature,
                 ended: self.has_ended(operation.key),
@@ -115,6 +94,7 @@ impl Tables {
             None => StepFacts {
                 kind,
                 own: false,
+                busy: false,
                 input,
                 signature,
                 ended: false,
@@ -125,17 +105,22 @@ impl Tables {
         }
     }
 
-    /// Closes an operation, where it is open.
-    fn close(&mut self, op: u64)
-        ensures { spec.ClosesOne op self.old self.new }
+    /// Closes an idle operation, which leaves a slot free.
+    pub fn close(&mut self, op: u64)
+        requires { IsSome (state_at self.old op) }
+        ensures closes { ClosesOne op self.old self.new }
+        ensures free { is_free self.new.slots ≡ true }
+        ensures room { HasRoomForOperation self.old.operations → HasRoomForOperation self.new.operations }
     {
         self.operations.close(op);
-        self.ciphers.close(op);
+        let _ = self.slots.close(op);
     }
 
     /// Answers a step that a rule denies, and closes the operation where the rule says so.
     fn deny(&mut self, alloc: Global, op: u64, rule: Rule, code: Code) -> Answered
+        requires { ends rule ≡ true → IsSome (state_at self.old op) }
         ensures reply { result.reply ≡ replies.Broken rule code }
+        ensures job { result.job ≡ None }
         ensures drawn { result.drawn ≡ [] }
         ensures closes { spec.Denies rule op self.old self.new }
     {
@@ -162,28 +147,20 @@ impl Tables {
         }
     }
 
-    /// Does a work on an open operation, and closes it after its last work.
-    fn run(&mut self, op: u64, brought: Brought, room: JobRoom) -> Result<Bytes, Code>
-        requires row { spec.MayTake (row_at self.old op) brought }
-        requires state { spec.CanWork (state_at self.old op) room }
-        ensures { spec.Runs op brought room self.old self.new result }
+    /// Sends a work on an idle operation out, under the next ticket.
+    fn send(&mut self, out: Out, room: JobRoom) -> Job
+        requires state { spec.CanWork (state_at self.old out.op) room }
+        requires room { HasRoomForTicket self.old.tickets }
+        requires few { tickets_given self.old.tickets < 2 ^ 62 }
+        ensures { spec.SendsJob out room self.old self.new result }
     {
-        let Some(state) = self.ciphers.take(op) else {
+        let ticket = self.tickets.next();
+        let Taken::Found(state) = self.slots.take(out.op) else {
             unreachable!()
         };
-        let Done {
-            ticket: _,
-            state,
-            result,
-        } = Job::new(state, op, room).run();
-        match state {
-            Some(state) => {
-                self.operations.lengthen(op, added_by(brought));
-                self.ciphers.put(op, state);
-            }
-            None => self.close(op),
-        }
-        result
+        self.operations.change(out.op, RowChange::Enters);
+        self.tickets.give(out);
+        Job::new(state, ticket, room)
     }
 
     /// A client enters an operation with a work.
@@ -197,6 +174,7 @@ impl Tables {
         requires tables { ∥ IsTables self.old (2 ^ 62 - 1) ∥₁ }
         requires caller { IsCaller self.old caller }
         ensures serves { ServesAfter self.old self.new (event_by caller (spec.entering op work)) result }
+        ensures number { IfOk result (λ answered. IfSome answered.job (λ job. ticket_of job ≡ tickets_given self.old.tickets + 1)) }
         ensures drew { IfOk result (λ answered. IsUndrawn answered) }
     {
         let brought = brought_by(&work);
@@ -205,14 +183,18 @@ impl Tables {
             return Ok(self.deny(alloc, op, rule, code));
         }
         let room = self.room(alloc, op, work)?;
-        let given = self.run(op, brought, room);
-        Ok(Answered::undrawn(alloc, reply_of(brought.kind, given)))
+        let ticket = self.tickets.next();
+        self.tickets.reserve()?;
+        let job = self.send(Out { op, brought }, room);
+        Ok(Answered::entered(alloc, ticket, job))
     }
 
     /// A client gives an operation up.
     pub fn abort(&mut self, alloc: Global, caller: Caller, op: u64) -> Answered
-        requires { IsCaller self.old caller }
+        requires tables { ∥ IsTables self.old (2 ^ 62 - 1) ∥₁ }
+        requires caller { IsCaller self.old caller }
         ensures serves { ServesAfter self.old self.new (event_by caller (acts.Abort op)) (Ok result) }
+        ensures job { result.job ≡ None }
         ensures drew { IsUndrawn result }
     {
         let facts = self.step_facts(caller, op, ABORT);

@@ -1,30 +1,36 @@
 //! What the engine knows, and how an event is answered from it.
 
-ghost use Rattle.std.specs.Prelude.{◌≡◌, ◌-◌, ◌^◌, IsTrue, OnErr};
+ghost use Rattle.std.specs.Prelude.{◌≡◌, ◌+◌, ◌^◌, ◌≤◌, IfOk, IfSome, IsTrue, OnErr};
+ghost use Rattle.cipher_ops.specs.Jobs.{ticket_of};
+ghost use Rattle.keystore_core.specs.Tickets.{tickets_given};
 ghost use Rattle.rule_model.specs.Acts.{fixed_for, is_built as is_event};
-ghost use Rattle.rule_model.specs.Setup.{Setup, empty_lasting};
+ghost use Rattle.rule_model.specs.Setup.{Setup};
 ghost use Rattle.keystore_core.specs.Drawn.{DrewFor, DrewForResult};
-ghost use Rattle.keystore_core.specs.Tables.{Answers, IsCaller, IsTables, ServesAfter, TablesStand, event_by};
+ghost use Rattle.keystore_core.specs.Tables.{AnswersAt, IsAt, IsCaller, ServesAt, TablesStand, event_by};
+ghost use Rattle.keystore_core.specs.Engine.{IsFresh};
 
 use crate::answered::Answered;
-use crate::ciphers::Ciphers;
 use crate::clients::Clients;
 use crate::creating::Import;
 use crate::keys::Keys;
 use crate::operations::Operations;
-use cipher_ops::Work;
+use crate::tickets::Tickets;
+use cipher_ops::{CipherState, Done, Work};
 use ks_outside::Entropy;
+use operation_slots::Slots;
 use rule_model::{Act, Caller, Event, Reading};
 use std::alloc::Global;
 use tags::{Bytes, Code, NoMemory, Rule, RuleTable};
 
-/// What the engine knows: the connected clients, the live keys, and the open operations with their ciphers.
+/// What the engine knows: the connected clients, the live keys, the open operations with what the rules read of them, the
+/// slots with their cipher states, and the works that are out.
 #[derive(Drop)]
 pub struct Tables {
     pub(crate) clients: Clients,
     pub(crate) keys: Keys,
     pub(crate) operations: Operations,
-    pub(crate) ciphers: Ciphers,
+    pub(crate) slots: Slots<CipherState>,
+    pub(crate) tickets: Tickets,
 }
 
 /// The answer to a line that is no event.
@@ -34,17 +40,21 @@ const MALFORMED: Rule = Rule {
 };
 
 impl Tables {
-    ghost use Rattle.std.specs.Prelude.{[]};
+    ghost use Rattle.std.specs.Prelude.{[], ◌<◌};
 
-    pub fn new(alloc: Global) -> Tables
-        ensures { (setup : Setup) → setup.start ≡ empty_lasting → TablesStand setup result [] }
+    /// Tables without clients, keys and operations, with so many slots.
+    pub fn new(alloc: Global, slots: usize) -> Result<Tables, NoMemory>
+        requires some { 0 < slots }
+        requires few { slots ≤ 64 }
+        ensures { IfOk result (λ tables. (setup : Setup) → IsFresh setup slots → TablesStand setup tables []) }
     {
-        Tables {
+        Ok(Tables {
             clients: Clients::new(alloc),
             keys: Keys::new(alloc),
             operations: Operations::new(alloc),
-            ciphers: Ciphers::new(alloc),
-        }
+            slots: Slots::with_capacity(alloc, slots)?,
+            tickets: Tickets::new(alloc),
+        })
     }
 
     /// Who makes a call.
@@ -66,17 +76,22 @@ impl Tables {
         alloc: Global,
         entropy: &mut N,
         caller: Caller,
+        step: u64,
         act: Act,
+        done: Option<Done>,
     ) -> Result<Answered, NoMemory>
-        requires tables { ∥ IsTables self.old (2 ^ 62 - 1) ∥₁ }
+        requires at { ∥ IsAt self.old step act done ∥₁ }
+        requires few { step ≤ 2 ^ 62 }
         requires caller { IsCaller self.old caller }
         requires built { IsTrue (is_event act) }
-        ensures serves { ServesAfter self.old self.new (event_by caller act) result }
+        ensures serves { ServesAt step done self.old self.new (event_by caller act) result }
+        ensures number { IfOk result (λ answered. IfSome answered.job (λ job. ticket_of job ≡ tickets_given self.old.tickets + 1)) }
         ensures memory { OnErr result (IsTrue (fixed_for act).takes_memory) }
         ensures drew { DrewForResult N.Entropy entropy.old entropy.new result }
     {
         match act {
             Act::Connect { uid } => self.connect(alloc, caller, uid),
+            Act::Disconnect => Ok(self.disconnect(alloc, caller)),
             Act::GenerateKey { key, params } => {
                 self.make_key(alloc, entropy, caller, key, params, None)
             }
@@ -90,7 +105,7 @@ impl Tables {
                 self.make_key(alloc, entropy, caller, key, params, import)
             }
             Act::CreateOperation { key, params, .. } => {
-                self.begin(alloc, entropy, caller, key, params)
+                self.begin(alloc, entropy, caller, step, key, params)
             }
             Act::EnterAad { op, input } => self.enter(alloc, caller, op, Work::Aad { input }),
             Act::EnterUpdate { op, input } => self.enter(alloc, caller, op, Work::Text { input }),
@@ -100,14 +115,24 @@ impl Tables {
                 signature,
             } => self.enter(alloc, caller, op, Work::Last { input, signature }),
             Act::Abort { op } => Ok(self.abort(alloc, caller, op)),
+            Act::Leave { ticket } => Ok(self.leave(alloc, caller, step, ticket, done)),
             _ => unreachable!(),
         }
     }
 
     /// Answers an event: by the rules, as a malformed line where its act is not built, or with want of memory.
-    pub fn answer<N: Entropy>(&mut self, alloc: Global, entropy: &mut N, event: Event) -> Answered
-        requires { ∥ IsTables self.old (2 ^ 62 - 1) ∥₁ }
-        ensures answers { Answers self.old self.new event result }
+    pub fn answer<N: Entropy>(
+        &mut self,
+        alloc: Global,
+        entropy: &mut N,
+        step: u64,
+        event: Event,
+        done: Option<Done>,
+    ) -> Answered
+        requires at { ∥ IsAt self.old step event.act done ∥₁ }
+        requires few { step ≤ 2 ^ 62 }
+        ensures answers { AnswersAt step done self.old self.new event result }
+        ensures number { IfSome result.job (λ job. ticket_of job ≡ tickets_given self.old.tickets + 1) }
         ensures drew { DrewFor N.Entropy entropy.old entropy.new result }
     {
         let Event {
@@ -119,7 +144,7 @@ impl Tables {
             return Answered::refused(alloc, MALFORMED, Code::InvalidArgument);
         }
         let caller = self.caller(reading, client);
-        match self.serve(alloc, entropy, caller, act) {
+        match self.serve(alloc, entropy, caller, step, act, done) {
             Ok(answered) => answered,
             Err(NoMemory) => Answered::without_memory(Bytes::empty(alloc)),
         }

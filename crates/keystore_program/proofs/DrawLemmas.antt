@@ -1,6 +1,7 @@
 -- What a history drew, part by part.
-use Rattle.std.proofs.Common.{◌≡◌, ℕ, zero, suc, ◌+◌, ◌-◌, ◌^◌, ◌<◌, ◌≤◌, inl, inr, Bool, true, false, if◌then◌else◌, List, [], ◌∷◌, ◌++◌, Option, None, Some, refl, sym, ap, ◌∙◌, subst, arith, append-nil}
+use Rattle.std.proofs.Common.{◌≡◌, ℕ, zero, suc, ◌+◌, ◌-◌, ◌^◌, ◌<◌, ◌≤◌, inl, inr, Bool, true, false, if◌then◌else◌, List, [], ◌∷◌, ◌++◌, Option, None, Some, refl, sym, ap, ◌∙◌, subst, arith, append-nil, append_assoc, ◌||◌}
 use Rattle.ks_outside.proofs.DrawLaws.{Draws-nil, Draws-trans}
+use Rattle.ks_outside.proofs.Shown.{drew_on as drew_on_drew}
 use Rattle.ks_outside.specs.Faults.{Rises}
 use Rattle.ks_outside.specs.Shown.{Drew}
 use Rattle.ks_outside.specs.declared.entropy.Entropy.{Ghosts}
@@ -37,6 +38,18 @@ module _ {N : Type 0} (g : Ghosts N) where
     added = ap (λ bytes. bytes ++ drawn) (settled_drawn settled past);
     drew = drew;
     undrawn = ap (λ n. if is_entropy_fault reply then n + 1 else n) (settled_undrawn settled past);
+  }
+
+  -- a history went on by two steps, of which the first had no draw that failed
+  pub drew_both : (old mid new : N) (past : History) (settled : Option Settled) (event next : Event) (drawn more : List ℕ) (reply left : Reply)
+      → is_entropy_fault reply ≡ false → Drew g old mid drawn (is_entropy_fault reply) → Drew g mid new more (is_entropy_fault left)
+      → DrewMore g old new past (after_step None next more left (after_step settled event drawn reply past))
+  drew_both old mid new past settled event next drawn more reply left fine first second = record {
+    drawn = drawn ++ more;
+    failed = is_entropy_fault left;
+    added = ap (λ bytes. (bytes ++ drawn) ++ more) (settled_drawn settled past) ∙ append_assoc (drawn_of past) drawn more;
+    drew = subst (λ failed. Drew g old new (drawn ++ more) (failed || is_entropy_fault left)) fine (drew_on_drew g old mid new drawn more _ _ first second);
+    undrawn = ap (λ n. if is_entropy_fault left then n + 1 else n) (ap (λ failed. if failed then undrawn_of (after_settling settled past) + 1 else undrawn_of (after_settling settled past)) fine ∙ settled_undrawn settled past);
   }
 
   -- so many faults and one more where a draw failed

@@ -18,8 +18,8 @@ use Rattle.keystore_program.specs.Follows.{Follows}
 use Rattle.keystore_program.specs.Lines.{AreLines, IsFree, LINE_BYTES, SCRIPT_BYTES, ended, lines_of}
 
 -- what is fixed in a run of a fresh store
-abbrev pub fresh_setup : DeviceSecrets → List PolicyRow → Setup
-fresh_setup device policy = record { device = device; policy = policy; slots = 16; start = empty_lasting }
+abbrev pub fresh_setup : DeviceSecrets → List PolicyRow → ℕ → Setup
+fresh_setup device policy slots = record { device = device; policy = policy; slots = slots; start = empty_lasting }
 
 -- all that a run is handed, at one moment
 abbrev pub outside : {S K D N : Type 0} → S → K → D → N → Outside S K D N

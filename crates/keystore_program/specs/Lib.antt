@@ -4,9 +4,11 @@ pub mod Finds
 pub mod Follows
 pub mod Halts
 pub mod Held
+pub mod Jobs
 pub mod Lines
 pub mod Serving
 pub mod Session
+pub mod SessionKept
 pub mod Status
 pub mod Window
 pub mod Words

@@ -5,6 +5,7 @@
 //! input and output and the system's random device to it.
 #![tactic(auto)]
 
+mod jobs;
 mod reader;
 mod run;
 mod serve;

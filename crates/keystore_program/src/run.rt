@@ -1,24 +1,21 @@
 //! The top call: a script from a source, served line by line into a sink.
 
-ghost use Rattle.std.specs.Prelude.{◌≡◌, ◌↔◌, ℕ, ◌+◌, ◌-◌, ◌^◌, ◌<◌, ◌≤◌, [], true, false};
+ghost use Rattle.std.specs.Prelude.{◌≡◌, ◌↔◌, ℕ, ◌+◌, ◌-◌, ◌^◌, ◌<◌, ◌≤◌, [], Some, None};
 ghost use Rattle.ks_outside.specs.Faults.{CountsFaults};
 ghost use Rattle.rule_model.specs.Setup.{Setup};
 ghost use Rattle.keystore_program.specs.Ends.{Ends, fresh_setup, is_read_fault, is_write_fault, outside};
 ghost use Rattle.keystore_program.specs.Session.{StandsFor, entries_in};
-ghost use Rattle.keystore_program.specs.Words.{is_run as is_run_form};
+ghost use Rattle.keystore_program.specs.Words.{slots_of as run_slots};
 
 use crate::reader::{Found, LineReader};
 use crate::serve::serve_line;
 use crate::session::Session;
 use crate::status::Status;
-use crate::words::is_run;
+use crate::words::slots_of;
 use keystore_core::Engine;
 use ks_outside::{Disk, Entropy, Sink, Source};
 use std::alloc::Global;
 use tags::{DeviceSecrets, Policy};
-
-/// The slots of an engine where the words do not say.
-const SLOTS: usize = 16;
 
 /// Serves a script line by line: each line is served and answered before the next one is read.
 fn serve_script<S: Source, K: Sink, D: Disk, N: Entropy>(
@@ -67,9 +64,9 @@ fn serve_script<S: Source, K: Sink, D: Disk, N: Entropy>(
     }
 }
 
-/// Serves the words of the command line. By now they are `run --fresh`: a fresh store serves the script of `source`,
-/// and each reply line is written to `sink` before the next line is read. What a line draws is taken from `entropy` when the
-/// line is served, and nothing else is. The disk is not called yet.
+/// Serves the words of the command line. By now they are `run --fresh`, and then optionally `--slots N`: a fresh store
+/// serves the script of `source`, and each reply line is written to `sink` before the next line is read. What a line draws
+/// is taken from `entropy` when the line is served, and nothing else is. The disk is not called yet.
 pub fn run_words<S: Source, K: Sink, D: Disk, N: Entropy>(
     alloc: Global,
     words: &[String],
@@ -81,28 +78,28 @@ pub fn run_words<S: Source, K: Sink, D: Disk, N: Entropy>(
     entropy: &mut N,
 ) -> Status
     // Status 2 exactly where the words are no form, and then nothing is read, drawn or written.
-    ensures usage { (result ≡ Status.Usage) ↔ (is_run_form words.now ≡ false) }
+    ensures usage { (result ≡ Status.Usage) ↔ (run_slots words.now ≡ None) }
     ensures untouched { result ≡ Status.Usage → (source.new ≡ source.old) × (sink.new ≡ sink.old) × (entropy.new ≡ entropy.old) }
 
     // One legal history follows the lines of the source with a text and draws what the entropy gives, as each status says.
-    ensures ends { is_run_form words.now ≡ true →
-        Ends S.Source K.Sink N.Entropy (fresh_setup device.now policy.now) (outside source.old sink.old disk.old entropy.old) (outside source.new sink.new disk.new entropy.new) result }
+    ensures ends { (slots : ℕ) → run_slots words.now ≡ Some slots →
+        Ends S.Source K.Sink N.Entropy (fresh_setup device.now policy.now slots) (outside source.old sink.old disk.old entropy.old) (outside source.new sink.new disk.new entropy.new) result }
 
     // A read failed exactly where the status says so, and so did a write.
     ensures source_faults { CountsFaults (S.fault_count source.old) (S.fault_count source.new) (is_read_fault result) }
     ensures sink_faults { CountsFaults (K.fault_count sink.old) (K.fault_count sink.new) (is_write_fault result) }
     ensures disk { disk.new ≡ disk.old }
 {
-    if !is_run(words) {
+    let Some(slots) = slots_of(words) else {
         return Status::Usage;
-    }
-    let Ok(engine) = Engine::fresh(alloc, device, policy, SLOTS) else {
+    };
+    let Ok(engine) = Engine::fresh(alloc, device, policy, slots) else {
         return Status::Memory;
     };
     let Ok(mut reader) = LineReader::new(alloc) else {
         return Status::Memory;
     };
-    let mut session = Session::new(engine);
+    let mut session = Session::new(alloc, engine);
     serve_script(
         alloc,
         &mut session,

@@ -49,7 +49,7 @@ pub fn serve_line<K: Sink, D: Disk, N: Entropy>(
     requires { entries_in session.old < 2 ^ 62 - 2 }
     ensures serves { (setup : Setup) (past : History) → StandsFor setup session.old past →
         ServesLine K.Sink N.Entropy setup past session.new line.now sink.old sink.new entropy.old entropy.new result }
-    ensures entries { entries_in session.new ≤ entries_in session.old + 1 }
+    ensures entries { entries_in session.new ≤ entries_in session.old + 2 }
     ensures sink_faults { CountsFaults (K.fault_count sink.old) (K.fault_count sink.new) (is_write_halt result) }
     ensures disk { disk.new ≡ disk.old }
 {

@@ -8,6 +8,7 @@ mod lines;
 mod macs;
 mod script;
 mod sealing;
+mod tickets;
 mod vectors;
 
 use crate::run::run_words;
@@ -174,10 +175,41 @@ fn a_line_has_at_most_262144_bytes(rt: HostRuntime) -> Result<(), Fail> {
     run_case(&rt, alloc, long.as_bytes(), none, status, CONNECTED)
 }
 
+/// Words that are no form of the command line.
+static NO_FORMS: [&str; 12] = [
+    "",
+    "run",
+    "run --slots",
+    "--fresh run",
+    "run --fresh x",
+    "run --fresh --slots",
+    "run --fresh --slots 0",
+    "run --fresh --slots 65",
+    "run --fresh --slots +1",
+    "run --fresh --slots 1a",
+    "run --fresh --slots 18446744073709551617",
+    "run --fresh --slots 1 1",
+];
+
 #[test]
 fn words_that_are_no_form_do_nothing(rt: HostRuntime) -> Result<(), Fail> {
-    for text in ["", "run", "run --slots", "--fresh run", "run --fresh x"] {
+    for text in &NO_FORMS {
         run_no_form(&rt, rt.alloc(), text)?;
+    }
+    Ok(())
+}
+
+#[test]
+fn slots_have_a_number_from_1_to_64(rt: HostRuntime) -> Result<(), Fail> {
+    let alloc = rt.alloc();
+    for number in ["1", "64", "007", "00000000000000000064"] {
+        let words = format!(in alloc; "run --fresh --slots {number}")?;
+        let mut source = MemorySource::new(CONNECT.as_bytes(), &[]);
+        let mut sink = MemorySink::with_room(alloc, 64, 1, &[])?;
+        let mut entropy = MemoryEntropy::counting();
+        let ended = run_over(alloc, words.as_str(), &mut source, &mut sink, &mut entropy)?;
+        assert_eq!(rt; ended, Status::Ok, "{number}");
+        assert_eq!(rt; sink.written(), CONNECTED.as_bytes());
     }
     Ok(())
 }

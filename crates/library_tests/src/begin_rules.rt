@@ -20,6 +20,7 @@ fn begin(alloc: Global, asked: Pairs, key: Pairs) -> Result<BeginFacts, AllocErr
         asked: AuthList::read(alloc, &asked).map_err(|_| Code::InvalidTag),
         opened: AuthList::read(alloc, &key).ok(),
         fits: true,
+        room: true,
     })
 }
 
@@ -38,6 +39,8 @@ fn a_call_breaks_the_rules_before_its_lists(rt: HostRuntime) -> Result<(), Fail>
         size: 32,
     };
     assert_eq!(rt; check_begin(&facts), Ok(sign));
+    facts.room = false;
+    assert!(rt; breaks(&facts, 22, Code::BackendBusy));
     facts.fits = false;
     assert!(rt; breaks(&facts, 8, Code::InvalidKeyBlob));
     facts.opened = None;

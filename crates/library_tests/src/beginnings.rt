@@ -35,6 +35,7 @@ fn facts_of(
         asked,
         opened: Some(key),
         fits,
+        room: true,
     })
 }
 

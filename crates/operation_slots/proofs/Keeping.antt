@@ -1,10 +1,10 @@
 -- What is kept of the list stays so after each call.
-use Rattle.std.proofs.Common.{◌≡◌, ◌≢◌, ◌<◌, ◌≤◌, ℕ, suc, Bool, not, List, [], ◌∷◌, ◌++◌, length, map, filter, find, None, All, if◌then◌else◌, refl, sym, ap, inl, inr, arith, subst, length-append}
+use Rattle.std.proofs.Common.{◌≡◌, ◌≢◌, ◌<◌, ◌≤◌, ℕ, suc, Bool, not, List, [], ◌∷◌, ◌++◌, length, map, filter, find, Some, None, All, if◌then◌else◌, refl, sym, ap, inl, inr, arith, subst, length-append}
 use Rattle.std.proofs.lemmas.List.Elements.{All-head, All-tail, All-push, All-map, All-weaker, All-filter}
 use Rattle.std.proofs.lemmas.List.Sums.{length-filter, count_by-le-length}
 use Rattle.std.proofs.lemmas.Bool.{cases_Bool, eqb-true}
 use Rattle.operation_slots.specs.declared.operation.Operation.{Operation}
-use Rattle.operation_slots.specs.Table.{has_number, with_change, made_busy, given_back, without, numbers_of, stamps_of, NoneIs, AllDiffer}
+use Rattle.operation_slots.specs.Table.{has_number, idle_value, with_change, made_busy, given_back, without, numbers_of, stamps_of, NoneIs, AllDiffer}
 use Rattle.operation_slots.specs.Kept.{IsKept}
 use Rattle.operation_slots.proofs.Lists.{not_found, unchanged}
 
@@ -103,15 +103,40 @@ module _ {T : Type 0} where
     memory = kept.memory;
   }
 
-  pub kept_without : (xs : List (Operation T)) (capacity room later n : ℕ) → IsKept xs capacity room → later ≡ room → IsKept (without n xs) capacity later
-  kept_without xs capacity room later n kept same = record {
-    numbers = differ_fewer (λ o. o.number) (λ o. not (has_number n o)) xs kept.numbers;
-    stamps = differ_fewer (λ o. o.stamp) (λ o. not (has_number n o)) xs kept.stamps;
+  fewer : (p : Operation T → Bool) (xs : List (Operation T)) → length (filter p xs) ≤ length xs
+  fewer p xs = omega (arith, length-filter p xs, count_by-le-length p xs)
+
+  pub kept_fewer : (p : Operation T → Bool) (xs : List (Operation T)) (capacity room later : ℕ) → IsKept xs capacity room → later ≡ room → IsKept (filter p xs) capacity later
+  kept_fewer p xs capacity room later kept same = record {
+    numbers = differ_fewer (λ o. o.number) p xs kept.numbers;
+    stamps = differ_fewer (λ o. o.stamp) p xs kept.stamps;
     some = kept.some;
     few = kept.few;
-    within = omega (arith, length-filter (λ o. not (has_number n o)) xs, count_by-le-length (λ o. not (has_number n o)) xs, kept.within);
+    within = omega (arith, fewer p xs, kept.within);
     memory = omega (arith, kept.memory);
   }
+
+  pub kept_without : (xs : List (Operation T)) (capacity room later n : ℕ) → IsKept xs capacity room → later ≡ room → IsKept (without n xs) capacity later
+  kept_without xs capacity room later n kept same = kept_fewer (λ o. not (has_number n o)) xs capacity room later kept same
+
+  -- an idle operation that is taken out leaves fewer
+  pub one_fewer : (n : ℕ) (xs : List (Operation T)) (v : T) → idle_value (find (has_number n) xs) ≡ Some v → length (without n xs) < length xs
+  one_fewer n [] v e = cc
+  one_fewer n (x ∷ xs) v e = elim (cases_Bool (has_number n x)) [
+    | inl a ↦ rw a (let few = fewer (λ o. not (has_number n o)) xs in omega (arith, few))
+    | inr a ↦ rw a (let few = one_fewer n xs v (rw a at e) in omega (arith, few))
+  ]
+
+  -- what is found among fewer was there before
+  pub none_of_fewer : (n : ℕ) (p : Operation T → Bool) (xs : List (Operation T)) → find (has_number n) xs ≡ None → find (has_number n) (filter p xs) ≡ None
+  none_of_fewer n p [] e = refl
+  none_of_fewer n p (x ∷ xs) e = elim (cases_Bool (has_number n x)) [
+    | inl a ↦ absurd (let found : Some x ≡ None = rw a at e in cc)
+    | inr a ↦ elim (cases_Bool (p x)) [
+      | inl k ↦ rw (k, a) (none_of_fewer n p xs (rw a at e))
+      | inr k ↦ rw k (none_of_fewer n p xs (rw a at e))
+    ]
+  ]
 
   -- ---- stamps that are less than the next one stay so
 
@@ -124,5 +149,8 @@ module _ {T : Type 0} where
         changed : (o : Operation T) → o.stamp < next → (if has_number n o then f o else o).stamp < next
         changed o k = elim (cases_Bool (has_number n o)) [ inl e ↦ rw e (l o k) | inr e ↦ rw e k ]
 
+  pub later_fewer : (p : Operation T → Bool) (xs : List (Operation T)) (next : ℕ) → All (λ o. o.stamp < next) xs → All (λ o. o.stamp < next) (filter p xs)
+  later_fewer p xs next h = All-filter p (λ o. o.stamp < next) xs h
+
   pub later_without : (n : ℕ) (xs : List (Operation T)) (next : ℕ) → All (λ o. o.stamp < next) xs → All (λ o. o.stamp < next) (without n xs)
-  later_without n xs next h = All-filter (λ o. not (has_number n o)) (λ o. o.stamp < next) xs h
+  later_without n xs next h = later_fewer (λ o. not (has_number n o)) xs next h

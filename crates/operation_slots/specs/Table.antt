@@ -36,11 +36,17 @@ module _ {T : Type 0} where
   abbrev pub stamp_of : Operation T → ℕ
   stamp_of o = o.stamp
 
+  abbrev pub client_of : Operation T → ℕ
+  client_of o = o.client
+
   abbrev pub has_number : ℕ → Operation T → Bool
   has_number number o = o.number == number
 
   abbrev pub is_of : ℕ → Operation T → Bool
   is_of uid o = o.uid == uid
+
+  abbrev pub is_client : ℕ → Operation T → Bool
+  is_client client o = o.client == client
 
   -- its value is there: it is not busy
   abbrev pub is_idle : Operation T → Bool
@@ -184,6 +190,11 @@ module _ {T : Type 0} where
     pub operations : new.operations ≡ without number old.operations
     pub capacity : new.capacity ≡ old.capacity
 
+  -- the operations of this client are gone, and the others are as they were
+  pub record TakesOutOf (old new : SlotTable T) (client : ℕ) : Type 0 where
+    pub operations : new.operations ≡ filter (λ o. not (is_client client o)) old.operations
+    pub capacity : new.capacity ≡ old.capacity
+
   -- ---- what a look-up finds after a call
 
   -- the operation that began, and else what it found before
@@ -199,6 +210,10 @@ module _ {T : Type 0} where
   -- at this number nothing, and else what it found before
   abbrev pub FindsWithout : SlotTable T → SlotTable T → ℕ → Type 0
   FindsWithout old new at = (number : ℕ) → held new number ≡ (if number == at then None else held old number)
+
+  -- nothing that it did not find before
+  abbrev pub FindsNoMore : SlotTable T → SlotTable T → Type 0
+  FindsNoMore old new = (number : ℕ) → held old number ≡ None → held new number ≡ None
 
   -- a stamp that was greater than every stamp held still is
   abbrev pub KeepsLater : SlotTable T → SlotTable T → Type 0

@@ -1,6 +1,6 @@
 //! What the calls do on the plain list.
-ghost use Rattle.std.specs.Prelude.{◌≡◌, ◌==◌, true, false, find, position, vec_capacity, OnSome, IfNone};
-ghost use Rattle.operation_slots.specs.Table.{has_number, taken, is_taken, idle_value, is_busy, with_change, made_busy, given_back, without, AllDiffer, numbers_of};
+ghost use Rattle.std.specs.Prelude.{◌≡◌, ◌==◌, true, false, not, filter, find, position, vec_capacity, OnSome, IfNone};
+ghost use Rattle.operation_slots.specs.Table.{has_number, taken, is_taken, idle_value, is_busy, is_client, with_change, made_busy, given_back, without, AllDiffer, numbers_of};
 
 use crate::{OpId, Operation, Taken};
 
@@ -75,4 +75,12 @@ pub fn take_out_busy<T>(operations: &mut Vec<Operation<T>>, op: OpId)
         None => (),
         Some(_) => unreachable!(),
     }
+}
+
+/// Takes all operations of a client out of the list.
+pub fn take_out_client<T: Drop>(operations: &mut Vec<Operation<T>>, client: u64)
+    ensures items { operations.new.items ≡ filter (λ o. not (is_client client o)) operations.old.items }
+    ensures capacity { vec_capacity operations.new ≡ vec_capacity operations.old }
+{
+    operations.retain(|operation| operation.client != client);
 }

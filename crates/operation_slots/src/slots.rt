@@ -1,9 +1,9 @@
 //! The operations in their slots, and each call on them.
 
 ghost use Rattle.std.specs.Prelude.{◌≡◌, ℕ, ◌+◌, ◌<◌, ◌≤◌, true, false, length, slice_get, Some, None, IfSome, IfNone, OnSome, IfOk};
-ghost use Rattle.operation_slots.specs.Table.{IsSound, IsEmpty, IsLater, Same, Begins, Takes, Gives, TakesOut, idle_operation, held, open_count as held_count, open_of as held_of, has_room as room_in, has_idle, owners_of, capacity_of, taken, idle_value, is_busy, is_taken, MatchTaken, FindsNew, FindsChanged, FindsWithout, KeepsLater, KeepsLaterThan, made_busy, given_back, IsOldestIdle};
+ghost use Rattle.operation_slots.specs.Table.{IsSound, IsEmpty, IsLater, Same, Begins, Takes, Gives, TakesOut, TakesOutOf, idle_operation, held, open_count as held_count, open_of as held_of, has_room as room_in, has_idle, owners_of, capacity_of, taken, idle_value, is_busy, is_taken, MatchTaken, FindsNew, FindsChanged, FindsWithout, FindsNoMore, KeepsLater, KeepsLaterThan, made_busy, given_back, IsOldestIdle};
 
-use crate::edits::{give_value, take_out_busy, take_out_idle, take_value};
+use crate::edits::{give_value, take_out_busy, take_out_client, take_out_idle, take_value};
 use crate::{OpId, Operation, Steps, Taken, owners};
 use std::alloc::Global;
 use std::marker::Model;
@@ -147,6 +147,7 @@ impl<T> Slots<T> {
     pub fn give(&mut self, op: OpId, stamp: u64, value: T)
         requires busy { is_busy (held self.old op) ≡ true }
         requires later { IsLater self.old stamp }
+        ensures sound { IsSound self.old }
         ensures gives { Gives self.old self.new op stamp value }
         ensures found { FindsChanged self.old self.new op (given_back stamp value) }
         ensures later { KeepsLaterThan self.old self.new stamp }
@@ -154,15 +155,29 @@ impl<T> Slots<T> {
         give_value(&mut self.operations, op, stamp, value)
     }
 
-    /// Takes an idle operation out, with its value; None exactly where it is busy or not held, and then nothing changes.
+    /// Takes an idle operation out, with its value, which leaves a slot free; None exactly where it is busy or not held, and
+    /// then nothing changes.
     pub fn close(&mut self, op: OpId) -> Option<T>
+        ensures sound { IsSound self.old }
         ensures value { result ≡ idle_value (held self.old op) }
+        ensures room { OnSome result (room_in self.new ≡ true) }
         ensures some { OnSome result (TakesOut self.old self.new op) }
         ensures none { IfNone result (Same self.old self.new) }
         ensures found { OnSome result (FindsWithout self.old self.new op) }
         ensures later { KeepsLater self.old self.new }
     {
         take_out_idle(&mut self.operations, op)
+    }
+
+    /// Takes all operations of a client out, idle and busy.
+    pub fn close_of(&mut self, client: u64)
+    where
+        T: Drop,
+        ensures takes_out { TakesOutOf self.old self.new client }
+        ensures found { FindsNoMore self.old self.new }
+        ensures later { KeepsLater self.old self.new }
+    {
+        take_out_client(&mut self.operations, client);
     }
 
     /// Takes a busy operation out.

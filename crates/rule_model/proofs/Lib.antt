@@ -3,3 +3,4 @@ pub mod Counting
 pub mod Keys
 pub mod Legal
 pub mod Operations
+pub mod Tickets

@@ -2,14 +2,14 @@
 use Rattle.std.proofs.Common.{◌≡◌, ℕ, Bool, true, false, if◌then◌else◌, List, None, refl, ap}
 use Rattle.step_rules.specs.Table.{ends_operation}
 use Rattle.rule_model.specs.declared.event.Act.{Act}
-use Rattle.rule_model.specs.declared.event.Act.TheVariants.{Disconnect, CreateOperation, EnterAad, EnterUpdate, EnterFinish, Abort, Restart}
+use Rattle.rule_model.specs.declared.event.Act.TheVariants.{Disconnect, CreateOperation, EnterAad, EnterUpdate, EnterFinish, Abort, Leave, Restart}
 use Rattle.rule_model.specs.declared.event.Event.{Event}
 use Rattle.rule_model.specs.declared.reply.Fields.{Fields}
 use Rattle.rule_model.specs.declared.reply.Reply.{Reply}
 use Rattle.rule_model.specs.declared.reply.Reply.TheVariants.{Done, Broken, Stopped}
 use Rattle.rule_model.specs.Acts.{is_begin}
 use Rattle.rule_model.specs.Entries.{History}
-use Rattle.rule_model.specs.Operations.{OperationChange, SameOperations, admitted_operation, closes, finished_by, is_want, operation_change, operation_of}
+use Rattle.rule_model.specs.Operations.{OperationChange, SameOperations, admitted_operation, closes, operation_change, operation_of, stopped_operation}
 use Rattle.rule_model.specs.Setup.{Setup}
 
 -- the acts that change the operations
@@ -19,6 +19,7 @@ moves_operations (EnterAad op input) = true
 moves_operations (EnterUpdate op input) = true
 moves_operations (EnterFinish op input signature) = true
 moves_operations (Abort op) = true
+moves_operations (Leave ticket) = true
 moves_operations Disconnect = true
 moves_operations (Restart root) = true
 moves_operations _ = false
@@ -30,6 +31,7 @@ none_moves (EnterAad op input) setup past event drawn fields e = cc
 none_moves (EnterUpdate op input) setup past event drawn fields e = cc
 none_moves (EnterFinish op input signature) setup past event drawn fields e = cc
 none_moves (Abort op) setup past event drawn fields e = cc
+none_moves (Leave ticket) setup past event drawn fields e = cc
 none_moves Disconnect setup past event drawn fields e = cc
 none_moves (Restart root) setup past event drawn fields e = cc
 none_moves _ setup past event drawn fields e = refl
@@ -41,9 +43,9 @@ names_none (EnterFinish op input signature) e = cc
 names_none (Abort op) e = cc
 names_none _ e = refl
 
-finishes_none : (act : Act) → moves_operations act ≡ false → finished_by act ≡ None
-finishes_none (EnterFinish op input signature) e = cc
-finishes_none _ e = refl
+none_stops : (act : Act) (past : History) → moves_operations act ≡ false → stopped_operation act past ≡ SameOperations
+none_stops (Leave ticket) past e = cc
+none_stops _ past e = refl
 
 pub none_begins : (act : Act) → moves_operations act ≡ false → is_begin act ≡ false
 none_begins (CreateOperation key params forced) e = cc
@@ -53,12 +55,8 @@ either : (b : Bool) (change : OperationChange) → change ≡ SameOperations →
 either true change e = e
 either false change e = refl
 
-or_else : (b : Bool) (change : OperationChange) → change ≡ SameOperations → (if b then SameOperations else change) ≡ SameOperations
-or_else true change e = refl
-or_else false change e = e
-
 pub same_operations : (setup : Setup) (past : History) (event : Event) (drawn : List ℕ) (reply : Reply) → moves_operations event.act ≡ false
     → operation_change setup past event drawn reply ≡ SameOperations
 same_operations setup past event drawn (Done fields) e = none_moves event.act setup past event drawn fields e
 same_operations setup past event drawn (Broken rule code) e = either (ends_operation rule) _ (ap closes (names_none event.act e))
-same_operations setup past event drawn (Stopped code) e = or_else (is_want code) _ (ap closes (finishes_none event.act e))
+same_operations setup past event drawn (Stopped code) e = none_stops event.act past e

@@ -15,7 +15,7 @@ call number = record { number = number; has_client = true; takes_memory = true; 
 -- took. A disconnect and a leave settle nothing.
 abbrev pub row_of : ActKind → ActRow
 row_of kinds.Connect = record (call 1) { has_client = false; is_built = true }
-row_of kinds.Disconnect = record (call 2) { takes_memory = false; settles = false }
+row_of kinds.Disconnect = record (call 2) { takes_memory = false; settles = false; is_built = true }
 row_of kinds.GenerateKey = record (call 3) { draws = true; is_built = true }
 row_of kinds.ImportKey = record (call 4) { draws = true; is_built = true }
 row_of kinds.CreateOperation = record (call 5) { draws = true; is_built = true }
@@ -35,7 +35,7 @@ row_of kinds.DeviceUnlocked = record (call 18) { takes_memory = false }
 row_of kinds.EarlyBootEnded = record (call 19) { takes_memory = false }
 row_of kinds.ClearNamespace = call 20
 row_of kinds.UserRemoved = call 21
-row_of kinds.Leave = record (call 22) { has_client = false; takes_memory = false; settles = false }
+row_of kinds.Leave = record (call 22) { has_client = false; takes_memory = false; settles = false; is_built = true }
 row_of kinds.Restart = record (call 23) { has_client = false }
 
 -- the name of each kind, as a script writes it
@@ -116,6 +116,12 @@ is_connect _ = false
 abbrev pub is_begin : Act → Bool
 is_begin (acts.CreateOperation key params forced) = true
 is_begin _ = false
+
+abbrev pub is_enter : Act → Bool
+is_enter (acts.EnterAad op input) = true
+is_enter (acts.EnterUpdate op input) = true
+is_enter (acts.EnterFinish op input signature) = true
+is_enter _ = false
 
 abbrev pub is_restart : Act → Bool
 is_restart (acts.Restart root) = true

@@ -1,7 +1,7 @@
 -- The answer to an event over a history.
 use Rattle.std.specs.Prelude.{ℕ, ◌+◌, ◌==◌, List, Option, Some, None, Result, Ok, Err, if◌then◌else◌}
 use Rattle.tags.specs.declared.code.Code.{Code}
-use Rattle.tags.specs.declared.code.Code.TheVariants.{InvalidArgument}
+use Rattle.tags.specs.declared.code.Code.TheVariants.{InvalidArgument, NoTicket}
 use Rattle.tags.specs.declared.rule.Rule.{Rule}
 use Rattle.tags.specs.declared.rule.RuleTable.TheVariants.{L}
 use Rattle.key_rules.specs.Creation.{new_key}
@@ -14,20 +14,22 @@ use Rattle.cipher_ops.specs.declared.room.Work.{Work}
 use Rattle.cipher_ops.specs.declared.room.Work.TheVariants.{Aad, Text, Last}
 use Rattle.rule_model.specs.declared.event.Event.{Event}
 use Rattle.rule_model.specs.declared.event.Act.{Act}
-use Rattle.rule_model.specs.declared.event.Act.TheVariants.{Connect, GenerateKey, ImportKey, CreateOperation, EnterAad, EnterUpdate, EnterFinish, Abort}
+use Rattle.rule_model.specs.declared.event.Act.TheVariants.{Connect, Disconnect, GenerateKey, ImportKey, CreateOperation, EnterAad, EnterUpdate, EnterFinish, Abort, Leave}
 use Rattle.rule_model.specs.declared.facts.Caller.{Caller}
 use Rattle.rule_model.specs.declared.reply.Fields.{Fields}
 use Rattle.rule_model.specs.declared.reply.Reply.{Reply}
 use Rattle.rule_model.specs.declared.reply.Reply.TheVariants.{Done, Broken, Stopped}
 use Rattle.rule_model.specs.Acts.{is_begin, is_built, is_connect}
-use Rattle.rule_model.specs.BeginFacts.{begin_facts}
+use Rattle.rule_model.specs.Calls.{disconnect_ruling}
 use Rattle.rule_model.specs.Clients.{caller_of}
 use Rattle.rule_model.specs.Entries.{History, count_of}
-use Rattle.rule_model.specs.Keys.{next_key}
+use Rattle.rule_model.specs.Keys.{next_key, owner_of}
 use Rattle.rule_model.specs.NewFacts.{import_of, new_facts}
-use Rattle.rule_model.specs.Operations.{aad_of, operation_at, output_of, text_of}
+use Rattle.rule_model.specs.Operations.{operation_at, output_of}
 use Rattle.rule_model.specs.Setup.{Setup}
+use Rattle.rule_model.specs.Slots.{begin_facts, pruned_for}
 use Rattle.rule_model.specs.StepFacts.{brought_by, brought_by_abort, step_facts}
+use Rattle.rule_model.specs.Tickets.{Entered, next_ticket, ticket_at}
 
 abbrev pub no_fields : Fields
 no_fields = record {
@@ -69,11 +71,19 @@ abbrev pub given_or : Work → Result (List ℕ) Code → Reply
 given_or work (Ok bytes) = Done (record no_fields { out = out_of work bytes })
 given_or work (Err code) = Stopped code
 
--- a step that enters an operation with a work: the first broken rule of table S, or the work's output
-abbrev pub entered : Setup → History → Caller → ℕ → Work → Reply
-entered setup past caller op work =
-    broken_or (step_table.answer (step_facts setup past caller op (brought_by work)))
-    (given_or work (output_of (operation_at setup past op) (aad_of setup past op) (text_of setup past op) work))
+-- a step that enters an operation with a work: the first broken rule of table S, or the next ticket
+abbrev pub entering : Setup → History → Caller → ℕ → Work → Reply
+entering setup past caller op work =
+    broken_or (step_table.answer (step_facts setup past caller op (brought_by work))) (Done (record no_fields { ticket = Some (next_ticket past) }))
+
+-- what the leave of a work answers: its output, or the code of its refusal; and where no work is out under the ticket, so
+abbrev pub leaving : Setup → History → Option Entered → Reply
+leaving setup past None = Stopped NoTicket
+leaving setup past (Some entered) = given_or entered.work (output_of (operation_at setup past entered.op) entered.work)
+
+-- the reply of a begin that is admitted
+abbrev pub begun_with : ℕ → Option (List ℕ) → Option ℕ → Reply
+begun_with op nonce pruned = Done (record no_fields { op = Some op; nonce = nonce; pruned = pruned })
 
 -- the answer to a line that is no event
 abbrev pub malformed : Reply
@@ -87,13 +97,15 @@ answer_by_rules (GenerateKey key params) setup past caller drawn =
 answer_by_rules (ImportKey key params format material) setup past caller drawn =
     broken_or (new_key (new_facts caller key params (import_of format material))) (Done (record no_fields { key = Some (next_key setup past) }))
 answer_by_rules (CreateOperation key params forced) setup past caller drawn =
-    broken_or (begin_table.answer (begin_facts setup past caller key params))
-    (Done (record no_fields { op = Some (count_of is_begin past + 1); nonce = drawn_nonce (begin_facts setup past caller key params) drawn }))
-answer_by_rules (EnterAad op input) setup past caller drawn = entered setup past caller op (Aad input)
-answer_by_rules (EnterUpdate op input) setup past caller drawn = entered setup past caller op (Text input)
-answer_by_rules (EnterFinish op input signature) setup past caller drawn = entered setup past caller op (Last input signature)
+    broken_or (begin_table.answer (begin_facts setup past caller key params forced))
+    (begun_with (count_of is_begin past + 1) (drawn_nonce (begin_facts setup past caller key params forced) drawn) (pruned_for setup past (owner_of caller) forced))
+answer_by_rules (EnterAad op input) setup past caller drawn = entering setup past caller op (Aad input)
+answer_by_rules (EnterUpdate op input) setup past caller drawn = entering setup past caller op (Text input)
+answer_by_rules (EnterFinish op input signature) setup past caller drawn = entering setup past caller op (Last input signature)
 answer_by_rules (Abort op) setup past caller drawn =
     broken_or (step_table.answer (step_facts setup past caller op brought_by_abort)) (Done no_fields)
+answer_by_rules Disconnect setup past caller drawn = broken_or (disconnect_ruling setup past caller) (Done no_fields)
+answer_by_rules (Leave ticket) setup past caller drawn = leaving setup past (ticket_at past ticket)
 answer_by_rules _ setup past caller drawn = malformed
 
 -- the answer to an event over the entries before it, with the bytes that were drawn for it

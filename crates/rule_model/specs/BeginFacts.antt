@@ -12,9 +12,6 @@ use Rattle.key_rules.specs.Table.{key_rules}
 use Rattle.use_rules.specs.declared.facts.BeginFacts.{BeginFacts}
 use Rattle.rule_model.specs.declared.entry.KeyRecord.{KeyRecord}
 use Rattle.rule_model.specs.declared.facts.Caller.{Caller}
-use Rattle.rule_model.specs.Entries.{History}
-use Rattle.rule_model.specs.Keys.{key_found}
-use Rattle.rule_model.specs.Setup.{Setup}
 
 -- the list that is kept with a key
 abbrev pub list_of : KeyRecord → Option (List Param)
@@ -24,17 +21,14 @@ list_of key = result_ok (listed key.list)
 abbrev pub is_usable : List ℕ → List Param → Bool
 is_usable material list = is_ok (first_broken K (key_rules (length material) list))
 
--- the facts of a caller's call, by the key that is found
-abbrev pub facts_on : Option KeyRecord → Caller → Descriptor → List ℕ → BeginFacts
-facts_on found caller key params = record {
+-- the facts of a caller's call, by the key that is found and whether there is a slot
+abbrev pub facts_on : Option KeyRecord → Caller → Descriptor → List ℕ → Bool → BeginFacts
+facts_on found caller key params room = record {
   connected = is_some caller.uid;
   descriptor = key;
   found = is_some found;
   asked = asked params;
   opened = option_and_then list_of found;
   fits = option_map_or (λ key. option_map_or (is_usable key.blob) (list_of key) false) found false;
+  room = room;
 }
-
--- the facts of a caller's call
-abbrev pub begin_facts : Setup → History → Caller → Descriptor → List ℕ → BeginFacts
-begin_facts setup past caller key params = facts_on (key_found setup past caller key) caller key params

@@ -21,11 +21,11 @@ use Rattle.rule_model.specs.declared.facts.Pieces.{Pieces}
 use Rattle.rule_model.specs.declared.reply.Reply.{Reply}
 use Rattle.rule_model.specs.declared.reply.Reply.TheVariants.{Done, Broken, Stopped}
 use Rattle.rule_model.specs.Acts.{fixed_for, is_built}
-use Rattle.rule_model.specs.BeginFacts.{begin_facts}
 use Rattle.rule_model.specs.Clients.{caller_of}
 use Rattle.rule_model.specs.Entries.{History}
 use Rattle.rule_model.specs.NewFacts.{import_of, new_facts}
 use Rattle.rule_model.specs.Setup.{Setup}
+use Rattle.rule_model.specs.Slots.{begin_facts}
 
 -- how many bytes the pieces have
 abbrev pub size_of : Pieces → ℕ
@@ -50,7 +50,7 @@ wanted_by_rules (GenerateKey key params) setup past caller = wanted_by_key (new_
 wanted_by_rules (ImportKey key params format material) setup past caller =
     wanted_by_key (new_key (new_facts caller key params (import_of format material))) (import_of format material)
 wanted_by_rules (CreateOperation key params forced) setup past caller =
-    wanted_by_begin (begin_table.answer (begin_facts setup past caller key params)) (begin_facts setup past caller key params)
+    wanted_by_begin (begin_table.answer (begin_facts setup past caller key params forced)) (begin_facts setup past caller key params forced)
 wanted_by_rules _ setup past caller = no_pieces
 
 -- what is drawn for an event: nothing for an act that draws none, and nothing where a rule is broken

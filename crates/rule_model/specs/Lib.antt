@@ -5,7 +5,11 @@ pub mod Setup
 pub mod NewFacts
 pub mod Keys
 pub mod BeginFacts
+pub mod Tickets
 pub mod Operations
+pub mod Slots
+pub mod Calls
+pub mod Jobs
 pub mod StepFacts
 pub mod Drawn
 pub mod Answer

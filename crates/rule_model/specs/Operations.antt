@@ -1,7 +1,8 @@
--- The operations of a history: what began them, what they have taken, and what they put out.
-use Rattle.std.specs.Prelude.{ℕ, Bool, true, false, not, ◌==◌, List, [], ◌∷◌, ◌++◌, Option, Some, None, Result, Ok, if◌then◌else◌, unwrap_or}
+-- The operations of a history: what began them, what they have taken, which work is out, and what they put out.
+use Rattle.std.specs.Prelude.{ℕ, ◌+◌, Bool, true, ◌&&◌, not, ◌==◌, List, [], ◌∷◌, ◌++◌, Option, Some, None, Result, Ok, if◌then◌else◌, unwrap_or, is_some, length, map, filter, find}
+use Rattle.std.specs.List.{list_any}
 use Rattle.tags.specs.declared.code.Code.{Code}
-use Rattle.tags.specs.declared.code.Code.TheVariants.{MemoryAllocationFailed}
+use Rattle.tags.specs.declared.descriptor.Descriptor.{Descriptor}
 use Rattle.tags.specs.declared.param.Param.{Param}
 use Rattle.tags.specs.declared.plan.Plan.{Plan}
 use Rattle.use_rules.specs.declared.facts.BeginFacts.{BeginFacts}
@@ -15,16 +16,17 @@ use Rattle.rule_model.specs.declared.entry.Entry.TheVariants.{Acted, Settling}
 use Rattle.rule_model.specs.declared.entry.KeyRecord.{KeyRecord}
 use Rattle.rule_model.specs.declared.event.Event.{Event}
 use Rattle.rule_model.specs.declared.event.Act.{Act}
-use Rattle.rule_model.specs.declared.event.Act.TheVariants.{Disconnect, CreateOperation, EnterAad, EnterUpdate, EnterFinish, Abort, Restart}
+use Rattle.rule_model.specs.declared.event.Act.TheVariants.{Disconnect, CreateOperation, EnterAad, EnterUpdate, EnterFinish, Abort, Leave, Restart}
 use Rattle.rule_model.specs.declared.facts.Caller.{Caller}
 use Rattle.rule_model.specs.declared.reply.Fields.{Fields}
 use Rattle.rule_model.specs.declared.reply.Reply.{Reply}
 use Rattle.rule_model.specs.declared.reply.Reply.TheVariants.{Done, Broken, Stopped}
-use Rattle.rule_model.specs.BeginFacts.{begin_facts}
+use Rattle.rule_model.specs.BeginFacts.{facts_on}
 use Rattle.rule_model.specs.Clients.{caller_of}
 use Rattle.rule_model.specs.Entries.{History}
 use Rattle.rule_model.specs.Keys.{key_found, owner_of}
 use Rattle.rule_model.specs.Setup.{Setup}
+use Rattle.rule_model.specs.Tickets.{Entered, ticket_at}
 
 -- An operation: its number, its client with the uid, the key's number where it has one, the key's material, list and limit as
 -- its begin read them, what its work is, and from which nonce.
@@ -61,33 +63,74 @@ operation_on key facts caller number drawn = record {
   nonce = nonce_of facts drawn;
 }
 
--- What an entry makes of the operations: one opens, one takes additional data and text, one closes, all of a client close,
--- or all close.
+-- An open operation: what began it, the joined additional data and text of the works that came back, the step that last
+-- touched it, and the ticket of the work that is out.
+pub record Open : Type 0 where
+  pub operation : Operation
+  pub aad : List ℕ
+  pub text : List ℕ
+  pub touched : ℕ
+  pub ticket : Option ℕ
+
+abbrev pub has_number : ℕ → Open → Bool
+has_number number o = o.operation.number == number
+
+abbrev pub is_of : ℕ → Open → Bool
+is_of client o = o.operation.client == client
+
+-- an operation is busy while a work on it is out, and idle otherwise
+abbrev pub is_busy : Open → Bool
+is_busy o = is_some o.ticket
+
+-- What an entry makes of the operations: one opens, in the place of one that gives way; one is entered; one goes on with
+-- what it took; one closes, all of a client close, or all close.
 pub data OperationChange : Type 0 where
   SameOperations : OperationChange
-  Opens : Operation → OperationChange
-  Takes : ℕ → List ℕ → List ℕ → OperationChange
+  Opens : Option ℕ → Operation → OperationChange
+  Enters : ℕ → ℕ → OperationChange
+  Returns : ℕ → List ℕ → List ℕ → OperationChange
   Closes : ℕ → OperationChange
   ClosesOf : ℕ → OperationChange
   ClosesAll : OperationChange
 
-abbrev pub opens : Option KeyRecord → BeginFacts → Caller → Option ℕ → List ℕ → OperationChange
-opens (Some key) facts caller (Some number) drawn = Opens (operation_on key facts caller number drawn)
-opens _ facts caller _ drawn = SameOperations
+-- what a begin on a key reads, whether or not there is a slot
+abbrev pub facts_of_begin : Setup → History → Caller → Descriptor → List ℕ → BeginFacts
+facts_of_begin setup past caller key params = facts_on (key_found setup past caller key) caller key params true
+
+abbrev pub opens : Option KeyRecord → BeginFacts → Caller → Fields → List ℕ → OperationChange
+opens (Some key) facts caller fields drawn = opens_as fields.op where
+  opens_as : Option ℕ → OperationChange
+  opens_as None = SameOperations
+  opens_as (Some number) = Opens fields.pruned (operation_on key facts caller number drawn)
+opens None facts caller fields drawn = SameOperations
+
+abbrev pub enters : ℕ → Option ℕ → OperationChange
+enters op None = SameOperations
+enters op (Some ticket) = Enters op ticket
 
 abbrev pub closes : Option ℕ → OperationChange
 closes None = SameOperations
 closes (Some number) = Closes number
 
--- A begin opens the operation whose number its reply gives. An updateAad and an update go on with their input. A finish, an
--- abort, the client's disconnect and a restart close.
+-- the operation of a work that came back goes on, and after its last one it closes
+abbrev pub returns : Option Entered → OperationChange
+returns None = SameOperations
+returns (Some entered) = by_work entered.work where
+  by_work : Work → OperationChange
+  by_work (Aad input) = Returns entered.op input []
+  by_work (Text input) = Returns entered.op [] input
+  by_work (Last input signature) = Closes entered.op
+
+-- A begin opens the operation whose number its reply gives. An updateAad, an update and a finish enter, and their leave goes
+-- on. An abort, the client's disconnect and a restart close.
 abbrev pub admitted_operation : Act → Setup → History → Event → List ℕ → Fields → OperationChange
 admitted_operation (CreateOperation key params forced) setup past event drawn fields =
-    opens (key_found setup past (caller_of past event) key) (begin_facts setup past (caller_of past event) key params) (caller_of past event) fields.op drawn
-admitted_operation (EnterAad op input) setup past event drawn fields = Takes op input []
-admitted_operation (EnterUpdate op input) setup past event drawn fields = Takes op [] input
-admitted_operation (EnterFinish op input signature) setup past event drawn fields = Closes op
+    opens (key_found setup past (caller_of past event) key) (facts_of_begin setup past (caller_of past event) key params) (caller_of past event) fields drawn
+admitted_operation (EnterAad op input) setup past event drawn fields = enters op fields.ticket
+admitted_operation (EnterUpdate op input) setup past event drawn fields = enters op fields.ticket
+admitted_operation (EnterFinish op input signature) setup past event drawn fields = enters op fields.ticket
 admitted_operation (Abort op) setup past event drawn fields = Closes op
+admitted_operation (Leave ticket) setup past event drawn fields = returns (ticket_at past ticket)
 admitted_operation Disconnect setup past event drawn fields = ClosesOf event.client
 admitted_operation (Restart root) setup past event drawn fields = ClosesAll
 admitted_operation _ setup past event drawn fields = SameOperations
@@ -100,73 +143,74 @@ operation_of (EnterFinish op input signature) = Some op
 operation_of (Abort op) = Some op
 operation_of _ = None
 
--- the operation that a finish names
-abbrev pub finished_by : Act → Option ℕ
-finished_by (EnterFinish op input signature) = Some op
-finished_by _ = None
+-- a leave whose output is refused goes on as well
+abbrev pub stopped_operation : Act → History → OperationChange
+stopped_operation (Leave ticket) past = returns (ticket_at past ticket)
+stopped_operation _ past = SameOperations
 
--- want of memory: the call is given up, and nothing is changed by it
-abbrev pub is_want : Code → Bool
-is_want MemoryAllocationFailed = true
-is_want _ = false
-
--- An admitted act changes the operations as said; a denial that ends the operation closes it, and so does a finish whose
--- output is refused.
+-- an admitted act changes the operations as said, and a denial that ends the operation closes it
 abbrev pub operation_change : Setup → History → Event → List ℕ → Reply → OperationChange
 operation_change setup past event drawn (Done fields) = admitted_operation event.act setup past event drawn fields
 operation_change setup past event drawn (Broken rule code) = if ends_operation rule then closes (operation_of event.act) else SameOperations
-operation_change setup past event drawn (Stopped code) = if is_want code then SameOperations else closes (finished_by event.act)
+operation_change setup past event drawn (Stopped code) = stopped_operation event.act past
 
--- an operation that is no client's, and is left where its client is another
-abbrev pub left_by : ℕ → Option Operation → Option Operation
-left_by client None = None
-left_by client (Some o) = if o.client == client then None else Some o
+-- the number of the step that makes the next entry
+abbrev pub step_of : History → ℕ
+step_of past = length past + 1
 
--- the operation of a number after a change, where it was this one before
-abbrev pub found_after : OperationChange → ℕ → Option Operation → Option Operation
-found_after SameOperations number before = before
-found_after (Opens o) number before = if o.number == number then Some o else before
-found_after (Takes op aad text) number before = before
-found_after (Closes op) number before = if op == number then None else before
-found_after (ClosesOf client) number before = left_by client before
-found_after ClosesAll number before = None
+-- an operation that begins at a step has taken nothing
+abbrev pub as_begun : ℕ → Operation → Open
+as_begun step operation = record { operation = operation; aad = []; text = []; touched = step; ticket = None }
 
--- the open operation of a number: that of an admitted begin since the last restart which no later entry closed
-abbrev pub operation_at : Setup → History → ℕ → Option Operation
-operation_at setup [] number = None
-operation_at setup (Settling settled ∷ past) number = operation_at setup past number
-operation_at setup (Acted event drawn reply ∷ past) number =
-    found_after (operation_change setup past event drawn reply) number (operation_at setup past number)
+abbrev pub as_entered : ℕ → ℕ → Open → Open
+as_entered step ticket o = record o { touched = step; ticket = Some ticket }
 
--- what an operation has taken after a change, where it had taken this before: its begin has taken nothing
-abbrev pub aad_after : OperationChange → ℕ → List ℕ → List ℕ
-aad_after (Opens o) number before = if o.number == number then [] else before
-aad_after (Takes op aad text) number before = if op == number then before ++ aad else before
-aad_after _ number before = before
+abbrev pub as_returned : ℕ → List ℕ → List ℕ → Open → Open
+as_returned step aad text o = record o { aad = o.aad ++ aad; text = o.text ++ text; touched = step; ticket = None }
 
-abbrev pub text_after : OperationChange → ℕ → List ℕ → List ℕ
-text_after (Opens o) number before = if o.number == number then [] else before
-text_after (Takes op aad text) number before = if op == number then before ++ text else before
-text_after _ number before = before
+-- the operations with this change of the one of this number
+abbrev pub with_change : ℕ → (Open → Open) → List Open → List Open
+with_change number change = map (λ o. if has_number number o then change o else o)
 
--- the joined input of the admitted updateAads of an operation since its begin
-abbrev pub aad_of : Setup → History → ℕ → List ℕ
-aad_of setup [] number = []
-aad_of setup (Settling settled ∷ past) number = aad_of setup past number
-aad_of setup (Acted event drawn reply ∷ past) number =
-    aad_after (operation_change setup past event drawn reply) number (aad_of setup past number)
+abbrev pub without : ℕ → List Open → List Open
+without number = filter (λ o. not (has_number number o))
 
--- the joined input of the admitted updates of an operation since its begin
-abbrev pub text_of : Setup → History → ℕ → List ℕ
-text_of setup [] number = []
-text_of setup (Settling settled ∷ past) number = text_of setup past number
-text_of setup (Acted event drawn reply ∷ past) number =
-    text_after (operation_change setup past event drawn reply) number (text_of setup past number)
+abbrev pub without_pruned : Option ℕ → List Open → List Open
+without_pruned None opened = opened
+without_pruned (Some number) opened = without number opened
 
--- What an operation that has taken so much gives for a work: nothing for additional data; for text, the bytes that are out
--- after it and were not before; for the last, all that is left of the whole output, or the code of its refusal.
-abbrev pub output_of : Option Operation → List ℕ → List ℕ → Work → Result (List ℕ) Code
-output_of None aad text work = Ok []
-output_of (Some o) aad text (Aad input) = Ok []
-output_of (Some o) aad text (Text input) = Ok (update_output o.plan (is_limited o.limit) o.material o.nonce text (text ++ input))
-output_of (Some o) aad text (Last input signature) = finish_output o.plan (is_limited o.limit) o.material o.nonce aad text (text ++ input) signature
+-- the open operations after a change at a step
+abbrev pub open_after : ℕ → OperationChange → List Open → List Open
+open_after step SameOperations opened = opened
+open_after step (Opens pruned o) opened = without_pruned pruned opened ++ as_begun step o ∷ []
+open_after step (Enters op ticket) opened = with_change op (as_entered step ticket) opened
+open_after step (Returns op aad text) opened = with_change op (as_returned step aad text) opened
+open_after step (Closes op) opened = without op opened
+open_after step (ClosesOf client) opened = filter (λ o. not (is_of client o)) opened
+open_after step ClosesAll opened = []
+
+-- The open operations, in the order of their begins: those of the admitted begins since the last restart which no later entry
+-- closed.
+abbrev pub open_of : Setup → History → List Open
+open_of setup [] = []
+open_of setup (Settling settled ∷ past) = open_of setup past
+open_of setup (Acted event drawn reply ∷ past) =
+    open_after (step_of past) (operation_change setup past event drawn reply) (open_of setup past)
+
+-- the open operation of a number
+abbrev pub operation_at : Setup → History → ℕ → Option Open
+operation_at setup past number = find (has_number number) (open_of setup past)
+
+-- whether a work on an operation of a client is out
+abbrev pub has_busy : Setup → History → ℕ → Bool
+has_busy setup past client = list_any (λ o. is_of client o && is_busy o) (open_of setup past)
+
+-- What an operation gives for a work: nothing for additional data; for text, the bytes that are out after it and were not
+-- before; for the last, all that is left of the whole output, or the code of its refusal.
+abbrev pub output_of : Option Open → Work → Result (List ℕ) Code
+output_of None work = Ok []
+output_of (Some o) (Aad input) = Ok []
+output_of (Some o) (Text input) =
+    Ok (update_output o.operation.plan (is_limited o.operation.limit) o.operation.material o.operation.nonce o.text (o.text ++ input))
+output_of (Some o) (Last input signature) =
+    finish_output o.operation.plan (is_limited o.operation.limit) o.operation.material o.operation.nonce o.aad o.text (o.text ++ input) signature

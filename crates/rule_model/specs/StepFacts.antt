@@ -10,7 +10,7 @@ use Rattle.rule_model.specs.declared.facts.Brought.{Brought}
 use Rattle.rule_model.specs.declared.facts.Caller.{Caller}
 use Rattle.rule_model.specs.Entries.{History}
 use Rattle.rule_model.specs.Keys.{is_live}
-use Rattle.rule_model.specs.Operations.{Operation, aad_of, operation_at, text_of}
+use Rattle.rule_model.specs.Operations.{Open, is_busy, operation_at}
 use Rattle.rule_model.specs.Setup.{Setup}
 
 abbrev pub step_kind : Work → StepKind
@@ -41,10 +41,11 @@ has_ended live None = false
 has_ended live (Some id) = not (live id)
 
 -- the facts of a caller's step: an operation that is not open has taken nothing
-abbrev pub facts_of : Option Operation → (ℕ → Bool) → ℕ → ℕ → Caller → Brought → StepFacts
-facts_of None live aad text caller brought = record {
+abbrev pub facts_of : Option Open → (ℕ → Bool) → Caller → Brought → StepFacts
+facts_of None live caller brought = record {
   kind = brought.kind;
   own = false;
+  busy = false;
   input = brought.input;
   signature = brought.signature;
   ended = false;
@@ -52,17 +53,18 @@ facts_of None live aad text caller brought = record {
   aad = 0;
   text = 0;
 }
-facts_of (Some o) live aad text caller brought = record {
+facts_of (Some o) live caller brought = record {
   kind = brought.kind;
-  own = o.client == caller.client;
+  own = o.operation.client == caller.client;
+  busy = is_busy o;
   input = brought.input;
   signature = brought.signature;
-  ended = has_ended live o.key;
-  plan = o.plan;
-  aad = aad;
-  text = text;
+  ended = has_ended live o.operation.key;
+  plan = o.operation.plan;
+  aad = length o.aad;
+  text = length o.text;
 }
 
 abbrev pub step_facts : Setup → History → Caller → ℕ → Brought → StepFacts
 step_facts setup past caller op brought =
-    facts_of (operation_at setup past op) (is_live setup past) (length (aad_of setup past op)) (length (text_of setup past op)) caller brought
+    facts_of (operation_at setup past op) (is_live setup past) caller brought

@@ -156,7 +156,7 @@ impl ActKind {
     {
         match self {
             ActKind::Connect => call(1).of_no_client().built(),
-            ActKind::Disconnect => call(2).without_memory().settling_nothing(),
+            ActKind::Disconnect => call(2).without_memory().settling_nothing().built(),
             ActKind::GenerateKey => call(3).drawing().built(),
             ActKind::ImportKey => call(4).drawing().built(),
             ActKind::CreateOperation => call(5).drawing().built(),
@@ -176,7 +176,11 @@ impl ActKind {
             ActKind::EarlyBootEnded => call(19).without_memory(),
             ActKind::ClearNamespace => call(20),
             ActKind::UserRemoved => call(21),
-            ActKind::Leave => call(22).of_no_client().without_memory().settling_nothing(),
+            ActKind::Leave => call(22)
+                .of_no_client()
+                .without_memory()
+                .settling_nothing()
+                .built(),
             ActKind::Restart => call(23).of_no_client(),
         }
     }

@@ -1,6 +1,7 @@
 //! The entries of a history, what a step gives back, and a key that lasts.
 
 use crate::{Event, Reply};
+use cipher_ops::Job;
 use tags::{Bytes, Settled};
 
 /// One entry of the history of a service.
@@ -19,11 +20,13 @@ pub enum Entry {
 }
 
 /// What a step of the engine gives back.
-#[derive(Debug, Drop)]
+#[derive(Drop)]
 pub struct Stepped {
     /// how the change of an earlier event was settled, where that was due
     pub settled: Option<Settled>,
     pub reply: Reply,
+    /// the work of an admitted enter, which is run apart from the service and comes back by a leave
+    pub job: Option<Job>,
     /// the bytes that were drawn
     pub drawn: Bytes,
 }

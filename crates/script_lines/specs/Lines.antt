@@ -1,5 +1,5 @@
 -- What a line of a script spells.
-use Rattle.std.specs.Prelude.{ℕ, List, Bool, ◌&&◌, not, if◌then◌else◌, Option, Some, None}
+use Rattle.std.specs.Prelude.{ℕ, List, if◌then◌else◌, Option, Some, None}
 use Rattle.std.specs.Str.{is_utf8}
 use Rattle.rule_model.specs.declared.event.Line.{Line}
 use Rattle.serde_json.specs.Data.{Data}
@@ -26,9 +26,9 @@ line_in members = do
 abbrev pub read_line : List ℕ → Option Line
 read_line line = parsed line >>= line_in
 
--- a line of an act that is built; none waits for its leave yet
+-- a line of an act that is built
 abbrev pub if_built : Line → Option Line
-if_built line = if is_built line.event.act && not line.hold then Some line else None
+if_built line = if is_built line.event.act then Some line else None
 
 -- the event that a line spells, and whether an enter waits for its leave; None is a malformed line
 abbrev pub event_of : List ℕ → Option Line

@@ -24,18 +24,18 @@ use std::str;
 
 /// The event that a line spells, without its LF, and whether an enter waits for its leave.
 ///
-/// A line is `Malformed` exactly where it is no JSON object of a script (RFC 8259), or its act is not built yet, or it is to wait for its leave.
+/// A line is `Malformed` exactly where it is no JSON object of a script (RFC 8259), or its act is not built yet.
 pub fn event_of(alloc: Global, line: &[u8]) -> Result<Line, LineFault>
     ensures { Gives result (spec_event_of line.now) }
 {
     let line = read_line(alloc, line)?;
-    if !line.event.act.is_built() || line.hold {
+    if !line.event.act.is_built() {
         return Err(LineFault::Malformed);
     }
     Ok(line)
 }
 
-/// What a line says, without its LF, also where its act is not built yet and where it is to wait for its leave.
+/// What a line says, without its LF, also where its act is not built yet.
 ///
 /// A line is `Malformed` exactly where it is no JSON object of a script (RFC 8259).
 pub fn read_line(alloc: Global, line: &[u8]) -> Result<Line, LineFault>

@@ -1,6 +1,6 @@
 -- Table S, a step of an operation: a list of rules in its order, and the answer is the first that does not hold.
-use Rattle.std.specs.Prelude.{Bool, true, false, ◌&&◌, ◌||◌, not, ◌==◌, List, [], ◌∷◌, ◌++◌, if◌then◌else◌}
-use Rattle.tags.specs.declared.code.Code.TheVariants.{InvalidOperationHandle, TooMuchData, InvalidKeyBlob, InvalidTag, InvalidInputLength}
+use Rattle.std.specs.Prelude.{◌≡◌, Bool, true, false, ◌&&◌, ◌||◌, not, ◌==◌, List, [], ◌∷◌, ◌++◌, if◌then◌else◌}
+use Rattle.tags.specs.declared.code.Code.TheVariants.{InvalidOperationHandle, OperationBusy, TooMuchData, InvalidKeyBlob, InvalidTag, InvalidInputLength}
 use Rattle.tags.specs.declared.rule.Rule.{Rule}
 use Rattle.tags.specs.declared.rule.RuleTable.{RuleTable}
 use Rattle.tags.specs.declared.rule.RuleTable.TheVariants.{S}
@@ -12,6 +12,7 @@ use Rattle.step_rules.specs.Rules.{is_enter, are_pieces_short, may_take_aad, is_
 abbrev pub call_rules : StepFacts → List Check
 call_rules facts =
     check 1 InvalidOperationHandle facts.own ∷  -- the operation is open and the client's own
+    check 2 OperationBusy (not facts.busy) ∷  -- no work on it is out
     []
 
 -- the rules of a step that enters the operation
@@ -38,3 +39,8 @@ ends_operation rule = is_step_table rule.table && ((rule.number == 4) || ((rule.
   is_step_table : RuleTable → Bool
   is_step_table S = true
   is_step_table _ = false
+
+-- the operation is the client's own, and no work on it is out
+pub record IsOwnAndIdle (facts : StepFacts) : Type 0 where
+  pub own : facts.own ≡ true
+  pub idle : facts.busy ≡ false

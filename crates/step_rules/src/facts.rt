@@ -21,6 +21,8 @@ pub struct StepFacts {
     pub kind: StepKind,
     /// the operation is open and the client's own
     pub own: bool,
+    /// the work of an earlier step on it has not come back
+    pub busy: bool,
     /// the input's length in bytes, 0 where there is none
     pub input: u64,
     /// the signature's length in bytes, 0 where there is none

@@ -1,6 +1,6 @@
 //! Table S, walked in its order.
 
-ghost use Rattle.std.specs.Prelude.{◌≡◌, true, OnOk};
+ghost use Rattle.std.specs.Prelude.{◌≡◌, false, true, IfErr, OnOk};
 ghost use Rattle.tags.specs.declared.rule.RuleTable.TheVariants.{S};
 ghost use Rattle.tags.specs.Table.{first_broken, rule_of};
 ghost use Rattle.step_rules.specs.Rules.{is_enter as is_enter_kind, Enters};
@@ -19,9 +19,12 @@ fn rule(number: u8) -> Rule
 
 /// The rules of every step.
 fn check_call(facts: &StepFacts) -> Ruling
-    ensures { result ≡ first_broken S (spec.call_rules facts.now) }
+    ensures first { result ≡ first_broken S (spec.call_rules facts.now) }
+    ensures own { OnOk result (facts.now.own ≡ true) }
+    ensures idle { OnOk result (facts.now.busy ≡ false) }
 {
     check(rule(1), Code::InvalidOperationHandle, facts.own)?;
+    check(rule(2), Code::OperationBusy, !facts.busy)?;
     Ok(())
 }
 
@@ -40,12 +43,15 @@ fn check_enter(facts: &StepFacts) -> Ruling
 }
 
 /// The first rule of the table that the step breaks, with its code: updateAad, update and finish walk all rules, and
-/// abort the first one alone. A step that breaks none is the client's own, and keeps to the lengths, the key and the plan.
-/// It takes no memory.
+/// abort the first two alone. A step that breaks none is the client's own, of an idle operation, and keeps to the lengths,
+/// the key and the plan. A rule whose denial ends the operation breaks on the client's own idle operation alone. It takes no
+/// memory.
 #[tactic(auto, unfolding(crate::specs::Table::answer))]
 pub fn check_step(facts: &StepFacts) -> Ruling
     ensures first { result ≡ spec.answer facts.now }
     ensures own { OnOk result (facts.now.own ≡ true) }
+    ensures idle { OnOk result (facts.now.busy ≡ false) }
+    ensures ends { IfErr result (λ broken. spec.ends_operation broken.0 ≡ true → spec.IsOwnAndIdle facts.now) }
     ensures enters { OnOk result (is_enter_kind facts.now.kind ≡ true → Enters facts.now) }
 {
     check_call(facts)?;

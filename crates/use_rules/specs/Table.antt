@@ -1,7 +1,7 @@
 -- Table B, the beginning of an operation: a list of rules in its order, and the answer is the first that does not hold.
-use Rattle.std.specs.Prelude.{◌≡◌, true, List, [], ◌∷◌, ◌++◌, Result, Ok, Err, is_some, is_ok, unwrap_or}
+use Rattle.std.specs.Prelude.{◌≡◌, Bool, true, List, [], ◌∷◌, ◌++◌, Result, Ok, Err, is_some, is_ok, unwrap_or}
 use Rattle.tags.specs.declared.code.Code.{Code}
-use Rattle.tags.specs.declared.code.Code.TheVariants.{InvalidArgument, KeyNotFound, InvalidTag, InvalidKeyBlob, UnsupportedPurpose, IncompatiblePurpose, UnsupportedBlockMode, IncompatibleBlockMode, UnsupportedPaddingMode, IncompatiblePaddingMode, UnsupportedDigest, IncompatibleDigest, MissingMacLength, UnsupportedMacLength, InvalidMacLength, CallerNonceProhibited, MissingNonce, InvalidNonce}
+use Rattle.tags.specs.declared.code.Code.TheVariants.{InvalidArgument, KeyNotFound, InvalidTag, InvalidKeyBlob, UnsupportedPurpose, IncompatiblePurpose, UnsupportedBlockMode, IncompatibleBlockMode, UnsupportedPaddingMode, IncompatiblePaddingMode, UnsupportedDigest, IncompatibleDigest, MissingMacLength, UnsupportedMacLength, InvalidMacLength, CallerNonceProhibited, MissingNonce, InvalidNonce, BackendBusy}
 use Rattle.tags.specs.declared.param.Param.{Param}
 use Rattle.tags.specs.declared.plan.Plan.{Plan}
 use Rattle.tags.specs.declared.rule.Rule.{Rule}
@@ -39,9 +39,9 @@ call_rules facts =
     check 8 InvalidKeyBlob facts.fits ∷  -- to a list and a material that are usable
     []
 
--- the rules of the operation's list and the key's
-unfoldable pub list_rules : List Param → List Param → List Check
-list_rules asked key =
+-- the rules of the operation's list and the key's, and of the slot that the operation takes
+unfoldable pub list_rules : List Param → List Param → Bool → List Check
+list_rules asked key room =
     check 9 UnsupportedPurpose (names_purpose asked key) ∷  -- one purpose, of the key's algorithm
     check 9 IncompatiblePurpose (key_has_purpose asked key) ∷  -- which the key has
     check 17 UnsupportedBlockMode (names_mode asked key) ∷  -- AES: one mode
@@ -56,6 +56,7 @@ list_rules asked key =
     check 21 CallerNonceProhibited (may_give_nonce asked key) ∷  -- ENCRYPT: a nonce is given where the key allows it
     check 21 MissingNonce (has_nonce asked key) ∷  -- DECRYPT: a nonce is given
     check 21 InvalidNonce (fits_nonce asked key) ∷  -- and has the mode's length
+    check 22 BackendBusy room ∷  -- a slot is free, or an operation gives way
     []
 
 -- what the two lists keep to where no rule of theirs is broken
@@ -77,7 +78,7 @@ pub record Agree (asked key : List Param) : Type 0 where
 
 -- table B
 abbrev pub rules_of : BeginFacts → List Check
-rules_of facts = call_rules facts ++ list_rules (asked_of facts) (key_of facts)
+rules_of facts = call_rules facts ++ list_rules (asked_of facts) (key_of facts) facts.room
 
 -- the first rule that does not hold, with its code, or else the plan
 unfoldable pub answer : BeginFacts → Result Plan (Rule × Code)

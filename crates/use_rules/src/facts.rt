@@ -17,4 +17,6 @@ pub struct BeginFacts {
     pub opened: Option<AuthList>,
     /// the key's list and its material are usable
     pub fits: bool,
+    /// a slot is free, or an operation gives way
+    pub room: bool,
 }

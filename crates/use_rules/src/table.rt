@@ -25,11 +25,12 @@ fn rule(number: u8) -> Rule
     RuleTable::B.rule(number)
 }
 
-/// The rules of the operation's list and the key's.
+/// The rules of the operation's list and the key's, and of the slot that the operation takes.
 #[tactic(auto, unfolding(crate::specs::Table::list_rules))]
-fn check_lists(asked: &AuthList, key: &AuthList) -> Ruling
-    ensures first { result ≡ first_broken B (spec.list_rules asked.now key.now) }
+fn check_lists(asked: &AuthList, key: &AuthList, room: bool) -> Ruling
+    ensures first { result ≡ first_broken B (spec.list_rules asked.now key.now room) }
     ensures agree { OnOk result (spec.Agree asked.now key.now) }
+    ensures room { OnOk result (room ≡ true) }
 {
     check(rule(9), Code::UnsupportedPurpose, names_purpose(asked, key))?;
     check(
@@ -73,26 +74,28 @@ fn check_lists(asked: &AuthList, key: &AuthList) -> Ruling
     )?;
     check(rule(21), Code::MissingNonce, has_nonce(asked, key))?;
     check(rule(21), Code::InvalidNonce, fits_nonce(asked, key))?;
+    check(rule(22), Code::BackendBusy, room)?;
     Ok(())
 }
 
-/// The plan, where no rule of the lists is broken.
+/// The plan, where no rule of the lists and of the slot is broken.
 #[tactic(auto, using(crate::proofs::Begun::workable, crate::proofs::Begun::takes, crate::proofs::Begun::nonce_fits))]
-fn begun(asked: &AuthList, key: &AuthList) -> Result<Plan, (Rule, Code)>
-    ensures first { result ≡ where_all_hold (first_broken B (spec.list_rules asked.now key.now)) (plan_by asked.now key.now) }
+fn begun(asked: &AuthList, key: &AuthList, room: bool) -> Result<Plan, (Rule, Code)>
+    ensures first { result ≡ where_all_hold (first_broken B (spec.list_rules asked.now key.now room)) (plan_by asked.now key.now) }
+    ensures room { OnOk result (room ≡ true) }
     ensures plan { IfOk result (λ plan. plan ≡ plan_by asked.now key.now) }
     ensures agree { OnOk result (spec.Agree asked.now key.now) }
     ensures workable { IfOk result (λ plan. (size : ℕ) → IsKey key.now size → IsWorkable plan) }
     ensures takes { IfOk result (λ plan. (size : ℕ) → IsKey key.now size → takes_key plan size ≡ true) }
     ensures nonce { IfOk result (λ plan. NonceFits asked.now key.now plan) }
 {
-    check_lists(asked, key)?;
+    check_lists(asked, key, room)?;
     Ok(plan_of(asked, key))
 }
 
 /// The first rule of the table that the begin breaks, with its code, or else the operation's plan, which is that of the two
-/// lists. Then the key was found, both lists are there and agree, and the key is usable; the nonce that is given or drawn
-/// has the plan's bytes; and where list and material make a key of their cipher, the plan's numbers are those of the
+/// lists. Then the key was found, both lists are there and agree, the key is usable, and there is a slot; the nonce that is
+/// given or drawn has the plan's bytes; and where list and material make a key of their cipher, the plan's numbers are those of the
 /// standards and it takes the material. It takes no memory.
 #[tactic(auto, unfolding(crate::specs::Table::answer))]
 pub fn check_begin(facts: &BeginFacts) -> Result<Plan, (Rule, Code)>
@@ -101,6 +104,7 @@ pub fn check_begin(facts: &BeginFacts) -> Result<Plan, (Rule, Code)>
     ensures asked { OnOk result (is_ok facts.now.asked ≡ true) }
     ensures opened { OnOk result (is_some facts.now.opened ≡ true) }
     ensures fits { OnOk result (facts.now.fits ≡ true) }
+    ensures room { OnOk result (facts.now.room ≡ true) }
     ensures agree { OnOk result (spec.Agree (spec.asked_of facts.now) (spec.key_of facts.now)) }
     ensures plan { IfOk result (λ plan. plan ≡ plan_by (spec.asked_of facts.now) (spec.key_of facts.now)) }
     ensures workable { IfOk result (λ plan. (size : ℕ) → IsKey (spec.key_of facts.now) size → IsWorkable plan) }
@@ -118,5 +122,5 @@ pub fn check_begin(facts: &BeginFacts) -> Result<Plan, (Rule, Code)>
         return Err((rule(7), Code::InvalidKeyBlob));
     };
     check(rule(8), Code::InvalidKeyBlob, facts.fits)?;
-    begun(asked, key)
+    begun(asked, key, facts.room)
 }

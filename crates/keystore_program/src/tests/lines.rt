@@ -185,6 +185,7 @@ fn lines_of(alloc: Global, settled: Option<Settled>, reply: Reply) -> Result<Vec
     let stepped = Stepped {
         settled,
         reply,
+        job: None,
         drawn: Bytes::empty(alloc),
     };
     Ok(line_of(alloc, &stepped)?.into_vec())

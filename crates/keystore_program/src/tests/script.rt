@@ -34,8 +34,16 @@ pub enum Call<'a> {
     Finish(u64, u64, &'a str),
     /// an operation, its last text, and a signature
     Verify(u64, u64, &'a str, &'a str),
+    /// an operation, and text, held
+    Hold(u64, u64, &'a str),
+    /// an operation, and its last text, held
+    HoldLast(u64, u64, &'a str),
     /// an operation
     Abort(u64, u64),
+    /// a ticket comes back
+    Leave(u64),
+    /// a client goes
+    Disconnect(u64),
     /// a line as it stands
     Line(&'a str),
 }
@@ -242,9 +250,19 @@ pub fn line_of(alloc: Global, call: Call) -> Result<String, Fail> {
             let step = step_act(alloc, "finish", client, op, hex)?;
             format!(in alloc; "{step},\"signature\":\"{signature}\"")?
         }
+        Call::Hold(client, op, hex) => {
+            let step = step_act(alloc, "update", client, op, hex)?;
+            format!(in alloc; "{step},\"hold\":true")?
+        }
+        Call::HoldLast(client, op, hex) => {
+            let step = step_act(alloc, "finish", client, op, hex)?;
+            format!(in alloc; "{step},\"hold\":true")?
+        }
         Call::Abort(client, op) => format!(in alloc;
             "\"c\":{client},\"do\":\"abort\",\"op\":{op}"
         )?,
+        Call::Leave(ticket) => format!(in alloc; "\"do\":\"leave\",\"ticket\":{ticket}")?,
+        Call::Disconnect(client) => format!(in alloc; "\"c\":{client},\"do\":\"disconnect\"")?,
     };
     Ok(format!(in alloc; "{{\"t\":[0,1000],{members}}}\n")?)
 }

@@ -10,7 +10,7 @@ abbrev pub invariant-lines : goal.invariant-lines
 invariant-lines g l = record {
   going : (setup : Setup) → StandsFor setup l.fn.session []
       → Going g.S.Source g.K.Sink g.N.Entropy setup (outside l.fn.source l.fn.sink l.fn.disk l.fn.entropy) (outside l.source l.sink l.disk l.entropy) l.session l.reader.bytes l.reader.taken l.served false;
-  entries : entries_in l.session ≤ l.served;
+  entries : entries_in l.session ≤ l.served + l.served;
   bytes : l.served + length l.reader.bytes ≤ l.reader.taken;
   taken : l.reader.taken ≤ 2 ^ 30;
   source : CountsFaults (g.S.Source.fault_count l.fn.source) (g.S.Source.fault_count l.source) false;

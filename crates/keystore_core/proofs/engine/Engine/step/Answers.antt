@@ -1,26 +1,31 @@
-use Rattle.std.proofs.Common.{arith}
+use Rattle.std.proofs.Common.{ap, ◌+◌, arith}
 use mathlib.Core.Logic.{∥∥₁_map}
 use Rattle.keystore_core.proofs.engine.Engine.step.Goals as goal
 
-pub invariant_of-self : goal.invariant_of-self
-invariant_of-self g c = record {
-  stands = ∥∥₁_map c.args.self.now.stands (λ t. record {
-    setup = t.setup;
-    past = _;
-    stands = (c.answer-answered.ensures.answers t.setup t.past t.stands).stands;
-    few = omega (arith, t.few);
-    first = t.first;
-  });
-}
-
-pub answer-answered-requires : goal.answer-answered-requires
-answer-answered-requires g c = ∥∥₁_map c.args.self.now.stands (λ t. record { setup = t.setup; past = t.past; stands = t.stands; few = omega (arith, t.few, c.requires); first = t.first })
+pub answer-answered-requires-clause-at : goal.answer-answered-requires-clause-at
+answer-answered-requires-clause-at g c = ∥∥₁_map c.requires.takes (λ t. record {
+  setup = t.setup;
+  past = t.past;
+  stands = record { tables_stand = t.stands.tables; step_is = ap (λ n. n + 1) t.stands.entries; done_is = t.back_is };
+  first = t.first;
+})
 
 pub returns-clause-stands : goal.returns-clause-stands
-returns-clause-stands g c = λ setup past stands. record {
+returns-clause-stands g c = λ setup past stands done. record {
   entries = omega (arith, stands.entries);
-  tables = (c.answer-answered.ensures.answers setup past stands.tables).stands;
+  tables = (c.answer-answered.ensures.answers setup past (record { tables_stand = stands.tables; step_is = ap (λ n. n + 1) stands.entries; done_is = done })).stands;
 }
 
 pub returns-clause-follows : goal.returns-clause-follows
-returns-clause-follows g c = λ setup past stands. record { settles = tt; follows = (c.answer-answered.ensures.answers setup past stands.tables).follows }
+returns-clause-follows g c = λ setup past stands done. record {
+  settles = tt;
+  follows = (c.answer-answered.ensures.answers setup past (record { tables_stand = stands.tables; step_is = ap (λ n. n + 1) stands.entries; done_is = done })).follows;
+}
+
+pub returns-clause-job : goal.returns-clause-job
+returns-clause-job g c = λ setup past stands done.
+    (c.answer-answered.ensures.answers setup past (record { tables_stand = stands.tables; step_is = ap (λ n. n + 1) stands.entries; done_is = done })).has_job
+
+pub returns-clause-stays : goal.returns-clause-stays
+returns-clause-stays g c = λ setup past stands done.
+    (c.answer-answered.ensures.answers setup past (record { tables_stand = stands.tables; step_is = ap (λ n. n + 1) stands.entries; done_is = done })).stays

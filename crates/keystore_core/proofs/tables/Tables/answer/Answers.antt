@@ -4,10 +4,14 @@ use Rattle.keystore_core.proofs.Standing.{without_memory}
 use Rattle.keystore_core.proofs.tables.Tables.answer.Goals as goal
 
 pub returns-in-Ok-clause-answers : goal.returns-in-Ok-clause-answers
-returns-in-Ok-clause-answers g c = λ setup past stands. (rw (c.caller-caller.ensures.reading, c.caller-caller.ensures.client) at c.in-Ok.ensures.serves) setup past stands
+returns-in-Ok-clause-answers g c = λ setup past at. (rw (c.caller-caller.ensures.reading, c.caller-caller.ensures.client) at c.in-Ok.ensures.serves) setup past at
 
 pub returns-in-Err-clause-answers : goal.returns-in-Err-clause-answers
-returns-in-Err-clause-answers g c = λ setup past stands. rw (c.without_memory.ensures.reply, c.without_memory.ensures.drawn, c.empty.ensures) (record {
-  follows = WithoutMemory (record { drew = omega arith; takes = c.in-Err.ensures.memory; is_want = refl });
-  stands = without_memory setup past c.args.self.now c.serve.new.self c.args.event [] stands c.in-Err.ensures.serves;
-})
+returns-in-Err-clause-answers g c = λ setup past at.
+    let after = without_memory setup past c.args.self.now c.serve.new.self c.args.event [] at.tables_stand c.in-Err.ensures.memory c.in-Err.ensures.serves in
+    rw (c.without_memory.ensures.reply, c.without_memory.ensures.job, c.without_memory.ensures.drawn, c.empty.ensures) (record {
+      follows = WithoutMemory (record { drew = omega arith; takes = c.in-Err.ensures.memory; is_want = refl });
+      stands = after.0;
+      has_job = refl;
+      stays = after.1;
+    })

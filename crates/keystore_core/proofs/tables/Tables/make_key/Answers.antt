@@ -9,14 +9,14 @@ pub returns-in-Err-Broken-clause-serves : goal.returns-in-Err-Broken-clause-serv
 returns-in-Err-Broken-clause-serves g c = λ setup past stands.
     let facts = c.new_facts-facts.ensures in
     let broken = sym (ap planned facts) ∙ rw c.in-Err-Broken.field-0-is at c.in-Err-Broken.ensures.key in
-    rw (c.refused.ensures.reply, c.refused.ensures.drawn, c.in-Err-Broken.rule-is, c.in-Err-Broken.code-is)
+    rw (c.refused.ensures.reply, c.refused.ensures.job, c.refused.ensures.drawn, c.in-Err-Broken.rule-is, c.in-Err-Broken.code-is)
     (refused setup past c.args.self.now c.args.caller c.args.key c.args.params stands c.requires.caller c.args.import _ _ broken)
 
 pub returns-in-Err-clause-serves : goal.returns-in-Err-clause-serves
 returns-in-Err-clause-serves g c = λ setup past stands.
     let is = sym (ap planned c.new_facts-facts.ensures) ∙ c.in-Ok.ensures.key in
     let few : length c.in-Err.drawn < c.in-Ok.plan.size + 12 = omega (arith, c.in-Err.ensures.part, c.in_ok-draws.ensures) in
-    rw (c.without_entropy.ensures.reply, c.without_entropy.ensures.drawn)
+    rw (c.without_entropy.ensures.reply, c.without_entropy.ensures.job, c.without_entropy.ensures.drawn)
     (without_entropy setup past c.args.self.now c.args.caller c.args.key c.args.params stands c.requires.caller c.args.import _ c.in-Ok.plan c.in-Err.drawn is
     (same_but_keys c.args.self.now c.reserve.new.self c.in_ok-reserve.ensures.same) few)
 

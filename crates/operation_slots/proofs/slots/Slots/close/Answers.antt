@@ -1,9 +1,11 @@
-use Rattle.std.proofs.Common.{◌≡◌, ℕ, List, Option, Some, None, OnSome, IfNone, All, ◌<◌, find, ◌==◌, if◌then◌else◌}
+use Rattle.std.proofs.Common.{◌≡◌, ◌≤◌, ℕ, true, List, Option, Some, None, OnSome, IfNone, All, ◌<◌, find, length, ◌==◌, if◌then◌else◌, nat_lt, subst, sym, arith}
+use Rattle.std.proofs.lemmas.Bool.{lt-ltb}
 use Rattle.operation_slots.specs.declared.operation.Operation.{Operation}
-use Rattle.operation_slots.specs.Table.{without, has_number}
+use Rattle.operation_slots.specs.Table.{IsSound, capacity_of, has_number, idle_value, open_count, without}
 use Rattle.operation_slots.specs.Kept.{IsKept}
-use Rattle.operation_slots.proofs.Keeping.{kept_without, later_without}
+use Rattle.operation_slots.proofs.Keeping.{kept_without, later_without, one_fewer}
 use Rattle.operation_slots.proofs.Lists.{found_without}
+use Rattle.operation_slots.proofs.Sound.{sound}
 use Rattle.operation_slots.proofs.slots.Slots.close.Goals as goal
 
 -- either way of the answer
@@ -31,3 +33,14 @@ pub returns-clause-later : goal.returns-clause-later
 returns-clause-later g c = λ next h.
     let before : All (λ o. o.stamp < next) c.self.inside.operations.items = rw (← c.self.view_is) at h in
     later_closed c.take_out_idle.result c.self.inside.operations.items c.take_out_idle.new.operations.items c.args.op next c.take_out_idle.ensures.some c.take_out_idle.ensures.none before
+
+pub returns-clause-sound : goal.returns-clause-sound
+returns-clause-sound g c = subst IsSound c.self.view_is (sound c.self.inside.operations.items c.self.inside.capacity _ c.self.invariant)
+
+room_closed : {T : Type 0} (r : Option T) (xs ys : List (Operation T)) (capacity n : ℕ) → length xs ≤ capacity → r ≡ idle_value (find (has_number n) xs) → OnSome r (ys ≡ without n xs) → OnSome r (nat_lt (length ys) capacity ≡ true)
+room_closed None xs ys capacity n within value some = tt
+room_closed (Some v) xs ys capacity n within value some = rw some (lt-ltb _ _ (omega (arith, one_fewer n xs v (sym value), within)))
+
+pub returns-clause-room : goal.returns-clause-room
+returns-clause-room g c =
+    room_closed c.take_out_idle.result c.self.inside.operations.items c.take_out_idle.new.operations.items c.self.inside.capacity c.args.op c.self.invariant.within c.take_out_idle.ensures.value c.take_out_idle.ensures.some

@@ -1,0 +1,29 @@
+use Rattle.std.proofs.Common.{◌≡◌, ℕ, subst}
+use mathlib.Core.Logic.{∥∥₁_map}
+use Rattle.keystore_program.proofs.Tickets.{comes_back, held_left, may_leave}
+use Rattle.keystore_program.proofs.session.Session.leave.Goals as goal
+
+pub step-requires-clause-takes : goal.step-requires-clause-takes
+step-requires-clause-takes g c = ∥∥₁_map c.args.self.now.stands (may_leave c.args.ticket c.args.event.act c.take.result c.run_job-done.result c.requires.act c.take.ensures.job c.run_job-done.ensures)
+
+pub invariant_of-self : goal.invariant_of-self
+invariant_of-self g c = record {
+  stands = ∥∥₁_map c.args.self.now.stands (λ is.
+      let done = comes_back is.setup is.past c.args.ticket c.args.event.act c.args.self.now.jobs c.take.result c.run_job-done.result c.requires.act c.take.ensures.job is.held c.run_job-done.ensures in record {
+        setup = is.setup;
+        past = _;
+        stands = c.step.ensures.stands is.setup is.past is.stands done;
+        held = held_left is.setup is.past c.args.ticket c.args.event c.step.result.settled c.step.result.drawn c.step.result.reply c.args.self.now.jobs c.take.new.self c.requires.act c.step.ensures.settled
+            (c.step.ensures.follows is.setup is.past is.stands done) (c.step.ensures.stays is.setup is.past is.stands done) c.take.ensures.taken is.held;
+        first = is.first;
+      });
+}
+
+pub returns-clause-steps : goal.returns-clause-steps
+returns-clause-steps g c = λ setup past for.
+    let done = comes_back setup past c.args.ticket c.args.event.act c.args.self.now.jobs c.take.result c.run_job-done.result c.requires.act c.take.ensures.job for.held c.run_job-done.ensures in record {
+      follows = c.step.ensures.follows setup past for.stands done;
+      stands = c.step.ensures.stands setup past for.stands done;
+      held = held_left setup past c.args.ticket c.args.event c.step.result.settled c.step.result.drawn c.step.result.reply c.args.self.now.jobs c.take.new.self c.requires.act c.step.ensures.settled
+          (c.step.ensures.follows setup past for.stands done) (c.step.ensures.stays setup past for.stands done) c.take.ensures.taken for.held;
+    }

@@ -1,0 +1,9 @@
+use Rattle.std.proofs.Common.{◌≡◌, ◌≤◌, ℕ, min, drop}
+use Rattle.keystore_program.specs.Words.{value_on}
+use Rattle.keystore_program.proofs.words.capped_value.Given as goal
+
+abbrev pub invariant-loop-byte : goal.invariant-loop-byte
+invariant-loop-byte l = record {
+  few : l.value ≤ 65;
+  same : min (value_on l.value (drop l.byte-index l.digits)) 65 ≡ min (value_on 0 l.digits) 65;
+}

@@ -1,0 +1,65 @@
+-- The works that entered an operation and did not come back yet, each under the ticket of its enter.
+use Rattle.std.specs.Prelude.{ℕ, ◌+◌, ◌==◌, [], ◌∷◌, Option, Some, None, if◌then◌else◌}
+use Rattle.cipher_ops.specs.declared.room.Work.{Work}
+use Rattle.cipher_ops.specs.declared.room.Work.TheVariants.{Aad, Text, Last}
+use Rattle.rule_model.specs.declared.entry.Entry.TheVariants.{Acted, Settling}
+use Rattle.rule_model.specs.declared.event.Event.{Event}
+use Rattle.rule_model.specs.declared.event.Act.{Act}
+use Rattle.rule_model.specs.declared.event.Act.TheVariants.{EnterAad, EnterUpdate, EnterFinish, Leave, Restart}
+use Rattle.rule_model.specs.declared.reply.Fields.{Fields}
+use Rattle.rule_model.specs.declared.reply.Reply.{Reply}
+use Rattle.rule_model.specs.declared.reply.Reply.TheVariants.{Done, Broken, Stopped}
+use Rattle.rule_model.specs.Acts.{is_enter}
+use Rattle.rule_model.specs.Entries.{History, count_of}
+
+-- a work that is out, and the number of the operation that it entered
+pub record Entered : Type 0 where
+  pub op : ℕ
+  pub work : Work
+
+-- what an entry makes of the tickets: one goes out with its work, one comes back, or all are gone
+pub data TicketChange : Type 0 where
+  SameTickets : TicketChange
+  GoesOut : ℕ → Entered → TicketChange
+  ComesBack : ℕ → TicketChange
+  AllGone : TicketChange
+
+abbrev pub goes_out : Option ℕ → ℕ → Work → TicketChange
+goes_out None op work = SameTickets
+goes_out (Some ticket) op work = GoesOut ticket (record { op = op; work = work })
+
+-- a ticket goes out by an admitted enter, whose reply gives its number
+abbrev pub admitted_ticket : Act → Fields → TicketChange
+admitted_ticket (EnterAad op input) fields = goes_out fields.ticket op (Aad input)
+admitted_ticket (EnterUpdate op input) fields = goes_out fields.ticket op (Text input)
+admitted_ticket (EnterFinish op input signature) fields = goes_out fields.ticket op (Last input signature)
+admitted_ticket (Leave ticket) fields = ComesBack ticket
+admitted_ticket (Restart root) fields = AllGone
+admitted_ticket _ fields = SameTickets
+
+-- a leave whose output is refused brings its ticket back too
+abbrev pub stopped_ticket : Act → TicketChange
+stopped_ticket (Leave ticket) = ComesBack ticket
+stopped_ticket _ = SameTickets
+
+abbrev pub ticket_change : Event → Reply → TicketChange
+ticket_change event (Done fields) = admitted_ticket event.act fields
+ticket_change event (Broken rule code) = SameTickets
+ticket_change event (Stopped code) = stopped_ticket event.act
+
+-- the work of a ticket after a change, where it was this one before
+abbrev pub ticket_after : TicketChange → ℕ → Option Entered → Option Entered
+ticket_after SameTickets ticket before = before
+ticket_after (GoesOut number entered) ticket before = if number == ticket then Some entered else before
+ticket_after (ComesBack number) ticket before = if number == ticket then None else before
+ticket_after AllGone ticket before = None
+
+-- the work that is out under a ticket: that of an admitted enter since the last restart which no leave brought back
+abbrev pub ticket_at : History → ℕ → Option Entered
+ticket_at [] ticket = None
+ticket_at (Settling settled ∷ past) ticket = ticket_at past ticket
+ticket_at (Acted event drawn reply ∷ past) ticket = ticket_after (ticket_change event reply) ticket (ticket_at past ticket)
+
+-- the number that the next ticket takes
+abbrev pub next_ticket : History → ℕ
+next_ticket past = count_of is_enter past + 1
