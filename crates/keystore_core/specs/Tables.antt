@@ -98,9 +98,9 @@ ServesAfter old new event (Err fault) = SameTables old new
 
 -- the same at a step, where a leave has what its job came back with
 abbrev pub AnswersAt : ℕ → Option Done → Tables → Tables → Event → Answered → Type 0
-AnswersAt step done old new event answered =
-    (setup : Setup) (past : History) → StandsAt setup old past step event.act done → AnswersAfter setup past new event answered
+AnswersAt step back old new event answered =
+    (setup : Setup) (past : History) → StandsAt setup old past step event.act back → AnswersAfter setup past new event answered
 
 abbrev pub ServesAt : ℕ → Option Done → Tables → Tables → Event → Result Answered NoMemory → Type 0
-ServesAt step done old new event (Ok answered) = AnswersAt step done old new event answered
-ServesAt step done old new event (Err fault) = SameTables old new
+ServesAt step back old new event (Ok answered) = AnswersAt step back old new event answered
+ServesAt step back old new event (Err fault) = SameTables old new

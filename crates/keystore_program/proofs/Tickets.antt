@@ -36,7 +36,7 @@ done_on None work job back ran is = absurd is
 done_on (Some o) work job back ran is = record { comes = ran.comes _ _ _ _ _ _ work is; refuses = ran.refuses }
 
 pub done_out : (setup : Setup) (past : History) (entered : Option Entered) (job : Option Job) (back : Option JobDone) → IsHeld setup past entered job → Ran job back → IsDoneOut setup past entered back
-done_out setup past None None done held ran = tt
+done_out setup past None None back held ran = tt
 done_out setup past None (Some job) back held ran = absurd held
 done_out setup past (Some entered) None back held ran = absurd held
 done_out setup past (Some entered) (Some job) None held ran = absurd ran
