@@ -3,7 +3,6 @@ use grants::GrantRow;
 use journal_records::{Change, StoreFault};
 use key_database::KeyDatabase;
 use key_domains::Permissions;
-use ks_outside::write_synced;
 use std::alloc::{AllocError, Global};
 use tags::{Bytes, Settled};
 use use_journal::Journal;
@@ -15,180 +14,9 @@ const ROOM: Room = Room {
     pages: 4,
 };
 
-/// Records, each without a closing byte: key 1, alias `m`, of uid 10001, with two uses; key 2, alias `n`, of the same
-/// uid, without a limit; grant 1 of key 1 to uid 10002; a use of key 1.
-const KEY: &[u8] =
-    b"\x4b\x00\x00\x00\x28\x01\x00\x00\x00\x00\x00\x00\x00\x01\x00\x00\x00\x00\x00\x00\x00\x27\x11\
-\x00\x00\x00\x01m\x00\x00\x00\x03\xaa\xbb\xcc\x00\x00\x00\x02\x00\x00\x00\x00\x00\x02";
-
-const OTHER_KEY: &[u8] =
-    b"\x4b\x00\x00\x00\x28\x01\x00\x00\x00\x00\x00\x00\x00\x02\x00\x00\x00\x00\x00\x00\x00\x27\x11\
-\x00\x00\x00\x01n\x00\x00\x00\x03\xaa\xbb\xcc\x00\x00\x00\x02\x00\x00\x00\x00\x00\x00";
-
-const GRANT: &[u8] =
-    b"\x4b\x00\x00\x00\x19\x04\x00\x00\x00\x00\x00\x00\x00\x01\x00\x00\x00\x00\x00\x00\x00\x01\
-\x00\x00\x27\x12\x00\x00\x01\x00";
-
-const USE: &[u8] = b"\x4b\x00\x00\x00\x09\x03\x00\x00\x00\x00\x00\x00\x00\x01";
-
-/// Stores by their records, and the offset of the gate whose record's need is not met, or none. The gates behind a key
-/// stand at 53, and behind a grant of it at 83.
-static STORES: [(&[&[u8]], Option<u64>); 24] = [
-    (&[], None),
-    (&[KEY, GRANT, USE, USE], None),
-    (&[KEY, OTHER_KEY, GRANT, USE], None),
-    // a new key: another number than the next, also that of a live key
-    (&[OTHER_KEY], Some(8)),
-    (&[KEY, KEY], Some(53)),
-    // domain 1; an app of 33 bits
-    (
-        &[
-            b"\x4b\x00\x00\x00\x28\x01\x00\x00\x00\x00\x00\x00\x00\x01\x01\x00\x00\x00\x00\x00\x00\x27\x11\
-\x00\x00\x00\x01m\x00\x00\x00\x03\xaa\xbb\xcc\x00\x00\x00\x02\x00\x00\x00\x00\x00\x02",
-        ],
-        Some(8),
-    ),
-    (
-        &[
-            b"\x4b\x00\x00\x00\x28\x01\x00\x00\x00\x00\x00\x00\x00\x01\x00\x00\x00\x00\x01\x00\x00\x00\x00\
-\x00\x00\x00\x01m\x00\x00\x00\x03\xaa\xbb\xcc\x00\x00\x00\x02\x00\x00\x00\x00\x00\x02",
-        ],
-        Some(8),
-    ),
-    // the same number as a namespace
-    (
-        &[
-            b"\x4b\x00\x00\x00\x28\x01\x00\x00\x00\x00\x00\x00\x00\x01\x02\x00\x00\x00\x01\x00\x00\x00\x00\
-\x00\x00\x00\x01m\x00\x00\x00\x03\xaa\xbb\xcc\x00\x00\x00\x02\x00\x00\x00\x00\x00\x02",
-        ],
-        None,
-    ),
-    // no alias; one that is no UTF-8
-    (
-        &[
-            b"\x4b\x00\x00\x00\x27\x01\x00\x00\x00\x00\x00\x00\x00\x01\x00\x00\x00\x00\x00\x00\x00\x27\x11\
-\x00\x00\x00\x00\x00\x00\x00\x03\xaa\xbb\xcc\x00\x00\x00\x02\x00\x00\x00\x00\x00\x02",
-        ],
-        Some(8),
-    ),
-    (
-        &[
-            b"\x4b\x00\x00\x00\x28\x01\x00\x00\x00\x00\x00\x00\x00\x01\x00\x00\x00\x00\x00\x00\x00\x27\x11\
-\x00\x00\x00\x01\xff\x00\x00\x00\x03\xaa\xbb\xcc\x00\x00\x00\x02\x00\x00\x00\x00\x00\x02",
-        ],
-        Some(8),
-    ),
-    // the end of a key that is not there
-    (
-        &[
-            KEY,
-            b"\x4b\x00\x00\x00\x09\x02\x00\x00\x00\x00\x00\x00\x00\x02",
-        ],
-        Some(53),
-    ),
-    // a use of a key that is not there, of one that is used up, and of one without a limit
-    (&[USE], Some(8)),
-    (&[KEY, USE, USE, USE], Some(81)),
-    (
-        &[
-            KEY,
-            OTHER_KEY,
-            b"\x4b\x00\x00\x00\x09\x03\x00\x00\x00\x00\x00\x00\x00\x02",
-        ],
-        Some(98),
-    ),
-    // a grant of a key that is not there; a number ahead; another number than the grant has
-    (&[GRANT], Some(8)),
-    (
-        &[
-            KEY,
-            b"\x4b\x00\x00\x00\x19\x04\x00\x00\x00\x00\x00\x00\x00\x02\x00\x00\x00\x00\x00\x00\x00\x01\
-\x00\x00\x27\x12\x00\x00\x01\x00",
-        ],
-        Some(53),
-    ),
-    (
-        &[
-            KEY,
-            GRANT,
-            b"\x4b\x00\x00\x00\x19\x04\x00\x00\x00\x00\x00\x00\x00\x02\x00\x00\x00\x00\x00\x00\x00\x01\
-\x00\x00\x27\x12\x00\x00\x01\x04",
-        ],
-        Some(83),
-    ),
-    (&[KEY, GRANT, GRANT], None),
-    // the end of a grant that is not there
-    (
-        &[
-            KEY,
-            b"\x4b\x00\x00\x00\x09\x05\x00\x00\x00\x00\x00\x00\x00\x01",
-        ],
-        Some(53),
-    ),
-    // all keys of domain 1; all of user 42950, and of user 42949
-    (
-        &[b"\x4b\x00\x00\x00\x0a\x06\x01\x00\x00\x00\x00\x00\x00\x27\x11"],
-        Some(8),
-    ),
-    (&[b"\x4b\x00\x00\x00\x05\x07\x00\x00\xa7\xc6"], Some(8)),
-    (&[b"\x4b\x00\x00\x00\x05\x07\x00\x00\xa7\xc5"], None),
-    // a grant of a key that ended with its last use
-    (&[KEY, USE, USE, GRANT], Some(81)),
-    // of two faults that which is no need, though it stands behind
-    (&[USE, b"\x4b\x00\x00\x00\x05\x08"], Some(22)),
-];
-
-/// Writes pieces behind one another, and answers where they end.
-fn write_all(disk: &mut MemoryDisk, pieces: &[&[u8]]) -> Option<u64> {
-    let mut at: u64 = 0;
-    for piece in pieces {
-        let Ok(()) = write_synced(disk, at, piece) else {
-            return None;
-        };
-        at = at.checked_add(piece.len() as u64)?;
-    }
-    Some(at)
-}
-
-/// A disk with a store of these records.
-fn disk_of(alloc: Global, records: &[&[u8]]) -> Option<MemoryDisk<'static>> {
-    let Ok(mut disk) = MemoryDisk::with_room(alloc, ROOM, &[]) else {
-        return None;
-    };
-    let mut at: u64 = 8;
-    write_all(&mut disk, &[b"KSJRNL01".as_slice()])?;
-    for record in records {
-        let Ok(()) = write_synced(&mut disk, at, record) else {
-            return None;
-        };
-        at = at.checked_add(record.len() as u64)?;
-    }
-    let Ok(()) = write_synced(&mut disk, at, b"\0") else {
-        return None;
-    };
-    Some(disk)
-}
-
-/// The offset at which a store is refused: `Some(None)` where it opens, and `None` where anything else comes.
-fn refused_at(alloc: Global, records: &[&[u8]]) -> Option<Option<u64>> {
-    let mut disk = disk_of(alloc, records)?;
-    match KeyDatabase::open(alloc, &mut disk) {
-        Ok(_) => Some(None),
-        Err(StoreFault::Corrupted { offset }) => Some(Some(offset)),
-        Err(_) => None,
-    }
-}
-
-#[test]
-fn each_need_that_is_not_met_is_refused_at_its_gate(rt: HostRuntime) {
-    for (records, wrong) in &STORES {
-        assert_eq!(rt; refused_at(rt.alloc(), records), Some(*wrong));
-    }
-}
-
 /// A change that is made, with the number that a new key or grant takes left to the database.
 #[derive(Drop)]
-enum Step {
+pub(crate) enum Step {
     Create {
         domain: u8,
         nspace: u64,
@@ -218,7 +46,11 @@ enum Step {
 }
 
 /// The change of a step.
-fn change_of(alloc: Global, step: &Step, next: (u64, u64)) -> Result<Change, AllocError> {
+pub(crate) fn change_of(
+    alloc: Global,
+    step: &Step,
+    next: (u64, u64),
+) -> Result<Change, AllocError> {
     let change = match step {
         Step::Create {
             domain,
@@ -290,9 +122,8 @@ fn make(
     database.apply(disk, change)
 }
 
-/// What a database tells: how many keys uid 10001 and namespace 10001 have, how many grants there are, and the next
-/// numbers.
-fn told(database: &KeyDatabase) -> ((u64, u64), usize, (u64, u64)) {
+/// What a database tells.
+fn told(database: &KeyDatabase) -> Told {
     (
         (database.count(0, 10_001), database.count(2, 10_001)),
         database.grants().len(),
@@ -310,8 +141,11 @@ fn app_key(nspace: u64, alias: &'static [u8], limit: u32) -> Step {
     }
 }
 
+/// How many keys uid 10001 and namespace 10001 have, how many grants there are, and the next numbers.
+pub(crate) type Told = ((u64, u64), usize, (u64, u64));
+
 /// Steps, and what is told after each.
-static STEPS: [(Step, ((u64, u64), usize, (u64, u64))); 22] = [
+pub(crate) static STEPS: [(Step, Told); 22] = [
     (
         Step::Create {
             domain: 0,
@@ -465,10 +299,7 @@ fn what_a_key_ends_with_it(rt: HostRuntime) {
 }
 
 /// What a database tells that is opened anew.
-fn told_anew(
-    alloc: Global,
-    disk: &mut MemoryDisk,
-) -> Result<((u64, u64), usize, (u64, u64)), StoreFault> {
+fn told_anew(alloc: Global, disk: &mut MemoryDisk) -> Result<Told, StoreFault> {
     let database = KeyDatabase::open(alloc, disk)?;
     Ok(told(&database))
 }

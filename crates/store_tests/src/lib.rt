@@ -9,4 +9,8 @@ mod disks;
 #[cfg(test)]
 mod journals;
 #[cfg(test)]
+mod needs;
+#[cfg(test)]
 mod records;
+#[cfg(test)]
+mod tables;
