@@ -148,7 +148,8 @@ pub(crate) fn last_round(x: [u8x16; 8]) -> [u8x16; 8]
     ensures blocks { (b : ℕ) (k : List ℕ) → add_round_key (standing result b) (add_round_key k constant)
         ≡ add_round_key (shift_rows (sub_bytes (standing x b))) k }
 {
-    boxed(rows_shifted(x))
+    let shifted = rows_shifted(x);
+    boxed(shifted)
 }
 
 /// InvShiftRows.

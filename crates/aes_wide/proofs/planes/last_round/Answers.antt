@@ -12,5 +12,5 @@ returns-clause-blocks c = λ b k.
     let s = standing c.args.x b in
     let boxed = standing c.boxed.result b in
     let is : add_round_key boxed constant ≡ shift_rows (sub_bytes s) =
-    boxed_standing c.rows_shifted.result c.boxed.result b c.rows_shifted.ensures.whole c.boxed.ensures.columns ∙ ap sub_bytes (c.rows_shifted.ensures.blocks b) ∙ sub_shifted s in
+    boxed_standing c.rows_shifted-shifted.result c.boxed.result b c.rows_shifted-shifted.ensures.whole c.boxed.ensures.columns ∙ ap sub_bytes (c.rows_shifted-shifted.ensures.blocks b) ∙ sub_shifted s in
     sum_moved boxed k ∙ ap (λ t. add_round_key t k) is
