@@ -4,12 +4,12 @@ ghost use Rattle.std.specs.Prelude.{◌≡◌, ◌+◌, ◌^◌, ◌<◌, ◌≤
 ghost use Rattle.wire_frames.specs.Standing.{reach};
 ghost use Rattle.wire_frames.specs.Replies.{reply_body};
 
-use crate::{FrameFault, Frames, reply_frame, request_frame};
 use rule_model::{Act, Entries, Fields, NO_FIELDS, Reply};
 use std::alloc::Global;
 use std::process::Abort;
 use std::test::Fail;
 use tags::{Bytes, Code, Descriptor, NoMemory, Rule, RuleTable};
+use wire_frames::{FrameFault, Frames, reply_frame, request_frame};
 
 /// one frame of each act, in the order of their numbers
 static FRAMES: [&[u8]; 20] = [
@@ -320,7 +320,7 @@ fn a_body_of_262144_bytes_is_read(rt: HostRuntime) -> Result<(), Fail> {
 }
 
 /// A reply with every field.
-#[tactic(auto, unfolding(crate::specs::Replies::reply_body))]
+#[tactic(auto, unfolding(wire_frames::specs::Replies::reply_body))]
 fn full_reply(alloc: Global) -> Result<Reply, NoMemory>
     ensures { IfOk result (λ reply. length (reply_body reply) < 2 ^ 32) }
 {
@@ -349,7 +349,7 @@ fn full_reply(alloc: Global) -> Result<Reply, NoMemory>
 }
 
 /// The replies whose frames stand in the table.
-#[tactic(auto, unfolding(crate::specs::Replies::reply_body))]
+#[tactic(auto, unfolding(wire_frames::specs::Replies::reply_body))]
 fn reply_at(alloc: Global, place: usize) -> Result<Reply, NoMemory>
     ensures { IfOk result (λ reply. length (reply_body reply) < 2 ^ 32) }
 {
