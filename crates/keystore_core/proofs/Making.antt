@@ -1,12 +1,18 @@
 -- A new key: its answer, and the tables after it.
-use Rattle.std.proofs.Common.{◌≡◌, ℕ, ◌+◌, ◌<◌, false, ◌||◌, if◌then◌else◌, List, [], ◌∷◌, length, Option, Some, None, Result, Ok, Err, find, refl, sym, ap, ◌∙◌, subst}
+use Rattle.std.proofs.Common.{◌≡◌, ℕ, ◌+◌, ◌<◌, ◌≤◌, Bool, true, false, ◌&&◌, List, [], ◌∷◌, length, Option, Some, None, Result, Ok, Err, if◌then◌else◌, refl, sym, ap, ◌∙◌, subst}
 use Rattle.std.specs.Option.{option_map}
 use Rattle.tags.specs.declared.code.Code.{Code}
-use Rattle.tags.specs.declared.code.Code.TheVariants.{EntropyFault}
+use Rattle.tags.specs.declared.code.Code.TheVariants.{EntropyFault, StoreFull}
 use Rattle.tags.specs.declared.descriptor.Descriptor.{Descriptor}
+use Rattle.tags.specs.declared.policy.PolicyRow.{PolicyRow}
 use Rattle.tags.specs.declared.rule.Rule.{Rule}
 use Rattle.tags.specs.declared.rule.RuleTable.TheVariants.{K}
 use Rattle.tags.specs.Table.{Ruling, first_broken, where_all_hold}
+use Rattle.journal_records.specs.declared.change.Change.{Change}
+use Rattle.journal_records.specs.Effects.{after}
+use Rattle.journal_records.specs.LastingPart.{Lasting}
+use Rattle.journal_records.specs.Needs.{is_met}
+use Rattle.key_database.specs.Held.{Held, lasting_in}
 use Rattle.key_rules.specs.declared.facts.ImportFacts.{ImportFacts}
 use Rattle.key_rules.specs.declared.facts.NewFacts.{NewFacts}
 use Rattle.key_rules.specs.declared.plan.KeyPlan.{KeyPlan}
@@ -15,46 +21,47 @@ use Rattle.key_rules.specs.Table.{rules_of}
 use Rattle.keymint_ops.specs.declared.creation.NewKey.{NewKey}
 use Rattle.keymint_ops.specs.Creation.{planned, spelled, where_planned}
 use Rattle.rule_model.specs.declared.entry.Entry.TheVariants.{Acted}
-use Rattle.rule_model.specs.declared.entry.KeyRecord.{KeyRecord}
 use Rattle.rule_model.specs.declared.facts.Caller.{Caller}
 use Rattle.rule_model.specs.declared.reply.Reply.{Reply}
 use Rattle.rule_model.specs.declared.reply.Reply.TheVariants.{Done, Broken, Stopped}
 use Rattle.rule_model.specs.declared.event.Event.{Event}
 use Rattle.rule_model.specs.declared.reply.Fields.{Fields}
+use Rattle.rule_model.specs.Access.{owner_of}
 use Rattle.rule_model.specs.Acts.{is_begin, is_connect, is_enter}
-use Rattle.rule_model.specs.Answer.{answer_by_rules, broken_or, no_fields}
+use Rattle.rule_model.specs.Answer.{answer_by_rules, made_in}
+use Rattle.rule_model.specs.Replies.{broken_or, no_fields}
+use Rattle.rule_model.specs.Changes.{after_change, change_of}
 use Rattle.rule_model.specs.Clients.{caller_of}
 use Rattle.rule_model.specs.Drawn.{size_of, wanted_by_key, wanted_by_rules}
-use Rattle.rule_model.specs.Entries.{History}
-use Rattle.rule_model.specs.Keys.{Makes, is_named, key_change, keys_after, keys_of, next_key, owner_of, with_key}
+use Rattle.rule_model.specs.Entries.{History, is_done}
+use Rattle.rule_model.specs.Jobs.{HasJob}
+use Rattle.rule_model.specs.Kept.{kept}
 use Rattle.rule_model.specs.Legal.{MayFollow, Answered, WithoutEntropy}
 use Rattle.rule_model.specs.NewFacts.{new_facts}
 use Rattle.rule_model.specs.Operations.{SameOperations, operation_change}
+use Rattle.rule_model.specs.Places.{has_key_place}
 use Rattle.rule_model.specs.Setup.{Setup}
-use Rattle.rule_model.proofs.Clients.{moves_clients, same_clients}
 use Rattle.rule_model.specs.Tickets.{SameTickets as NoTickets, ticket_change}
+use Rattle.rule_model.proofs.Clients.{moves_clients, same_clients}
 use Rattle.rule_model.proofs.Operations.{moves_operations, same_operations}
 use Rattle.rule_model.proofs.Tickets.{moves_tickets, same_tickets}
 use Rattle.keystore_core.specs.declared.creating.Import.{Import}
-use Rattle.keystore_core.specs.declared.keys.Keys.{Keys}
 use Rattle.keystore_core.specs.declared.tables.Tables.{Tables}
-use Rattle.keystore_core.specs.Creating.{facts_of_import, making, planned_record}
-use Rattle.keystore_core.specs.Keys.{KeysStand, PutsKey, SameKeys, apart, next_in}
+use Rattle.keystore_core.specs.Creating.{creates, facts_of_import, making}
 use Rattle.keystore_core.specs.Tables.{AnswersAfter, IsCaller, SameTables, TablesStand, event_by}
-use Rattle.keystore_core.proofs.KeyTable.{keys_put, keys_stay}
 use Rattle.keystore_core.proofs.Opened.{stays_same}
 use Rattle.keystore_core.proofs.Standing.{called, clients_stay, denied_tables, operations_stay, quiet, same_tables, slots_stay, tickets_stay}
 
-abbrev facts_of : Caller → Descriptor → List ℕ → Option Import → NewFacts
-facts_of caller key params import = new_facts caller key params (option_map facts_of_import import)
+abbrev facts_of : List PolicyRow → Caller → Descriptor → List ℕ → Option Import → NewFacts
+facts_of policy caller key params import = new_facts policy caller key params (option_map facts_of_import import)
 
 making_answer : (setup : Setup) (past : History) (caller : Caller) (key : Descriptor) (params : List ℕ) (import : Option Import) (drawn : List ℕ)
-    → answer_by_rules (making key params import) setup past caller drawn ≡ broken_or (new_key (facts_of caller key params import)) (Done (record no_fields { key = Some (next_key setup past) }))
+    → answer_by_rules (making key params import) setup past caller drawn ≡ broken_or (new_key (facts_of setup.policy caller key params import)) (made_in (kept setup past) caller key)
 making_answer setup past caller key params None drawn = refl
 making_answer setup past caller key params (Some import) drawn = refl
 
 making_wanted : (setup : Setup) (past : History) (caller : Caller) (key : Descriptor) (params : List ℕ) (import : Option Import)
-    → wanted_by_rules (making key params import) setup past caller ≡ wanted_by_key (new_key (facts_of caller key params import)) (option_map facts_of_import import)
+    → wanted_by_rules (making key params import) setup past caller ≡ wanted_by_key (new_key (facts_of setup.policy caller key params import)) (has_key_place (kept setup past) (owner_of caller) key) (option_map facts_of_import import)
 making_wanted setup past caller key params None = refl
 making_wanted setup past caller key params (Some import) = refl
 
@@ -107,122 +114,139 @@ pub is_broken : (facts : NewFacts) (rule : Rule) (code : Code) → planned facts
 unfolding planned
 is_broken facts rule code e = broken_rule facts.import (new_key facts) (rule, code) e
 
--- the pieces that are wanted for it
-pieces_wanted : (import : Option Import) (own : KeyPlan) → size_of (wanted_by_key (Ok own) (option_map facts_of_import import)) ≡ (spelled (option_map facts_of_import import) own).size + 12
+-- the pieces that are wanted for it, where there is a place
+pieces_wanted : (import : Option Import) (own : KeyPlan) → size_of (wanted_by_key (Ok own) true (option_map facts_of_import import)) ≡ (spelled (option_map facts_of_import import) own).size + 12
 pieces_wanted None own = refl
 pieces_wanted (Some import) own = refl
-
-planned_wanted : (setup : Setup) (past : History) (caller : Caller) (key : Descriptor) (params : List ℕ) (import : Option Import) (plan : NewKey)
-    → IsPlanned (facts_of caller key params import) plan → size_of (wanted_by_rules (making key params import) setup past caller) ≡ plan.size + 12
-planned_wanted setup past caller key params import plan is =
-    ap size_of (making_wanted setup past caller key params import ∙ ap (λ found. wanted_by_key found (option_map facts_of_import import)) is.holds)
-    ∙ pieces_wanted import (plan_of (facts_of caller key params import)) ∙ ap (λ (p : NewKey). p.size + 12) (sym is.plan_is)
 
 none_moves : (key : Descriptor) (params : List ℕ) (import : Option Import) → moves_operations (making key params import) ≡ false
 none_moves key params None = refl
 none_moves key params (Some import) = refl
 
-module _ (setup : Setup) (past : History) (tables : Tables) (caller : Caller) (key : Descriptor) (params : List ℕ) (stands : TablesStand setup tables past) (is_caller : IsCaller tables caller) where
-  same : (import : Option Import) → caller ≡ caller_of past (event_by caller (making key params import))
-  same import = called past tables caller (making key params import) stands.clients is_caller
+module _ (setup : Setup) (past : History) (tables : Tables) (caller : Caller) (key : Descriptor) (params : List ℕ) (import : Option Import) (stands : TablesStand setup tables past) (is_caller : IsCaller tables caller) where
+  abbrev Facts : NewFacts
+  Facts = facts_of setup.policy caller key params import
 
-  none : (import : Option Import) (drawn : List ℕ) (reply : Reply) → operation_change setup past (event_by caller (making key params import)) drawn reply ≡ SameOperations
-  none import drawn reply = same_operations setup past (event_by caller (making key params import)) drawn reply (none_moves key params import)
+  abbrev Making : Event
+  Making = event_by caller (making key params import)
 
-  unticketed : (import : Option Import) (reply : Reply) → ticket_change (event_by caller (making key params import)) reply ≡ NoTickets
-  unticketed import reply = same_tickets (event_by caller (making key params import)) reply (no_tickets key params import)
+  abbrev HasPlace : Bool
+  HasPlace = has_key_place (kept setup past) (owner_of caller) key
 
-  answered : (import : Option Import) (drawn : List ℕ) (reply : Reply) → length drawn ≡ size_of (wanted_by_rules (making key params import) setup past caller)
-      → reply ≡ answer_by_rules (making key params import) setup past caller drawn → MayFollow setup past (event_by caller (making key params import)) drawn reply
-  answered None drawn reply drew is = Answered (record {
-    drew = drew ∙ ap (λ c. size_of (wanted_by_rules (making key params None) setup past c)) (same None);
-    is_answer = is ∙ ap (λ c. answer_by_rules (making key params None) setup past c drawn) (same None);
-  })
-  answered (Some import) drawn reply drew is = Answered (record {
-    drew = drew ∙ ap (λ c. size_of (wanted_by_rules (making key params (Some import)) setup past c)) (same (Some import));
-    is_answer = is ∙ ap (λ c. answer_by_rules (making key params (Some import)) setup past c drawn) (same (Some import));
-  })
+  same : caller ≡ caller_of past Making
+  same = called past tables caller (making key params import) stands.clients is_caller
 
-  undrawn : (import : Option Import) (drawn : List ℕ) → length drawn < size_of (wanted_by_rules (making key params import) setup past caller)
-      → MayFollow setup past (event_by caller (making key params import)) drawn (Stopped EntropyFault)
-  undrawn None drawn few = WithoutEntropy (record {
-    drew = subst (λ c. length drawn < size_of (wanted_by_rules (making key params None) setup past c)) (same None) few;
-    is_fault = refl;
-  })
-  undrawn (Some import) drawn few = WithoutEntropy (record {
-    drew = subst (λ c. length drawn < size_of (wanted_by_rules (making key params (Some import)) setup past c)) (same (Some import)) few;
-    is_fault = refl;
-  })
+  none : (drawn : List ℕ) (reply : Reply) → operation_change setup past Making drawn reply ≡ SameOperations
+  none drawn reply = same_operations setup past Making drawn reply (none_moves key params import)
+
+  unticketed : (reply : Reply) → ticket_change Making reply ≡ NoTickets
+  unticketed reply = same_tickets Making reply (no_tickets key params import)
+
+  -- what the tables read is that of the history
+  pub planned_as : (result : Result NewKey (Rule × Code)) → planned (facts_of tables.policy caller key params import) ≡ result → planned Facts ≡ result
+  planned_as result e = ap (λ policy. planned (facts_of policy caller key params import)) (sym stands.keys.policy_is) ∙ e
+
+  pub place_is : has_key_place (lasting_in tables.keys) (owner_of caller) key ≡ HasPlace
+  place_is = ap (λ part. has_key_place part (owner_of caller) key) stands.keys.lasting_is
+
+  built_is : (i : Option Import) (drawn : List ℕ) (reply : Reply) → length drawn ≡ size_of (wanted_by_rules (making key params i) setup past (caller_of past (event_by caller (making key params i))))
+      → reply ≡ answer_by_rules (making key params i) setup past (caller_of past (event_by caller (making key params i))) drawn → MayFollow setup past (event_by caller (making key params i)) drawn reply
+  built_is None drawn reply drew is = Answered (record { drew = drew; is_answer = is })
+  built_is (Some i) drawn reply drew is = Answered (record { drew = drew; is_answer = is })
+
+  answered : (drawn : List ℕ) (reply : Reply) → length drawn ≡ size_of (wanted_by_rules (making key params import) setup past caller)
+      → reply ≡ answer_by_rules (making key params import) setup past caller drawn → MayFollow setup past Making drawn reply
+  answered drawn reply drew is =
+      built_is import drawn reply (drew ∙ ap (λ c. size_of (wanted_by_rules (making key params import) setup past c)) same)
+      (is ∙ ap (λ c. answer_by_rules (making key params import) setup past c drawn) same)
+
+  undrawn_is : (i : Option Import) (drawn : List ℕ) → length drawn < size_of (wanted_by_rules (making key params i) setup past (caller_of past (event_by caller (making key params i))))
+      → MayFollow setup past (event_by caller (making key params i)) drawn (Stopped EntropyFault)
+  undrawn_is None drawn few = WithoutEntropy (record { drew = few; is_fault = refl })
+  undrawn_is (Some i) drawn few = WithoutEntropy (record { drew = few; is_fault = refl })
+
+  -- the answer of a call that leaves all as it is
+  unmade : (new : Tables) (drawn : List ℕ) (reply : Reply) → SameTables tables new → is_done reply ≡ false → MayFollow setup past Making drawn reply
+      → HasJob setup (Acted Making drawn reply ∷ past) reply None → AnswersAfter setup past new Making (record { reply = reply; job = None; drawn = drawn })
+  unmade new drawn reply still denied follows no_job = record {
+    follows = follows;
+    stands = denied_tables setup past Making drawn reply tables new stands still denied (none drawn reply) (unticketed reply);
+    has_job = no_job;
+    stays = stays_same setup past Making drawn reply (none drawn reply);
+  }
+
+  wanted_is : (found : Result KeyPlan (Rule × Code)) (place : Bool) → new_key Facts ≡ found → HasPlace ≡ place
+      → wanted_by_rules (making key params import) setup past caller ≡ wanted_by_key found place (option_map facts_of_import import)
+  wanted_is found place e is = making_wanted setup past caller key params import ∙ ap (λ f. wanted_by_key f HasPlace (option_map facts_of_import import)) e
+      ∙ ap (λ p. wanted_by_key found p (option_map facts_of_import import)) is
+
+  answer_is : (found : Result KeyPlan (Rule × Code)) (drawn : List ℕ) → new_key Facts ≡ found
+      → answer_by_rules (making key params import) setup past caller drawn ≡ broken_or found (made_in (kept setup past) caller key)
+  answer_is found drawn e = making_answer setup past caller key params import drawn ∙ ap (λ f. broken_or f (made_in (kept setup past) caller key)) e
 
   -- a broken rule
-  pub refused : (import : Option Import) (rule : Rule) (code : Code) → planned (facts_of caller key params import) ≡ Err (rule, code)
-      → AnswersAfter setup past tables (event_by caller (making key params import)) (record { reply = Broken rule code; job = None; drawn = [] })
-  refused import rule code e =
-      let broken = is_broken (facts_of caller key params import) rule code e in
-      record {
-        follows = answered import [] (Broken rule code)
-            (sym (ap size_of (making_wanted setup past caller key params import ∙ ap (λ found. wanted_by_key found (option_map facts_of_import import)) broken)))
-            (sym (making_answer setup past caller key params import [] ∙ ap (λ found. broken_or found (Done (record no_fields { key = Some (next_key setup past) }))) broken));
-        stands = denied_tables setup past (event_by caller (making key params import)) [] (Broken rule code) tables tables stands (same_tables tables) refl (none import [] (Broken rule code)) (unticketed import (Broken rule code));
-        has_job = refl;
-        stays = stays_same setup past (event_by caller (making key params import)) [] (Broken rule code) (none import [] (Broken rule code));
-      }
+  pub refused : (rule : Rule) (code : Code) → planned Facts ≡ Err (rule, code)
+      → AnswersAfter setup past tables Making (record { reply = Broken rule code; job = None; drawn = [] })
+  refused rule code e =
+      let broken = is_broken Facts rule code e in
+      unmade tables [] (Broken rule code) (same_tables tables) refl
+      (answered [] (Broken rule code) (sym (ap size_of (wanted_is (Err (rule, code)) HasPlace broken refl))) (sym (answer_is (Err (rule, code)) [] broken))) refl
+
+  -- no place for one more key
+  pub full : (plan : NewKey) → planned Facts ≡ Ok plan → HasPlace ≡ false → AnswersAfter setup past tables Making (record { reply = Stopped StoreFull; job = None; drawn = [] })
+  full plan e no_place =
+      let is = is_planned Facts plan e in
+      unmade tables [] (Stopped StoreFull) (same_tables tables) refl
+      (answered [] (Stopped StoreFull) (sym (ap size_of (wanted_is (Ok (plan_of Facts)) false is.holds no_place)))
+      (sym (answer_is (Ok (plan_of Facts)) [] is.holds ∙ ap (λ p. if p then Done (record no_fields { key = Some (kept setup past).next_key }) else Stopped StoreFull) no_place))) refl
+
+  planned_wanted : (plan : NewKey) → IsPlanned Facts plan → HasPlace ≡ true → size_of (wanted_by_rules (making key params import) setup past caller) ≡ plan.size + 12
+  planned_wanted plan is place =
+      ap size_of (wanted_is (Ok (plan_of Facts)) true is.holds place) ∙ pieces_wanted import (plan_of Facts) ∙ ap (λ (p : NewKey). p.size + 12) (sym is.plan_is)
 
   -- a draw that failed
-  pub without_entropy : (import : Option Import) (new : Tables) (plan : NewKey) (drawn : List ℕ) → planned (facts_of caller key params import) ≡ Ok plan
+  pub without_entropy : (new : Tables) (plan : NewKey) (drawn : List ℕ) → planned Facts ≡ Ok plan → HasPlace ≡ true
       → SameTables tables new → length drawn < plan.size + 12
-      → AnswersAfter setup past new (event_by caller (making key params import)) (record { reply = Stopped EntropyFault; job = None; drawn = drawn })
-  without_entropy import new plan drawn e still few =
-      let is = is_planned (facts_of caller key params import) plan e in
-      record {
-        follows = undrawn import drawn (subst (λ n. length drawn < n) (sym (planned_wanted setup past caller key params import plan is)) few);
-        stands = denied_tables setup past (event_by caller (making key params import)) drawn (Stopped EntropyFault) tables new stands still refl (none import drawn (Stopped EntropyFault)) (unticketed import (Stopped EntropyFault));
-        has_job = refl;
-        stays = stays_same setup past (event_by caller (making key params import)) drawn (Stopped EntropyFault) (none import drawn (Stopped EntropyFault));
-      }
+      → AnswersAfter setup past new Making (record { reply = Stopped EntropyFault; job = None; drawn = drawn })
+  without_entropy new plan drawn e place still few =
+      let is = is_planned Facts plan e in
+      unmade new drawn (Stopped EntropyFault) still refl
+      (undrawn_is import drawn (subst (λ c. length drawn < size_of (wanted_by_rules (making key params import) setup past c)) same (subst (λ n. length drawn < n) (sym (planned_wanted plan is place)) few))) refl
 
-  -- the record of a key that is made
-  made_record : (import : Option Import) (plan : NewKey) (number : ℕ) (drawn : List ℕ) → IsPlanned (facts_of caller key params import) plan
-      → key_change (making key params import) caller drawn number ≡ Makes (planned_record number (owner_of caller) key plan import drawn)
-  made_record None plan number drawn is = rw is.plan_is refl
-  made_record (Some import) plan number drawn is = rw is.plan_is refl
-
-  made_answer : (import : Option Import) (plan : NewKey) (number : ℕ) (drawn : List ℕ) → IsPlanned (facts_of caller key params import) plan → number ≡ next_key setup past
-      → Done (record no_fields { key = Some number }) ≡ answer_by_rules (making key params import) setup past caller drawn
-  made_answer import plan number drawn is next =
-      ap (λ n. Done (record no_fields { key = Some n })) next
-      ∙ sym (making_answer setup past caller key params import drawn ∙ ap (λ found. broken_or found (Done (record no_fields { key = Some (next_key setup past) }))) is.holds)
+  -- the change of an entry that makes a key
+  made_change : (i : Option Import) (plan : NewKey) (part : Lasting) (drawn : List ℕ) → IsPlanned (facts_of setup.policy caller key params i) plan
+      → change_of (making key params i) setup.policy part caller drawn ≡ Some (creates part.next_key (owner_of caller) key plan i drawn)
+  made_change None plan part drawn is = rw is.plan_is refl
+  made_change (Some i) plan part drawn is = rw is.plan_is refl
 
   -- the keys after one that is made
-  made_keys : (import : Option Import) (middle new : Keys) (made : KeyRecord) (drawn : List ℕ) (fields : Fields) → SameKeys tables.keys middle → PutsKey made middle new
-      → key_change (making key params import) (caller_of past (event_by caller (making key params import))) drawn (next_key setup past) ≡ Makes made
-      → KeysStand setup new (Acted (event_by caller (making key params import)) drawn (Done fields) ∷ past)
-  made_keys import middle new made drawn fields still puts is =
-      keys_put setup past _ made middle new (keys_stay setup past past tables.keys middle stands.keys still refl refl) puts
-      (ap (λ change. keys_after change (keys_of setup past)) is) (one_more import) where
-        one_more : (i : Option Import) → next_key setup (Acted (event_by caller (making key params i)) drawn (Done fields) ∷ past) ≡ next_key setup past + 1
-        one_more None = refl
-        one_more (Some i) = refl
+  made_kept : (middle new : Held) (plan : NewKey) (drawn : List ℕ) (fields : Fields) → IsPlanned Facts plan → lasting_in middle ≡ kept setup past
+      → lasting_in new ≡ after (lasting_in middle) (creates (lasting_in middle).next_key (owner_of caller) key plan import drawn)
+      → lasting_in new ≡ kept setup (Acted Making drawn (Done fields) ∷ past)
+  made_kept middle new plan drawn fields is before e =
+      e ∙ ap (λ part. after part (creates part.next_key (owner_of caller) key plan import drawn)) before
+      ∙ ap (λ change. after_change change (kept setup past)) (sym (made_change import plan (kept setup past) drawn is))
+      ∙ ap (λ c. after_change (change_of (making key params import) setup.policy (kept setup past) c drawn) (kept setup past)) same
 
-  pub made : (import : Option Import) (middle : Tables) (new : Keys) (plan : NewKey) (drawn : List ℕ) (number : ℕ) → planned (facts_of caller key params import) ≡ Ok plan
-      → length drawn ≡ plan.size + 12 → number ≡ next_in middle.keys → SameTables tables middle → PutsKey (planned_record number (owner_of caller) key plan import drawn) middle.keys new
-      → AnswersAfter setup past (record middle { keys = new }) (event_by caller (making key params import)) (record { reply = Done (record no_fields { key = Some number }); job = None; drawn = drawn })
-  made import middle new plan drawn number e long first still puts =
-      let is = is_planned (facts_of caller key params import) plan e in
-      let next : number ≡ next_key setup past = first ∙ still.keys.next ∙ stands.keys.next in
-      let event : Event = event_by caller (making key params import) in
-      let reply : Reply = Done (record no_fields { key = Some number }) in
+  pub made : (middle : Tables) (new : Held) (plan : NewKey) (drawn : List ℕ) → planned Facts ≡ Ok plan → HasPlace ≡ true
+      → length drawn ≡ plan.size + 12 → SameTables tables middle
+      → lasting_in new ≡ after (lasting_in middle.keys) (creates (lasting_in middle.keys).next_key (owner_of caller) key plan import drawn)
+      → AnswersAfter setup past (record middle { keys = new }) Making (record { reply = Done (record no_fields { key = Some (lasting_in middle.keys).next_key }); job = None; drawn = drawn })
+  made middle new plan drawn e place long still makes =
+      let is = is_planned Facts plan e in
+      let before : lasting_in middle.keys ≡ kept setup past = still.keys.lasting_is ∙ stands.keys.lasting_is in
+      let reply : Reply = Done (record no_fields { key = Some (lasting_in middle.keys).next_key }) in
       record {
-        follows = answered import drawn reply (long ∙ sym (planned_wanted setup past caller key params import plan is)) (made_answer import plan number drawn is next);
+        follows = answered drawn reply (long ∙ sym (planned_wanted plan is place))
+            (ap (λ (part : Lasting). Done (record no_fields { key = Some part.next_key })) before
+            ∙ sym (answer_is (Ok (plan_of Facts)) drawn is.holds ∙ ap (λ p. if p then Done (record no_fields { key = Some (kept setup past).next_key }) else Stopped StoreFull) place));
         stands = record {
-          clients = clients_stay setup past event drawn reply tables.clients middle.clients stands.clients still.clients (same_clients event reply (moves_none key params import)) (connects_none key params import);
-          keys = made_keys import middle.keys new (planned_record number (owner_of caller) key plan import drawn) drawn _ still.keys puts
-              (ap (λ c. key_change (making key params import) c drawn (next_key setup past)) (sym (same import)) ∙ ap (λ n. key_change (making key params import) caller drawn n) (sym next)
-              ∙ made_record import plan number drawn is);
-          operations = operations_stay setup past event drawn reply tables.operations middle.operations stands.operations still.operations (none import drawn reply) (begins_none key params import);
-          slots = slots_stay setup past event drawn reply tables.slots middle.slots stands.slots still.slots (none import drawn reply);
-          tickets = tickets_stay setup past event drawn reply tables.tickets middle.tickets stands.tickets still.tickets (unticketed import reply) (quiet is_enter past event drawn reply (enters_none key params import)) (stays_same setup past event drawn reply (none import drawn reply));
+          clients = clients_stay setup past Making drawn reply tables.clients middle.clients stands.clients still.clients (same_clients Making reply (moves_none key params import)) (connects_none key params import);
+          keys = record { policy_is = still.keys.policy_is ∙ stands.keys.policy_is; lasting_is = made_kept middle.keys new plan drawn _ is before makes };
+          operations = operations_stay setup past Making drawn reply tables.operations middle.operations stands.operations still.operations (none drawn reply) (begins_none key params import);
+          slots = slots_stay setup past Making drawn reply tables.slots middle.slots stands.slots still.slots (none drawn reply);
+          tickets = tickets_stay setup past Making drawn reply tables.tickets middle.tickets stands.tickets still.tickets (unticketed reply) (quiet is_enter past Making drawn reply (enters_none key params import)) (stays_same setup past Making drawn reply (none drawn reply));
         };
         has_job = refl;
-        stays = stays_same setup past event drawn reply (none import drawn reply);
+        stays = stays_same setup past Making drawn reply (none drawn reply);
       }
