@@ -180,8 +180,8 @@ pub few_tickets : (tables : Tables) → ∥ IsTables tables (2 ^ 62 - 1) ∥₁ 
 few_tickets tables is = ∥∥₁_elim is le_prop (λ t. omega (arith, t.stands.tickets.given, count_few is_enter t.past, t.few))
 
 -- tables at a step are tables of few entries
-pub at_few : (tables : Tables) (step : ℕ) (act : Act) (done : Option JobDone) → step ≤ 2 ^ 62 → ∥ IsAt tables step act done ∥₁ → ∥ IsTables tables (2 ^ 62 - 1) ∥₁
-at_few tables step act done few at = ∥∥₁_map at (λ t. record {
+pub at_few : (tables : Tables) (step : ℕ) (act : Act) (back : Option JobDone) → step ≤ 2 ^ 62 → ∥ IsAt tables step act back ∥₁ → ∥ IsTables tables (2 ^ 62 - 1) ∥₁
+at_few tables step act back few at = ∥∥₁_map at (λ t. record {
   setup = t.setup;
   past = t.past;
   stands = t.stands.tables_stand;
@@ -192,8 +192,8 @@ pub IsLater-prop : (slots : SlotTable CipherState) (next : ℕ) → IsProp (IsLa
 IsLater-prop slots next = hlevel props
 
 -- the stamps of the slots are of steps before this one
-pub at_later : (tables : Tables) (step : ℕ) (act : Act) (done : Option JobDone) → ∥ IsAt tables step act done ∥₁ → IsLater tables.slots step
-at_later tables step act done at = ∥∥₁_elim at (IsLater-prop tables.slots step) (λ t. t.stands.tables_stand.slots.later step (omega (arith, t.stands.step_is)))
+pub at_later : (tables : Tables) (step : ℕ) (act : Act) (back : Option JobDone) → ∥ IsAt tables step act back ∥₁ → IsLater tables.slots step
+at_later tables step act back at = ∥∥₁_elim at (IsLater-prop tables.slots step) (λ t. t.stands.tables_stand.slots.later step (omega (arith, t.stands.step_is)))
 
 -- tables in which one part is another that answers the same
 pub same_but_keys : (tables : Tables) (new : Held) → lasting_in new ≡ lasting_in tables.keys → SameTables tables (record tables { keys = new })
@@ -224,18 +224,18 @@ same_but_tickets tables tickets same = record {
 }
 
 -- what serves after every history serves at a step
-pub at_any : (old new : Tables) (event : Event) (result : Result Answered NoMemory) (step : ℕ) (done : Option JobDone) → ServesAfter old new event result → ServesAt step done old new event result
-at_any old new event (Ok answered) step done serves = λ setup past at. serves setup past at.tables_stand
-at_any old new event (Err fault) step done serves = serves
+pub at_any : (old new : Tables) (event : Event) (result : Result Answered NoMemory) (step : ℕ) (back : Option JobDone) → ServesAfter old new event result → ServesAt step back old new event result
+at_any old new event (Ok answered) step back serves = λ setup past at. serves setup past at.tables_stand
+at_any old new event (Err fault) step back serves = serves
 
 -- a begin looks at no job
-pub begin_at : (old new : Tables) (caller : Caller) (key : Descriptor) (params : List ℕ) (forced : Bool) (result : Result Answered NoMemory) (step : ℕ) (done : Option JobDone)
-    → ServesAt step None old new (event_by caller (CreateOperation key params forced)) result → ServesAt step done old new (event_by caller (CreateOperation key params forced)) result
-begin_at old new caller key params forced (Ok answered) step done serves = λ setup past at. serves setup past (record { tables_stand = at.tables_stand; step_is = at.step_is; done_is = tt })
-begin_at old new caller key params forced (Err fault) step done serves = serves
+pub begin_at : (old new : Tables) (caller : Caller) (key : Descriptor) (params : List ℕ) (forced : Bool) (result : Result Answered NoMemory) (step : ℕ) (back : Option JobDone)
+    → ServesAt step None old new (event_by caller (CreateOperation key params forced)) result → ServesAt step back old new (event_by caller (CreateOperation key params forced)) result
+begin_at old new caller key params forced (Ok answered) step back serves = λ setup past at. serves setup past (record { tables_stand = at.tables_stand; step_is = at.step_is; done_is = tt })
+begin_at old new caller key params forced (Err fault) step back serves = serves
 
-pub at_begin : (tables : Tables) (step : ℕ) (act : Act) (done : Option JobDone) (key : Descriptor) (params : List ℕ) (forced : Bool) → ∥ IsAt tables step act done ∥₁ → ∥ IsAt tables step (CreateOperation key params forced) None ∥₁
-at_begin tables step act done key params forced at = ∥∥₁_map at (λ t. record {
+pub at_begin : (tables : Tables) (step : ℕ) (act : Act) (back : Option JobDone) (key : Descriptor) (params : List ℕ) (forced : Bool) → ∥ IsAt tables step act back ∥₁ → ∥ IsAt tables step (CreateOperation key params forced) None ∥₁
+at_begin tables step act back key params forced at = ∥∥₁_map at (λ t. record {
   setup = t.setup;
   past = t.past;
   stands = record { tables_stand = t.stands.tables_stand; step_is = t.stands.step_is; done_is = tt };

@@ -54,16 +54,16 @@ pub record IsTables (tables : Tables) (most : ℕ) : Type 0 where
 
 -- The tables stand for a history after which this is the step's number, and a leave of a ticket that is out has what its job
 -- came back with.
-pub record StandsAt (setup : Setup) (tables : Tables) (past : History) (step : ℕ) (act : Act) (done : Option Done) : Type 0 where
+pub record StandsAt (setup : Setup) (tables : Tables) (past : History) (step : ℕ) (act : Act) (back : Option Done) : Type 0 where
   pub tables_stand : TablesStand setup tables past
   pub step_is : step ≡ step_of past
-  pub done_is : HasDone setup past act done
+  pub done_is : HasDone setup past act back
 
 -- some history is such
-pub record IsAt (tables : Tables) (step : ℕ) (act : Act) (done : Option Done) : Type 0 where
+pub record IsAt (tables : Tables) (step : ℕ) (act : Act) (back : Option Done) : Type 0 where
   pub setup : Setup
   pub past : History
-  pub stands : StandsAt setup tables past step act done
+  pub stands : StandsAt setup tables past step act back
 
 -- the uid of a caller is that of the client
 abbrev pub IsCaller : Tables → Caller → Type 0
@@ -92,9 +92,9 @@ ServesAfter old new event (Err fault) = SameTables old new
 
 -- the same at a step, where a leave has what its job came back with
 abbrev pub AnswersAt : ℕ → Option Done → Tables → Tables → Event → Answered → Type 0
-AnswersAt step done old new event answered =
-    (setup : Setup) (past : History) → StandsAt setup old past step event.act done → AnswersAfter setup past new event answered
+AnswersAt step back old new event answered =
+    (setup : Setup) (past : History) → StandsAt setup old past step event.act back → AnswersAfter setup past new event answered
 
 abbrev pub ServesAt : ℕ → Option Done → Tables → Tables → Event → Result Answered NoMemory → Type 0
-ServesAt step done old new event (Ok answered) = AnswersAt step done old new event answered
-ServesAt step done old new event (Err fault) = SameTables old new
+ServesAt step back old new event (Ok answered) = AnswersAt step back old new event answered
+ServesAt step back old new event (Err fault) = SameTables old new
