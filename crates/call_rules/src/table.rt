@@ -1,14 +1,12 @@
 //! Table A, walked in its order for each call.
 
-ghost use Rattle.std.specs.Prelude.{◌≡◌, ◌≤◌, false, true, OnOk};
+ghost use Rattle.std.specs.Prelude.{◌≡◌, ◌≤◌, ◌++◌, false, true, List, Err, IfErr, OnOk};
 ghost use Rattle.tags.specs.declared.rule.RuleTable.TheVariants.{A};
-ghost use Rattle.tags.specs.Table.{first_broken, rule_of};
+ghost use Rattle.tags.specs.Table.{Check, first_broken, rule_of};
 ghost use Rattle.call_rules.specs.Rules as rules;
 ghost use Rattle.call_rules.specs.Table as spec;
 
-use crate::rules::{
-    is_in_policy, is_owned, is_shared, is_user, may_list, names_key, names_owner,
-};
+use crate::rules::{is_in_policy, is_owned, is_shared, is_user, may_list, names_key, names_owner};
 use crate::{KeyCallFacts, SystemCallFacts};
 use key_domains::{Permission, Permissions};
 use tags::{Code, Descriptor, Rule, RuleTable, Ruling, check};
@@ -40,6 +38,7 @@ fn check_key_call(
     facts: &KeyCallFacts,
 ) -> Ruling
     ensures first { result ≡ first_broken A (spec.key_call_rules form permission key.now facts.now) }
+    ensures stops { IfErr result (λ broken. (later : List Check) → first_broken A (spec.key_call_rules form permission key.now facts.now ++ later) ≡ Err broken) }
     ensures connected { OnOk result (facts.now.connected ≡ true) }
     ensures found { OnOk result (facts.now.found ≡ true) }
 {
@@ -51,11 +50,7 @@ fn check_key_call(
         is_in_policy(key.domain, facts.row),
     )?;
     check(rule(5), Code::KeyNotFound, facts.found)?;
-    check(
-        rule(6),
-        Code::PermissionDenied,
-        facts.bits.has(permission),
-    )?;
+    check(rule(6), Code::PermissionDenied, facts.bits.has(permission))?;
     Ok(())
 }
 
@@ -83,13 +78,10 @@ pub fn check_grant(key: &Descriptor, asked: Permissions, facts: &KeyCallFacts) -
     ensures connected { OnOk result (facts.now.connected ≡ true) }
     ensures found { OnOk result (facts.now.found ≡ true) }
 {
-    check_key_call(is_shared(key.domain), Permission::Grant, key, facts)?;
-    check(
-        rule(8),
-        Code::PermissionDenied,
-        facts.bits.can_share(asked),
-    )?;
-    Ok(())
+    match check_key_call(is_shared(key.domain), Permission::Grant, key, facts) {
+        Ok(()) => check(rule(8), Code::PermissionDenied, facts.bits.can_share(asked)),
+        Err(broken) => Err(broken),
+    }
 }
 
 /// The rules of an ungrant; `shared` says that there is a grant of the key to the uid that the call names. Where none is
@@ -100,9 +92,10 @@ pub fn check_ungrant(key: &Descriptor, shared: bool, facts: &KeyCallFacts) -> Ru
     ensures found { OnOk result (facts.now.found ≡ true) }
     ensures shared { OnOk result (shared ≡ true) }
 {
-    check_key_call(is_shared(key.domain), Permission::Grant, key, facts)?;
-    check(rule(9), Code::KeyNotFound, shared)?;
-    Ok(())
+    match check_key_call(is_shared(key.domain), Permission::Grant, key, facts) {
+        Ok(()) => check(rule(9), Code::KeyNotFound, shared),
+        Err(broken) => Err(broken),
+    }
 }
 
 /// The rules of getNumberOfEntries and listEntriesBatched; `row` is the bits of the policy's row of the caller's uid and the
@@ -114,16 +107,8 @@ pub fn check_listing(connected: bool, domain: u32, row: Option<u32>) -> Ruling
 {
     check(rule(1), Code::InvalidArgument, connected)?;
     check(rule(2), Code::InvalidArgument, is_owned(domain))?;
-    check(
-        rule(4),
-        Code::PermissionDenied,
-        is_in_policy(domain, row),
-    )?;
-    check(
-        rule(6),
-        Code::PermissionDenied,
-        may_list(domain, row),
-    )?;
+    check(rule(4), Code::PermissionDenied, is_in_policy(domain, row))?;
+    check(rule(6), Code::PermissionDenied, may_list(domain, row))?;
     Ok(())
 }
 
@@ -163,11 +148,7 @@ pub fn check_clear_namespace(domain: u32, nspace: u64, facts: &SystemCallFacts) 
     ensures owner { OnOk result (rules.names_owner domain nspace ≡ true) }
 {
     check(rule(1), Code::InvalidArgument, facts.connected)?;
-    check(
-        rule(2),
-        Code::InvalidArgument,
-        names_owner(domain, nspace),
-    )?;
+    check(rule(2), Code::InvalidArgument, names_owner(domain, nspace))?;
     check(rule(3), Code::PermissionDenied, facts.system)?;
     Ok(())
 }
