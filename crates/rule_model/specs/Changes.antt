@@ -2,7 +2,6 @@
 use Rattle.std.specs.Prelude.{ℕ, ◌==◌, ◌++◌, List, [], Option, Some, None, if◌then◌else◌, unwrap_or, take, drop, find}
 use Rattle.std.specs.Option.{option_and_then, option_map, option_map_or}
 use Rattle.tags.specs.declared.descriptor.Descriptor.{Descriptor}
-use Rattle.tags.specs.declared.param.Param.{Param}
 use Rattle.tags.specs.declared.policy.PolicyRow.{PolicyRow}
 use Rattle.tag_lists.specs.Spelling.{spelling}
 use Rattle.key_domains.specs.Domains.{domain_app, domain_selinux}
@@ -14,7 +13,7 @@ use Rattle.journal_records.specs.declared.record.KeyRecord.{KeyRecord}
 use Rattle.journal_records.specs.Effects.{after}
 use Rattle.journal_records.specs.LastingPart.{Lasting}
 use Rattle.key_rules.specs.declared.plan.KeyPlan.{KeyPlan}
-use Rattle.key_rules.specs.Creation.{material_size, plan_of}
+use Rattle.key_rules.specs.Creation.{plan_of}
 use Rattle.rule_model.specs.declared.event.Act.{Act}
 use Rattle.rule_model.specs.declared.event.Act.TheVariants.{GenerateKey, ImportKey, DeleteKey, Grant, Ungrant, ClearNamespace, UserRemoved}
 use Rattle.rule_model.specs.declared.facts.Caller.{Caller}
@@ -29,16 +28,11 @@ abbrev pub owner_for : ℕ → ℕ → ℕ → ℕ × ℕ
 owner_for uid domain nspace = if domain == domain_selinux then (domain_selinux, nspace) else (domain_app, uid)
 
 -- the material of a new key: the imported one, or the first bytes drawn
-abbrev pub material_of : Option (List ℕ) → List Param → List ℕ → List ℕ
-material_of None list drawn = take (material_size list) drawn
-material_of (Some material) list drawn = material
+abbrev pub material_of : Option (List ℕ) → List ℕ → List ℕ
+material_of None drawn = drawn
+material_of (Some material) drawn = material
 
--- the 12 bytes of the nonce: all that is drawn for an import, and what is drawn after a generated material
-abbrev pub seal_nonce : Option (List ℕ) → List Param → List ℕ → List ℕ
-seal_nonce None list drawn = drop (material_size list) drawn
-seal_nonce (Some material) list drawn = drawn
-
--- How a key's material is kept in its record: behind the 12 bytes of the nonce that was drawn for it.
+-- How a key's material is kept in its record: behind the nonce, the 12 bytes that were drawn last for it.
 abbrev pub kept_as : List ℕ → List ℕ → List ℕ
 kept_as nonce material = nonce ++ material
 
@@ -49,7 +43,7 @@ material_in key = drop 12 key.blob
 abbrev pub creating : Lasting → ℕ → Descriptor → KeyPlan → Option (List ℕ) → List ℕ → Change
 creating part uid key plan import drawn =
     changes.Create part.next_key (owner_for uid key.domain key.nspace).0 (owner_for uid key.domain key.nspace).1 (alias_of key)
-    (kept_as (seal_nonce import plan.list drawn) (material_of import plan.list drawn)) (spelling plan.list) plan.limit
+    (kept_as (drop plan.size drawn) (material_of import (take plan.size drawn))) (spelling plan.list) plan.limit
 
 -- the grant of a key to a uid
 abbrev pub grant_at : Lasting → ℕ → ℕ → Option GrantRow

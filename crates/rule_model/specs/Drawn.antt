@@ -4,9 +4,8 @@ use Rattle.tags.specs.declared.code.Code.{Code}
 use Rattle.tags.specs.declared.code.Code.TheVariants.{EntropyFault}
 use Rattle.tags.specs.declared.plan.Plan.{Plan}
 use Rattle.tags.specs.declared.rule.Rule.{Rule}
-use Rattle.key_rules.specs.declared.facts.ImportFacts.{ImportFacts}
 use Rattle.key_rules.specs.declared.plan.KeyPlan.{KeyPlan}
-use Rattle.key_rules.specs.Creation.{material_size, new_key}
+use Rattle.key_rules.specs.Creation.{new_key}
 use Rattle.use_rules.specs.declared.facts.BeginFacts.{BeginFacts}
 use Rattle.use_rules.specs.Plans.{nonce_wanted}
 use Rattle.use_rules.specs.Table as begin_table
@@ -38,11 +37,10 @@ abbrev pub no_pieces : Pieces
 no_pieces = record { first = 0; second = 0 }
 
 -- what a new key draws, where there is a place for it: a generated material, and then the 12 bytes of a nonce
-abbrev pub wanted_by_key : Result KeyPlan (Rule × Code) → Bool → Option ImportFacts → Pieces
-wanted_by_key (Err broken) place import = no_pieces
-wanted_by_key (Ok plan) false import = no_pieces
-wanted_by_key (Ok plan) true None = record { first = material_size plan.list; second = 12 }
-wanted_by_key (Ok plan) true (Some import) = record { first = 0; second = 12 }
+abbrev pub wanted_by_key : Result KeyPlan (Rule × Code) → Bool → Pieces
+wanted_by_key (Err broken) place = no_pieces
+wanted_by_key (Ok plan) false = no_pieces
+wanted_by_key (Ok plan) true = record { first = plan.size; second = 12 }
 
 -- what a begin draws: the nonce, where one is wanted
 abbrev pub wanted_by_begin : Result Plan (Rule × Code) → BeginFacts → Pieces
@@ -51,10 +49,9 @@ wanted_by_begin (Ok plan) facts = record { first = nonce_wanted (asked_of facts)
 
 abbrev pub wanted_by_rules : Act → Setup → History → Caller → Pieces
 wanted_by_rules (GenerateKey key params) setup past caller =
-    wanted_by_key (new_key (new_facts setup.policy caller key params None)) (has_key_place (kept setup past) (owner_of caller) key) None
+    wanted_by_key (new_key (new_facts setup.policy caller key params None)) (has_key_place (kept setup past) (owner_of caller) key)
 wanted_by_rules (ImportKey key params format material) setup past caller =
     wanted_by_key (new_key (new_facts setup.policy caller key params (import_of format material))) (has_key_place (kept setup past) (owner_of caller) key)
-    (import_of format material)
 wanted_by_rules (CreateOperation key params forced) setup past caller =
     wanted_by_begin (begin_table.answer (begin_facts setup past caller key params forced)) (begin_facts setup past caller key params forced)
 wanted_by_rules _ setup past caller = no_pieces
