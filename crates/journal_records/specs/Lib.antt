@@ -1,6 +1,7 @@
 pub mod Effects
 pub mod Holding
 pub mod LastingPart
+pub mod Lookups
 pub mod Needs
 pub mod Reading
 pub mod Spelling

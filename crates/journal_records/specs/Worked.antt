@@ -48,7 +48,8 @@ pub record WorkedExamples : Type 0 where
   pub rebound : lasting_of (create 2 3 ∷ Grant (grant_row 1 256) ∷ create 1 2 ∷ []) ≡ left_by (key 2 3 3 ∷ []) [] 3 2
   pub deleted : lasting_of (Delete 1 ∷ Grant (grant_row 1 256) ∷ create 1 2 ∷ []) ≡ left_by [] [] 2 2
   pub no_such_key : lasting_of (Delete 2 ∷ create 1 2 ∷ []) ≡ None
-  pub cleared : lasting_of (Clear 0 10001 ∷ create 1 2 ∷ []) ≡ left_by [] [] 2 1
+  pub used_up_and_granted : lasting_of (Use 1 ∷ Grant (grant_row 1 256) ∷ Use 1 ∷ create 1 2 ∷ []) ≡ left_by [] [] 2 2
+  pub cleared : lasting_of (Clear 0 10001 ∷ Grant (grant_row 1 256) ∷ create 1 2 ∷ []) ≡ left_by [] [] 2 2
   pub other_cleared : lasting_of (Clear 2 10001 ∷ create 1 2 ∷ []) ≡ left_by (key 1 2 2 ∷ []) [] 2 1
   pub no_domain_cleared : lasting_of (Clear 1 10001 ∷ create 1 2 ∷ []) ≡ None
   pub user_removed : lasting_of (Removed 0 ∷ Grant (grant_row 1 256) ∷ create 1 2 ∷ []) ≡ left_by [] [] 2 2

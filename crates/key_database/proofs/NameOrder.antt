@@ -11,7 +11,8 @@ use Rattle.std.proofs.lemmas.Bool.{cases_order, eq-eqb, ne_eqb}
 use Rattle.std.proofs.lemmas.Map.Text.{is_eq-slice_cmp}
 use Rattle.journal_records.specs.declared.record.KeyRecord.{KeyRecord}
 use Rattle.journal_records.specs.LastingPart.{is_named}
-use Rattle.key_database.specs.Names.{Name, alias_cmp, owner_cmp, padded_cmp, name_cmp, padded, name_of, is_at_name}
+use Rattle.journal_records.specs.Lookups.{alias_cmp}
+use Rattle.key_database.specs.Names.{Name, owner_cmp, padded_cmp, name_cmp, padded, name_of, is_at_name}
 
 pub owner_total : IsTotalOrder owner_cmp
 owner_total = then_total (on_total (λ (o : ℕ × ℕ). o.0) nat_cmp_total) (on_total (λ (o : ℕ × ℕ). o.1) nat_cmp_total)

@@ -14,9 +14,9 @@ use Rattle.std.proofs.lemmas.Option.{none-some}
 use Rattle.grants.proofs.Finding.{found_has}
 use Rattle.journal_records.specs.declared.record.KeyRecord.{KeyRecord}
 use Rattle.journal_records.specs.LastingPart.{has_id, is_owned, is_named, is_of_user}
-use Rattle.key_database.specs.Names.{Name, alias_cmp, owner_cmp, name_cmp, name_of, key_name, is_at_name}
+use Rattle.key_database.specs.Names.{Name, owner_cmp, name_cmp, name_of, key_name, is_at_name}
 use Rattle.key_database.specs.Rows.{AreRows, IsBefore, IsFit, NonePass}
-use Rattle.key_database.specs.Table.{is_after, IsNextName}
+use Rattle.journal_records.specs.Lookups.{alias_cmp, is_after, IsNextName}
 use Rattle.key_database.specs.First.{start_of}
 use Rattle.key_database.specs.First.{IsFirstFrom}
 use Rattle.key_database.proofs.NameOrder.{name_total, owner_test, owner_total, named_cmp, pads_are, cut_test}

@@ -1,16 +1,31 @@
--- The lasting part that a part of the database holds, and the room that a change of it needs.
-use Rattle.std.specs.Prelude.{◌≡◌, Bool, true, false, ◌||◌}
-use Rattle.grants.specs.Table as grant_table
+-- The table of what lasts as its callers see it: the lasting part, and the room that a change of it needs.
+use Rattle.std.specs.Prelude.{◌≡◌, ◌<◌, ◌≤◌, ℕ, Bool, true, false, ◌||◌}
 use Rattle.journal_records.specs.declared.change.Change.{Change}
 use Rattle.journal_records.specs.declared.change.Change.TheVariants.{Create, Delete, Use, Grant, Ungrant, Clear, Removed}
 use Rattle.journal_records.specs.LastingPart.{Lasting}
 use Rattle.journal_records.specs.Needs.{is_met}
-use Rattle.key_database.specs.declared.part.Part.{Part}
-use Rattle.key_database.specs.Table.{HasRoom}
 
--- the lasting part
-abbrev pub part_of : Part → Lasting
-part_of part = record { keys = part.keys.rows; grants = part.grants.rows; next_key = part.next_key; next_grant = part.next_grant }
+-- the lasting part, and for how many more keys and grants there is room
+pub record Held : Type 0 where
+  pub part : Lasting
+  pub key_places : ℕ
+  pub grant_places : ℕ
+
+-- the lasting part of a table
+abbrev pub lasting_in : Held → Lasting
+lasting_in held = held.part
+
+-- there is room for one more key
+abbrev pub HasRoomForKey : Held → Type 0
+HasRoomForKey held = 0 < held.key_places
+
+-- there is room for one more grant
+abbrev pub HasRoomForGrant : Held → Type 0
+HasRoomForGrant held = 0 < held.grant_places
+
+-- room for at least as many more of each
+abbrev pub KeepsRoom : Held → Held → Type 0
+KeepsRoom old new = (old.key_places ≤ new.key_places) × (old.grant_places ≤ new.grant_places)
 
 -- whether a change makes a key
 abbrev pub makes_key : Change → Bool
@@ -37,9 +52,9 @@ abbrev pub takes_memory : Change → Bool
 takes_memory change = makes_key change || makes_grant change
 
 -- there is room for the key that a change makes, and for the grant
-abbrev pub HasRoomFor : Change → Part → Type 0
-HasRoomFor change part = (makes_key change ≡ true → HasRoom part.keys) × (makes_grant change ≡ true → grant_table.HasRoom part.grants)
+abbrev pub HasRoomFor : Change → Held → Type 0
+HasRoomFor change held = (makes_key change ≡ true → HasRoomForKey held) × (makes_grant change ≡ true → HasRoomForGrant held)
 
 -- the change's need is met, and there is room for it
-abbrev pub CanMake : Part → Change → Type 0
-CanMake part change = (is_met (part_of part) change ≡ true) × HasRoomFor change part
+abbrev pub CanMake : Held → Change → Type 0
+CanMake held change = (is_met (lasting_in held) change ≡ true) × HasRoomFor change held

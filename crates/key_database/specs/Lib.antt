@@ -1,8 +1,8 @@
 pub mod First
 pub mod Held
-pub mod Lookups
 pub mod Maps
 pub mod Names
+pub mod Parts
 pub mod Rows
 pub mod Stands
 pub mod Store

@@ -9,10 +9,6 @@ use Rattle.journal_records.specs.declared.record.KeyRecord.{KeyRecord}
 abbrev pub Name : Type 0
 Name = (ℕ × ℕ) × (List ℕ × ℕ)
 
--- aliases by their bytes
-abbrev pub alias_cmp : List ℕ → List ℕ → Ordering
-alias_cmp alias other = slice_cmp nat_cmp alias other
-
 abbrev pub owner_cmp : ℕ × ℕ → ℕ × ℕ → Ordering
 owner_cmp a b = ordering_then (nat_cmp a.0 b.0) (nat_cmp a.1 b.1)
 

@@ -13,13 +13,12 @@ use Rattle.journal_records.specs.Spelling.{closed_of}
 use Rattle.use_journal.specs.Journal.{past_of}
 use Rattle.use_journal.specs.Holding.{is_waiting, end_of, IsSettledOn, IsUnsettledOn}
 use Rattle.key_database.specs.declared.database.KeyDatabase.{KeyDatabase}
-use Rattle.key_database.specs.declared.part.Part.{Part}
-use Rattle.key_database.specs.Held.{part_of}
+use Rattle.key_database.specs.Held.{Held, lasting_in}
 use Rattle.key_database.specs.Store.{StandsFor, IsBadStore}
 
 -- the lasting part that its look-ups tell
 abbrev pub lasting : KeyDatabase → Lasting
-lasting database = part_of database.part
+lasting database = lasting_in database.table
 
 -- whether a change waits to be settled
 abbrev pub is_unsettled : KeyDatabase → Bool
@@ -83,8 +82,8 @@ pub record IsUnmetAt (changes : List (ℕ × Change)) (offset : ℕ) : Type 0 wh
   pub unmet : is_met part change ≡ false
 
 -- what the changes of a list leave, by the answer
-abbrev pub Replays : List (ℕ × Change) → Result Part StoreFault → Type 0
-Replays changes (Ok part) = lasting_of (past_of changes) ≡ Some (part_of part)
+abbrev pub Replays : List (ℕ × Change) → Result Held StoreFault → Type 0
+Replays changes (Ok held) = lasting_of (past_of changes) ≡ Some (lasting_in held)
 Replays changes (Err faults.Device) = ⊥
 Replays changes (Err (faults.Corrupted offset)) = IsUnmetAt changes offset
 Replays changes (Err faults.Full) = ⊥

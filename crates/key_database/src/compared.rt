@@ -1,7 +1,7 @@
 //! Whether two parts hold the same.
 
 ghost use Rattle.std.specs.Prelude.{◌≡◌, ℕ, true};
-ghost use Rattle.key_database.specs.Held.{part_of};
+ghost use Rattle.key_database.specs.Parts.{part_of};
 
 use crate::keys::Keys;
 use crate::part::Part;

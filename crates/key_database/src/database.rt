@@ -16,7 +16,7 @@ ghost use Rattle.key_database.specs.Store.{MayBe, Between, StandsFor};
 use crate::appending::append_change;
 use crate::law::one_store;
 use crate::opening::replay;
-use crate::part::Part;
+use crate::lasting_table::LastingTable;
 use journal_records::{Change, StoreFault};
 use ks_outside::Disk;
 use std::alloc::Global;
@@ -28,10 +28,10 @@ use use_journal::Journal;
 #[derive(Drop)]
 pub struct KeyDatabase {
     journal: Journal,
-    pub(crate) part: Part,
+    pub(crate) table: LastingTable,
     pending: Option<Change>,
     ghost same: { is_waiting journal ≡ is_some pending },
-    ghost waits: { ForSome pending (λ change. CanMake part change) },
+    ghost waits: { ForSome pending (λ change. CanMake table change) },
 }
 
 impl KeyDatabase {
@@ -53,9 +53,9 @@ impl KeyDatabase {
         one_store();
         match Journal::open(alloc, disk) {
             Ok((journal, changes)) => match replay(alloc, changes) {
-                Ok(part) => Ok(KeyDatabase {
+                Ok(table) => Ok(KeyDatabase {
                     journal,
-                    part,
+                    table,
                     pending: None,
                 }),
                 Err(fault) => Err(fault),
@@ -98,12 +98,12 @@ impl KeyDatabase {
         ensures telling { tells D.Disk disk.new ≡ tells D.Disk disk.old }
         ensures cause { ApplyCause (D.fault_count disk.old) (D.fault_count disk.new) result }
     {
-        let Ok(()) = self.part.reserve(&change) else {
+        let Ok(()) = self.table.reserve(&change) else {
             return Err(StoreFault::Memory);
         };
         match append_change(&mut self.journal, disk, &change) {
             Ok(()) => {
-                self.part.make(change);
+                self.table.make(change);
                 Ok(())
             }
             Err(StoreFault::Device) => {
@@ -133,7 +133,7 @@ impl KeyDatabase {
         match self.journal.settle(disk) {
             Ok(Settled::Kept) => {
                 if let Some(change) = self.pending.take() {
-                    self.part.make(change);
+                    self.table.make(change);
                 }
                 Ok(Settled::Kept)
             }

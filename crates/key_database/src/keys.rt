@@ -5,12 +5,13 @@ ghost use Rattle.std.specs.Option.{option_copied};
 ghost use Rattle.std.specs.declared.cmp.Ordering.TheVariants.{Less};
 ghost use Rattle.std.specs.BTreeMap.Range.{IsFromStart};
 ghost use Rattle.journal_records.specs.LastingPart.{has_id, is_owned, is_named, is_of_user};
+ghost use Rattle.journal_records.specs.Lookups.{IsNextName};
 ghost use Rattle.journal_records.specs.Effects.{with_use};
 ghost use Rattle.key_database.specs.First.{IsFirstFrom, start_of};
 ghost use Rattle.key_database.specs.Names as spec;
 ghost use Rattle.key_database.specs.Names.{name_cmp};
 ghost use Rattle.key_database.specs.Rows.{AreRows, NonePass, is_past};
-ghost use Rattle.key_database.specs.Table.{HasRoom, KeepsRoom, IsNextName};
+ghost use Rattle.key_database.specs.Table.{HasRoom, KeepsRoom};
 
 use crate::maps::KeyMaps;
 use crate::names::{ALIAS_BYTES, Name, name_of};
@@ -137,6 +138,7 @@ impl Keys {
     /// Makes room for one more key. No other call takes memory.
     pub(crate) fn reserve(&mut self) -> Result<(), NoMemory>
         ensures room { OnOk result (HasRoom self.new) }
+        ensures kept { KeepsRoom self.old self.new }
         ensures rows { self.new.rows ≡ self.old.rows }
     {
         let Some(newest) = self.newest.take() else {

@@ -1,10 +1,12 @@
-//! The keys, grants and next numbers that last, over a journal.
+//! The keys, grants and next numbers that last: as a table in memory, and over a journal.
 //!
-//! Its contract: `KeyDatabase` is seen as a lasting part (`lasting` of `specs/Stands.antt`), and each look-up is a search
-//! of it (`specs/Lookups.antt`). `open` reads the one that the bytes stand for, or tells the place of the first thing
-//! wrong; at each moment of `apply` each image stands for the lasting part before the change or with it; and `settle`
-//! makes of an unsettled database what the disk has. What is known of the disk goes on by `after_apply` and `after_settle`
-//! (`journal_records/specs/Holding.antt`). An image stands for one lasting part at most (`one_store`).
+//! Its contract: `LastingTable` is seen as a lasting part (`lasting_in` of `specs/Held.antt`), each look-up is a search of
+//! it (`journal_records/specs/Lookups.antt`), and a change that is made leaves what `after` says. `KeyDatabase` is such a
+//! table (`lasting` of `specs/Stands.antt`) and the journal that it lies in. `open` reads the one that the bytes stand
+//! for, or tells the place of the first thing wrong; at each moment of `apply` each image stands for the lasting part
+//! before the change or with it; and `settle` makes of an unsettled database what the disk has. What is known of the disk
+//! goes on by `after_apply` and `after_settle` (`journal_records/specs/Holding.antt`). An image stands for one lasting
+//! part at most (`one_store`).
 #![tactic(auto)]
 
 mod appending;
@@ -12,6 +14,7 @@ mod compared;
 mod counts;
 mod database;
 mod keys;
+mod lasting_table;
 mod law;
 mod lookups;
 mod maps;
@@ -20,4 +23,5 @@ mod opening;
 mod part;
 
 pub use database::KeyDatabase;
+pub use lasting_table::LastingTable;
 pub use law::one_store;

@@ -2,23 +2,23 @@
 
 ghost use Rattle.key_database.specs.Stands.{Replays};
 
-use crate::part::Part;
+use crate::lasting_table::LastingTable;
 use journal_records::{Changes, StoreFault};
 use std::alloc::Global;
 
 /// Makes the changes of a store in turn, each with its need tested.
-pub(crate) fn replay(alloc: Global, changes: Changes) -> Result<Part, StoreFault>
+pub(crate) fn replay(alloc: Global, changes: Changes) -> Result<LastingTable, StoreFault>
     ensures { Replays changes result }
 {
-    let mut part = Part::empty(alloc);
+    let mut table = LastingTable::empty(alloc);
     for (at, change) in changes.into_vec() {
-        if !part.meets(&change) {
+        if !table.meets(&change) {
             return Err(StoreFault::Corrupted { offset: at });
         }
-        let Ok(()) = part.reserve(&change) else {
+        let Ok(()) = table.reserve(&change) else {
             return Err(StoreFault::Memory);
         };
-        part.make(change);
+        table.make(change);
     }
-    Ok(part)
+    Ok(table)
 }

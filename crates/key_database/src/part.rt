@@ -52,7 +52,8 @@ fn is_owner(domain: u8, nspace: u64) -> bool
 }
 
 impl Part {
-    ghost use Rattle.key_database.specs.Held.{part_of, HasRoomFor, CanMake, takes_memory};
+    ghost use Rattle.key_database.specs.Held.{HasRoomForKey, HasRoomForGrant, HasRoomFor, KeepsRoom as KeepsRooms, CanMake, takes_memory};
+    ghost use Rattle.key_database.specs.Parts.{part_of, held_of};
     ghost use Rattle.journal_records.specs.LastingPart.{empty_lasting};
 
     /// No keys and no grants. It takes no memory.
@@ -146,15 +147,34 @@ impl Part {
         }
     }
 
+    /// Makes room for one more key.
+    pub(crate) fn reserve_key(&mut self) -> Result<(), NoMemory>
+        ensures room { OnOk result (HasRoomForKey (held_of self.new)) }
+        ensures kept { KeepsRooms (held_of self.old) (held_of self.new) }
+        ensures same { part_of self.new ≡ part_of self.old }
+    {
+        self.keys.reserve()
+    }
+
+    /// Makes room for one more grant.
+    pub(crate) fn reserve_grant(&mut self) -> Result<(), NoMemory>
+        ensures room { OnOk result (HasRoomForGrant (held_of self.new)) }
+        ensures kept { KeepsRooms (held_of self.old) (held_of self.new) }
+        ensures same { part_of self.new ≡ part_of self.old }
+    {
+        self.grants.reserve()
+    }
+
     /// Makes room for a change. Only those that make a key or a grant take memory.
     pub(crate) fn reserve(&mut self, change: &Change) -> Result<(), NoMemory>
-        ensures room { OnOk result (HasRoomFor change.now self.new) }
+        ensures room { OnOk result (HasRoomFor change.now (held_of self.new)) }
+        ensures kept { KeepsRooms (held_of self.old) (held_of self.new) }
         ensures same { part_of self.new ≡ part_of self.old }
         ensures memory { OnErr result (takes_memory change.now ≡ true) }
     {
         match change {
-            Change::Create { .. } => self.keys.reserve(),
-            Change::Grant { .. } => self.grants.reserve(),
+            Change::Create { .. } => self.reserve_key(),
+            Change::Grant { .. } => self.reserve_grant(),
             _ => Ok(()),
         }
     }
@@ -253,7 +273,7 @@ impl Part {
 
     /// Makes a change whose need is met, and for which there is room. It takes no memory.
     pub(crate) fn make(&mut self, change: Change)
-        requires { CanMake self.old change }
+        requires { CanMake (held_of self.old) change }
         ensures { part_of self.new ≡ after (part_of self.old) change }
     {
         match change {

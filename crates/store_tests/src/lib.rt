@@ -9,4 +9,6 @@ mod disks;
 #[cfg(test)]
 mod journals;
 #[cfg(test)]
+mod needs;
+#[cfg(test)]
 mod records;

@@ -3,7 +3,7 @@ use Rattle.std.proofs.lemmas.Iterator.Adapters.{YieldsList-from_vec}
 use Rattle.std.proofs.lemmas.Iterator.Consumers.{YieldsList-turn, YieldsList-end, YieldsList-so_far}
 use Rattle.journal_records.specs.Effects.{after, lasting_of}
 use Rattle.use_journal.specs.Journal.{past_of}
-use Rattle.key_database.specs.Held.{part_of}
+use Rattle.key_database.specs.Held.{lasting_in}
 use Rattle.key_database.proofs.Opened.{next_splits, same_items, replays_on}
 use Rattle.key_database.proofs.opening.replay.Goals as goal
 
@@ -18,14 +18,14 @@ returns-then-not-meets c =
       change = c.in-Some.change;
       rest = drop (suc (length c.loop-at.yielded)) c.into_vec-at-items.result.items;
       is = sym c.into_vec-at-items.ensures ∙ next_splits c.loop-at.yielded c.into_vec-at-items.result.items (c.in-Some.at, c.in-Some.change) (sym (same_items c.loop-at.yielded) ∙ so_far) turn.0 turn.1;
-      part = part_of c.loop-at.part;
+      part = lasting_in c.loop-at.table;
       left = c.loop-at.invariant;
       unmet = sym c.meets.ensures ∙ c.if-not-meets.true;
     }
 
 pub loop-at-preserved : goal.loop-at-preserved
 loop-at-preserved c =
-    replays_on c.loop-at.yielded (c.in-Some.at, c.in-Some.change) (part_of c.loop-at.part) c.loop-at.invariant (sym c.meets.ensures ∙ c.if-not-meets.false)
+    replays_on c.loop-at.yielded (c.in-Some.at, c.in-Some.change) (lasting_in c.loop-at.table) c.loop-at.invariant (sym c.meets.ensures ∙ c.if-not-meets.false)
     ∙ ap (λ part. Some (after part c.in-Some.change)) (sym c.reserve.ensures.same) ∙ ap (λ part. Some part) (sym c.make.ensures)
 
 pub returns : goal.returns

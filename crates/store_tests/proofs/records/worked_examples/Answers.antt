@@ -14,6 +14,7 @@ returns c = record {
   made = rw text refl;
   used_once = rw text refl;
   used_up = rw text refl;
+  used_up_and_granted = rw text refl;
   no_use_left = rw text refl;
   no_limit_no_use = rw text refl;
   wrong_number = refl;

@@ -1,7 +1,7 @@
 use Rattle.std.proofs.Common.{◌≡◌, Some, ◌∙◌}
 use Rattle.journal_records.specs.Effects.{lasting_of}
 use Rattle.use_journal.specs.Journal.{IsJournal, past_of}
-use Rattle.key_database.specs.Held.{part_of}
+use Rattle.key_database.specs.Held.{lasting_in}
 use Rattle.key_database.proofs.Opened.{bad_needs, bad_journal, told_image, no_fault_found}
 use Rattle.key_database.proofs.database.KeyDatabase.open.Goals as goal
 
@@ -9,9 +9,9 @@ pub returns-in-Ok-replay-clause-stands : goal.returns-in-Ok-replay-clause-stands
 returns-in-Ok-replay-clause-stands g c = λ part all told.
     let image = told_image g.D.Disk c.open.new.disk g.met.D.Disk.content_is_image (c.open.ensures.telling ∙ told) in
     let journal : IsJournal (past_of c.in-Ok.changes) image.0 = (rw c.in-Ok.is at c.open.ensures.reads) image.0 image.1 in
-    let left : lasting_of (past_of c.in-Ok.changes) ≡ Some (part_of c.in-Ok-replay.part) = rw c.in-Ok-replay.is at c.replay.ensures in
+    let left : lasting_of (past_of c.in-Ok.changes) ≡ Some (lasting_in c.in-Ok-replay.table) = rw c.in-Ok-replay.is at c.replay.ensures in
     let changes = (rw c.in-Ok.is at c.open.ensures.settled).changes in
-    c.one_store.ensures.part (part_of c.in-Ok-replay.part) part image.0 (record { past = past_of c.in-Ok.changes; changes = changes; journal = journal; lasting = left }) (all image.0 (c.open.ensures.images image.0 image.1))
+    c.one_store.ensures.part (lasting_in c.in-Ok-replay.table) part image.0 (record { past = past_of c.in-Ok.changes; changes = changes; journal = journal; lasting = left }) (all image.0 (c.open.ensures.images image.0 image.1))
 
 pub returns-in-Err-replay-clause-reads : goal.returns-in-Err-replay-clause-reads
 returns-in-Err-replay-clause-reads g c = λ image is.

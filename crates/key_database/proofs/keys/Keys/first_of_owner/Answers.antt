@@ -1,5 +1,5 @@
 use Rattle.std.proofs.Common.{Some, None}
-use Rattle.key_database.specs.Table.{IsNextName}
+use Rattle.journal_records.specs.Lookups.{IsNextName}
 use Rattle.key_database.proofs.Nexts.{none_owned, next_numbered}
 use Rattle.key_database.proofs.keys.Keys.first_of_owner.Goals as goal
 

@@ -1,6 +1,6 @@
 use Rattle.std.proofs.Common.{◌≡◌, length}
 use Rattle.journal_records.specs.LastingPart.{is_owned, without_keys}
-use Rattle.key_database.specs.Held.{part_of}
+use Rattle.key_database.specs.Parts.{part_of}
 use Rattle.key_database.proofs.part.Part.clear.Given as goal
 
 -- what is left once those keys are out is what was left at first

@@ -1,6 +1,6 @@
 use Rattle.std.proofs.Common.{◌≡◌, ◌+◌, ◌∙◌, sym, ap, subst}
 use Rattle.journal_records.specs.LastingPart.{is_named, without_keys}
-use Rattle.key_database.specs.Held.{part_of}
+use Rattle.key_database.specs.Parts.{part_of}
 use Rattle.key_database.specs.Rows.{AreBelow}
 use Rattle.key_database.proofs.Ends.{new_rows, below_new, with_new}
 use Rattle.key_database.proofs.part.Part.create.Goals as goal

@@ -2,7 +2,7 @@ use Rattle.std.proofs.Common.{◌∙◌, ap, not}
 use Rattle.grants.specs.Rows.{is_of}
 use Rattle.grants.specs.Table.{unless}
 use Rattle.journal_records.specs.LastingPart.{has_id}
-use Rattle.key_database.specs.Held.{part_of}
+use Rattle.key_database.specs.Parts.{part_of}
 use Rattle.key_database.proofs.Ends.{ended, below_filter}
 use Rattle.key_database.proofs.part.Part.end_key.Goals as goal
 

@@ -2,7 +2,7 @@ use Rattle.std.proofs.Common.{◌≡◌, Some, refl, sym, ◌∙◌, ap}
 use Rattle.std.specs.Prelude.{find}
 use Rattle.std.specs.Option.{option_copied}
 use Rattle.journal_records.specs.LastingPart.{is_named}
-use Rattle.key_database.specs.Held.{part_of}
+use Rattle.key_database.specs.Parts.{part_of}
 use Rattle.key_database.proofs.KeyRows.{id_from_found}
 use Rattle.key_database.proofs.Ends.{end_of_none, end_of_named}
 use Rattle.key_database.proofs.part.Part.end_named.Goals as goal

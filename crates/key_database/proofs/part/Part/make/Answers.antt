@@ -2,7 +2,7 @@ use Rattle.std.proofs.Common.{◌≡◌, true, ◌∙◌, sym, ap}
 use Rattle.std.specs.List.{list_any}
 use Rattle.journal_records.specs.LastingPart.{has_id}
 use Rattle.journal_records.specs.Needs.{is_met}
-use Rattle.key_database.specs.Held.{part_of}
+use Rattle.key_database.specs.Parts.{part_of}
 use Rattle.key_database.proofs.Ends.{any_is_found}
 use Rattle.key_database.proofs.part.Part.make.Goals as goal
 

@@ -1,6 +1,6 @@
 use Rattle.std.proofs.Common.{◌∙◌, sym}
 use Rattle.journal_records.specs.LastingPart.{is_of_user}
-use Rattle.key_database.specs.Held.{part_of}
+use Rattle.key_database.specs.Parts.{part_of}
 use Rattle.key_database.proofs.Ends.{ends_on, fewer_left, none_end}
 use Rattle.key_database.proofs.part.Part.remove_user.Goals as goal
 

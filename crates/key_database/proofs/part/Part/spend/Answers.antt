@@ -1,5 +1,5 @@
 use Rattle.std.proofs.Common.{◌∙◌, sym, ap}
-use Rattle.key_database.specs.Held.{part_of}
+use Rattle.key_database.specs.Parts.{part_of}
 use Rattle.key_database.proofs.Ends.{last_use_at, no_last_use, used_is_live, below_use}
 use Rattle.key_database.proofs.part.Part.spend.Goals as goal
 
