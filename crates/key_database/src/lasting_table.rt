@@ -3,7 +3,7 @@
 ghost use Rattle.std.specs.Prelude.{◌≡◌, ℕ, true, OnOk, OnErr};
 ghost use Rattle.std.specs.Option.{option_copied};
 ghost use Rattle.journal_records.specs.LastingPart.{empty_lasting};
-ghost use Rattle.journal_records.specs.Needs.{is_met};
+ghost use Rattle.journal_records.specs.Needs.{has_place_for, is_met};
 ghost use Rattle.journal_records.specs.Effects.{after};
 ghost use Rattle.journal_records.specs.Lookups.{row_of, key_of_id, key_of_name, IsNextKey, key_count, named_in, numbered_in, granted_in, shared_in};
 ghost use Rattle.key_database.specs.Held.{lasting_in, HasRoomForKey, HasRoomForGrant, HasRoomFor, KeepsRoom, CanMake, takes_memory};
@@ -84,6 +84,13 @@ impl LastingTable {
         ensures { result ≡ key_count (lasting_in self.now) domain nspace }
     {
         self.part.keys.count(domain, nspace)
+    }
+
+    /// Whether there is a place for one more key of an owner under an alias: the key under that name makes place.
+    pub fn has_place_for(&self, domain: u8, nspace: u64, alias: &[u8]) -> bool
+        ensures { result ≡ has_place_for domain nspace alias.now (lasting_in self.now) }
+    {
+        self.part.has_place_for(domain, nspace, alias)
     }
 
     /// The live grants.

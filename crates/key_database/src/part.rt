@@ -76,7 +76,7 @@ impl Part {
     }
 
     /// Whether there is place for one more key: the key under its name makes place.
-    fn has_place_for(&self, domain: u8, nspace: u64, alias: &[u8]) -> bool
+    pub(crate) fn has_place_for(&self, domain: u8, nspace: u64, alias: &[u8]) -> bool
         ensures { result ≡ has_place_for domain nspace alias.now (part_of self.now) }
     {
         let rebound = self.keys.named(domain, nspace, alias).is_some();

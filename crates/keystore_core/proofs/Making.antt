@@ -1,22 +1,26 @@
 -- A new key: its answer, and the tables after it.
-use Rattle.std.proofs.Common.{◌≡◌, ℕ, ◌+◌, ◌<◌, ◌≤◌, Bool, true, false, ◌&&◌, List, [], ◌∷◌, length, Option, Some, None, Result, Ok, Err, if◌then◌else◌, refl, sym, ap, ◌∙◌, subst}
+use Rattle.std.proofs.Common.{◌≡◌, ℕ, ◌+◌, ◌<◌, ◌≤◌, Bool, true, false, ◌&&◌, List, [], ◌∷◌, length, Option, Some, None, Result, Ok, Err, if◌then◌else◌, ◌==◌, ◌^◌, arith, refl, sym, ap, ◌∙◌, subst}
 use Rattle.std.specs.Option.{option_map}
+use Rattle.std.specs.Prelude.{IfSome, is_none, unwrap_or, take, drop}
+use Rattle.std.proofs.lemmas.Bool.{and_parts, eq-eqb, le-leb, le-ltb}
+use Rattle.std.proofs.lemmas.List.{length-append, length-drop, length-take-le}
 use Rattle.tags.specs.declared.code.Code.{Code}
 use Rattle.tags.specs.declared.code.Code.TheVariants.{EntropyFault, StoreFull}
 use Rattle.tags.specs.declared.descriptor.Descriptor.{Descriptor}
 use Rattle.tags.specs.declared.policy.PolicyRow.{PolicyRow}
+use Rattle.tags.specs.Descriptor.{has_alias, has_alias_in, is_alias}
 use Rattle.tags.specs.declared.rule.Rule.{Rule}
 use Rattle.tags.specs.declared.rule.RuleTable.TheVariants.{K}
 use Rattle.tags.specs.Table.{Ruling, first_broken, where_all_hold}
 use Rattle.journal_records.specs.declared.change.Change.{Change}
 use Rattle.journal_records.specs.Effects.{after}
 use Rattle.journal_records.specs.LastingPart.{Lasting}
-use Rattle.journal_records.specs.Needs.{is_met}
-use Rattle.key_database.specs.Held.{Held, lasting_in}
-use Rattle.key_rules.specs.declared.facts.ImportFacts.{ImportFacts}
+use Rattle.journal_records.specs.Needs.{has_place_for, is_met, is_number_left, is_owner}
+use Rattle.key_database.specs.Held.{CanMake, HasRoomForKey, Held, lasting_in}
 use Rattle.key_rules.specs.declared.facts.NewFacts.{NewFacts}
 use Rattle.key_rules.specs.declared.plan.KeyPlan.{KeyPlan}
-use Rattle.key_rules.specs.Creation.{new_key, plan_of}
+use Rattle.key_rules.specs.Creation.{IsFit, new_key, plan_of}
+use Rattle.key_rules.specs.Rules.{is_by_alias, names_new_key}
 use Rattle.key_rules.specs.Table.{rules_of}
 use Rattle.keymint_ops.specs.declared.creation.NewKey.{NewKey}
 use Rattle.keymint_ops.specs.Creation.{planned, spelled, where_planned}
@@ -30,7 +34,7 @@ use Rattle.rule_model.specs.Access.{owner_of}
 use Rattle.rule_model.specs.Acts.{is_begin, is_connect, is_enter}
 use Rattle.rule_model.specs.Answer.{answer_by_rules, made_in}
 use Rattle.rule_model.specs.Replies.{broken_or, no_fields}
-use Rattle.rule_model.specs.Changes.{after_change, change_of}
+use Rattle.rule_model.specs.Changes.{after_change, alias_of, change_of, kept_as, owner_for}
 use Rattle.rule_model.specs.Clients.{caller_of}
 use Rattle.rule_model.specs.Drawn.{size_of, wanted_by_key, wanted_by_rules}
 use Rattle.rule_model.specs.Entries.{History, is_done}
@@ -47,7 +51,7 @@ use Rattle.rule_model.proofs.Operations.{moves_operations, same_operations}
 use Rattle.rule_model.proofs.Tickets.{moves_tickets, same_tickets}
 use Rattle.keystore_core.specs.declared.creating.Import.{Import}
 use Rattle.keystore_core.specs.declared.tables.Tables.{Tables}
-use Rattle.keystore_core.specs.Creating.{creates, facts_of_import, making}
+use Rattle.keystore_core.specs.Creating.{creates, facts_of_import, making, material_of}
 use Rattle.keystore_core.specs.Tables.{AnswersAfter, IsCaller, SameTables, TablesStand, event_by}
 use Rattle.keystore_core.proofs.Opened.{stays_same}
 use Rattle.keystore_core.proofs.Standing.{called, clients_stay, denied_tables, operations_stay, quiet, same_tables, slots_stay, tickets_stay}
@@ -61,7 +65,7 @@ making_answer setup past caller key params None drawn = refl
 making_answer setup past caller key params (Some import) drawn = refl
 
 making_wanted : (setup : Setup) (past : History) (caller : Caller) (key : Descriptor) (params : List ℕ) (import : Option Import)
-    → wanted_by_rules (making key params import) setup past caller ≡ wanted_by_key (new_key (facts_of setup.policy caller key params import)) (has_key_place (kept setup past) (owner_of caller) key) (option_map facts_of_import import)
+    → wanted_by_rules (making key params import) setup past caller ≡ wanted_by_key (new_key (facts_of setup.policy caller key params import)) (has_key_place (kept setup past) (owner_of caller) key)
 making_wanted setup past caller key params None = refl
 making_wanted setup past caller key params (Some import) = refl
 
@@ -86,13 +90,13 @@ no_tickets key params None = refl
 no_tickets key params (Some import) = refl
 
 -- a broken rule of the plan is one of the table
-broken_rule : (import : Option ImportFacts) (found : Result KeyPlan (Rule × Code)) (broken : Rule × Code) → where_planned import found ≡ Err broken → found ≡ Err broken
-broken_rule import (Ok plan) broken e = cc
-broken_rule import (Err own) broken e = let same : own ≡ broken = cc in ap Err same
+broken_rule : (found : Result KeyPlan (Rule × Code)) (broken : Rule × Code) → where_planned found ≡ Err broken → found ≡ Err broken
+broken_rule (Ok plan) broken e = cc
+broken_rule (Err own) broken e = let same : own ≡ broken = cc in ap Err same
 
-new_plan : (import : Option ImportFacts) (found : Result KeyPlan (Rule × Code)) (plan : NewKey) → where_planned import found ≡ Ok plan → (own : KeyPlan) × (found ≡ Ok own) × (plan ≡ spelled import own)
-new_plan import (Ok own) plan e = let same : plan ≡ spelled import own = cc in (own, refl, same)
-new_plan import (Err broken) plan e = cc
+new_plan : (found : Result KeyPlan (Rule × Code)) (plan : NewKey) → where_planned found ≡ Ok plan → (own : KeyPlan) × (found ≡ Ok own) × (plan ≡ spelled own)
+new_plan (Ok own) plan e = let same : plan ≡ spelled own = cc in (own, refl, same)
+new_plan (Err broken) plan e = cc
 
 held_plan : (ruling : Ruling) (facts : NewFacts) (own : KeyPlan) → where_all_hold ruling (plan_of facts) ≡ Ok own → own ≡ plan_of facts
 held_plan (Ok done) facts own e = cc
@@ -101,27 +105,43 @@ held_plan (Err broken) facts own e = cc
 -- the plan of a call that the rules let through
 pub record IsPlanned (facts : NewFacts) (plan : NewKey) : Type 0 where
   pub holds : new_key facts ≡ Ok (plan_of facts)
-  pub plan_is : plan ≡ spelled facts.import (plan_of facts)
+  pub plan_is : plan ≡ spelled (plan_of facts)
 
 pub is_planned : (facts : NewFacts) (plan : NewKey) → planned facts ≡ Ok plan → IsPlanned facts plan
 unfolding planned
 is_planned facts plan e =
-    let found = new_plan facts.import (new_key facts) plan e in
+    let found = new_plan (new_key facts) plan e in
     let own : found.0 ≡ plan_of facts = held_plan (first_broken K (rules_of facts)) facts found.0 found.1 in
-    record { holds = found.1 ∙ ap Ok own; plan_is = found.2 ∙ ap (spelled facts.import) own }
+    record { holds = found.1 ∙ ap Ok own; plan_is = found.2 ∙ ap spelled own }
 
 pub is_broken : (facts : NewFacts) (rule : Rule) (code : Code) → planned facts ≡ Err (rule, code) → new_key facts ≡ Err (rule, code)
 unfolding planned
-is_broken facts rule code e = broken_rule facts.import (new_key facts) (rule, code) e
-
--- the pieces that are wanted for it, where there is a place
-pieces_wanted : (import : Option Import) (own : KeyPlan) → size_of (wanted_by_key (Ok own) true (option_map facts_of_import import)) ≡ (spelled (option_map facts_of_import import) own).size + 12
-pieces_wanted None own = refl
-pieces_wanted (Some import) own = refl
+is_broken facts rule code e = broken_rule (new_key facts) (rule, code) e
 
 none_moves : (key : Descriptor) (params : List ℕ) (import : Option Import) → moves_operations (making key params import) ≡ false
 none_moves key params None = refl
 none_moves key params (Some import) = refl
+
+-- the owner of a new key is one
+owned : (uid domain nspace : ℕ) → uid < 2 ^ 32 → is_owner (owner_for uid domain nspace).0 (owner_for uid domain nspace).1 ≡ true
+owned uid domain nspace small = by_domain (domain == 2) where
+  by_domain : (namespace : Bool) → is_owner (if namespace then (2, nspace) else (0, uid)).0 (if namespace then (2, nspace) else (0, uid)).1 ≡ true
+  by_domain true = refl
+  by_domain false = le-ltb uid (2 ^ 32) small
+
+-- a descriptor that may name a new key has an alias
+alias_named : (key : Descriptor) → names_new_key key ≡ true → is_alias (alias_of key) ≡ true
+alias_named key e = by_alias key.alias (and_parts (has_alias key) (is_none key.blob) (and_parts (is_by_alias key.domain) (has_alias key && is_none key.blob) e).1).0 where
+  by_alias : (alias : Option (List ℕ)) → has_alias_in alias ≡ true → is_alias (unwrap_or alias []) ≡ true
+  by_alias None e = cc
+  by_alias (Some alias) e = e
+
+-- a new key's blob has few bytes
+blob_few : (import : Option Import) (size : ℕ) (drawn : List ℕ) → IfSome (option_map facts_of_import import) (λ facts. facts.length ≤ 64) → size ≤ 64 → length drawn ≡ size + 12
+    → length (kept_as (drop size drawn) (material_of import (take size drawn))) ≤ 76
+blob_few None size drawn short few long =
+    omega (arith, length-append (drop size drawn) (take size drawn), length-drop size drawn, length-take-le size drawn (omega (arith, long)), long, few)
+blob_few (Some import) size drawn short few long = omega (arith, length-append (drop size drawn) import.material, length-drop size drawn, long, few, short)
 
 module _ (setup : Setup) (past : History) (tables : Tables) (caller : Caller) (key : Descriptor) (params : List ℕ) (import : Option Import) (stands : TablesStand setup tables past) (is_caller : IsCaller tables caller) where
   abbrev Facts : NewFacts
@@ -176,9 +196,8 @@ module _ (setup : Setup) (past : History) (tables : Tables) (caller : Caller) (k
   }
 
   wanted_is : (found : Result KeyPlan (Rule × Code)) (place : Bool) → new_key Facts ≡ found → HasPlace ≡ place
-      → wanted_by_rules (making key params import) setup past caller ≡ wanted_by_key found place (option_map facts_of_import import)
-  wanted_is found place e is = making_wanted setup past caller key params import ∙ ap (λ f. wanted_by_key f HasPlace (option_map facts_of_import import)) e
-      ∙ ap (λ p. wanted_by_key found p (option_map facts_of_import import)) is
+      → wanted_by_rules (making key params import) setup past caller ≡ wanted_by_key found place
+  wanted_is found place e is = making_wanted setup past caller key params import ∙ ap (λ f. wanted_by_key f HasPlace) e ∙ ap (wanted_by_key found) is
 
   answer_is : (found : Result KeyPlan (Rule × Code)) (drawn : List ℕ) → new_key Facts ≡ found
       → answer_by_rules (making key params import) setup past caller drawn ≡ broken_or found (made_in (kept setup past) caller key)
@@ -202,7 +221,7 @@ module _ (setup : Setup) (past : History) (tables : Tables) (caller : Caller) (k
 
   planned_wanted : (plan : NewKey) → IsPlanned Facts plan → HasPlace ≡ true → size_of (wanted_by_rules (making key params import) setup past caller) ≡ plan.size + 12
   planned_wanted plan is place =
-      ap size_of (wanted_is (Ok (plan_of Facts)) true is.holds place) ∙ pieces_wanted import (plan_of Facts) ∙ ap (λ (p : NewKey). p.size + 12) (sym is.plan_is)
+      ap size_of (wanted_is (Ok (plan_of Facts)) true is.holds place) ∙ ap (λ (p : NewKey). p.size + 12) (sym is.plan_is)
 
   -- a draw that failed
   pub without_entropy : (new : Tables) (plan : NewKey) (drawn : List ℕ) → planned Facts ≡ Ok plan → HasPlace ≡ true
@@ -250,3 +269,25 @@ module _ (setup : Setup) (past : History) (tables : Tables) (caller : Caller) (k
         has_job = refl;
         stays = stays_same setup past Making drawn reply (none drawn reply);
       }
+
+  -- what is made may be made: its need is met, and there is room for it
+  pub may_make : (held : Held) (plan : NewKey) (drawn : List ℕ) → HasRoomForKey held → has_key_place (lasting_in held) (owner_of caller) key ≡ true → owner_of caller < 2 ^ 32
+      → IsFit Facts plan.size (length plan.list) → length drawn ≡ plan.size + 12 → CanMake held (creates (lasting_in held).next_key (owner_of caller) key plan import drawn)
+  may_make held plan drawn room place small fit long =
+      let part : Lasting = lasting_in held in
+      let owner : ℕ × ℕ = owner_for (owner_of caller) key.domain key.nspace in
+      let blob : List ℕ = kept_as (drop plan.size drawn) (material_of import (take plan.size drawn)) in
+      let placed = and_parts (is_number_left part.next_key) (has_place_for owner.0 owner.1 (alias_of key) part) place in
+      let few : length blob ≤ 6327 = omega (arith, blob_few import plan.size drawn fit.short fit.drawn long) in
+      (
+        rw (
+          eq-eqb part.next_key part.next_key refl,
+          placed.0,
+          owned (owner_of caller) key.domain key.nspace small,
+          alias_named key fit.named,
+          le-leb (length blob) 6327 few,
+          le-leb (length plan.list) 4140 (omega (arith, fit.listed)),
+          placed.1,
+        ) refl,
+        (λ e. room, λ e. cc),
+      )

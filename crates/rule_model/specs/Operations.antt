@@ -1,5 +1,5 @@
 -- The operations of a history: what began them, what they have taken, which work is out, and what they put out.
-use Rattle.std.specs.Prelude.{ℕ, ◌+◌, Bool, true, ◌&&◌, not, ◌==◌, List, [], ◌∷◌, ◌++◌, Option, Some, None, Result, Ok, if◌then◌else◌, unwrap_or, is_some, length, map, filter, find}
+use Rattle.std.specs.Prelude.{ℕ, ◌+◌, Bool, true, false, ◌&&◌, not, ◌==◌, List, [], ◌∷◌, ◌++◌, Option, Some, None, Result, Ok, if◌then◌else◌, unwrap_or, is_some, length, map, filter, find}
 use Rattle.std.specs.List.{list_any}
 use Rattle.tags.specs.declared.code.Code.{Code}
 use Rattle.tags.specs.declared.descriptor.Descriptor.{Descriptor}
