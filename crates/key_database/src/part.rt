@@ -101,7 +101,7 @@ impl Part {
     }
 
     /// Whether a key of this number is live.
-    fn is_live(&self, id: u64) -> bool
+    pub(crate) fn is_live(&self, id: u64) -> bool
         ensures { result ≡ list_any (has_id id) self.now.keys.rows }
     {
         self.keys.numbered(id).is_some()

@@ -1,5 +1,22 @@
--- The keys and grants: what a step leaves of their relation to a history.
-use Rattle.std.proofs.Common.{◌≡◌, refl, sym, ◌∙◌}
+-- The keys and grants: what a step leaves of their relation to a history, and that the needs of a change are met.
+use Rattle.std.proofs.Common.{◌≡◌, ℕ, Bool, true, false, ◌&&◌, ◌||◌, ◌==◌, if◌then◌else◌, List, [], ◌∷◌, Option, Some, None, length, find, refl, sym, ap, ◌∙◌}
+use Rattle.std.specs.Prelude.{nat_lt}
+use Rattle.std.specs.List.{list_any}
+use Rattle.std.specs.Option.{option_map}
+use Rattle.std.proofs.lemmas.Bool.{and_parts, eq-eqb}
+use Rattle.tags.specs.declared.descriptor.Descriptor.{Descriptor}
+use Rattle.tags.specs.declared.policy.PolicyRow.{PolicyRow}
+use Rattle.key_domains.specs.declared.access.Access.{Access}
+use Rattle.key_domains.specs.declared.access.Access.TheVariants.{Found, Nothing}
+use Rattle.grants.specs.declared.row.GrantRow.{GrantRow}
+use Rattle.grants.specs.Rows.{is_for, is_numbered}
+use Rattle.journal_records.specs.declared.record.KeyRecord.{KeyRecord}
+use Rattle.journal_records.specs.LastingPart.{Lasting, has_id, some_has_id}
+use Rattle.journal_records.specs.Needs.{is_grant_numbered, is_number_left}
+use Rattle.rule_model.specs.declared.facts.Caller.{Caller}
+use Rattle.rule_model.specs.Access.{access_by, id_by, id_of, key_in}
+use Rattle.rule_model.specs.Changes.{grant_at, grant_number, grant_of}
+use Rattle.rule_model.specs.Places.{has_grant_place}
 use Rattle.rule_model.specs.Entries.{History}
 use Rattle.rule_model.specs.Kept.{kept}
 use Rattle.rule_model.specs.Setup.{Setup}
@@ -19,3 +36,45 @@ keys_stay setup past later old new stands same is = record {
   policy_is = same.policy_is ∙ stands.policy_is;
   lasting_is = same.lasting_is ∙ stands.lasting_is ∙ sym is;
 }
+
+or_right : (a b : Bool) → b ≡ true → (a || b) ≡ true
+or_right true b e = refl
+or_right false b e = e
+
+-- a key that a descriptor finds is live
+id_found : (n id : ℕ) (keys : List KeyRecord) → id_of (find (has_id n) keys) ≡ Some id → some_has_id id keys ≡ true
+id_found n id [] e = cc
+id_found n id (key ∷ keys) e = by_test (has_id n key) (id_found n id keys) e where
+  by_test : (b : Bool) → (id_of (find (has_id n) keys) ≡ Some id → some_has_id id keys ≡ true) → id_of (if b then Some key else find (has_id n) keys) ≡ Some id → (has_id id key || some_has_id id keys) ≡ true
+  by_test true later same = let is : key.id ≡ id = cc in rw (eq-eqb key.id id is) refl
+  by_test false later rest = or_right (has_id id key) (some_has_id id keys) (later rest)
+
+pub found_live : (policy : List PolicyRow) (part : Lasting) (caller : Caller) (key : Descriptor) (id : ℕ) → id_by policy part caller key ≡ Some id → some_has_id id part.keys ≡ true
+found_live policy part caller key id e = by_access (access_by policy part caller key) e where
+  by_access : (access : Access) → id_of (key_in part access) ≡ Some id → some_has_id id part.keys ≡ true
+  by_access (Found row bits) found = id_found row.id id part.keys found
+  by_access Nothing found = cc
+
+-- a grant that is found is held
+number_found : (key uid grant : ℕ) (rows : List GrantRow) → option_map (λ (row : GrantRow). row.grant) (find (is_for key uid) rows) ≡ Some grant → list_any (is_numbered grant) rows ≡ true
+number_found key uid grant [] e = cc
+number_found key uid grant (row ∷ rows) e = by_test (is_for key uid row) (number_found key uid grant rows) e where
+  by_test : (b : Bool) → (option_map (λ (r : GrantRow). r.grant) (find (is_for key uid) rows) ≡ Some grant → list_any (is_numbered grant) rows ≡ true) → option_map (λ (r : GrantRow). r.grant) (if b then Some row else find (is_for key uid) rows) ≡ Some grant → (is_numbered grant row || list_any (is_numbered grant) rows) ≡ true
+  by_test true later same = let is : row.grant ≡ grant = cc in rw (eq-eqb row.grant grant is) refl
+  by_test false later rest = or_right (is_numbered grant row) (list_any (is_numbered grant) rows) (later rest)
+
+pub grant_held : (part : Lasting) (key : Option ℕ) (uid grant : ℕ) → grant_of part key uid ≡ Some grant → list_any (is_numbered grant) part.grants ≡ true
+grant_held part None uid grant e = cc
+grant_held part (Some key) uid grant e = number_found key uid grant part.grants e
+
+-- a grant for which there is a place takes the number that it must have
+pub may_grant : (part : Lasting) (key uid bits number : ℕ) → some_has_id key part.keys ≡ true → has_grant_place part key uid ≡ true → number ≡ grant_number part key uid
+    → (some_has_id key part.keys && is_grant_numbered (find (is_for key uid) part.grants) (record { grant = number; key = key; uid = uid; bits = bits }) part) ≡ true
+may_grant part key uid bits number live place is = rw live (by_held (grant_at part key uid) refl place is) where
+  by_held : (held : Option GrantRow) → grant_at part key uid ≡ held → has_grant_place part key uid ≡ true → number ≡ grant_number part key uid
+      → is_grant_numbered held (record { grant = number; key = key; uid = uid; bits = bits }) part ≡ true
+  by_held (Some held) at has n = eq-eqb number held.grant (rw at at n)
+  by_held None at has n =
+      let next : number ≡ part.next_grant = rw at at n in
+      let left : (is_number_left part.next_grant && nat_lt (length part.grants) 65536) ≡ true = rw at at has in
+      rw (next, eq-eqb part.next_grant part.next_grant refl) left

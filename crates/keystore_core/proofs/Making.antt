@@ -1,8 +1,8 @@
 -- A new key: its answer, and the tables after it.
-use Rattle.std.proofs.Common.{◌≡◌, ℕ, ◌+◌, ◌<◌, ◌≤◌, Bool, true, false, ◌&&◌, List, [], ◌∷◌, length, Option, Some, None, Result, Ok, Err, if◌then◌else◌, ◌==◌, ◌^◌, arith, refl, sym, ap, ◌∙◌, subst}
+use Rattle.std.proofs.Common.{◌≡◌, ℕ, ◌+◌, ◌<◌, ◌≤◌, Bool, true, false, ◌&&◌, not, List, [], ◌∷◌, length, Option, Some, None, Result, Ok, Err, if◌then◌else◌, ◌==◌, ◌^◌, arith, refl, sym, ap, ◌∙◌, subst}
 use Rattle.std.specs.Option.{option_map}
 use Rattle.std.specs.Prelude.{IfSome, is_none, unwrap_or, take, drop}
-use Rattle.std.proofs.lemmas.Bool.{and_parts, eq-eqb, le-leb, le-ltb}
+use Rattle.std.proofs.lemmas.Bool.{and_parts, eq-eqb, le-leb, lt-ltb}
 use Rattle.std.proofs.lemmas.List.{length-append, length-drop, length-take-le}
 use Rattle.tags.specs.declared.code.Code.{Code}
 use Rattle.tags.specs.declared.code.Code.TheVariants.{EntropyFault, StoreFull}
@@ -125,9 +125,9 @@ none_moves key params (Some import) = refl
 -- the owner of a new key is one
 owned : (uid domain nspace : ℕ) → uid < 2 ^ 32 → is_owner (owner_for uid domain nspace).0 (owner_for uid domain nspace).1 ≡ true
 owned uid domain nspace small = by_domain (domain == 2) where
-  by_domain : (namespace : Bool) → is_owner (if namespace then (2, nspace) else (0, uid)).0 (if namespace then (2, nspace) else (0, uid)).1 ≡ true
+  by_domain : (namespace : Bool) → is_owner (if◌then◌else◌ {A = ℕ × ℕ} namespace (2, nspace) (0, uid)).0 (if◌then◌else◌ {A = ℕ × ℕ} namespace (2, nspace) (0, uid)).1 ≡ true
   by_domain true = refl
-  by_domain false = le-ltb uid (2 ^ 32) small
+  by_domain false = lt-ltb uid (2 ^ 32) small
 
 -- a descriptor that may name a new key has an alias
 alias_named : (key : Descriptor) → names_new_key key ≡ true → is_alias (alias_of key) ≡ true
@@ -142,6 +142,37 @@ blob_few : (import : Option Import) (size : ℕ) (drawn : List ℕ) → IfSome (
 blob_few None size drawn short few long =
     omega (arith, length-append (drop size drawn) (take size drawn), length-drop size drawn, length-take-le size drawn (omega (arith, long)), long, few)
 blob_few (Some import) size drawn short few long = omega (arith, length-append (drop size drawn) import.material, length-drop size drawn, long, few, short)
+
+-- what is made may be made: its need is met, and there is room for it
+pub may_make : (policy : List PolicyRow) (caller : Caller) (key : Descriptor) (params : List ℕ) (import : Option Import) (held : Held) (plan : NewKey) (drawn : List ℕ) → HasRoomForKey held → has_key_place (lasting_in held) (owner_of caller) key ≡ true → owner_of caller < 2 ^ 32
+    → IsFit (facts_of policy caller key params import) plan.size (length plan.list) → length drawn ≡ plan.size + 12 → CanMake held (creates (lasting_in held).next_key (owner_of caller) key plan import drawn)
+may_make policy caller key params import held plan drawn room place small fit long =
+    let part : Lasting = lasting_in held in
+    let owner : ℕ × ℕ = owner_for (owner_of caller) key.domain key.nspace in
+    let blob : List ℕ = kept_as (drop plan.size drawn) (material_of import (take plan.size drawn)) in
+    let placed = and_parts (is_number_left part.next_key) (has_place_for owner.0 owner.1 (alias_of key) part) place in
+    let few : length blob ≤ 6327 = omega (arith, blob_few import plan.size drawn fit.short fit.drawn long) in
+    (
+      rw (
+        eq-eqb part.next_key part.next_key refl,
+        placed.0,
+        owned (owner_of caller) key.domain key.nspace small,
+        alias_named key fit.named,
+        le-leb (length blob) 6327 few,
+        le-leb (length plan.list) 4140 (omega (arith, fit.listed)),
+        placed.1,
+      ) refl,
+      (λ e. room, λ e. cc),
+    )
+
+-- the test of a place is told by its negation
+pub no_place : (b : Bool) → not b ≡ true → b ≡ false
+no_place true e = cc
+no_place false e = refl
+
+pub some_place : (b : Bool) → not b ≡ false → b ≡ true
+some_place true e = refl
+some_place false e = cc
 
 module _ (setup : Setup) (past : History) (tables : Tables) (caller : Caller) (key : Descriptor) (params : List ℕ) (import : Option Import) (stands : TablesStand setup tables past) (is_caller : IsCaller tables caller) where
   abbrev Facts : NewFacts
@@ -261,7 +292,7 @@ module _ (setup : Setup) (past : History) (tables : Tables) (caller : Caller) (k
             ∙ sym (answer_is (Ok (plan_of Facts)) drawn is.holds ∙ ap (λ p. if p then Done (record no_fields { key = Some (kept setup past).next_key }) else Stopped StoreFull) place));
         stands = record {
           clients = clients_stay setup past Making drawn reply tables.clients middle.clients stands.clients still.clients (same_clients Making reply (moves_none key params import)) (connects_none key params import);
-          keys = record { policy_is = still.keys.policy_is ∙ stands.keys.policy_is; lasting_is = made_kept middle.keys new plan drawn _ is before makes };
+          keys = record { policy_is = still.keys.policy_is ∙ stands.keys.policy_is; lasting_is = made_kept middle.keys new plan drawn (record no_fields { key = Some (lasting_in middle.keys).next_key }) is before makes };
           operations = operations_stay setup past Making drawn reply tables.operations middle.operations stands.operations still.operations (none drawn reply) (begins_none key params import);
           slots = slots_stay setup past Making drawn reply tables.slots middle.slots stands.slots still.slots (none drawn reply);
           tickets = tickets_stay setup past Making drawn reply tables.tickets middle.tickets stands.tickets still.tickets (unticketed reply) (quiet is_enter past Making drawn reply (enters_none key params import)) (stays_same setup past Making drawn reply (none drawn reply));
@@ -269,25 +300,3 @@ module _ (setup : Setup) (past : History) (tables : Tables) (caller : Caller) (k
         has_job = refl;
         stays = stays_same setup past Making drawn reply (none drawn reply);
       }
-
-  -- what is made may be made: its need is met, and there is room for it
-  pub may_make : (held : Held) (plan : NewKey) (drawn : List ℕ) → HasRoomForKey held → has_key_place (lasting_in held) (owner_of caller) key ≡ true → owner_of caller < 2 ^ 32
-      → IsFit Facts plan.size (length plan.list) → length drawn ≡ plan.size + 12 → CanMake held (creates (lasting_in held).next_key (owner_of caller) key plan import drawn)
-  may_make held plan drawn room place small fit long =
-      let part : Lasting = lasting_in held in
-      let owner : ℕ × ℕ = owner_for (owner_of caller) key.domain key.nspace in
-      let blob : List ℕ = kept_as (drop plan.size drawn) (material_of import (take plan.size drawn)) in
-      let placed = and_parts (is_number_left part.next_key) (has_place_for owner.0 owner.1 (alias_of key) part) place in
-      let few : length blob ≤ 6327 = omega (arith, blob_few import plan.size drawn fit.short fit.drawn long) in
-      (
-        rw (
-          eq-eqb part.next_key part.next_key refl,
-          placed.0,
-          owned (owner_of caller) key.domain key.nspace small,
-          alias_named key fit.named,
-          le-leb (length blob) 6327 few,
-          le-leb (length plan.list) 4140 (omega (arith, fit.listed)),
-          placed.1,
-        ) refl,
-        (λ e. room, λ e. cc),
-      )

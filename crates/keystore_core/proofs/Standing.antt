@@ -208,7 +208,7 @@ same_but_keys tables new same = record {
 pub same_but_operations : (tables : Tables) (rows : Operations) → SameRows tables.operations rows → SameTables tables (record tables { operations = rows })
 same_but_operations tables rows same_rows = record {
   clients = record { uids = λ client. refl; given = refl };
-  keys = same_keys tables;
+  keys = record { policy_is = refl; lasting_is = refl };
   operations = same_rows;
   slots = refl;
   tickets = record { outs = λ ticket. refl; given = refl };
@@ -217,7 +217,7 @@ same_but_operations tables rows same_rows = record {
 pub same_but_tickets : (tables : Tables) (tickets : Tickets) → SameTickets tables.tickets tickets → SameTables tables (record tables { tickets = tickets })
 same_but_tickets tables tickets same = record {
   clients = record { uids = λ client. refl; given = refl };
-  keys = same_keys tables;
+  keys = record { policy_is = refl; lasting_is = refl };
   operations = record { rows = refl; given = refl };
   slots = refl;
   tickets = same;

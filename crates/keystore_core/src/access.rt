@@ -22,8 +22,8 @@ pub fn access_by(policy: &Policy, keys: &LastingTable, caller: Caller, key: &Des
 }
 
 /// The key that was found.
-pub fn key_in(keys: &LastingTable, access: Access) -> Option<&KeyRecord>
-    ensures { option_copied result ≡ model.key_in (lasting_in keys.now) access }
+pub fn key_in<'a>(keys: &'a LastingTable, access: &Access) -> Option<&'a KeyRecord>
+    ensures { option_copied result ≡ model.key_in (lasting_in keys.now) access.now }
 {
     match access {
         Access::Found { key, bits: _ } => keys.by_id(key.id),
@@ -32,11 +32,11 @@ pub fn key_in(keys: &LastingTable, access: Access) -> Option<&KeyRecord>
 }
 
 /// What the caller may do with it.
-pub fn bits_in(access: Access) -> Permissions
-    ensures { result ≡ model.bits_in access }
+pub fn bits_in(access: &Access) -> Permissions
+    ensures { result ≡ model.bits_in access.now }
 {
     match access {
-        Access::Found { key: _, bits } => bits,
+        Access::Found { key: _, bits } => *bits,
         Access::Nothing => Permissions::NONE,
     }
 }

@@ -77,14 +77,14 @@ fn begin_facts(
     alloc: Global,
     policy: &Policy,
     found: Option<&KeyRecord>,
-    access: Access,
+    access: &Access,
     caller: Caller,
     key: Descriptor,
     params: &[u8],
     forced: bool,
     room: bool,
 ) -> Result<BeginFacts, NoMemory>
-    ensures facts { IfOk result (λ facts. facts ≡ model.facts_on policy.now (option_copied found.entry) access caller key params.now forced room) }
+    ensures facts { IfOk result (λ facts. facts ≡ model.facts_on policy.now (option_copied found.entry) access.now caller key params.now forced room) }
     ensures key { IfOk result (λ facts. facts.fits ≡ true → IsKey (key_of facts) (length (option_map_or material_in (option_copied found.entry) []))) }
 {
     let row = row_for(policy, caller, key.nspace);
@@ -212,12 +212,12 @@ impl Tables {
         let pruned = pruned_for(&self.slots, uid, forced, step);
         let room = has_slot(&self.slots, pruned);
         let access = access_by(&self.policy, &self.keys, caller, &key);
-        let found = key_in(&self.keys, access);
+        let found = key_in(&self.keys, &access);
         let facts = begin_facts(
             alloc,
             &self.policy,
             found,
-            access,
+            &access,
             caller,
             key,
             params.as_slice(),

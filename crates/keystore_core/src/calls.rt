@@ -1,6 +1,6 @@
 //! The calls on stored keys, on an owner's keys, and of the system: entries, ends, grants, counts and listings.
 
-ghost use Rattle.std.specs.Prelude.{◌≡◌, ◌×◌, None, Ok, true, IfOk};
+ghost use Rattle.std.specs.Prelude.{◌≡◌, None, Ok, true, IfOk};
 ghost use Rattle.std.specs.Option.{option_copied};
 ghost use Rattle.key_database.specs.Held.{lasting_in};
 ghost use Rattle.rule_model.specs.declared.event.Act.TheVariants as acts;
@@ -41,11 +41,11 @@ const MOST_GRANTS: usize = 65_536;
 fn key_call_facts(
     policy: &Policy,
     found: Option<&KeyRecord>,
-    access: Access,
+    access: &Access,
     caller: Caller,
     key: &Descriptor,
 ) -> KeyCallFacts
-    ensures { result ≡ model.key_call_facts policy.now (option_copied found.entry) access caller key.now }
+    ensures { result ≡ model.key_call_facts policy.now (option_copied found.entry) access.now caller key.now }
 {
     KeyCallFacts {
         connected: caller.uid.is_some(),
@@ -111,8 +111,8 @@ impl Tables {
         ensures facts { result.1 ≡ model.key_facts self.now.policy (lasting_in self.now.keys) caller key.now }
     {
         let access = access_by(&self.policy, &self.keys, caller, key);
-        let found = key_in(&self.keys, access);
-        let facts = key_call_facts(&self.policy, found, access, caller, key);
+        let found = key_in(&self.keys, &access);
+        let facts = key_call_facts(&self.policy, found, &access, caller, key);
         match found {
             Some(found) => (Some(found.id), facts),
             None => (None, facts),
@@ -132,8 +132,8 @@ impl Tables {
         ensures drew { IfOk result (λ answered. IsUndrawn answered) }
     {
         let access = access_by(&self.policy, &self.keys, caller, key);
-        let found = key_in(&self.keys, access);
-        let facts = key_call_facts(&self.policy, found, access, caller, key);
+        let found = key_in(&self.keys, &access);
+        let facts = key_call_facts(&self.policy, found, &access, caller, key);
         if let Err((rule, code)) = check_get_key_entry(key, &facts) {
             return Ok(Answered::refused(alloc, rule, code));
         }
@@ -283,10 +283,10 @@ impl Tables {
         caller: Caller,
         domain: u32,
         nspace: u64,
-        past: Option<Bytes>,
+        past: &Option<Bytes>,
     ) -> Result<Answered, NoMemory>
         requires { IsCaller self.now caller }
-        ensures serves { ServesAfter self.now self.now (event_by caller (acts.ListEntriesBatched domain nspace past)) result }
+        ensures serves { ServesAfter self.now self.now (event_by caller (acts.ListEntriesBatched domain nspace past.now)) result }
         ensures job { IfOk result (λ answered. answered.job ≡ None) }
         ensures drew { IfOk result (λ answered. IsUndrawn answered) }
     {
@@ -296,7 +296,7 @@ impl Tables {
         }
         let (domain, nspace) = owner_for(owner_of(caller), domain, nspace);
         let fields = Fields {
-            entries: Some(listed(alloc, &self.keys, domain, nspace, &past)?),
+            entries: Some(listed(alloc, &self.keys, domain, nspace, past)?),
             ..NO_FIELDS
         };
         Ok(Answered::undrawn(alloc, Reply::Done(fields)))

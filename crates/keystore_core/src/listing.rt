@@ -1,6 +1,6 @@
 //! The listing of an owner's keys.
 
-ghost use Rattle.std.specs.Prelude.{◌≡◌, ◌+◌, ◌-◌, ◌++◌, ◌≤◌, length, map, take, filter, IfOk};
+ghost use Rattle.std.specs.Prelude.{◌≡◌, IfOk};
 ghost use Rattle.std.specs.Option.{option_copied};
 ghost use Rattle.key_database.specs.Held.{lasting_in};
 ghost use Rattle.rule_model.specs.Listing.{listing};
@@ -15,7 +15,7 @@ const LISTED: usize = 256;
 
 /// The alias behind which a listing begins, where there is one.
 fn alias_past(past: &Option<Bytes>) -> Option<&[u8]>
-    ensures { option_copied result.entry ≡ past.now }
+    ensures { option_copied result ≡ past.now }
 {
     match past {
         Some(alias) => Some(alias.as_slice()),
@@ -34,14 +34,14 @@ pub fn listed(
     ensures { IfOk result (λ entries. entries ≡ listing (lasting_in keys.now) domain nspace past.now) }
 {
     let mut entries = Vec::new(alloc);
-    let mut next = keys.next_name(domain, nspace, alias_past(past));
-    'entries: while let Some(key) = next {
-        if entries.len() == LISTED {
+    let mut last = alias_past(past);
+    'entries: while entries.len() < LISTED {
+        let Some(key) = keys.next_name(domain, nspace, last) else {
             break;
-        }
+        };
         let alias = key.alias.as_slice();
         entries.push((Bytes::copy_of(alloc, alias)?, key.id))?;
-        next = keys.next_name(domain, nspace, Some(alias));
+        last = Some(alias);
     }
     Ok(Entries::of(entries))
 }

@@ -66,7 +66,7 @@ impl Tables {
         ensures { result ≡ model.has_ended (live_key self.now) key }
     {
         match key {
-            Some(key) => self.keys.by_id(key).is_none(),
+            Some(key) => !self.keys.is_live(key),
             None => false,
         }
     }

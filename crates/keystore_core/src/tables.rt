@@ -130,7 +130,7 @@ impl Tables {
                 domain,
                 nspace,
                 past,
-            } => self.list_entries_batched(alloc, caller, domain, nspace, past),
+            } => self.list_entries_batched(alloc, caller, domain, nspace, &past),
             Act::ClearNamespace { domain, nspace } => {
                 Ok(self.clear_namespace(alloc, caller, domain, nspace))
             }

@@ -1,32 +1,20 @@
 -- The listing of an owner's keys.
-use Rattle.std.specs.Prelude.{ℕ, Bool, ◌&&◌, List, [], ◌∷◌, Option, map, filter, take, if◌then◌else◌}
-use Rattle.std.specs.Ordering.{is_lt}
+use Rattle.std.specs.Prelude.{ℕ, zero, suc, List, [], ◌∷◌, Option, Some, None}
 use Rattle.journal_records.specs.declared.record.KeyRecord.{KeyRecord}
-use Rattle.journal_records.specs.LastingPart.{Lasting, is_owned}
-use Rattle.journal_records.specs.Lookups.{alias_cmp, is_after}
+use Rattle.journal_records.specs.LastingPart.{Lasting}
+use Rattle.journal_records.specs.Lookups.{next_key}
 
--- a key among others, by the bytes of their aliases
-abbrev pub with_next : KeyRecord → List KeyRecord → List KeyRecord
-with_next key [] = key ∷ []
-with_next key (other ∷ rest) = if is_lt (alias_cmp key.alias other.alias) then key ∷ other ∷ rest else other ∷ with_next key rest
-
--- the keys in ascending order of their aliases
-abbrev pub in_order : List KeyRecord → List KeyRecord
-in_order [] = []
-in_order (key ∷ keys) = with_next key (in_order keys)
-
--- a key of an owner whose alias is greater than past; each is greater than none
-abbrev pub is_listed : ℕ → ℕ → Option (List ℕ) → KeyRecord → Bool
-is_listed domain nspace past key = is_owned domain nspace key && is_after past key.alias
-
--- the alias and the number of a key
-abbrev pub entry_of : KeyRecord → List ℕ × ℕ
-entry_of key = (key.alias, key.id)
+-- at most so many of an owner's keys, each of the least alias greater than the one before; an alias with the key's number
+unfoldable pub listed_from : ℕ → Lasting → ℕ → ℕ → Option (List ℕ) → List (List ℕ × ℕ)
+listed_from zero part domain nspace past = []
+listed_from (suc most) part domain nspace past = behind (next_key part domain nspace past) (λ alias. listed_from most part domain nspace (Some alias)) where
+  behind : Option KeyRecord → (List ℕ → List (List ℕ × ℕ)) → List (List ℕ × ℕ)
+  behind None rest = []
+  behind (Some key) rest = (key.alias, key.id) ∷ rest key.alias
 
 -- at most this many keys stand in one listing
 abbrev pub LISTED : ℕ
 LISTED = 256
 
--- of the owner's keys whose alias is greater than past, the first in their order
 abbrev pub listing : Lasting → ℕ → ℕ → Option (List ℕ) → List (List ℕ × ℕ)
-listing part domain nspace past = map entry_of (take LISTED (in_order (filter (is_listed domain nspace past) part.keys)))
+listing part domain nspace past = listed_from LISTED part domain nspace past

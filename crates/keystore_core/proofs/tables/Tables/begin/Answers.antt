@@ -27,7 +27,7 @@ returns-in-Err-Broken-clause-serves g c = λ setup past at.
 
 pub unreachable-requires : goal.unreachable-requires
 unreachable-requires g c =
-    no_key c.in_ok-facts.facts _ _ _ c.args.caller c.args.key c.as_slice.result.now c.in-Ok.begin _ _ c.in_ok-facts.ensures.facts (ap option_copied c.in_default.is) c.in-Ok.ensures.gives
+    no_key c.in_ok-facts.facts c.args.self.now.policy (option_copied c.key_in-found.result) c.access_by-access.result c.args.caller c.args.key c.as_slice.result.now c.in-Ok.begin c.args.forced c.has_slot-room.result c.in_ok-facts.ensures.facts (ap option_copied c.in_default.is) c.in-Ok.ensures.gives
 
 pub next-op-requires : goal.next-op-requires
 next-op-requires g c = few_operations c.args.self.now (at_few c.args.self.now c.args.step _ _ c.requires.few c.requires.at)
@@ -64,7 +64,7 @@ open-requires-clause-idle g c = c.pruned_for-pruned.ensures.idle
 pub open-requires-clause-free : goal.open-requires-clause-free
 open-requires-clause-free g c =
     is_free _ c.has_slot-room.result c.pruned_for-pruned.result c.has_slot-room.ensures
-    (sym (gathered_room c.in_ok-facts.facts _ _ _ c.args.caller c.args.key c.as_slice.result.now _ c.has_slot-room.result c.in_ok-facts.ensures.facts) ∙ c.in-Ok.ensures.gives.has_room)
+    (sym (gathered_room c.in_ok-facts.facts c.args.self.now.policy (option_copied c.key_in-found.result) c.access_by-access.result c.args.caller c.args.key c.as_slice.result.now c.args.forced c.has_slot-room.result c.in_ok-facts.ensures.facts) ∙ c.in-Ok.ensures.gives.has_room)
 
 pub open-requires-clause-fresh : goal.open-requires-clause-fresh
 open-requires-clause-fresh g c = rw c.new_operation-row.ensures.number_is (∥∥₁_elim c.requires.at (≡_prop coded_bool _ _) (λ t.

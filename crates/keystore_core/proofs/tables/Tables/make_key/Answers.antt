@@ -1,14 +1,44 @@
 use Rattle.std.proofs.Common.{◌≡◌, ◌+◌, ◌<◌, true, false, length, ap, sym, ◌∙◌, arith}
 use Rattle.key_rules.specs.declared.facts.NewFacts.{NewFacts}
 use Rattle.keymint_ops.specs.Creation.{planned}
-use Rattle.keystore_core.proofs.Making.{full, made, may_make, place_is, planned_as, refused, without_entropy}
+use Rattle.keystore_core.proofs.Making.{full, made, may_make, no_place, place_is, planned_as, refused, some_place, without_entropy}
 use Rattle.keystore_core.proofs.Standing.{same_but_keys}
 use Rattle.keystore_core.proofs.tables.Tables.make_key.Goals as goal
 
 pub returns-in-Err-Broken-clause-serves : goal.returns-in-Err-Broken-clause-serves
 returns-in-Err-Broken-clause-serves g c = λ setup past stands.
     let facts = c.new_facts-facts.ensures in
-    let broken = planned_as setup past c.args.self.now c.args.caller c.args.key c.args.params c.args.import stands c.requires _
+    let broken = planned_as setup past c.args.self.now c.args.caller c.args.key c.args.params c.args.import stands c.requires.caller _
         (sym (ap planned facts) ∙ rw c.in-Err-Broken.field-0-is at c.in-Err-Broken.ensures.key) in
     rw (c.refused.ensures.reply, c.refused.ensures.job, c.refused.ensures.drawn, c.in-Err-Broken.rule-is, c.in-Err-Broken.code-is)
-    (refused setup past c.args.self.now c.args.caller c.args.key c.args.params c.args.import stands c.requires _ _ broken)
+    (refused setup past c.args.self.now c.args.caller c.args.key c.args.params c.args.import stands c.requires.caller _ _ broken)
+
+pub returns-then-not-has_key_place-clause-serves : goal.returns-then-not-has_key_place-clause-serves
+returns-then-not-has_key_place-clause-serves g c = λ setup past stands.
+    let facts = c.new_facts-facts.ensures in
+    let told = rw (c.owner_of-uid.ensures, ap (λ (f : NewFacts). f.descriptor) facts) at c.has_key_place.ensures in
+    let plan = planned_as setup past c.args.self.now c.args.caller c.args.key c.args.params c.args.import stands c.requires.caller _
+        (sym (ap planned facts) ∙ c.in-Ok.ensures.key) in
+    rw (c.stopped.ensures.reply, c.stopped.ensures.job, c.stopped.ensures.drawn)
+    (full setup past c.args.self.now c.args.caller c.args.key c.args.params c.args.import stands c.requires.caller c.in-Ok.plan plan
+    (sym (place_is setup past c.args.self.now c.args.caller c.args.key c.args.params c.args.import stands c.requires.caller) ∙ sym told
+    ∙ no_place c.has_key_place.result c.if-not-has_key_place.true))
+
+pub returns-in-Err-clause-serves : goal.returns-in-Err-clause-serves
+returns-in-Err-clause-serves g c = λ setup past stands.
+    let facts = c.new_facts-facts.ensures in
+    let told = rw (c.owner_of-uid.ensures, ap (λ (f : NewFacts). f.descriptor) facts) at c.has_key_place.ensures in
+    let plan = planned_as setup past c.args.self.now c.args.caller c.args.key c.args.params c.args.import stands c.requires.caller _
+        (sym (ap planned facts) ∙ c.in-Ok.ensures.key) in
+    let place = sym (place_is setup past c.args.self.now c.args.caller c.args.key c.args.params c.args.import stands c.requires.caller) ∙ sym told
+        ∙ some_place c.has_key_place.result c.if-not-has_key_place.false in
+    let few : length c.in-Err.drawn < c.in-Ok.plan.size + 12 = omega (arith, c.in-Err.ensures.part, c.in_ok-draws.ensures) in
+    rw (c.without_entropy.ensures.reply, c.without_entropy.ensures.job, c.without_entropy.ensures.drawn)
+    (without_entropy setup past c.args.self.now c.args.caller c.args.key c.args.params c.args.import stands c.requires.caller _ c.in-Ok.plan c.in-Err.drawn plan place
+    (same_but_keys c.args.self.now c.reserve_key.new.self c.in_ok-reserve_key.ensures.same) few)
+
+pub make-requires : goal.make-requires
+make-requires g c = ?
+
+pub returns-clause-serves : goal.returns-clause-serves
+returns-clause-serves g c = ?
