@@ -3,8 +3,8 @@
 
     python3 tools/frames.py
 
-prints the tables that stand in `crates/wire_frames/src/tests.rt`. It shares no code with the crate: it is the
-independent writer that the crate's tests compare with."""
+prints the tables that stand in `crates/frame_tests/src/frames.rt`. It shares no code with the crate: it is the
+independent writer that the tests of `wire_frames` compare with."""
 
 
 def number(value, size):

@@ -6,8 +6,12 @@ the second, and so on. Each line is sent when the one before it is answered, and
 
 A growth that is refused may end the run with status 1 after a front of the replies, or give one -41, at an act that takes
 memory; then nothing is changed by it, so the other replies are those of the script's `.expected` file (`?` there stands for
-any digit). Without SCRIPT it takes those of examples/ and checks/ that are short. It needs a C compiler, `cc`, for the library that
-refuses. The exit status is 1 where a run does otherwise."""
+any digit). Without SCRIPT it takes those of examples/ and checks/ that are short.
+
+Then it refuses each growth of a line that enters an operation, one of two that fill the slots, and goes on with a begin. Where the
+line is answered -41, the operation is idle with the stamp of its begin: so the begin prunes it, and else the other one.
+
+It needs a C compiler, `cc`, for the library that refuses. The exit status is 1 where a run does otherwise."""
 import argparse
 import json
 import os
@@ -22,7 +26,25 @@ PROGRAM = TOP / "crates/keystore_program/out/keystore_program"
 MOST_LINES = 60
 WANT = '{"code":-41}\n'
 # Acts that are never given up for want of memory.
-WITHOUT_MEMORY = {"abort", "disconnect"}
+WITHOUT_MEMORY = {"abort", "disconnect", "leave"}
+# A line that enters behind these stands at their end, and a begin behind it.
+AT = '{"t":[0,1000],'
+BEGIN = AT + '"c":1,"do":"createOperation","key":{"domain":0,"alias":"m"},"params":[["PURPOSE",2],["MAC_LENGTH",256]]}\n'
+FULL = [
+    AT + '"do":"connect","uid":10001}\n',
+    AT + '"c":1,"do":"importKey","key":{"domain":0,"alias":"m"},"params":[["PURPOSE",2],["ALGORITHM",128],["DIGEST",4],["MIN_MAC_LENGTH",64],["NO_AUTH_REQUIRED",true]],"format":3,"material":"' + "0b" * 20 + '"}\n',
+    BEGIN,
+    BEGIN,
+]
+FULL_REPLIES = ['{"client":1,"code":0}', '{"code":0,"key":1}', '{"code":0,"op":1}', '{"code":0,"op":2}']
+STARTED, PRUNED = '{"code":0,"op":3}', '{"code":0,"op":3,"pruned":%d}'
+# Lines that enter operation 1, each with its reply and that of the begin behind it.
+ENTERS = [
+    ('"do":"update","op":1,"input":"4869205468657265"', '{"code":0,"out":""}', PRUNED % 2),
+    ('"do":"update","op":1,"input":"4869205468657265","hold":true', '{"code":0,"ticket":1}', PRUNED % 2),
+    ('"do":"finish","op":1,"input":"4869205468657265"', '{"code":0,"out":"b0344c61d8db38535ca8afceaf0bf12b881dc200c9833da726e9376c2e32cff7"}', STARTED),
+    ('"do":"finish","op":1,"input":"4869205468657265","hold":true', '{"code":0,"ticket":1}', PRUNED % 2),
+]
 
 REFUSING = """
 #define _GNU_SOURCE
@@ -56,14 +78,15 @@ def reply_to(run, line):
     return run.stdout.readline().decode() or None
 
 
-def replies_of(program, lines, library, refused):
-    """The replies of a run in which one growth is refused, without its -41s; the acts that got one; and its status."""
+def replies_of(program, lines, library, refused, words=(), once=None):
+    """The replies of a run in which one growth is refused, without its -41s; the acts that got one; and its status. The line at
+    the place `once` is not sent again, and keeps its -41."""
     environment = {**os.environ, "LD_PRELOAD": str(library), "REFUSED_GROWTH": str(refused)}
     replies, given_up = [], []
     pipes = {"stdin": subprocess.PIPE, "stdout": subprocess.PIPE, "stderr": subprocess.DEVNULL, "bufsize": 0}
-    with subprocess.Popen([program, "run", "--fresh"], env=environment, **pipes) as run:
-        for line in lines:
-            while (reply := reply_to(run, line)) == WANT:
+    with subprocess.Popen([program, "run", "--fresh", *words], env=environment, **pipes) as run:
+        for place, line in enumerate(lines):
+            while (reply := reply_to(run, line)) == WANT and place != once:
                 given_up.append(json.loads(line)["do"])
             if reply is None:
                 break
@@ -91,6 +114,42 @@ def fault_of(replies, given_up, status, expected):
     return None
 
 
+def check_script(program, library, script):
+    """Refuses each growth of a script, and counts the faults."""
+    lines = [f"{line}\n" for line in script.read_text(encoding="utf-8").splitlines()]
+    expected = script.with_suffix(".expected").read_text(encoding="utf-8").splitlines()
+    growths, stopped, wanted, faults, status = 0, 0, 0, 0, 0
+    while status != ENOUGH:
+        growths += 1
+        replies, given_up, status = replies_of(program, lines, library, growths)
+        stopped += status == 1
+        wanted += len(given_up)
+        if fault := fault_of(replies, given_up, status, expected):
+            faults += 1
+            print(f"{script.name}, growth {growths}: {fault}")
+    print(f"{script.name}: {growths - 1} growths, {stopped} end the run with status 1, {wanted} are answered -41")
+    return faults
+
+
+def check_enter(program, library, members, reply, begun):
+    """Refuses each growth of a script that ends with a line that enters and a begin, and counts the faults. The line that enters
+    is not sent again."""
+    lines = [*FULL, f'{AT}"c":1,{members}}}\n', BEGIN]
+    stopped, wanted, faults, refused, status = 0, 0, 0, 0, 0
+    while status != ENOUGH:
+        refused += 1
+        replies, given_up, status = replies_of(program, lines, library, refused, ["--slots", "2"], len(FULL))
+        is_wanted = replies[len(FULL):len(FULL) + 1] == [WANT]
+        wanted += is_wanted
+        stopped += status == 1 and len(replies) == len(FULL)
+        entered = [WANT.rstrip(), PRUNED % 1] if is_wanted else [reply, begun]
+        if fault := fault_of(replies, given_up, status, FULL_REPLIES + entered):
+            faults += 1
+            print(f"{members}, growth {refused}: {fault}")
+    print(f"{members}: {stopped} end the run with status 1, {wanted} are answered -41")
+    return faults
+
+
 def main():
     parser = argparse.ArgumentParser(description=__doc__.split("\n", maxsplit=1)[0])
     parser.add_argument("scripts", nargs="*", type=Path)
@@ -102,20 +161,10 @@ def main():
         library = Path(folder) / "refusing.so"
         subprocess.run(["cc", "-shared", "-fPIC", "-xc", "-", "-include", "unistd.h", "-o", library, "-ldl"], input=REFUSING, text=True, check=True)
         for script in scripts:
-            lines = [f"{line}\n" for line in script.read_text(encoding="utf-8").splitlines()]
-            expected = script.with_suffix(".expected").read_text(encoding="utf-8").splitlines()
-            if not asked.scripts and len(lines) > MOST_LINES:
-                continue
-            growths, stopped, wanted, status = 0, 0, 0, 0
-            while status != ENOUGH:
-                growths += 1
-                replies, given_up, status = replies_of(asked.program, lines, library, growths)
-                stopped += status == 1
-                wanted += len(given_up)
-                if fault := fault_of(replies, given_up, status, expected):
-                    faults += 1
-                    print(f"{script.name}, growth {growths}: {fault}")
-            print(f"{script.name}: {growths - 1} growths, {stopped} end the run with status 1, {wanted} are answered -41")
+            if asked.scripts or len(script.read_text(encoding="utf-8").splitlines()) <= MOST_LINES:
+                faults += check_script(asked.program, library, script)
+        for row in ENTERS:
+            faults += check_enter(asked.program, library, *row)
     return 1 if faults else 0
 
 

@@ -1,11 +1,16 @@
 #!/usr/bin/env python3
-"""Measures the key database at 64 and at 65,536 keys, over a disk in memory that keeps no write: `store_speed.py` prints the
-least nanoseconds of a round of each part, and their ratio.
+"""Measures the key database at 64 and at 65,536 keys: `store_speed.py [FOLDER]` prints the nanoseconds of a round of each part,
+and their ratio.
+
+The look-ups, a use, a rebinding and an opening go over a disk in memory that keeps no write, and count the least time of a round.
+`open_KiB` is an opening of 64 keys in 5,193 bytes and in 1,024 times as many, for each KiB. `use_synced` and `rebind_synced` are
+changes with their disk, over two files in FOLDER (else where temporary files stand), by turns; they count the middle time.
 
 The program (tools/store_speed/main.rt.in) is proved and built in a folder for the time of the run, over copies of the crates
 with what earlier checks kept of them."""
 import os
 import shutil
+import statistics
 import subprocess
 import sys
 import tempfile
@@ -43,15 +48,22 @@ def said(place):
     return subprocess.run(["rt", "run"], cwd=crate, stdin=subprocess.DEVNULL, capture_output=True, text=True, check=False).stdout
 
 
+PARTS = ("by_name", "by_id", "next_name", "count", "use", "rebind", "open", "open_KiB", "use_synced", "rebind_synced")
+
+
 def main():
-    with tempfile.TemporaryDirectory(prefix="store-speed-") as place:
+    folder = sys.argv[1] if len(sys.argv) == 2 else None
+    with tempfile.TemporaryDirectory(prefix="store-speed-", dir=folder) as place:
         rows = [line.split() for line in said(place).splitlines()]
-    times = {(row[1], row[0]): int(row[2]) for row in rows if len(row) == 4 and row[0] in ("64", "65536")}
+    times = {}
+    for row in rows:
+        if len(row) == 4 and row[0] in ("64", "65536"):
+            times.setdefault((row[1], row[0]), []).append(int(row[2]))
     if not times:
         sys.exit("store_speed.py: the program was not built: run `rt check` in crates/key_database")
-    for part in ("by_name", "by_id", "next_name", "count", "use", "rebind", "open"):
-        few, many = times[part, "64"], times[part, "65536"]
-        print(f"{part:<10} {few:6} {many:6} {many / few:6.2f}")
+    for part in PARTS:
+        few, many = (statistics.median(times[part, keys]) for keys in ("64", "65536"))
+        print(f"{part:<14} {few:9.0f} {many:9.0f} {many / few:6.2f}")
 
 
 if __name__ == "__main__":

@@ -14,9 +14,11 @@ use Rattle.aes_core.specs.KeyOf.{key_of}
 use Rattle.aes_core.specs.Laws.AesLaws.{key_of_is_key}
 use Rattle.aes_core.specs.declared.aes_key.AesKey.{AesKey}
 use Rattle.aes_wide.specs.declared.wide_aes.KeyPlanes.{KeyPlanes}
-use Rattle.aes_wide.specs.Held.{HasKeys, planes_in, planes_at}
+use Rattle.aes_wide.specs.Held.{HasKeys, held_key, planes_in, planes_at}
 use Rattle.aes_wide.specs.Planes.{IsWhole, block, by_rows, standing}
+use Rattle.aes_wide.specs.Steps.{constant}
 use Rattle.aes_wide.proofs.Standing.{by_rows_back, by_rows_block, each_byte}
+use Rattle.aes_wide.proofs.MovedLemmas.{held_later}
 use Rattle.aes_wide.proofs.SingleLemmas.{row_block}
 use Rattle.aes_wide.proofs.TwiceLemmas.{back_0, back_1, back_2, back_3, back_4, back_5, back_6, back_7}
 
@@ -41,28 +43,34 @@ begun w x state key whole added is_key = record {
   blocks = λ b h. added b ∙ ap (add_round_key (standing x b)) (is_key b h);
 }
 
-pub going_on : (w : List ℕ) (n : ℕ) (x state next key : List (List ℕ)) → IsGoing w n x state → IsWhole 8 next →
-    ((b : ℕ) → b < 8 → standing next b ≡ add_round_key (mix_columns (shift_rows (sub_bytes (standing state b)))) (standing key b)) →
-    ((b : ℕ) → b < 8 → standing key b ≡ round_key w (n + 1)) → IsGoing w (n + 1) x next
-going_on w n x state next key going whole step is_key = record {
+pub going_on : (w : List ℕ) (n : ℕ) (x state mixed next key : List (List ℕ)) → IsGoing w n x state → IsWhole 8 next →
+    ((b : ℕ) (k : List ℕ) → add_round_key (standing mixed b) (add_round_key k constant) ≡ add_round_key (mix_columns (shift_rows (sub_bytes (standing state b)))) k) →
+    ((b : ℕ) → standing next b ≡ add_round_key (standing mixed b) (standing key b)) →
+    ((b : ℕ) → b < 8 → standing key b ≡ held_key w (n + 1)) → IsGoing w (n + 1) x next
+going_on w n x state mixed next key going whole step added is_key = record {
   whole = whole;
   blocks = λ b h.
-      step b h
-      ∙ ap (λ t. add_round_key (mix_columns (shift_rows (sub_bytes t))) (standing key b)) (going.blocks b h)
-      ∙ ap (add_round_key (mix_columns (shift_rows (sub_bytes (rounds w n (add_round_key (standing x b) (round_key w 0))))))) (is_key b h)
+      let k = round_key w (n + 1) in
+      added b
+      ∙ ap (add_round_key (standing mixed b)) (is_key b h ∙ held_later w (n + 1) (omega arith))
+      ∙ step b k
+      ∙ ap (λ t. add_round_key (mix_columns (shift_rows (sub_bytes t))) k) (going.blocks b h)
       ∙ sym (rounds_more w n (add_round_key (standing x b) (round_key w 0)));
 }
 
-pub ended : (key : List ℕ) (n : ℕ) (x state out last : List (List ℕ)) → n ≡ rounds_of key - 1 → IsGoing (key_expansion key) n x state →
-    ((b : ℕ) → b < 8 → standing out b ≡ add_round_key (shift_rows (sub_bytes (standing state b))) (standing last b)) →
-    ((b : ℕ) → b < 8 → standing last b ≡ round_key (key_expansion key) (rounds_of key)) →
+pub ended : (key : List ℕ) (n : ℕ) (x state mixed out last : List (List ℕ)) → n ≡ rounds_of key - 1 → 0 < rounds_of key → IsGoing (key_expansion key) n x state →
+    ((b : ℕ) (k : List ℕ) → add_round_key (standing mixed b) (add_round_key k constant) ≡ add_round_key (shift_rows (sub_bytes (standing state b))) k) →
+    ((b : ℕ) → standing out b ≡ add_round_key (standing mixed b) (standing last b)) →
+    ((b : ℕ) → b < 8 → standing last b ≡ held_key (key_expansion key) (rounds_of key)) →
     (b : ℕ) → b < 8 → standing out b ≡ cipher key (standing x b)
 unfolding cipher cipher_by
-ended key n x state out last is_n going step is_key b h =
+ended key n x state mixed out last is_n some going step added is_key b h =
     let w = key_expansion key in
-    step b h
-    ∙ ap (λ t. add_round_key (shift_rows (sub_bytes t)) (standing last b)) (going.blocks b h ∙ ap (λ m. rounds w m (add_round_key (standing x b) (round_key w 0))) is_n)
-    ∙ ap (add_round_key (shift_rows (sub_bytes (rounds w (rounds_of key - 1) (add_round_key (standing x b) (round_key w 0)))))) (is_key b h)
+    let k = round_key w (rounds_of key) in
+    added b
+    ∙ ap (add_round_key (standing mixed b)) (is_key b h ∙ held_later w (rounds_of key) some)
+    ∙ step b k
+    ∙ ap (λ t. add_round_key (shift_rows (sub_bytes t)) k) (going.blocks b h ∙ ap (λ m. rounds w m (add_round_key (standing x b) (round_key w 0))) is_n)
 
 size_small : (n : ℕ) → is_key_size n ≡ true → n ≤ 32
 size_small n h = grind (arith, nat_tests)
@@ -88,7 +96,7 @@ pub record IsFilled (n : ℕ) (keys : List KeyPlanes) (key : List ℕ) : Type 0 
   pub has : HasKeys n keys key
 
 pub more_keys : (n : ℕ) (keys : List KeyPlanes) (new : KeyPlanes) (planes : List (List ℕ)) (key : List ℕ) → n < 15 → IsFilled n keys key →
-    planes_in new ≡ planes → IsWhole 8 planes → ((b : ℕ) → b < 8 → standing planes b ≡ round_key (key_expansion key) n) → IsFilled (n + 1) (set keys n new) key
+    planes_in new ≡ planes → IsWhole 8 planes → ((b : ℕ) → b < 8 → standing planes b ≡ held_key (key_expansion key) n) → IsFilled (n + 1) (set keys n new) key
 more_keys n keys new planes key few filled is_new whole blocks =
     let within : n < length keys = omega (arith, filled.long) in
     let none : KeyPlanes = record { p0 = []; p1 = []; p2 = []; p3 = []; p4 = []; p5 = []; p6 = []; p7 = [] } in
@@ -96,7 +104,7 @@ more_keys n keys new planes key few filled is_new whole blocks =
     let there : (k : ℕ) → k < n → planes_at keys k ≡ planes_at (set keys n new) k =
     λ k h. let other : k ≢ n = omega arith in sym (ap planes_in (get_or-set_other keys n k new none other)) in
     let Whole : ℕ → Type 0 = λ k. IsWhole 8 (planes_at (set keys n new) k) in
-    let Blocks : ℕ → Type 0 = λ k. (b : ℕ) → b < 8 → standing (planes_at (set keys n new) k) b ≡ round_key (key_expansion key) k in
+    let Blocks : ℕ → Type 0 = λ k. (b : ℕ) → b < 8 → standing (planes_at (set keys n new) k) b ≡ held_key (key_expansion key) k in
     let wholes : (k : ℕ) → k < n + 1 → Whole k = below_more Whole n (λ k h. subst (IsWhole 8) (there k h) (filled.has.whole k h)) (subst (IsWhole 8) here whole) in
     let every : (k : ℕ) → k < n + 1 → Blocks k =
     below_more Blocks n (λ k h b hb. ap (λ t. standing t b) (sym (there k h)) ∙ filled.has.blocks k b h hb) (λ b hb. ap (λ t. standing t b) (sym here) ∙ blocks b hb) in

@@ -13,3 +13,4 @@ pub mod UnmixLemmas
 pub mod BackLemmas
 pub mod SingleLemmas
 pub mod RowLemmas
+pub mod MovedLemmas

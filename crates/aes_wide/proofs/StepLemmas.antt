@@ -121,15 +121,9 @@ boxed_blocks : (x z : List (List ℕ)) (b : ℕ) → IsWhole 8 x → ((j : ℕ) 
 unfolding block lanes add_round_key sub_bytes constant state_of
 boxed_blocks x z b e boxed = boxed_of x z (at x) b e boxed ∙ ap (λ t. sub_bytes (block t b)) (sym e)
 
-constant_same : agree_below (λ b. number_l 2 (bits b (255 ∷ 255 ∷ 0 ∷ 0 ∷ 0 ∷ 255 ∷ 255 ∷ 0 ∷ [])) == 0x63) (λ _. true) 8 ≡ true
-constant_same = refl
-
-pub constant_byte : (b : ℕ) → b < 8 → number_l 2 (bits b (255 ∷ 255 ∷ 0 ∷ 0 ∷ 0 ∷ 255 ∷ 255 ∷ 0 ∷ [])) ≡ 0x63
-constant_byte b below = same_at (λ n. number_l 2 (bits n (255 ∷ 255 ∷ 0 ∷ 0 ∷ 0 ∷ 255 ∷ 255 ∷ 0 ∷ []))) (λ _. 0x63) 8 b constant_same below
-
 -- ---- MixColumns
 
-mixed_byte_is : (a b c d : ℕ) → a < 256 → b < 256 → bit_xor (x_times (bit_xor a b)) (bit_xor b (bit_xor c d)) ≡ mixed a b c d
+pub mixed_byte_is : (a b c d : ℕ) → a < 256 → b < 256 → bit_xor (x_times (bit_xor a b)) (bit_xor b (bit_xor c d)) ≡ mixed a b c d
 unfolding mixed times times_bits
 mixed_byte_is a b c d la lb =
     ap (λ t. bit_xor t (bit_xor b (bit_xor c d))) (x_times_sum a b la lb)

@@ -63,12 +63,10 @@ unboxed_block : (y z : List (List ℕ)) (b : ℕ) → IsWhole 8 y → ((j : ℕ)
 unfolding block lanes add_round_key inv_sub_bytes constant state_of
 unboxed_block y z b e unboxed = unboxed_of y z (at y) b e unboxed ∙ ap (λ t. inv_sub_bytes (add_round_key (block t b) constant)) (sym e)
 
-pub unboxed_standing : (x y z : List (List ℕ)) (b : ℕ) → IsWhole 8 y → ((j : ℕ) → j < 16 → column z j ≡ unbox_wires (column y j)) →
-    standing y b ≡ add_round_key (standing x b) constant → add_round_key (add_round_key (standing x b) constant) constant ≡ standing x b → standing z b ≡ inv_sub_bytes (standing x b)
+pub unboxed_standing : (y z : List (List ℕ)) (b : ℕ) → IsWhole 8 y → ((j : ℕ) → j < 16 → column z j ≡ unbox_wires (column y j)) →
+    standing z b ≡ inv_sub_bytes (add_round_key (standing y b) constant)
 unfolding standing
-unboxed_standing x y z b e unboxed is_y undone =
+unboxed_standing y z b e unboxed =
     ap by_rows (unboxed_block y z b e unboxed)
     ∙ by_rows_unsubbed (add_round_key (block y b) constant)
     ∙ ap inv_sub_bytes (by_rows_sum (block y b) constant ∙ ap (add_round_key (by_rows (block y b))) by_rows_constant)
-    ∙ ap (λ t. inv_sub_bytes (add_round_key t constant)) is_y
-    ∙ ap inv_sub_bytes undone

@@ -9,10 +9,10 @@ use Rattle.aes_core.proofs.MixLemmas.{unmixed_by_mixed}
 use Rattle.aes_wide.specs.Steps.{turned, doubled}
 use Rattle.aes_wide.proofs.StepLemmas.{same_states}
 
-abbrev four : ℕ → ℕ → ℕ
+abbrev pub four : ℕ → ℕ → ℕ
 four a c = x_times (x_times (bit_xor a c))
 
-unmixed_byte_is : (a b c d : ℕ) → a < 256 → b < 256 → c < 256 → d < 256 →
+pub unmixed_byte_is : (a b c d : ℕ) → a < 256 → b < 256 → c < 256 → d < 256 →
     mixed (bit_xor a (four a c)) (bit_xor b (four b d)) (bit_xor c (four c a)) (bit_xor d (four d b)) ≡ unmixed a b c d
 unmixed_byte_is a b c d la lb lc ld =
     ap (λ t. mixed (bit_xor a (four a c)) (bit_xor b (four b d)) (bit_xor c (x_times (x_times t))) (bit_xor d (four d b))) (xor_comm c a)

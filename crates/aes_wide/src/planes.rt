@@ -1,6 +1,6 @@
 //! The steps of a round on planes. The states stand in them row by row: lane 4 r + c has the byte of row r and column c.
 
-ghost use Rattle.std.specs.Prelude.{◌≡◌, ℕ, ◌<◌, [], ◌∷◌};
+ghost use Rattle.std.specs.Prelude.{◌≡◌, ℕ, List, [], ◌∷◌};
 ghost use Rattle.aes_core.specs.State.{sub_bytes, shift_rows, mix_columns, add_round_key, inv_sub_bytes, inv_shift_rows, inv_mix_columns};
 ghost use Rattle.aes_wide.specs.Planes.{IsWhole, standing, made};
 ghost use Rattle.aes_wide.specs.Steps.{turned, doubled, constant, double_gates, double_outs};
@@ -113,27 +113,6 @@ fn doubled(x: [u8x16; 8]) -> [u8x16; 8]
     doubled_planes(x)
 }
 
-/// The constant of the S-box in each byte of eight blocks.
-#[inline(always)]
-fn constant() -> [u8x16; 8]
-    ensures whole { IsWhole 8 result }
-    ensures blocks { (b : ℕ) → b < 8 → standing result b ≡ constant }
-{
-    let none = u8x16::splat(0);
-    let all = u8x16::splat(0xff);
-    [all, all, none, none, none, all, all, none]
-}
-
-/// SubBytes.
-#[inline(always)]
-fn subbed(x: [u8x16; 8]) -> [u8x16; 8]
-    requires { IsWhole 8 x }
-    ensures whole { IsWhole 8 result }
-    ensures blocks { (b : ℕ) → b < 8 → standing result b ≡ sub_bytes (standing x b) }
-{
-    added(boxed(x), constant())
-}
-
 /// MixColumns.
 #[inline(always)]
 fn mixed(x: [u8x16; 8]) -> [u8x16; 8]
@@ -149,26 +128,28 @@ fn mixed(x: [u8x16; 8]) -> [u8x16; 8]
     added(double, rest)
 }
 
-/// A round with a round key. ShiftRows goes before SubBytes, with which it changes places, so that no shuffle needs a copy.
+/// A round up to its round key, which is held with the constant of the S-box. ShiftRows goes before SubBytes, with which it
+/// changes places, so that no shuffle needs a copy.
 #[inline(always)]
-pub(crate) fn round(x: [u8x16; 8], key: [u8x16; 8]) -> [u8x16; 8]
-    requires x { IsWhole 8 x }
-    requires key { IsWhole 8 key }
+pub(crate) fn round(x: [u8x16; 8]) -> [u8x16; 8]
+    requires { IsWhole 8 x }
     ensures whole { IsWhole 8 result }
-    ensures blocks { (b : ℕ) → b < 8 → standing result b ≡ add_round_key (mix_columns (shift_rows (sub_bytes (standing x b)))) (standing key b) }
+    ensures blocks { (b : ℕ) (k : List ℕ) → add_round_key (standing result b) (add_round_key k constant)
+        ≡ add_round_key (mix_columns (shift_rows (sub_bytes (standing x b)))) k }
 {
-    added(mixed(subbed(rows_shifted(x))), key)
+    mixed(boxed(rows_shifted(x)))
 }
 
-/// The last round, without MixColumns.
+/// The last round, without MixColumns, up to its round key.
 #[inline(always)]
-pub(crate) fn last_round(x: [u8x16; 8], key: [u8x16; 8]) -> [u8x16; 8]
-    requires x { IsWhole 8 x }
-    requires key { IsWhole 8 key }
+pub(crate) fn last_round(x: [u8x16; 8]) -> [u8x16; 8]
+    requires { IsWhole 8 x }
     ensures whole { IsWhole 8 result }
-    ensures blocks { (b : ℕ) → b < 8 → standing result b ≡ add_round_key (shift_rows (sub_bytes (standing x b))) (standing key b) }
+    ensures blocks { (b : ℕ) (k : List ℕ) → add_round_key (standing result b) (add_round_key k constant)
+        ≡ add_round_key (shift_rows (sub_bytes (standing x b))) k }
 {
-    added(subbed(rows_shifted(x)), key)
+    let shifted = rows_shifted(x);
+    boxed(shifted)
 }
 
 /// InvShiftRows.
@@ -190,20 +171,9 @@ fn rows_unshifted(x: [u8x16; 8]) -> [u8x16; 8]
     ]
 }
 
-/// InvSubBytes.
-#[inline(always)]
-fn unsubbed(x: [u8x16; 8]) -> [u8x16; 8]
-    requires { IsWhole 8 x }
-    ensures whole { IsWhole 8 result }
-    ensures blocks { (b : ℕ) → b < 8 → standing result b ≡ inv_sub_bytes (standing x b) }
-{
-    let plain = added(x, constant());
-    unboxed(plain)
-}
-
 /// InvMixColumns: MixColumns after four times the sum of each byte and the one two rows on is added.
 #[inline(always)]
-fn unmixed(x: [u8x16; 8]) -> [u8x16; 8]
+pub(crate) fn unmixed(x: [u8x16; 8]) -> [u8x16; 8]
     requires { IsWhole 8 x }
     ensures whole { IsWhole 8 result }
     ensures blocks { (b : ℕ) → standing result b ≡ inv_mix_columns (standing x b) }
@@ -216,24 +186,12 @@ fn unmixed(x: [u8x16; 8]) -> [u8x16; 8]
     mixed(eased)
 }
 
-/// A round of the inverse cipher with a round key.
+/// A round of the inverse cipher up to its round key, of states with the constant of the S-box in each byte.
 #[inline(always)]
-pub(crate) fn unround(x: [u8x16; 8], key: [u8x16; 8]) -> [u8x16; 8]
-    requires x { IsWhole 8 x }
-    requires key { IsWhole 8 key }
+pub(crate) fn unsubbed(x: [u8x16; 8]) -> [u8x16; 8]
+    requires { IsWhole 8 x }
     ensures whole { IsWhole 8 result }
-    ensures blocks { (b : ℕ) → b < 8 → standing result b ≡ inv_mix_columns (add_round_key (inv_sub_bytes (inv_shift_rows (standing x b))) (standing key b)) }
+    ensures blocks { (b : ℕ) → standing result b ≡ inv_sub_bytes (inv_shift_rows (add_round_key (standing x b) constant)) }
 {
-    unmixed(added(unsubbed(rows_unshifted(x)), key))
-}
-
-/// The last round of the inverse cipher, without InvMixColumns.
-#[inline(always)]
-pub(crate) fn last_unround(x: [u8x16; 8], key: [u8x16; 8]) -> [u8x16; 8]
-    requires x { IsWhole 8 x }
-    requires key { IsWhole 8 key }
-    ensures whole { IsWhole 8 result }
-    ensures blocks { (b : ℕ) → b < 8 → standing result b ≡ add_round_key (inv_sub_bytes (inv_shift_rows (standing x b))) (standing key b) }
-{
-    added(unsubbed(rows_unshifted(x)), key)
+    unboxed(rows_unshifted(x))
 }

@@ -2,12 +2,13 @@
 
 ghost use Rattle.std.specs.Prelude.{◌≡◌, ℕ, ◌+◌, ◌<◌, ◌≤◌, length, map};
 ghost use Rattle.aes_core.specs.Cipher.{cipher};
+ghost use Rattle.aes_core.specs.Expansion.{key_expansion, rounds_of};
 ghost use Rattle.aes_core.specs.KeyOf.{key_of};
-ghost use Rattle.aes_wide.specs.Held.{HasAllKeys};
+ghost use Rattle.aes_wide.specs.Held.{HasAllKeys, held_key};
 ghost use Rattle.aes_wide.specs.Planes.{IsWhole, standing};
 ghost use Rattle.aes_wide.specs.Single.{HasRows};
 
-use crate::planes::{added, last_round, last_unround, round, unround};
+use crate::planes::{added, last_round, round, unmixed, unsubbed};
 use crate::single::{RoundKey, key_rows, last_tower_round, sum, tower_round};
 use crate::transpose::{rows_of, transposed};
 use aes_core::{AesKey, BlockCipher, ManyBlocks, to_tower};
@@ -76,6 +77,18 @@ fn spread(x: u8x16) -> [u8x16; 8]
     transposed(rows_of([x, x, x, x, x, x, x, x]))
 }
 
+/// A round key as it is held. The constant of the S-box is added to it here, and not in each round.
+fn held_key(plain: &AesKey, round: usize) -> u8x16
+    requires { round ≤ rounds_of (key_of plain.now) }
+    ensures { result ≡ held_key (key_expansion (key_of plain.now)) round }
+{
+    let key = u8x16::from_array(plain.round_key(round));
+    if round == 0 {
+        return key;
+    }
+    sum(key, u8x16::splat(0x63))
+}
+
 /// The round keys of a key in planes.
 fn key_planes(plain: &AesKey) -> [KeyPlanes; 15]
     ensures { HasAllKeys result (key_of plain.now) }
@@ -84,7 +97,7 @@ fn key_planes(plain: &AesKey) -> [KeyPlanes; 15]
     let mut keys = [none; 15];
     let count = plain.rounds() + 1;
     'each: for r in 0..count {
-        let key = KeyPlanes::of(spread(u8x16::from_array(plain.round_key(r))));
+        let key = KeyPlanes::of(spread(held_key(plain, r)));
         keys[r] = key;
     }
     keys
@@ -120,7 +133,7 @@ impl WideAes {
         last_tower_round(state, self.rows[count].bytes)
     }
 
-    /// The cipher of eight blocks in planes.
+    /// The cipher of eight blocks in planes. A round key is read where it is added, and stays in memory until then.
     fn encrypt_planes(&self, x: [u8x16; 8]) -> [u8x16; 8]
         requires { IsWhole 8 x }
         ensures whole { IsWhole 8 result }
@@ -129,10 +142,12 @@ impl WideAes {
         let count = self.plain.rounds();
         let mut state = added(x, self.keys[0].planes());
         'rounds: for done in 0..count - 1 {
-            let next = round(state, self.keys[done + 1].planes());
+            let mixed = round(state);
+            let next = added(mixed, self.keys[done + 1].planes());
             state = next;
         }
-        last_round(state, self.keys[count].planes())
+        let last = last_round(state);
+        added(last, self.keys[count].planes())
     }
 
     /// The cipher of eight blocks in vectors.
@@ -200,10 +215,13 @@ impl WideAes {
         let count = self.plain.rounds();
         let mut state = added(x, self.keys[count].planes());
         'rounds: for done in 0..count - 1 {
-            let next = unround(state, self.keys[count - 1 - done].planes());
+            let plain = unsubbed(state);
+            let sum = added(plain, self.keys[count - 1 - done].planes());
+            let next = unmixed(sum);
             state = next;
         }
-        last_unround(state, self.keys[0].planes())
+        let last = unsubbed(state);
+        added(last, self.keys[0].planes())
     }
 
     /// The inverse cipher of eight blocks in vectors.

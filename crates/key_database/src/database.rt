@@ -14,9 +14,9 @@ ghost use Rattle.key_database.specs.Held.{CanMake, takes_memory};
 ghost use Rattle.key_database.specs.Store.{MayBe, Between, StandsFor};
 
 use crate::appending::append_change;
+use crate::lasting_table::LastingTable;
 use crate::law::one_store;
 use crate::opening::replay;
-use crate::lasting_table::LastingTable;
 use journal_records::{Change, StoreFault};
 use ks_outside::Disk;
 use std::alloc::Global;

@@ -1,5 +1,5 @@
 -- The jobs of a session, after a step.
-use Rattle.std.proofs.Common.{◌≡◌, ℕ, ◌+◌, ◌<◌, Bool, true, false, ◌==◌, if◌then◌else◌, List, ◌∷◌, length, Option, Some, None, Result, Ok, Err, refl, sym, ap, ◌∙◌, subst, inl, inr, arith}
+use Rattle.std.proofs.Common.{◌≡◌, ℕ, ◌+◌, ◌<◌, Bool, true, false, ◌==◌, if◌then◌else◌, List, ◌∷◌, length, Option, Some, None, Result, Ok, Err, IfSome, refl, sym, ap, ◌∙◌, subst, inl, inr, arith}
 use Rattle.std.proofs.lemmas.Bool.{cases_Bool, eqb-true}
 use Rattle.cipher_ops.specs.declared.job.Done.{Done as JobDone}
 use Rattle.cipher_ops.specs.declared.job.Job.{Job}
@@ -15,8 +15,9 @@ use Rattle.rule_model.specs.declared.event.Event.{Event}
 use Rattle.rule_model.specs.declared.reply.Fields.{Fields}
 use Rattle.rule_model.specs.declared.reply.Reply.{Reply}
 use Rattle.rule_model.specs.declared.reply.Reply.TheVariants.{Done, Broken, Stopped}
-use Rattle.rule_model.specs.Acts.{fixed_for}
-use Rattle.rule_model.specs.Answer.{given_or, leaving}
+use Rattle.rule_model.specs.Acts.{fixed_for, is_restart}
+use Rattle.rule_model.specs.Answer.{answer, given_or, leaving}
+use Rattle.rule_model.specs.Drawn.{size_of, wanted}
 use Rattle.rule_model.specs.Entries.{History, after_step}
 use Rattle.rule_model.specs.Jobs.{GoesWith, HasDone, HasJob, IsDoneOn, IsDoneOut, IsJobOn, IsJobOut, Stays}
 use Rattle.rule_model.specs.Legal.{MayFollow, MayStep, Answered, WithoutMemory, WithoutEntropy}
@@ -36,7 +37,7 @@ done_on None work job back ran is = absurd is
 done_on (Some o) work job back ran is = record { comes = ran.comes _ _ _ _ _ _ work is; refuses = ran.refuses }
 
 pub done_out : (setup : Setup) (past : History) (entered : Option Entered) (job : Option Job) (back : Option JobDone) → IsHeld setup past entered job → Ran job back → IsDoneOut setup past entered back
-done_out setup past None None done held ran = tt
+done_out setup past None None back held ran = tt
 done_out setup past None (Some job) back held ran = absurd held
 done_out setup past (Some entered) None back held ran = absurd held
 done_out setup past (Some entered) (Some job) None held ran = absurd ran
@@ -61,12 +62,12 @@ leaving_change setup past ticket event (Some entered) e = given_change ticket ev
 -- a leave is answered by the rules, whatever comes
 pub leave_change : (setup : Setup) (past : History) (ticket : ℕ) (event : Event) (drawn : List ℕ) (reply : Reply) → event.act ≡ Leave ticket → MayFollow setup past event drawn reply → ticket_change event reply ≡ ComesBack ticket
 leave_change setup past ticket event drawn reply e (Answered is) =
-    ap (ticket_change event) (is.is_answer ∙ ap (λ act. Rattle.rule_model.specs.Answer.answer setup past (record event { act = act }) drawn) e) ∙ leaving_change setup past ticket event (ticket_at past ticket) e
+    ap (ticket_change event) (is.is_answer ∙ ap (λ act. answer setup past (record event { act = act }) drawn) e) ∙ leaving_change setup past ticket event (ticket_at past ticket) e
 leave_change setup past ticket event drawn reply e (WithoutMemory is) = absurd (
     let takes : (fixed_for event.act).takes_memory ≡ false = ap (λ act. (fixed_for act).takes_memory) e in
     let yes = is.takes in cc)
 leave_change setup past ticket event drawn reply e (WithoutEntropy is) = absurd (
-    let none : Rattle.rule_model.specs.Drawn.size_of (Rattle.rule_model.specs.Drawn.wanted setup past event) ≡ 0 = ap (λ act. Rattle.rule_model.specs.Drawn.size_of (Rattle.rule_model.specs.Drawn.wanted setup past (record event { act = act }))) e in
+    let none : size_of (wanted setup past event) ≡ 0 = ap (λ act. size_of (wanted setup past (record event { act = act }))) e in
     omega (arith, is.drew, none))
 
 module _ (setup : Setup) (past later : History) (stays : Stays setup past later) where
@@ -96,7 +97,7 @@ module _ (setup : Setup) (past later : History) (stays : Stays setup past later)
   out_held None job out = absurd out
   out_held (Some entered) job out = out
 
-  pub held_after : (next : ℕ) (given : Option ℕ) (job : Option Job) (old new : Jobs) → GoesWith setup later given job → Rattle.std.specs.Prelude.IfSome job (λ j. ticket_of j ≡ next)
+  pub held_after : (next : ℕ) (given : Option ℕ) (job : Option Job) (old new : Jobs) → GoesWith setup later given job → IfSome job (λ j. ticket_of j ≡ next)
       → ((t : ℕ) → ((n : ℕ) → given ≡ Some n → (n == t) ≡ false) → ticket_at later t ≡ ticket_at past t) → Holds next job old new → JobsStand setup old past → JobsStand setup new later
   held_after next None None old new goes number others holds held t = subst (IsHeld setup later (ticket_at later t)) (sym (holds t)) (keep t (job_in old t) (others t (λ n e. cc)) (held t))
   held_after next None (Some job) old new goes number others holds held t = cc
@@ -115,7 +116,7 @@ stays_given : (given : Option ℕ) (op : ℕ) (work : Work) (t : ℕ) (before : 
 stays_given None op work t before others = refl
 stays_given (Some n) op work t before others = rw (others n refl) refl
 
-admitted_stay : (act : Act) (fields : Fields) (t : ℕ) (before : Option Entered) → left_by act ≡ None → (Rattle.rule_model.specs.Acts.is_restart act ≡ false) → ((n : ℕ) → fields.ticket ≡ Some n → (n == t) ≡ false) → ticket_after (admitted_ticket act fields) t before ≡ before
+admitted_stay : (act : Act) (fields : Fields) (t : ℕ) (before : Option Entered) → left_by act ≡ None → is_restart act ≡ false → ((n : ℕ) → fields.ticket ≡ Some n → (n == t) ≡ false) → ticket_after (admitted_ticket act fields) t before ≡ before
 admitted_stay (EnterAad op input) fields t before no_leave no_restart others = stays_given fields.ticket op (Aad input) t before others
 admitted_stay (EnterUpdate op input) fields t before no_leave no_restart others = stays_given fields.ticket op (Text input) t before others
 admitted_stay (EnterFinish op input signature) fields t before no_leave no_restart others = stays_given fields.ticket op (Last input signature) t before others
@@ -134,10 +135,10 @@ ticket_given (Broken rule code) = None
 ticket_given (Stopped code) = None
 
 -- a restart is not built, so none is admitted
-not_restarted : (setup : Setup) (past : History) (event : Event) (drawn : List ℕ) (fields : Fields) → MayFollow setup past event drawn (Done fields) → Rattle.rule_model.specs.Acts.is_restart event.act ≡ false
+not_restarted : (setup : Setup) (past : History) (event : Event) (drawn : List ℕ) (fields : Fields) → MayFollow setup past event drawn (Done fields) → is_restart event.act ≡ false
 not_restarted setup past event drawn fields (Answered is) = by_act event.act refl where
-  by_act : (act : Act) → event.act ≡ act → Rattle.rule_model.specs.Acts.is_restart act ≡ false
-  by_act (Restart root) e = absurd (let broken = is.is_answer ∙ ap (λ act. Rattle.rule_model.specs.Answer.answer setup past (record event { act = act }) drawn) e in cc)
+  by_act : (act : Act) → event.act ≡ act → is_restart act ≡ false
+  by_act (Restart root) e = absurd (let broken = is.is_answer ∙ ap (λ act. answer setup past (record event { act = act }) drawn) e in cc)
   by_act _ e = refl
 not_restarted setup past event drawn fields (WithoutMemory is) = absurd (let no = is.is_want in cc)
 not_restarted setup past event drawn fields (WithoutEntropy is) = absurd (let no = is.is_fault in cc)
@@ -164,7 +165,7 @@ held_left setup past ticket event None drawn reply old new e none may stays sets
 -- the same of another event, with the job that it gave
 pub held_on : (setup : Setup) (past : History) (event : Event) (settled : Option Settled) (drawn : List ℕ) (reply : Reply) (job : Option Job) (next : ℕ) (old new : Jobs)
     → left_by event.act ≡ None → settled ≡ None → MayStep setup past settled event drawn reply → HasJob setup (after_step settled event drawn reply past) reply job
-    → Stays setup past (after_step settled event drawn reply past) → Rattle.std.specs.Prelude.IfSome job (λ j. ticket_of j ≡ next)
+    → Stays setup past (after_step settled event drawn reply past) → IfSome job (λ j. ticket_of j ≡ next)
     → Holds next job old new → JobsStand setup old past → JobsStand setup new (after_step settled event drawn reply past)
 held_on setup past event (Some settled) drawn reply job next old new no_leave none may has stays number holds held = absurd (let no = none in cc)
 held_on setup past event None drawn reply job next old new no_leave none may has stays number holds held = held_after setup past (Acted event drawn reply ∷ past) stays next (ticket_given reply) job old new

@@ -42,7 +42,7 @@ pub record RanJob (job : Job) (done : Done) : Type 0 where
 abbrev pub Ran : Option Job → Option Done → Type 0
 Ran None None = Unit {0}
 Ran (Some job) (Some done) = RanJob job done
-Ran None (Some done) = ⊥
+Ran None (Some back) = ⊥
 Ran (Some job) None = ⊥
 
 -- the job of a ticket is held, where there is one

@@ -6,6 +6,7 @@ mod draws;
 mod lengths;
 mod lines;
 mod macs;
+mod orders;
 mod script;
 mod sealing;
 mod tickets;

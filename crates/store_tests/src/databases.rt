@@ -16,7 +16,7 @@ const ROOM: Room = Room {
 
 /// A change that is made, with the number that a new key or grant takes left to the database.
 #[derive(Drop)]
-enum Step {
+pub(crate) enum Step {
     Create {
         domain: u8,
         nspace: u64,
@@ -46,7 +46,11 @@ enum Step {
 }
 
 /// The change of a step.
-fn change_of(alloc: Global, step: &Step, next: (u64, u64)) -> Result<Change, AllocError> {
+pub(crate) fn change_of(
+    alloc: Global,
+    step: &Step,
+    next: (u64, u64),
+) -> Result<Change, AllocError> {
     let change = match step {
         Step::Create {
             domain,
@@ -118,9 +122,8 @@ fn make(
     database.apply(disk, change)
 }
 
-/// What a database tells: how many keys uid 10001 and namespace 10001 have, how many grants there are, and the next
-/// numbers.
-fn told(database: &KeyDatabase) -> ((u64, u64), usize, (u64, u64)) {
+/// What a database tells.
+fn told(database: &KeyDatabase) -> Told {
     (
         (database.count(0, 10_001), database.count(2, 10_001)),
         database.grants().len(),
@@ -138,8 +141,11 @@ fn app_key(nspace: u64, alias: &'static [u8], limit: u32) -> Step {
     }
 }
 
+/// How many keys uid 10001 and namespace 10001 have, how many grants there are, and the next numbers.
+pub(crate) type Told = ((u64, u64), usize, (u64, u64));
+
 /// Steps, and what is told after each.
-static STEPS: [(Step, ((u64, u64), usize, (u64, u64))); 22] = [
+pub(crate) static STEPS: [(Step, Told); 22] = [
     (
         Step::Create {
             domain: 0,
@@ -293,10 +299,7 @@ fn what_a_key_ends_with_it(rt: HostRuntime) {
 }
 
 /// What a database tells that is opened anew.
-fn told_anew(
-    alloc: Global,
-    disk: &mut MemoryDisk,
-) -> Result<((u64, u64), usize, (u64, u64)), StoreFault> {
+fn told_anew(alloc: Global, disk: &mut MemoryDisk) -> Result<Told, StoreFault> {
     let database = KeyDatabase::open(alloc, disk)?;
     Ok(told(&database))
 }

@@ -12,3 +12,5 @@ mod journals;
 mod needs;
 #[cfg(test)]
 mod records;
+#[cfg(test)]
+mod tables;

@@ -293,12 +293,7 @@ fn push_grant(bytes: &mut Vec<u8>, grant: u32) -> Result<(), AllocError> {
 }
 
 /// The bytes of a store of so many keys, with so many aliases, and of so many grants.
-fn crowd_of(
-    alloc: Global,
-    keys: u64,
-    aliases: u64,
-    grants: u32,
-) -> Result<Vec<u8>, AllocError> {
+fn crowd_of(alloc: Global, keys: u64, aliases: u64, grants: u32) -> Result<Vec<u8>, AllocError> {
     let mut bytes = Vec::from_slice(alloc, b"KSJRNL01")?;
     for key in 0..keys {
         push_key(&mut bytes, key + 1, key % aliases.max(1))?;

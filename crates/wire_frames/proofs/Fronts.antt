@@ -33,6 +33,9 @@ needed_low bytes lt = rw (lt-ltb (length bytes) 4 lt) refl
 pub needed_whole : (bytes : List ℕ) → 4 ≤ length bytes → is_length (announced bytes) ≡ true → needed bytes ≡ 4 + announced bytes
 needed_whole bytes le fit = rw (le-ltb (length bytes) 4 le, fit) refl
 
+pub needed_odd : (bytes : List ℕ) → 4 ≤ length bytes → is_length (announced bytes) ≡ false → needed bytes ≡ 4
+needed_odd bytes le odd = rw (le-ltb (length bytes) 4 le, odd) refl
+
 pub announced_more : (bytes more : List ℕ) → 4 ≤ length bytes → announced (bytes ++ more) ≡ announced bytes
 announced_more bytes more le = big_from-append 4 bytes more le
 

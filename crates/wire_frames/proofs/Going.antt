@@ -1,17 +1,20 @@
 -- The frames of a text, one after another.
-use Rattle.std.proofs.Common.{◌≡◌, ℕ, ◌+◌, ◌<◌, ◌≤◌, Bool, true, false, List, [], ◌∷◌, ◌++◌, length, take, drop, flat_map, sym, ap, subst, ◌∙◌, arith, append_assoc}
+use Rattle.std.proofs.Common.{◌≡◌, ⊎_elim, ℕ, ◌+◌, ◌-◌, ◌<◌, ◌≤◌, Bool, true, false, cond, ltb, List, [], ◌∷◌, ◌++◌, length, take, drop, flat_map, sym, ap, subst, ◌∙◌, arith, append_assoc}
 use Rattle.std.specs.List.{AllByRecursion}
 use Rattle.std.proofs.lemmas.Grind.{flat_map-append}
-use Rattle.std.proofs.lemmas.List.{append-nil, length-append, length-drop, drop-drop, drop-append-le, take-append-le, nil_from_length}
+use Rattle.std.proofs.lemmas.List.{append-nil, length-append, length-drop, drop-drop, drop-append-le, take-append-le, take_all, nil_from_length}
 use Rattle.std.specs.Bool.{MatchBool}
+use Rattle.std.proofs.lemmas.Bool.{le-ltb, cases_Bool}
 use Rattle.rule_model.specs.declared.event.Act.{Act}
 use Rattle.wire_frames.specs.Spelling.{frame_of, IsRequest}
-use Rattle.wire_frames.specs.Streams.{stream_of, announced, is_length, needed, IsPart, IsBad, front_of}
+use Rattle.wire_frames.specs.Streams.{stream_of, announced, is_length, needed, IsPart, IsBad, whole_in, front_of}
+use Rattle.wire_frames.specs.Reading.{act_in}
+use Rattle.wire_frames.specs.Kept.{bytes_in}
 use Rattle.wire_frames.specs.Outcomes.{IsRead}
 use Rattle.wire_frames.specs.declared.outcome.Outcome.{Outcome}
 use Rattle.wire_frames.specs.declared.front.Front.TheVariants.{Part, Bad, Whole}
 use Rattle.wire_frames.proofs.Codecs.{IsBytes, IsBytes-drop}
-use Rattle.wire_frames.proofs.Fronts.{IsFront, part_is, bad_is, whole_is, needed_least, needed_more, needed_whole, announced_more}
+use Rattle.wire_frames.proofs.Fronts.{IsFront, part_is, bad_is, whole_is, needed_least, needed_more, needed_whole, needed_odd, announced_more}
 use Rattle.wire_frames.proofs.Filling.{behind, behind_is}
 
 pub each_append : (xs ys : List Act) → AllByRecursion IsRequest xs → AllByRecursion IsRequest ys → AllByRecursion IsRequest (xs ++ ys)
@@ -50,26 +53,26 @@ bad_more bytes more bad =
 
 -- ---- the loop over a text
 
-module _ (before : List Act) (bytes : List ℕ) where
+module _ (bytes : List ℕ) where
   -- what is read when the loop ends at the part of a frame, or at a bad one
-  pub read_part : (o : Outcome) → o.shut ≡ false → o.used ≤ length bytes → stream_of o.requests.items (drop o.used bytes) ≡ stream_of before bytes
-      → (AllByRecursion IsRequest before → AllByRecursion IsRequest o.requests.items) → o.tail.items ≡ drop o.used bytes → IsPart (drop o.used bytes) → IsRead before bytes o
+  pub read_part : (o : Outcome) → o.shut ≡ false → o.used ≤ length bytes → stream_of o.requests.items (drop o.used bytes) ≡ bytes
+      → AllByRecursion IsRequest o.requests.items → bytes_in o.tail ≡ drop o.used bytes → IsPart (drop o.used bytes) → IsRead bytes o
   read_part o goes_on within whole each is part = record {
     rest = drop o.used bytes;
     whole = whole;
     each = each;
     place = omega (arith, length-drop o.used bytes, within);
-    left = subst (λ b. MatchBool b ((o.tail.items ≡ []) × IsBad (drop o.used bytes)) ((o.tail.items ≡ drop o.used bytes) × IsPart (drop o.used bytes))) (sym goes_on) (is, part);
+    left = subst (λ b. MatchBool b ((bytes_in o.tail ≡ []) × IsBad (drop o.used bytes)) ((bytes_in o.tail ≡ drop o.used bytes) × IsPart (drop o.used bytes))) (sym goes_on) (is, part);
   }
 
-  pub read_bad : (o : Outcome) → o.shut ≡ true → o.used ≤ length bytes → stream_of o.requests.items (drop o.used bytes) ≡ stream_of before bytes
-      → (AllByRecursion IsRequest before → AllByRecursion IsRequest o.requests.items) → o.tail.items ≡ [] → IsBad (drop o.used bytes) → IsRead before bytes o
+  pub read_bad : (o : Outcome) → o.shut ≡ true → o.used ≤ length bytes → stream_of o.requests.items (drop o.used bytes) ≡ bytes
+      → AllByRecursion IsRequest o.requests.items → bytes_in o.tail ≡ [] → IsBad (drop o.used bytes) → IsRead bytes o
   read_bad o shut within whole each is bad = record {
     rest = drop o.used bytes;
     whole = whole;
     each = each;
     place = omega (arith, length-drop o.used bytes, within);
-    left = subst (λ b. MatchBool b ((o.tail.items ≡ []) × IsBad (drop o.used bytes)) ((o.tail.items ≡ drop o.used bytes) × IsPart (drop o.used bytes))) (sym shut) (is, bad);
+    left = subst (λ b. MatchBool b ((bytes_in o.tail ≡ []) × IsBad (drop o.used bytes)) ((bytes_in o.tail ≡ drop o.used bytes) × IsPart (drop o.used bytes))) (sym shut) (is, bad);
   }
 
 -- one round of the loop
@@ -99,26 +102,46 @@ bad_here bytes used e = bad_is (drop used bytes) (ap front_of (sym (behind_is us
 
 -- ---- what is held, and what comes behind it
 
-pub held_bad : (held more : List ℕ) (o : Outcome) → o.shut ≡ true → o.used ≡ 0 → o.requests.items ≡ [] → o.tail.items ≡ [] → IsBad held → IsRead [] (held ++ more) o
+-- what is held is one frame
+pub full_front : (held : List ℕ) → length held ≡ needed held → front_of held ≡ whole_in (act_in (drop 4 held)) (length held)
+unfolding front_of act_in
+full_front held full =
+    let n : ℕ = announced held in
+    let least = needed_least held in
+    let four : 4 ≤ length held = omega (arith, full, least) in
+    let enough : ltb (length held) (needed held) ≡ false = le-ltb _ _ (omega (arith, full)) in
+    ⊎_elim
+    (λ (fit : is_length n ≡ true).
+    let whole : needed held ≡ 4 + n = needed_whole held four fit in
+    let left = length-drop 4 held in
+    let all : take n (drop 4 held) ≡ drop 4 held = take_all n (drop 4 held) (omega (arith, left, full, whole)) in
+    (λ i. cond (enough i) (Part (needed held - length held)) (cond (fit i) (whole_in (act_in (all i)) (sym full i)) Bad)))
+    (λ (odd : is_length n ≡ false).
+    let short : needed held ≡ 4 = needed_odd held four odd in
+    let left = length-drop 4 held in
+    let gone : drop 4 held ≡ [] = nil_from_length (drop 4 held) (omega (arith, left, full, short)) in
+    (λ i. cond (enough i) (Part (needed held - length held)) (cond (odd i) (whole_in (act_in (take n (drop 4 held))) (needed held)) Bad))
+    ∙ ap (λ (l : List ℕ). whole_in (act_in l) (length held)) (sym gone))
+    (cases_Bool (is_length n))
+
+pub held_bad : (held more : List ℕ) (o : Outcome) → o.shut ≡ true → o.used ≡ 0 → o.requests.items ≡ [] → bytes_in o.tail ≡ [] → IsBad held → IsRead (held ++ more) o
 held_bad held more o shut none empty gone bad = record {
   rest = held ++ more;
   whole = ap (λ (l : List Act). stream_of l (held ++ more)) empty;
-  each = λ h. subst (AllByRecursion IsRequest) (sym empty) h;
+  each = subst (AllByRecursion IsRequest) (sym empty) tt;
   place = omega (arith, none);
-  left = subst (λ b. MatchBool b ((o.tail.items ≡ []) × IsBad (held ++ more)) ((o.tail.items ≡ held ++ more) × IsPart (held ++ more))) (sym shut) (gone, bad_more held more bad);
+  left = subst (λ b. MatchBool b ((bytes_in o.tail ≡ []) × IsBad (held ++ more)) ((bytes_in o.tail ≡ held ++ more) × IsPart (held ++ more))) (sym shut) (gone, bad_more held more bad);
 }
 
-pub held_whole : (held more : List ℕ) (act : Act) (size : ℕ) (one : List Act) (o o' : Outcome) → length held ≤ needed held → IsFront held act size → one ≡ act ∷ [] → IsRead one more o
-    → o'.requests.items ≡ o.requests.items → o'.used ≡ size + o.used → o'.tail.items ≡ o.tail.items → o'.shut ≡ o.shut → IsRead [] (held ++ more) o'
-held_whole held more act size one o o' le f only read same used tail shut =
-    let exact = f.exact in
-    let inside = f.inside in
-    let gone : drop size held ≡ [] = nil_from_length (drop size held) (omega (arith, length-drop size held, exact, le)) in
+pub held_whole : (held more : List ℕ) (act : Act) (o o' : Outcome) → IsFront held act (length held) → IsRead more o
+    → o'.requests.items ≡ act ∷ o.requests.items → o'.used ≡ o.used + length held → bytes_in o'.tail ≡ bytes_in o.tail → o'.shut ≡ o.shut → IsRead (held ++ more) o'
+held_whole held more act o o' f read same used tail shut =
+    let gone : drop (length held) held ≡ [] = nil_from_length (drop (length held) held) (omega (arith, length-drop (length held) held)) in
     let is : held ≡ frame_of act = f.parts ∙ ap (λ (l : List ℕ). frame_of act ++ l) gone ∙ append-nil (frame_of act) in
     let place = read.place in record {
       rest = read.rest;
-      whole = ap (λ (l : List Act). stream_of l read.rest) same ∙ read.whole ∙ ap (λ (l : List Act). stream_of l more) only ∙ stream_one act more ∙ ap (λ (l : List ℕ). l ++ more) (sym is);
-      each = λ _. let one_of : AllByRecursion IsRequest (act ∷ []) = (f.request, tt) in subst (AllByRecursion IsRequest) (sym same) (read.each (subst (AllByRecursion IsRequest) (sym only) one_of));
-      place = omega (arith, used, place, length-append held more, exact, le, inside);
+      whole = ap (λ (l : List Act). stream_of l read.rest) same ∙ append_assoc (frame_of act) (flat_map frame_of o.requests.items) read.rest ∙ ap (λ (l : List ℕ). frame_of act ++ l) read.whole ∙ ap (λ (l : List ℕ). l ++ more) (sym is);
+      each = subst (AllByRecursion IsRequest) (sym same) (f.request, read.each);
+      place = omega (arith, used, place, length-append held more);
       left = subst (λ (p : Bool × List ℕ). MatchBool p.0 ((p.1 ≡ []) × IsBad read.rest) ((p.1 ≡ read.rest) × IsPart read.rest)) (λ i. (sym shut i, sym tail i)) read.left;
     }

@@ -1,4 +1,5 @@
 pub mod Adding
+pub mod Arounds
 pub mod Bodies
 pub mod Codecs
 pub mod Filling

@@ -5,3 +5,5 @@ pub mod Streams
 pub mod Outcomes
 pub mod Standing
 pub mod Sizes
+pub mod Apart
+pub mod Kept

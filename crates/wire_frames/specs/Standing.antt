@@ -5,6 +5,7 @@ use Rattle.rule_model.specs.declared.event.Act.{Act}
 use Rattle.wire_frames.specs.declared.fault.FrameFault.{FrameFault}
 use Rattle.wire_frames.specs.declared.fault.FrameFault.TheVariants.{Bad, Memory}
 use Rattle.wire_frames.specs.declared.frames.Frames.{Frames}
+use Rattle.wire_frames.specs.Kept.{bytes_in}
 use Rattle.wire_frames.specs.Spelling.{IsRequest}
 use Rattle.wire_frames.specs.Streams.{stream_of, IsPart, IsBad}
 
@@ -14,7 +15,7 @@ start_of frames = frames.start
 
 -- the bytes that are held back
 abbrev pub held_in : Frames → List ℕ
-held_in frames = frames.held.items
+held_in frames = bytes_in frames.held
 
 -- it has come to a bad frame
 abbrev pub is_shut : Frames → Bool

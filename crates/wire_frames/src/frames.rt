@@ -2,8 +2,11 @@
 
 ghost use Rattle.std.specs.Prelude.{◌<◌, length};
 ghost use Rattle.wire_frames.specs.Streams.{needed};
+ghost use Rattle.wire_frames.specs.Kept.{bytes_in};
 
 mod feeding;
+
+use crate::held::Held;
 
 /// Gives the requests of a stream of frames, whose bytes come in pieces of any size. It holds back what has come of one
 /// frame, and nothing else.
@@ -11,8 +14,8 @@ mod feeding;
 pub struct Frames {
     /// the place in the stream of what is held, or of the bad frame
     start: u64,
-    held: Vec<u8>,
+    held: Held,
     /// it has come to a bad frame
     shut: bool,
-    ghost part: { length held.items < needed held.items },
+    ghost part: { length (bytes_in held) < needed (bytes_in held) },
 }

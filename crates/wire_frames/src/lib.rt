@@ -15,8 +15,7 @@ mod laws;
 mod outcome;
 mod reading;
 mod request;
-#[cfg(test)]
-mod tests;
+mod texts;
 mod writing;
 
 pub use fault::FrameFault;

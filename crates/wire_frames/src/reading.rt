@@ -70,7 +70,7 @@ fn counted_at(alloc: Global, bytes: &[u8]) -> Result<(Bytes, &[u8]), BodyFault>
 
 /// Counted bytes where a byte says so, and what stands behind them.
 #[tactic(auto, unfolding(crate::specs::Reading::optional_at))]
-fn optional_at(alloc: Global, bytes: &[u8]) -> Result<(Option<Bytes>, &[u8]), BodyFault>
+pub(crate) fn optional_at(alloc: Global, bytes: &[u8]) -> Result<(Option<Bytes>, &[u8]), BodyFault>
     ensures { Says (λ x. (x.0, x.1.now)) result (spec.optional_at bytes.now) }
 {
     let (choice, rest) = byte_at(bytes)?;
@@ -116,7 +116,7 @@ fn key_at(alloc: Global, bytes: &[u8]) -> Result<(Descriptor, &[u8]), BodyFault>
 }
 
 /// What was read, where nothing stands behind it.
-fn ended(act: Act, rest: &[u8]) -> Result<Act, BodyFault>
+pub(crate) fn ended(act: Act, rest: &[u8]) -> Result<Act, BodyFault>
     ensures { Says (λ x. x) result (spec.ended (λ x. x) (Some (act, rest.now))) }
 {
     if !rest.is_empty() {

@@ -4,17 +4,17 @@ use super::script::{AES, Call, MAC, Row, Script, check, connected};
 use std::alloc::Global;
 use std::test::Fail;
 
-const SIGN: &str = "PURPOSE=2 MAC_LENGTH=256";
+pub const SIGN: &str = "PURPOSE=2 MAC_LENGTH=256";
 
-const SEAL: &str =
+pub const SEAL: &str =
     "PURPOSE=0 BLOCK_MODE=32 PADDING=1 MAC_LENGTH=128 NONCE:000000000000000000000000";
 
-const OPEN: &str =
+pub const OPEN: &str =
     "PURPOSE=1 BLOCK_MODE=32 PADDING=1 MAC_LENGTH=128 NONCE:000000000000000000000000";
 
-const SECRET: &str = "0b0b0b0b0b0b0b0b0b0b0b0b0b0b0b0b0b0b0b0b";
+pub const SECRET: &str = "0b0b0b0b0b0b0b0b0b0b0b0b0b0b0b0b0b0b0b0b";
 
-const ZEROS: &str = "00000000000000000000000000000000";
+pub const ZEROS: &str = "00000000000000000000000000000000";
 
 const DONE: &str = "{\"code\":0}";
 

@@ -8,7 +8,8 @@ ghost use Rattle.wire_frames.specs.Standing.{start_of, held_in, is_shut, reach, 
 
 use super::Frames;
 use crate::fault::FrameFault;
-use crate::held::read_more;
+use crate::held::Held;
+use crate::held::giving::read_more;
 use crate::outcome::Outcome;
 use crate::request::Request;
 use std::alloc::Global;
@@ -21,7 +22,7 @@ impl Frames {
     {
         Frames {
             start: 0,
-            held: Vec::new(alloc),
+            held: Held::new(alloc),
             shut: false,
         }
     }

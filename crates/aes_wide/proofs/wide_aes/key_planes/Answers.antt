@@ -21,4 +21,4 @@ pub each-preserved : goal.each-preserved
 each-preserved c =
     let few : c.each.r < 15 = omega (arith, c.rounds-count.ensures, rounds_few c.args.plain.now) in
     more_keys c.each.r c.each.keys c.of-key.result c.spread.result (key_of c.args.plain.now) few c.each.invariant c.of-key.ensures c.spread.ensures.whole
-    (λ b h. c.spread.ensures.blocks b h ∙ c.round_key.ensures)
+    (λ b h. c.spread.ensures.blocks b h ∙ c.held_key.ensures)

@@ -1,4 +1,4 @@
-use Rattle.std.proofs.Common.{◌≡◌, true, Some, None, sym, ◌∙◌, ap}
+use Rattle.std.proofs.Common.{sym, ◌∙◌, ap}
 use Rattle.std.specs.Option.{option_copied}
 use Rattle.key_database.proofs.Afters.{grant_of, grants_rise}
 use Rattle.key_database.proofs.Lockstep.{empty_front, fewer_behind, steps_on, same_at_end}

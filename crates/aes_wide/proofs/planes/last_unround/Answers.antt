@@ -1,5 +1,0 @@
-use Rattle.std.proofs.Common.{refl}
-use Rattle.aes_wide.proofs.planes.last_unround.Goals as goal
-
-pub returns-clause-blocks : goal.returns-clause-blocks
-returns-clause-blocks c = λ b below. rw (c.added.ensures.blocks b, c.unsubbed.ensures.blocks b below, c.rows_unshifted.ensures.blocks b) refl

@@ -1,0 +1,140 @@
+-- A frame whose input lies apart is read as if it lay in one piece.
+use Rattle.std.proofs.Common.{◌≡◌, ◌⊎◌, ⊎_elim, ℕ, ◌+◌, ◌<◌, ◌≤◌, Bool, true, false, cond, ltb, leb, eqb, List, [], ◌∷◌, ◌++◌, length, take, drop, slice_index, Option, Some, None, Err, refl, sym, ap, subst, ◌∙◌, arith, inl, inr}
+use Rattle.std.specs.Option.{option_and_then, option_map}
+use Rattle.std.proofs.lemmas.Bool.{cases_lt, lt-ltb, le-ltb, ltb-true, leb-true, and_parts}
+use Rattle.std.proofs.lemmas.List.{length-append, length-drop, drop-append-le, drop-drop, drop_more, nil_from_length}
+use Rattle.byteorder.specs.Endian.{big_number}
+use Rattle.byteorder.specs.Numbers.{big_from-append}
+use Rattle.rule_model.specs.declared.event.Act.{Act}
+use Rattle.rule_model.specs.declared.event.Act.TheVariants.{EnterAad, EnterUpdate, EnterFinish}
+use Rattle.wire_frames.specs.declared.fault.BodyFault.{BodyFault}
+use Rattle.wire_frames.specs.declared.fault.BodyFault.TheVariants.{Bad, Memory}
+use Rattle.wire_frames.specs.declared.held.giving.Kept.{Kept}
+use Rattle.wire_frames.specs.Reading.{Says, byte_at, number_at, front_at, counted_at, optional_at, both, ended, fields_in, act_in}
+use Rattle.wire_frames.specs.Apart.{has_input, HasInput, with_input, around}
+use Rattle.wire_frames.proofs.Filling.{behind, behind_is}
+
+-- ---- fields of which the bytes before the input have all
+
+number_more : (n : ℕ) (bytes more : List ℕ) → n ≤ length bytes → number_at n (bytes ++ more) ≡ Some (big_number n bytes, drop n bytes ++ more)
+number_more n bytes more le =
+    let long : ltb (length (bytes ++ more)) n ≡ false = le-ltb _ _ (omega (arith, length-append bytes more)) in
+    rw long (λ i. Some (big_from-append n bytes more le i, drop-append-le n bytes more le i))
+
+-- the input, where it is all there
+counted_more : (bytes input : List ℕ) → length bytes ≡ 4 → counted_at (bytes ++ input) ≡ front_at (big_number 4 bytes) input
+unfolding counted_at
+counted_more bytes input long =
+    let none : drop 4 bytes ≡ [] = nil_from_length (drop 4 bytes) (omega (arith, length-drop 4 bytes)) in
+    ap (option_and_then (λ (n : ℕ × List ℕ). front_at n.0 n.1)) (number_more 4 bytes input (omega arith))
+    ∙ ap (λ (l : List ℕ). front_at (big_number 4 bytes) (l ++ input)) none
+
+-- ---- acts
+
+ended_by : (c : Bool) (a b : Act) (f : Act → Act) → f b ≡ a → cond c (Some a) None ≡ option_map f (cond c (Some b) None)
+ended_by true a b f e = ap Some (sym e)
+ended_by false a b f e = refl
+
+-- an operation, an input and nothing behind it
+fed_by : (make : ℕ → List ℕ → Act) (op : ℕ) (input : List ℕ) (b : Bool) (text rest : List ℕ) → b ≡ false → with_input text (make op []) ≡ make op text
+    → ended (λ (x : ℕ × List ℕ). make x.0 x.1) (option_and_then (λ (x : List ℕ × List ℕ). Some ((op, x.0), x.1)) (cond b None (Some (text, rest))))
+    ≡ option_map (with_input text) (ended (λ (x : ℕ). make x []) (Some (op, rest)))
+fed_by make op input b text rest is same = rw is (ended_by (eqb (length rest) 0) (make op text) (make op []) (with_input text) same)
+
+finished_by : (op : ℕ) (text : List ℕ) (read : Option (Option (List ℕ) × List ℕ))
+    → ended (λ (x : ℕ × (List ℕ × Option (List ℕ))). EnterFinish x.0 x.1.0 x.1.1)
+    (option_and_then (λ (y : (List ℕ × Option (List ℕ)) × List ℕ). Some ((op, y.0), y.1)) (option_and_then (λ (s : Option (List ℕ) × List ℕ). Some ((text, s.0), s.1)) read))
+    ≡ option_map (with_input text) (ended (λ signature. EnterFinish op [] signature) read)
+finished_by op text None = refl
+finished_by op text (Some s) = ended_by (eqb (length s.1) 0) (EnterFinish op text s.0) (EnterFinish op [] s.0) (with_input text) refl
+
+three : (n : ℕ) → has_input n ≡ true → (n ≡ 6) ⊎ ((n ≡ 7) ⊎ (n ≡ 8))
+three n e =
+    let parts = and_parts (leb 6 n) (leb n 8) e in
+    let low = leb-true 6 n parts.0 in
+    let high = leb-true n 8 parts.1 in
+    ⊎_elim
+    (λ (six : n < 7). inl (omega (arith, six, low)))
+    (λ (more : 7 ≤ n). ⊎_elim (λ (seven : n < 8). inr (inl (omega (arith, seven, more)))) (λ (eight : 8 ≤ n). inr (inr (omega (arith, eight, high)))) (cases_lt n 8))
+    (cases_lt n 7)
+
+-- the twelve bytes behind the act's number, and the input with what stands behind it
+module _ (fields input : List ℕ) (long : length fields ≡ 12) where
+  op_in : number_at 8 (fields ++ input) ≡ Some (big_number 8 fields, drop 8 fields ++ input)
+  op_in = number_more 8 fields input (omega arith)
+
+  text_in : counted_at (drop 8 fields ++ input) ≡ front_at (big_number 4 (drop 8 fields)) input
+  text_in = counted_more (drop 8 fields) input (omega (arith, length-drop 8 fields))
+
+  -- what is read where the first two fields are
+  then_read : {X : Type 0} (f : ℕ × List ℕ → Option X) → option_and_then f (number_at 8 (fields ++ input)) ≡ f (big_number 8 fields, drop 8 fields ++ input)
+  then_read f = ap (option_and_then f) op_in
+
+  short_by : (number : ℕ) → (number ≡ 6) ⊎ ((number ≡ 7) ⊎ (number ≡ 8)) → length input < big_number 4 (drop 8 fields) → fields_in number (fields ++ input) ≡ None
+  short_by number which short =
+      let size = big_number 4 (drop 8 fields) in
+      let test : ltb (length input) size ≡ true = lt-ltb (length input) size short in
+      let text : counted_at (drop 8 fields ++ input) ≡ None = text_in ∙ ap (λ (b : Bool). cond b None (Some (take size input, drop size input))) test in
+      ⊎_elim
+      (λ (six : number ≡ 6). ap (λ (n : ℕ). fields_in n (fields ++ input)) six ∙ rw (op_in, text) refl)
+      (λ (later : (number ≡ 7) ⊎ (number ≡ 8)). ⊎_elim
+      (λ (seven : number ≡ 7). ap (λ (n : ℕ). fields_in n (fields ++ input)) seven ∙ rw (op_in, text) refl)
+      (λ (eight : number ≡ 8). ap (λ (n : ℕ). fields_in n (fields ++ input)) eight ∙ rw (op_in, text) refl)
+      later)
+      which
+
+  whole_by : (number : ℕ) → (number ≡ 6) ⊎ ((number ≡ 7) ⊎ (number ≡ 8)) → big_number 4 (drop 8 fields) ≤ length input
+      → fields_in number (fields ++ input) ≡ option_map (with_input (take (big_number 4 (drop 8 fields)) input)) (around number (big_number 8 fields) (drop (big_number 4 (drop 8 fields)) input))
+  whole_by number which enough =
+      let size = big_number 4 (drop 8 fields) in
+      let op = big_number 8 fields in
+      let test : ltb (length input) size ≡ false = le-ltb (length input) size enough in
+      let text : counted_at (drop 8 fields ++ input) ≡ Some (take size input, drop size input) = text_in ∙ ap (λ (b : Bool). cond b None (Some (take size input, drop size input))) test in
+      let Same : ℕ → Type 0 = λ n. fields_in n (fields ++ input) ≡ option_map (with_input (take size input)) (around n op (drop size input)) in
+      ⊎_elim
+      (λ (six : number ≡ 6). subst Same (sym six) (rw (op_in, text) (fed_by (λ o t. EnterAad o t) op input false (take size input) (drop size input) refl refl)))
+      (λ (later : (number ≡ 7) ⊎ (number ≡ 8)). ⊎_elim
+      (λ (seven : number ≡ 7). subst Same (sym seven) (rw (op_in, text) (fed_by (λ o t. EnterUpdate o t) op input false (take size input) (drop size input) refl refl)))
+      (λ (eight : number ≡ 8). subst Same (sym eight) (rw (op_in, text) (finished_by op (take size input) (optional_at (drop size input)))))
+      later)
+      which
+
+-- ---- the frame
+
+module _ (head input : List ℕ) (has : HasInput head) where
+  abbrev fields : List ℕ
+  fields = drop 5 head
+
+  fields_long : length fields ≡ 12
+  fields_long = omega (arith, length-drop 5 head, has.0)
+
+  act_is : act_in (drop 4 (head ++ input)) ≡ fields_in (slice_index head 4) (fields ++ input)
+  unfolding act_in
+  act_is =
+      let here : drop 4 (head ++ input) ≡ slice_index head 4 ∷ (fields ++ input) =
+      drop-append-le 4 head input (omega (arith, has.0)) ∙ ap (λ (l : List ℕ). l ++ input) (drop_more head 4 0 (omega (arith, has.0))) in
+      ap (λ (l : List ℕ). option_and_then (λ (number : ℕ × List ℕ). fields_in number.0 number.1) (byte_at l)) here
+
+  size_there : (size : ℕ) → size ≡ big_number 4 (behind 13 head) → size ≡ big_number 4 (drop 8 fields)
+  size_there size is = is ∙ ap (big_number 4) (behind_is 13 head ∙ sym (drop-drop 8 5 head))
+
+  op_there : (op : ℕ) → op ≡ big_number 8 (behind 5 head) → op ≡ big_number 8 fields
+  op_there op is = is ∙ ap (big_number 8) (behind_is 5 head)
+
+  pub apart_short : (size : ℕ) → size ≡ big_number 4 (behind 13 head) → length input < size → act_in (drop 4 (head ++ input)) ≡ None
+  apart_short size is short = act_is ∙ short_by fields input fields_long (slice_index head 4) (three (slice_index head 4) has.1) (let e = size_there size is in omega (arith, e, short))
+
+  pub apart_whole : (op size : ℕ) → op ≡ big_number 8 (behind 5 head) → size ≡ big_number 4 (behind 13 head) → size ≤ length input
+      → act_in (drop 4 (head ++ input)) ≡ option_map (with_input (take size input)) (around (slice_index head 4) op (behind size input))
+  apart_whole op size op_is is enough =
+      let e = size_there size is in
+      act_is
+      ∙ whole_by fields input fields_long (slice_index head 4) (three (slice_index head 4) has.1) (omega (arith, e, enough))
+      ∙ (λ i. option_map (with_input (take (sym e i) input)) (around (slice_index head 4) (sym (op_there op op_is) i) (drop (sym e i) input)))
+      ∙ ap (λ (l : List ℕ). option_map (with_input (take size input)) (around (slice_index head 4) op l)) (sym (behind_is size input))
+
+-- ---- what a reader says
+
+pub says_apart : (f : Act → Act) (view : Kept → Act) (fault : BodyFault) (o read : Option Act) → read ≡ option_map f o → Says {X = Act} {Y = Act} (λ x. x) (Err fault) o → Says {X = Kept} {Y = Act} view (Err fault) read
+says_apart f view Bad o read is none = is ∙ ap (option_map f) none
+says_apart f view Memory o read is said = tt

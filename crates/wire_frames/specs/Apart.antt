@@ -1,0 +1,35 @@
+-- How a frame is held whose act has an input: what comes behind the input's length lies apart.
+use Rattle.std.specs.Prelude.{◌≡◌, ℕ, ◌+◌, ◌-◌, ◌<◌, ◌≤◌, Bool, true, ◌&&◌, nat_le, nat_lt, ◌==◌, if◌then◌else◌, List, [], ◌++◌, length, take, drop, slice_index, Option, Some, None}
+use Rattle.byteorder.specs.Endian.{big_number}
+use Rattle.tags.specs.declared.descriptor.Descriptor.{Descriptor}
+use Rattle.rule_model.specs.declared.event.Act.{Act}
+use Rattle.rule_model.specs.declared.event.Act.TheVariants.{EnterAad, EnterUpdate, EnterFinish}
+use Rattle.wire_frames.specs.Reading.{optional_at, ended}
+
+-- the acts on an operation that have an input
+abbrev pub has_input : ℕ → Bool
+has_input number = nat_le 6 number && nat_le number 8
+
+-- the first 17 bytes of a frame whose act has an input: its length, the act, the operation and the input's length
+abbrev pub HasInput : List ℕ → Type 0
+HasInput head = (length head ≡ 17) × (has_input (slice_index head 4) ≡ true)
+
+-- only behind such bytes something lies apart
+abbrev pub IsApart : List ℕ → List ℕ → Type 0
+IsApart head input = 0 < length input → HasInput head
+
+-- ---- reading it
+
+-- an act's input
+abbrev pub with_input : List ℕ → Act → Act
+with_input input (EnterAad op _) = EnterAad op input
+with_input input (EnterUpdate op _) = EnterUpdate op input
+with_input input (EnterFinish op _ signature) = EnterFinish op input signature
+with_input input act = act
+
+-- the act of this number on an operation with an empty input, where these bytes stand behind the input
+abbrev pub around : ℕ → ℕ → List ℕ → Option Act
+around number op behind =
+    if number == 6 then ended (λ (x : ℕ). EnterAad x []) (Some (op, behind))
+    else if number == 7 then ended (λ (x : ℕ). EnterUpdate x []) (Some (op, behind))
+    else ended (λ signature. EnterFinish op [] signature) (optional_at behind)

@@ -1,0 +1,122 @@
+#!/usr/bin/env python3
+"""Runs the built program over works of six operations of two clients that are held, in every order of their holds and leaves.
+
+    python3 tools/held_orders.py [--all] [--program PATH]
+
+Six holds and six leaves stand in 10,395 orders where the operations are told apart by the order of their holds alone. Each is
+taken once, with another of the 720 ways in which the operations can stand for the holds; with `--all` each is taken with all
+ways, which are 7,484,400 orders and some half an hour. The second client's texts are those of the first one, cut otherwise: a
+sealing and an opening by the second test case of the GCM specification, and the first mac of RFC 4231. It says nothing where
+all is well, and ends with status 1 at the first reply that differs."""
+import argparse
+import itertools
+import subprocess
+import sys
+from pathlib import Path
+
+TOP = Path(__file__).resolve().parent.parent
+PROGRAM = TOP / "crates/keystore_program/out/keystore_program"
+START = '{"t":[0,1000],'
+AES = '[["PURPOSE",0],["PURPOSE",1],["ALGORITHM",32],["BLOCK_MODE",32],["PADDING",1],["MIN_MAC_LENGTH",96],["CALLER_NONCE",true],["NO_AUTH_REQUIRED",true]]'
+MAC = '[["PURPOSE",2],["ALGORITHM",128],["DIGEST",4],["MIN_MAC_LENGTH",64],["NO_AUTH_REQUIRED",true]]'
+GCM = '[["PURPOSE",%d],["BLOCK_MODE",32],["PADDING",1],["MAC_LENGTH",128],["NONCE","000000000000000000000000"]]'
+SIGN = '[["PURPOSE",2],["MAC_LENGTH",256]]'
+ZEROS, SEALED, TAG = "00" * 16, "0388dace60b6a392f328c2b971b2fe78", "ab6e47d42cec13bdf53a67b21257bddf"
+SECRET, HI_THERE, KNOWN_MAC = "0b" * 20, "4869205468657265", "b0344c61d8db38535ca8afceaf0bf12b881dc200c9833da726e9376c2e32cff7"
+# A client, its key's alias, an operation's parameters, the held text with what it gives, and the rest with what that gives.
+OPERATIONS = [
+    (1, "a", GCM % 0, ZEROS[:10], SEALED[:10], ZEROS[10:], SEALED[10:] + TAG),
+    (1, "a", GCM % 1, SEALED + TAG[:8], ZEROS[:8], TAG[8:], ZEROS[8:]),
+    (1, "m", SIGN, HI_THERE[:6], "", HI_THERE[6:], KNOWN_MAC),
+    (2, "a", GCM % 0, ZEROS, SEALED, "", TAG),
+    (2, "a", GCM % 1, SEALED[:2], "", SEALED[2:] + TAG, ZEROS),
+    (2, "m", SIGN, HI_THERE, "", "", KNOWN_MAC),
+]
+# A script has fewer than 2^30 bytes, and an order's lines some 2,100.
+ORDERS_A_SCRIPT = 50_000
+
+
+def orders_of(places):
+    """The ways in which holds and leaves stand in so many places, the holds in turn: of each hold its own place and its leave's."""
+    if not places:
+        yield ()
+        return
+    for leave in range(1, len(places)):
+        for rest in orders_of(places[1:leave] + places[leave + 1:]):
+            yield ((places[0], places[leave]), *rest)
+
+
+def steps_of(order):
+    """The holds by their numbers, each at its place and again at that of its leave."""
+    steps = [0] * 12
+    for number, (hold, leave) in enumerate(order):
+        steps[hold] = steps[leave] = number
+    return steps
+
+
+def start():
+    """Two clients with the keys that the operations are on."""
+    asked = [f'{START}"do":"connect","uid":{uid}}}' for uid in (10001, 10002)]
+    for client in (1, 2):
+        for alias, params, secret in (("a", AES, ZEROS), ("m", MAC, SECRET)):
+            asked.append(f'{START}"c":{client},"do":"importKey","key":{{"domain":0,"alias":"{alias}"}},"params":{params},"format":3,"material":"{secret}"}}')
+    return asked, [f'{{"client":{n},"code":0}}' for n in (1, 2)] + [f'{{"code":0,"key":{n}}}' for n in range(1, 5)]
+
+
+BEGINS = [f'{START}"c":{client},"do":"createOperation","key":{{"domain":0,"alias":"{alias}"}},"params":{params}}}' for client, alias, params, *_ in OPERATIONS]
+
+
+def add_order(asked, wanted, steps, ways, before):
+    """The lines of one order behind so many, and their replies: each order begins six operations and gives twelve tickets."""
+    op, ticket = 6 * before + 1, 12 * before + 1
+    asked += BEGINS
+    wanted += [f'{{"code":0,"op":{op + i}}}' for i in range(6)]
+    held = 0
+    for number in steps:
+        row = OPERATIONS[ways[number]]
+        if number == held:
+            held += 1
+            asked.append(f'{START}"c":{row[0]},"do":"update","op":{op + ways[number]},"input":"{row[3]}","hold":true}}')
+            wanted.append(f'{{"code":0,"ticket":{ticket + number}}}')
+        else:
+            asked.append(f'{START}"do":"leave","ticket":{ticket + number}}}')
+            wanted.append(f'{{"code":0,"out":"{row[4]}"}}')
+    for i, row in enumerate(OPERATIONS):
+        asked.append(f'{START}"c":{row[0]},"do":"finish","op":{op + i},"input":"{row[5]}"}}')
+        wanted.append(f'{{"code":0,"out":"{row[6]}"}}')
+
+
+def fault_of(program, orders):
+    """What is wrong with the replies to a script of these orders, or None."""
+    asked, wanted = start()
+    for before, (steps, ways) in enumerate(orders):
+        add_order(asked, wanted, steps, ways, before)
+    ended = subprocess.run([program, "run", "--fresh"], input="\n".join(asked), capture_output=True, text=True, check=False)
+    if ended.returncode == 0 and ended.stdout == "\n".join(wanted) + "\n":
+        return None
+    for line, own, reply in itertools.zip_longest(asked, wanted, ended.stdout.splitlines()):
+        if own != reply:
+            return f"{line}\n    gave {reply}\n    and not {own}"
+    return f"status {ended.returncode}: {ended.stderr}"
+
+
+def main():
+    parser = argparse.ArgumentParser(description=__doc__.split("\n", maxsplit=1)[0])
+    parser.add_argument("--all", action="store_true")
+    parser.add_argument("--program", type=Path, default=PROGRAM)
+    given = parser.parse_args()
+    ways = list(itertools.permutations(range(6)))
+    orders = [steps_of(order) for order in orders_of(tuple(range(12)))]
+    if given.all:
+        pairs = itertools.product(orders, ways)
+    else:
+        pairs = zip(orders, itertools.cycle(ways))
+    while script := list(itertools.islice(pairs, ORDERS_A_SCRIPT)):
+        if fault := fault_of(given.program, script):
+            print(fault, file=sys.stderr)
+            return 1
+    return 0
+
+
+if __name__ == "__main__":
+    sys.exit(main())
