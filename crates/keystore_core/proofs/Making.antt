@@ -1,5 +1,5 @@
 -- A new key: its answer, and the tables after it.
-use Rattle.std.proofs.Common.{◌≡◌, ℕ, ◌+◌, ◌<◌, ◌≤◌, Bool, true, false, ◌&&◌, not, List, [], ◌∷◌, length, Option, Some, None, Result, Ok, Err, if◌then◌else◌, ◌==◌, ◌^◌, arith, refl, sym, ap, ◌∙◌, subst}
+use Rattle.std.proofs.Common.{◌≡◌, ℕ, ◌+◌, ◌<◌, ◌≤◌, Bool, true, false, ◌&&◌, List, [], ◌∷◌, length, Option, Some, None, Result, Ok, Err, if◌then◌else◌, ◌==◌, ◌^◌, arith, refl, sym, ap, ◌∙◌, subst}
 use Rattle.std.specs.Option.{option_map}
 use Rattle.std.specs.Prelude.{IfSome, is_none, unwrap_or, take, drop}
 use Rattle.std.proofs.lemmas.Bool.{and_parts, eq-eqb, le-leb, lt-ltb}
@@ -164,15 +164,6 @@ may_make policy caller key params import held plan drawn room place small fit lo
       ) refl,
       (λ e. room, λ e. cc),
     )
-
--- the test of a place is told by its negation
-pub no_place : (b : Bool) → not b ≡ true → b ≡ false
-no_place true e = cc
-no_place false e = refl
-
-pub some_place : (b : Bool) → not b ≡ false → b ≡ true
-some_place true e = refl
-some_place false e = cc
 
 module _ (setup : Setup) (past : History) (tables : Tables) (caller : Caller) (key : Descriptor) (params : List ℕ) (import : Option Import) (stands : TablesStand setup tables past) (is_caller : IsCaller tables caller) where
   abbrev Facts : NewFacts
