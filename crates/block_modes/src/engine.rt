@@ -42,11 +42,7 @@ fn put_blocks(out: &mut [u8], at: usize, blocks: &[[u8; 16]]) -> usize
     ensures rest { drop result out.new ≡ drop result out.old }
     ensures count { result ≡ at + 16 * length blocks.now }
 {
-    let mut end = at;
-    'each: for i in 0..blocks.len() {
-        end = put(out, end, &blocks[i]);
-    }
-    end
+    put(out, at, blocks.as_flattened())
 }
 
 impl<C: ManyBlocks + Drop> Blocks<C> {
