@@ -12,7 +12,8 @@ ghost use Rattle.key_rules.specs.Table as spec;
 use crate::rules::{
     has_allowed_size, has_fit_length, has_known_modes, has_known_paddings, has_least_length,
     has_no_unbuilt, has_one_authority, has_one_digest, has_own_purposes, has_own_size,
-    has_short_ids, has_some_uses, list_code, names_algorithm, names_new_key, takes_format,
+    has_short_ids, has_some_uses, list_code, may_rebind, names_algorithm, names_new_key,
+    takes_format,
 };
 use crate::{ImportFacts, NewFacts, NewFault};
 use std::alloc::Global;
@@ -161,6 +162,11 @@ pub(crate) fn check_facts(alloc: Global, facts: &NewFacts) -> Result<AuthList, N
         rule(2),
         Code::InvalidArgument,
         names_new_key(&facts.descriptor),
+    )?;
+    check(
+        rule(3),
+        Code::PermissionDenied,
+        may_rebind(&facts.descriptor, facts.row),
     )?;
     check_params(alloc, facts.params.as_slice(), facts.import)
 }
