@@ -20,11 +20,13 @@ import sys
 from dataclasses import replace
 from pathlib import Path
 
-from script_events import BOOL, BYTES, TAGS, Malformed, encoded_list, event_of
-from second_model import (
-    AES, CBC, CTR, DIGEST_BITS, ECB, GCM, HMAC, MOST_OPERATION_BYTES, MOST_STEP_BYTES, NO_PADDING, PKCS7, SIGN, Service,
-    gcm_sealed, one, raw_output, reply_line, whole_output,
+from model_outputs import gcm_sealed, raw_output, whole_output
+from model_values import (
+    AES, APP, BLOB, CBC, CTR, DIGEST_BITS, ECB, GCM, GRANT, HMAC, KEY_ID, MOST_OPERATION_BYTES, MOST_STEP_BYTES, NO_PADDING, PKCS7,
+    SELINUX, SIGN, one,
 )
+from script_events import BOOL, BYTES, TAGS, Malformed, encoded_list, event_of
+from second_model import Service, reply_line
 
 PROGRAM = Path(__file__).resolve().parent.parent / "crates/keystore_program/out/keystore_program"
 # How many seconds a run may take, how many lines are tried for a script, how many characters of a line are printed.
@@ -64,6 +66,13 @@ NONCES = {
 INPUT_SIZES = [0, 1, 7, 15, 16, 17, 32, 33, 48, 64]
 MOST_REMEMBERED = 6
 
+# Two apps and the system of user 0, whose last uid is 99999; and an app and the first uid of user 1.
+UIDS = [10001, 10002, 1000, 110001, 99999, 100000]
+# Aliases that are fronts of one another, and such as are ordered by their bytes.
+ALIASES = ["a", "b", "c", "aa", "a\u00e9", "\ufb01", "\U0001f511"]
+# What may be granted: single bits, what an app has but GRANT, what it lacks, and GRANT.
+GRANTED_BITS = [256, 4, 1, 260, 421, 0, 0, 320, 64, 16, 8, 264, 429, 2, 4294967295]
+
 # Lines that spell no event, and connects with a member more, some of them beyond what JSON or its reader takes.
 ODD_LINES = [
     b"",
@@ -97,7 +106,7 @@ def shows_drawn_bytes(service, line):
         return False
     trial = copy.deepcopy(service)
     reply = trial.reply(event)
-    return "nonce" in reply or "key" in reply and "PURPOSE" in trial.keys[-1].params
+    return "nonce" in reply or "key" in reply and "PURPOSE" in trial.store.made[-1].params
 
 
 class Maker:
@@ -131,8 +140,8 @@ class Maker:
             self.outputs = [*self.outputs, output][-MOST_REMEMBERED:]
 
     def script(self):
-        """Puts all lines: three clients, a key of AES and one of HMAC, and then anything."""
-        for uid in (10001, 10002, 10001):
+        """Puts all lines: clients, a key of AES and one of HMAC, and then anything."""
+        for uid in (10001, 10002, 10001, *self.random.sample(UIDS, self.random.randrange(4))):
             self.put(text_of({"t": [0, 0], "do": "connect", "uid": uid}))
         for client, params, material in ((1, AES_LIST, "00" * 16), (2, HMAC_LIST, "0b" * 20)):
             members = {"t": [0, 0], "c": client, "do": "importKey", "key": {"domain": 0, "alias": "a"}}
@@ -225,16 +234,33 @@ class Maker:
     # Lines.
 
     def descriptor(self):
-        key = {"domain": 0, "alias": self.random.choice(["a", "b", "c"])}
-        if self.chance(0.03):
-            key["domain"] = self.random.choice([1, 2, 3, 4, 9])
+        """A descriptor, mostly of an app's own key, and of a namespace, a grant or a number else."""
+        key = {"domain": APP, "alias": self.random.choice("abc" if self.chance(0.8) else ALIASES)}
+        kind = self.random.random()
+        if kind < 0.1:
+            key["domain"] = SELINUX
+            key["nspace"] = self.random.choice([100, 100, 100, 100, 101, 0])
+        elif kind < 0.2:
+            key = {"domain": GRANT, "nspace": self.random.choice(list(self.service.store.grants) or [1])}
+        elif kind < 0.3:
+            key = {"domain": KEY_ID, "nspace": self.random.randrange(len(self.service.store.made) + 2)}
+        elif kind < 0.33:
+            key["domain"] = self.random.choice([GRANT, BLOB, KEY_ID, 5, 9])
+        elif kind < 0.36:
+            key["nspace"] = self.random.choice([0, 1, 100])
         if self.chance(0.02):
-            del key["alias"]
+            key.pop("alias", None)
+        if self.chance(0.02):
+            key["alias"] = self.random.choice(["", "a" * 256, "a" * 257, "\u00e9" * 128, "\u00e9" * 129])
         if self.chance(0.02):
             key["blob"] = self.random.choice(["", "00"])
-        if self.chance(0.05):
-            key["nspace"] = self.random.choice([0, 1, 100])
         return key
+
+    def found(self, client, descriptor):
+        """The key that a client's descriptor finds, or None."""
+        alias = descriptor.get("alias")
+        read = {"nspace": 0, **descriptor, "alias": None if alias is None else alias.encode()}
+        return self.service.store.access(self.service.uid_of(client), read)[0]
 
     def client(self):
         """The number of a client that is connected, rarely of one that may not be."""
@@ -254,6 +280,8 @@ class Maker:
         if self.chance(0.05):
             size = self.random.choice([0, 7, 15, 17, 65])
         members["key"] = self.descriptor()
+        if members["key"]["domain"] not in (APP, SELINUX) and self.chance(0.8):
+            members["key"] = {"domain": APP, "alias": "a"}
         if self.chance(0.85):
             members["do"] = "importKey"
             members["params"] = self.spelled(params)
@@ -267,14 +295,53 @@ class Maker:
     def begin(self, members):
         """Begins an operation, mostly under a key that is there."""
         descriptor = self.descriptor()
-        uid = self.service.uid_of(members["c"])
-        key = self.service.live_key(uid, descriptor.get("alias", "").encode())
+        key = self.found(members["c"], descriptor)
         if key is None and self.chance(0.6):
-            descriptor["alias"] = "a"
-            key = self.service.live_key(uid, b"a")
+            descriptor = {"domain": APP, "alias": "a"}
+            key = self.found(members["c"], descriptor)
         members["do"] = "createOperation"
         members["key"] = descriptor
         members["params"] = self.spelled(self.edited(self.asked_list(key), 0.2))
+        if self.chance(0.12):
+            members["forced"] = self.chance(0.9)
+
+    def some_uid(self):
+        """Mostly the uid of a client, so that a grant can be used."""
+        uids = [uid for uid in self.service.uids if uid is not None]
+        return self.random.choice(uids if uids and self.chance(0.8) else UIDS)
+
+    def call_on_key(self, members):
+        """Asks for a key, ends it, or shares it."""
+        members["do"] = self.random.choices(["getKeyEntry", "deleteKey", "grant", "ungrant"], [8, 3, 12, 4])[0]
+        members["key"] = self.descriptor()
+        if self.found(members["c"], members["key"]) is None and self.chance(0.5):
+            members["key"] = {"domain": APP, "alias": "a"}
+        if members["do"] in ("grant", "ungrant"):
+            members["uid"] = self.some_uid()
+        if members["do"] == "grant":
+            members["bits"] = self.random.choice(GRANTED_BITS)
+
+    def call_on_owner(self, members):
+        """Counts or lists the keys of an owner."""
+        members["do"] = self.random.choice(["getNumberOfEntries", "listEntriesBatched"])
+        members["domain"] = self.random.choice([APP, APP, APP, SELINUX, SELINUX, SELINUX, GRANT, KEY_ID, 9])
+        if members["domain"] == SELINUX or self.chance(0.1):
+            members["nspace"] = self.random.choice([100, 100, 100, 101, 0, 10001])
+        if members["do"] == "listEntriesBatched" and self.chance(0.5):
+            members["past"] = self.random.choice([*ALIASES, "", "\u007f", "a\u00ea", "b\u0000"])
+
+    def call_of_system(self, members):
+        """Ends the keys of an owner or of a user, mostly as the system; seldom, so that keys live for a while."""
+        system = [number for number, uid in enumerate(self.service.uids, 1) if uid == 1000]
+        if system and self.chance(0.8):
+            members["c"] = self.random.choice(system)
+        if self.chance(0.5):
+            members["do"] = "userRemoved"
+            members["user"] = self.random.choice([0, 1, 1, 1, 2, 42949, 42950])
+            return
+        members["do"] = "clearNamespace"
+        members["domain"] = self.random.choice([APP, APP, SELINUX, SELINUX, GRANT, BLOB])
+        members["nspace"] = self.random.choice([100, 101, *UIDS, 4294967295, 4294967296])
 
     def input(self):
         """Hex text: often what an operation gave, rarely as much as one step may have or a byte more."""
@@ -374,14 +441,20 @@ class Maker:
         members = {"t": [self.random.choice([0, 5]), self.random.choice([0, 1000])], "c": self.client()}
         if kind < 0.04:
             members["do"] = "connect"
-            members["uid"] = self.random.choice([10001, 10002])
+            members["uid"] = self.random.choice([10001, 10002, *UIDS])
         elif kind < 0.045:
             members["do"] = "disconnect"
-        elif kind < 0.15:
+        elif kind < 0.13:
             self.new_key(members)
-        elif kind < 0.35 or len(self.service.operations) < min(4, self.slots) and self.chance(0.7):
+        elif kind < 0.2:
+            self.call_on_key(members)
+        elif kind < 0.23:
+            self.call_on_owner(members)
+        elif kind < 0.235:
+            self.call_of_system(members)
+        elif kind < 0.4 or len(self.service.operations) < min(4, self.slots) and self.chance(0.7):
             self.begin(members)
-        elif kind < 0.45 or self.service.out and self.chance(0.2):
+        elif kind < 0.48 or self.service.out and self.chance(0.2):
             self.leave(members)
         else:
             self.step(members)

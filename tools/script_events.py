@@ -1,7 +1,7 @@
 """What a script's lines and its encoded lists spell, by docs/FORMATS.md: the part of second_model.py that reads.
 
-A line becomes an event, which is its act, its client and its fields by name. An encoded list becomes the values of each
-tag by the tag's name, equal ones once.
+A line becomes an event, which is its act, the wall clock's reading, its client and its fields by name. An encoded list
+becomes the values of each tag by the tag's name, equal ones once, and a list is spelled in its one order.
 """
 import json
 import math
@@ -106,6 +106,14 @@ def read_list(data):
     return found
 
 
+def write_list(values):
+    """The one spelling of a list: its tags by their numbers, the values of each by their size."""
+    encoded = []
+    for name in sorted(values, key=lambda name: TAGS[name][1]):
+        encoded += [encoded_value(name, value) for value in sorted(values[name])]
+    return len(encoded).to_bytes(2, "big") + b"".join(encoded)
+
+
 # The lines of a script.
 
 STRING_OR_BRACKET = re.compile(r'"[^"\\]*(?:\\.[^"\\]*)*"|[\[\]{}]')
@@ -202,12 +210,6 @@ def text_of(value):
     return value.encode()
 
 
-def check_false(members, name):
-    """A truth value that may be absent; an act for which it is true is not built yet."""
-    if members.get(name, False) is not False:
-        raise Malformed()
-
-
 def flag_of(members, name):
     """A truth value that is false where it is absent."""
     value = members.get(name, False)
@@ -216,13 +218,12 @@ def flag_of(members, name):
     return value
 
 
-def check_reading(members):
-    """The clocks' reading, at which no rule looks yet."""
+def reading_of(members):
+    """The clocks' reading, its boot time and its wall time."""
     reading = needed(members, "t")
     if type(reading) is not list or len(reading) != 2:
         raise Malformed()
-    for clock in reading:
-        number_of(clock, 64)
+    return [number_of(clock, 64) for clock in reading]
 
 
 def descriptor_of(members):
@@ -237,23 +238,31 @@ def descriptor_of(members):
     }
 
 
+def encoded_value(name, value):
+    """The bytes of a tag and its value."""
+    tag_type, number = TAGS[name]
+    tag = (tag_type << 28 | number).to_bytes(4, "big")
+    if tag_type == BYTES:
+        return tag + len(value).to_bytes(2, "big") + value
+    return tag + int(value).to_bytes(VALUE_BYTES[tag_type], "big")
+
+
 def encoded_parameter(pair):
     """The bytes of a pair of a tag's name and a value."""
     if type(pair) is not list or len(pair) != 2 or type(pair[0]) is not str or pair[0] not in TAGS:
         raise Malformed()
-    tag_type, number = TAGS[pair[0]]
-    tag = (tag_type << 28 | number).to_bytes(4, "big")
+    name, value = pair
+    tag_type = TAGS[name][0]
     if tag_type == BOOL:
-        if pair[1] is not True:
+        if value is not True:
             raise Malformed()
-        return tag + b"\1"
+        return encoded_value(name, value)
     if tag_type == BYTES:
-        value = bytes_of(pair[1])
-        if len(value) >= 1 << 16:
+        data = bytes_of(value)
+        if len(data) >= 1 << 16:
             raise Malformed()
-        return tag + len(value).to_bytes(2, "big") + value
-    size = VALUE_BYTES[tag_type]
-    return tag + number_of(pair[1], 8 * size).to_bytes(size, "big")
+        return encoded_value(name, data)
+    return encoded_value(name, number_of(value, 8 * VALUE_BYTES[tag_type]))
 
 
 def encoded_list(params):
@@ -282,8 +291,31 @@ def import_fields(members):
 
 
 def begin_fields(members):
-    check_false(members, "forced")
-    return key_fields(members)
+    return {**key_fields(members), "forced": flag_of(members, "forced")}
+
+
+def named_fields(members):
+    return {"key": descriptor_of(members)}
+
+
+def ungrant_fields(members):
+    return {**named_fields(members), "uid": number_of(needed(members, "uid"), 32)}
+
+
+def grant_fields(members):
+    return {**ungrant_fields(members), "bits": number_of(needed(members, "bits"), 32)}
+
+
+def owner_fields(members):
+    return {"domain": number_of(needed(members, "domain"), 32), "nspace": number_of(members.get("nspace", 0), 64)}
+
+
+def listing_fields(members):
+    return {**owner_fields(members), "past": text_of(members["past"]) if "past" in members else None}
+
+
+def user_fields(members):
+    return {"user": number_of(needed(members, "user"), 32)}
 
 
 def operation_fields(members):
@@ -319,17 +351,25 @@ FIELDS = {
     "finish": finish_fields,
     "leave": leave_fields,
     "abort": operation_fields,
+    "getKeyEntry": named_fields,
+    "deleteKey": named_fields,
+    "grant": grant_fields,
+    "ungrant": ungrant_fields,
+    "getNumberOfEntries": owner_fields,
+    "listEntriesBatched": listing_fields,
+    "clearNamespace": owner_fields,
+    "userRemoved": user_fields,
 }
 
 
 def event_of(line):
-    """The event that a line spells, without its LF: the act, its client and its fields by name."""
+    """The event that a line spells, without its LF: the act, the wall clock, its client and its fields by name."""
     members = members_of(line)
-    check_reading(members)
+    _, wall = reading_of(members)
     act = needed(members, "do")
     if type(act) is not str or act not in FIELDS:
         raise Malformed()
-    event = {"act": act, **FIELDS[act](members)}
+    event = {"act": act, "wall": wall, **FIELDS[act](members)}
     if act not in ("connect", "leave"):
         event["client"] = number_of(needed(members, "c"), 64)
     return event

@@ -6,393 +6,37 @@
 It is written from docs/RULES.md's rules, apart from the proved code, so that the two can be compared. Its entropy
 counts 00, 01 .. ff, 00 ..; the draws whose numbers --fail gives, counted from 1, fail. AES, its modes and GCM are those
 of the Python package `cryptography`, the macs those of the standard library. Memory is never wanting here, and the
-limits of a line and of a script, which end the program's run, are not looked at. script_events.py reads the lines.
+limits of a line and of a script, which end the program's run, are not looked at. script_events.py reads the lines,
+model_rules.py has the rules of lists and lengths, model_keys.py the keys and grants, and model_outputs.py the outputs.
 """
 import argparse
-import hmac
 import json
 import sys
-from dataclasses import dataclass
 
-from cryptography.hazmat.primitives.ciphers import Cipher, algorithms, modes
+from model_keys import KeyStore, kept_list, owner_of
+from model_outputs import front, raw_output, whole_output
+from model_rules import check_begin, check_new, check_step, plan_of, read_params
+from model_values import (
+    APP, DELETE, GET_INFO, GRANT, KEY_ID, MAY_GRANT, MOST_STEP_BYTES, MOST_UID, MOST_USER, NONCE_BYTES, REBIND, REQ_FORCED_OP, SELINUX,
+    SYSTEM_UID, USE, Denied, Operation, one,
+)
+from script_events import Malformed, event_of, write_list
 
-from script_events import ListFault, Malformed, event_of, read_list
 
-# The tags whose rules are not built yet.
-LATER_TAGS = [
-    "EARLY_BOOT_ONLY", "ACTIVE_DATETIME", "ORIGINATION_EXPIRE_DATETIME", "USAGE_EXPIRE_DATETIME", "MAX_USES_PER_BOOT",
-    "USER_ID", "USER_SECURE_ID", "USER_AUTH_TYPE", "AUTH_TIMEOUT", "UNLOCKED_DEVICE_REQUIRED", "APPLICATION_ID",
-    "APPLICATION_DATA", "USAGE_COUNT_LIMIT",
-]
+def has_alias(descriptor):
+    """Whether a descriptor names a key in APP or SELINUX by its alias."""
+    return descriptor["domain"] in (APP, SELINUX) and descriptor["alias"] is not None and 1 <= len(descriptor["alias"]) <= 256
 
-AES, HMAC = 32, 128
-ENCRYPT, DECRYPT, SIGN, VERIFY = range(4)
-ECB, CBC, CTR, GCM = 1, 2, 3, 32
-NO_PADDING, PKCS7 = 1, 64
-RAW = 3
-PURPOSES = {AES: (ENCRYPT, DECRYPT), HMAC: (SIGN, VERIFY)}
-DIGEST_NAMES = {3: "sha224", 4: "sha256", 5: "sha384", 6: "sha512"}
-DIGEST_BITS = {3: 224, 4: 256, 5: 384, 6: 512}
-NONCE_BYTES = {CBC: 16, CTR: 16, GCM: 12}
 
-MOST_LIST_BYTES = 4096
-MOST_ID_BYTES = 1024
-MOST_STEP_BYTES = 32768
-MOST_OPERATION_BYTES = 1048576
+def is_stored(descriptor):
+    """Whether a descriptor names a stored key, by its alias or by a number."""
+    return has_alias(descriptor) or descriptor["domain"] in (GRANT, KEY_ID)
 
 
-class Denied(Exception):
-    """A call is answered with a code: that of the rule which it breaks, or one that belongs to no rule."""
+def is_shared(descriptor):
+    """Whether a descriptor may name a key that is to be granted."""
+    return descriptor["domain"] in (APP, SELINUX, KEY_ID)
 
-    def __init__(self, code, rule=None):
-        super().__init__(code, rule)
-        self.code = code
-        self.rule = rule
-
-
-def read_params(data, rule):
-    """The list of a call, by K4 or B6."""
-    if len(data) > MOST_LIST_BYTES:
-        raise Denied(-21, rule)
-    try:
-        params = read_list(data)
-    except ListFault as fault:
-        raise Denied(fault.code, rule)
-    for name in ("APPLICATION_ID", "APPLICATION_DATA"):
-        if any(len(value) > MOST_ID_BYTES for value in params.get(name, [])):
-            raise Denied(-21, rule)
-    return params
-
-
-def one(params, name):
-    """The value of a tag that stands exactly once, or None."""
-    values = params.get(name, [])
-    return values[0] if len(values) == 1 else None
-
-
-# What the service holds.
-
-@dataclass
-class Key:
-    """A key that was made; of the kept list no act tells anything yet, so it is the caller's."""
-
-    uid: int
-    alias: bytes
-    params: dict
-    material: bytes
-    is_live: bool = True
-
-
-@dataclass
-class Plan:
-    """How an operation works: the mode of AES or None for a mac, and what belongs to the mode."""
-
-    mode: int | None
-    is_forward: bool
-    is_padded: bool
-    digest: int | None
-    mac_bytes: int
-    least_mac_bytes: int
-
-
-@dataclass
-class Operation:
-    """An open operation; `work` is the event that entered it while that is out, and `touched` the step that last did."""
-
-    number: int
-    client: int
-    uid: int
-    key: Key
-    plan: Plan
-    nonce: bytes | None
-    touched: int
-    additional: bytes = b""
-    text: bytes = b""
-    work: dict | None = None
-
-
-# Output.
-
-def padded(text):
-    count = 16 - len(text) % 16
-    return text + bytes([count]) * count
-
-
-def unpadded(text):
-    count = text[-1]
-    if not 1 <= count <= 16 or text[-count:] != bytes([count]) * count:
-        raise Denied(-38)
-    return text[:-count]
-
-
-def gcm_sealed(operation, text):
-    """The ciphertext of a text, and the whole tag."""
-    worker = Cipher(algorithms.AES(operation.key.material), modes.GCM(operation.nonce)).encryptor()
-    worker.authenticate_additional_data(operation.additional)
-    return worker.update(text) + worker.finalize(), worker.tag
-
-
-def raw_output(operation, text):
-    """What the mode makes of a text, the whole blocks of it for ECB and CBC, before a padding or a tag is looked at."""
-    plan = operation.plan
-    if plan.mode is None:
-        return b""
-    if plan.mode == GCM:
-        return gcm_sealed(operation, text)[0]
-    if plan.mode == ECB:
-        mode = modes.ECB()
-    elif plan.mode == CBC:
-        mode = modes.CBC(operation.nonce)
-    else:
-        mode = modes.CTR(operation.nonce)
-    if plan.mode != CTR:
-        text = text[:len(text) // 16 * 16]
-    cipher = Cipher(algorithms.AES(operation.key.material), mode)
-    worker = cipher.encryptor() if plan.is_forward else cipher.decryptor()
-    return worker.update(text) + worker.finalize()
-
-
-def mac_output(operation, text, signature):
-    """The mac of a signing, or nothing for a verification whose signature is a front of the mac and long enough."""
-    plan = operation.plan
-    mac = hmac.new(operation.key.material, text, DIGEST_NAMES[plan.digest]).digest()
-    if plan.is_forward:
-        return mac[:plan.mac_bytes]
-    if signature is None or len(signature) < plan.least_mac_bytes or mac[:len(signature)] != signature:
-        raise Denied(-30)
-    return b""
-
-
-def gcm_output(operation, text):
-    """The ciphertext with its tag, or the text of a ciphertext whose tag is right."""
-    size = operation.plan.mac_bytes
-    if operation.plan.is_forward:
-        sealed, tag = gcm_sealed(operation, text)
-        return sealed + tag[:size]
-    opened = raw_output(operation, text[:-size])
-    if gcm_sealed(operation, opened)[1][:size] != text[-size:]:
-        raise Denied(-30)
-    return opened
-
-
-def whole_output(operation, text, signature):
-    """All output of an operation over its whole text."""
-    plan = operation.plan
-    if plan.mode is None:
-        return mac_output(operation, text, signature)
-    if plan.mode == GCM:
-        return gcm_output(operation, text)
-    if not plan.is_padded:
-        return raw_output(operation, text)
-    if plan.is_forward:
-        return raw_output(operation, padded(text))
-    return unpadded(raw_output(operation, text))
-
-
-def front(plan, length):
-    """How much of the output is out after so many bytes of text."""
-    if plan.mode is None:
-        return 0
-    if plan.mode == CTR:
-        return length
-    if plan.mode == GCM:
-        return length if plan.is_forward else max(0, length - plan.mac_bytes)
-    if plan.is_padded and not plan.is_forward and length > 0:
-        return (length - 1) // 16 * 16
-    return length // 16 * 16
-
-
-# Table K.
-
-def is_app_key(descriptor):
-    """Whether a descriptor names an app's own key by its alias."""
-    return descriptor["domain"] == 0 and descriptor["alias"] is not None and 1 <= len(descriptor["alias"]) <= 256
-
-
-def is_size(algorithm, bits):
-    """Whether a key of the algorithm may have so many bits."""
-    if algorithm == AES:
-        return bits in (128, 192, 256)
-    return bits is not None and 64 <= bits <= 512 and bits % 8 == 0
-
-
-def check_size(algorithm, params, material):
-    """K7; the material is None for a key that is to be generated."""
-    bits = one(params, "KEY_SIZE")
-    if not is_size(algorithm, bits if material is None else 8 * len(material)):
-        raise Denied(-6, "K7")
-    if material is not None and bits is not None and bits != 8 * len(material):
-        raise Denied(-44, "K7")
-
-
-def check_uses(algorithm, params):
-    """K8 to K11."""
-    if any(purpose not in PURPOSES[algorithm] for purpose in params.get("PURPOSE", [])):
-        raise Denied(-2, "K8")
-    if algorithm == AES:
-        if any(mode not in (ECB, CBC, CTR, GCM) for mode in params.get("BLOCK_MODE", [])):
-            raise Denied(-7, "K9")
-        if any(padding not in (NO_PADDING, PKCS7) for padding in params.get("PADDING", [])):
-            raise Denied(-10, "K10")
-    elif one(params, "DIGEST") not in DIGEST_BITS:
-        raise Denied(-12, "K11")
-
-
-def check_least_mac(algorithm, params):
-    """K12."""
-    if algorithm == HMAC:
-        low, high = 64, DIGEST_BITS[one(params, "DIGEST")]
-    elif GCM in params.get("BLOCK_MODE", []):
-        low, high = 96, 128
-    else:
-        return
-    least = one(params, "MIN_MAC_LENGTH")
-    if least is None:
-        raise Denied(-58, "K12")
-    if least % 8 != 0 or not low <= least <= high:
-        raise Denied(-59, "K12")
-
-
-def check_restrictions(params):
-    """K13 to K16."""
-    if "NO_AUTH_REQUIRED" in params and "USER_SECURE_ID" in params:
-        raise Denied(-38, "K13")
-    if one(params, "USAGE_COUNT_LIMIT") == 0:
-        raise Denied(-38, "K14")
-    if any(name in params for name in LATER_TAGS):
-        raise Denied(-39, "K16")
-
-
-def check_new(event, params, material):
-    """K5 to K16; the material is None for a key that is to be generated."""
-    algorithm = one(params, "ALGORITHM")
-    if algorithm not in (AES, HMAC):
-        raise Denied(-4, "K5")
-    if material is not None and event["format"] != RAW:
-        raise Denied(-17, "K6")
-    check_size(algorithm, params, material)
-    check_uses(algorithm, params)
-    check_least_mac(algorithm, params)
-    check_restrictions(params)
-
-
-# Table B.
-
-def check_purpose(asked, kept):
-    """B9."""
-    purpose = one(asked, "PURPOSE")
-    if purpose not in PURPOSES[one(kept, "ALGORITHM")]:
-        raise Denied(-2, "B9")
-    if purpose not in kept.get("PURPOSE", []):
-        raise Denied(-3, "B9")
-
-
-def check_mode(asked, kept):
-    """B17 and B18."""
-    mode = one(asked, "BLOCK_MODE")
-    if mode not in (ECB, CBC, CTR, GCM):
-        raise Denied(-7, "B17")
-    if mode not in kept.get("BLOCK_MODE", []):
-        raise Denied(-8, "B17")
-    padding = one(asked, "PADDING")
-    if padding not in (NO_PADDING, PKCS7):
-        raise Denied(-10, "B18")
-    if padding not in kept.get("PADDING", []) or mode in (CTR, GCM) and padding != NO_PADDING:
-        raise Denied(-11, "B18")
-
-
-def check_digest(asked, kept):
-    """B19."""
-    if "DIGEST" not in asked:
-        return
-    if one(asked, "DIGEST") not in DIGEST_BITS:
-        raise Denied(-12, "B19")
-    if one(asked, "DIGEST") != one(kept, "DIGEST"):
-        raise Denied(-13, "B19")
-
-
-def check_mac_length(asked, kept):
-    """B20."""
-    if one(asked, "PURPOSE") == SIGN:
-        low, high = 0, DIGEST_BITS[one(kept, "DIGEST")]
-    else:
-        low, high = 96, 128
-    length = one(asked, "MAC_LENGTH")
-    if length is None:
-        raise Denied(-53, "B20")
-    if length % 8 != 0 or not low <= length <= high:
-        raise Denied(-9, "B20")
-    if length < one(kept, "MIN_MAC_LENGTH"):
-        raise Denied(-57, "B20")
-
-
-def check_nonce(asked, kept):
-    """B21."""
-    is_encryption = one(asked, "PURPOSE") == ENCRYPT
-    nonce = one(asked, "NONCE")
-    if is_encryption and nonce is not None and "CALLER_NONCE" not in kept:
-        raise Denied(-55, "B21")
-    if not is_encryption and nonce is None:
-        raise Denied(-51, "B21")
-    if nonce is not None and len(nonce) != NONCE_BYTES[one(asked, "BLOCK_MODE")]:
-        raise Denied(-52, "B21")
-
-
-def check_begin(asked, kept):
-    """B9 to B21, for the list of the operation and that of its key."""
-    check_purpose(asked, kept)
-    is_aes = one(kept, "ALGORITHM") == AES
-    mode = one(asked, "BLOCK_MODE") if is_aes else None
-    if is_aes:
-        check_mode(asked, kept)
-    else:
-        check_digest(asked, kept)
-    if one(asked, "PURPOSE") == SIGN or mode == GCM:
-        check_mac_length(asked, kept)
-    if mode in NONCE_BYTES:
-        check_nonce(asked, kept)
-
-
-def plan_of(asked, kept):
-    """The plan of an operation that breaks no rule."""
-    is_aes = one(kept, "ALGORITHM") == AES
-    return Plan(
-        mode=one(asked, "BLOCK_MODE") if is_aes else None,
-        is_forward=one(asked, "PURPOSE") in (ENCRYPT, SIGN),
-        is_padded=is_aes and one(asked, "PADDING") == PKCS7,
-        digest=one(kept, "DIGEST"),
-        mac_bytes=(one(asked, "MAC_LENGTH") or 0) // 8,
-        least_mac_bytes=(one(kept, "MIN_MAC_LENGTH") or 0) // 8,
-    )
-
-
-# Table S.
-
-def check_length(plan, length):
-    """S8, for the length of the whole text."""
-    if plan.mode in (ECB, CBC):
-        is_opening = plan.is_padded and not plan.is_forward
-        if (is_opening or not plan.is_padded) and length % 16 != 0:
-            raise Denied(-21, "S8")
-        if is_opening and length < 16:
-            raise Denied(-21, "S8")
-    if plan.mode == GCM and not plan.is_forward and length < plan.mac_bytes:
-        raise Denied(-21, "S8")
-
-
-def check_step(operation, event):
-    """S4 to S8, which end the operation that breaks them."""
-    if not operation.key.is_live:
-        raise Denied(-33, "S4")
-    if event["act"] == "updateAad" and (operation.plan.mode != GCM or operation.text):
-        raise Denied(-40, "S6")
-    if len(operation.additional) + len(operation.text) + len(event["input"]) > MOST_OPERATION_BYTES:
-        raise Denied(-21, "S7")
-    if event["act"] == "finish":
-        check_length(operation.plan, len(operation.text) + len(event["input"]))
-
-
-# The service.
 
 class Entropy:
     """Bytes that count up; the draws with the numbers `failing`, counted from 1, fail."""
@@ -418,7 +62,7 @@ class Service:
         self.entropy = Entropy(failing)
         self.slots = slots
         self.uids = []
-        self.keys = []
+        self.store = KeyStore()
         self.operations = {}
         self.begun = 0
         self.out = {}
@@ -433,20 +77,13 @@ class Service:
         """How many operations of a uid are open, idle and busy."""
         return sum(operation.uid == uid for operation in self.operations.values())
 
-    def victim(self, uid):
+    def victim(self, uid, is_forced):
         """The operation that gives way to a begin of a uid, or None where none does."""
         idle = [operation for operation in self.operations.values() if operation.work is None]
         maluses = [(self.open_count(o.uid) + (self.step - o.touched).bit_length(), -o.touched, o.number) for o in idle]
-        if not maluses or max(maluses)[0] <= self.open_count(uid) + 1:
+        if not maluses or not is_forced and max(maluses)[0] <= self.open_count(uid) + 1:
             return None
         return max(maluses)[2]
-
-    def live_key(self, uid, alias):
-        """The live key of a uid under an alias, or None."""
-        for key in self.keys:
-            if key.is_live and key.uid == uid and key.alias == alias:
-                return key
-        return None
 
     def reply(self, event):
         """The reply to an event, as its fields by name."""
@@ -461,6 +98,14 @@ class Service:
             "finish": self.enter,
             "leave": self.leave,
             "abort": self.abort,
+            "getKeyEntry": self.get_key_entry,
+            "deleteKey": self.delete_key,
+            "grant": self.grant,
+            "ungrant": self.ungrant,
+            "getNumberOfEntries": self.get_number_of_entries,
+            "listEntriesBatched": self.list_entries_batched,
+            "clearNamespace": self.clear_namespace,
+            "userRemoved": self.user_removed,
         }
         self.step += 1
         try:
@@ -484,35 +129,136 @@ class Service:
         self.operations = {number: o for number, o in self.operations.items() if o.client != client}
         return {}
 
+    # Keys.
+
     def make_key(self, event):
         """Generates a key, or imports it where there is material."""
         uid = self.uid_of(event["client"])
         descriptor = event["key"]
         if uid is None:
             raise Denied(20, "K1")
-        if not is_app_key(descriptor) or descriptor["blob"] is not None:
+        if not has_alias(descriptor) or descriptor["blob"] is not None:
             raise Denied(20, "K2")
+        if descriptor["domain"] == SELINUX and not (self.store.row(uid, descriptor["nspace"]) or 0) & REBIND:
+            raise Denied(6, "K3")
         params = read_params(event["params"], "K4")
-        material = event.get("material")
-        check_new(event, params, material)
-        if material is None:
-            material = self.entropy.draw(one(params, "KEY_SIZE") // 8)
+        imported = event.get("material")
+        check_new(event, params, imported)
+        owner = owner_of(uid, descriptor["domain"], descriptor["nspace"])
+        self.store.check_place(owner, descriptor["alias"])
+        material = self.entropy.draw(one(params, "KEY_SIZE") // 8) if imported is None else imported
         self.entropy.draw(12)
-        old_key = self.live_key(uid, descriptor["alias"])
-        if old_key is not None:
-            old_key.is_live = False
-        self.keys.append(Key(uid, descriptor["alias"], params, material))
-        return {"key": len(self.keys)}
+        return {"key": self.store.put(owner, descriptor["alias"], kept_list(params, imported, event["wall"]), material)}
 
-    def create_operation(self, event):
+    def check_row(self, uid, domain, nspace, rule):
+        """B3 and A4."""
+        if domain == SELINUX and self.store.row(uid, nspace) is None:
+            raise Denied(6, rule)
+
+    def key_to_use(self, event):
+        """The key of a begin, by B1 to B5."""
         uid = self.uid_of(event["client"])
+        descriptor = event["key"]
         if uid is None:
             raise Denied(20, "B1")
-        if not is_app_key(event["key"]):
+        if not is_stored(descriptor):
             raise Denied(20, "B2")
-        key = self.live_key(uid, event["key"]["alias"])
+        self.check_row(uid, descriptor["domain"], descriptor["nspace"], "B3")
+        key, bits = self.store.access(uid, descriptor)
         if key is None:
             raise Denied(7, "B4")
+        if not bits & USE or event["forced"] and not bits & REQ_FORCED_OP:
+            raise Denied(6, "B5")
+        return key
+
+    def key_of_call(self, event, has_form, permission):
+        """The key of a call on a stored key and what the caller may do with it, by A1 to A6."""
+        uid = self.uid_of(event["client"])
+        descriptor = event["key"]
+        if uid is None:
+            raise Denied(20, "A1")
+        if not has_form(descriptor):
+            raise Denied(20, "A2")
+        self.check_row(uid, descriptor["domain"], descriptor["nspace"], "A4")
+        key, bits = self.store.access(uid, descriptor)
+        if key is None:
+            raise Denied(7, "A5")
+        if not bits & permission:
+            raise Denied(6, "A6")
+        return key, bits
+
+    def get_key_entry(self, event):
+        key, _ = self.key_of_call(event, is_stored, GET_INFO)
+        alias = key.alias.decode()
+        return {"key": key.number, "domain": key.domain, "nspace": key.nspace, "alias": alias, "list": write_list(key.params).hex()}
+
+    def delete_key(self, event):
+        key, _ = self.key_of_call(event, is_stored, DELETE)
+        self.store.end([key])
+        return {}
+
+    def grant(self, event):
+        key, bits = self.key_of_call(event, is_shared, MAY_GRANT)
+        if event["bits"] & MAY_GRANT or event["bits"] & ~bits:
+            raise Denied(6, "A8")
+        return {"grant": self.store.grant(key, event["uid"], event["bits"])}
+
+    def ungrant(self, event):
+        key, _ = self.key_of_call(event, is_shared, MAY_GRANT)
+        grant = self.store.grant_to(key, event["uid"])
+        if grant is None:
+            raise Denied(7, "A9")
+        del self.store.grants[grant.number]
+        return {}
+
+    # Owners.
+
+    def owner_to_list(self, event):
+        """Whose keys a call counts or lists, by A1 to A6."""
+        uid = self.uid_of(event["client"])
+        domain, nspace = event["domain"], event["nspace"]
+        if uid is None:
+            raise Denied(20, "A1")
+        if domain not in (APP, SELINUX):
+            raise Denied(20, "A2")
+        self.check_row(uid, domain, nspace, "A4")
+        if domain == SELINUX and not self.store.row(uid, nspace) & GET_INFO:
+            raise Denied(6, "A6")
+        return owner_of(uid, domain, nspace)
+
+    def get_number_of_entries(self, event):
+        return {"count": len(self.store.keys_of(self.owner_to_list(event)))}
+
+    def list_entries_batched(self, event):
+        keys = self.store.listing(self.owner_to_list(event), event["past"])
+        return {"entries": [[key.alias.decode(), key.number] for key in keys]}
+
+    def check_system(self, event, has_form):
+        """A1 to A3."""
+        uid = self.uid_of(event["client"])
+        if uid is None:
+            raise Denied(20, "A1")
+        if not has_form:
+            raise Denied(20, "A2")
+        if uid != SYSTEM_UID:
+            raise Denied(6, "A3")
+
+    def clear_namespace(self, event):
+        domain, nspace = event["domain"], event["nspace"]
+        self.check_system(event, domain == APP and nspace <= MOST_UID or domain == SELINUX)
+        self.store.clear((domain, nspace))
+        return {}
+
+    def user_removed(self, event):
+        self.check_system(event, event["user"] <= MOST_USER)
+        self.store.remove_user(event["user"])
+        return {}
+
+    # Operations.
+
+    def create_operation(self, event):
+        key = self.key_to_use(event)
+        uid = self.uid_of(event["client"])
         asked = read_params(event["params"], "B6")
         check_begin(asked, key.params)
         plan = plan_of(asked, key.params)
@@ -520,7 +266,7 @@ class Service:
         told = {}
         pruned = None
         if len(self.operations) == self.slots:
-            pruned = self.victim(uid)
+            pruned = self.victim(uid, event["forced"])
             if pruned is None:
                 raise Denied(18, "B22")
             told["pruned"] = pruned
@@ -589,16 +335,20 @@ class Service:
         return {}
 
 
+def text_of(reply):
+    return json.dumps(reply, ensure_ascii=False, separators=(",", ":"), sort_keys=True).encode()
+
+
 def reply_line(service, line):
     """The reply to a line of a script, both bytes without LF."""
     try:
         event = event_of(line)
     except Malformed:
-        return json.dumps({"code": 20, "rule": "L1"}, separators=(",", ":"), sort_keys=True).encode()
+        return text_of({"code": 20, "rule": "L1"})
     reply = service.reply(event)
     if "ticket" in reply and not event["hold"]:
         reply = service.reply({"act": "leave", "ticket": reply["ticket"]})
-    return json.dumps(reply, separators=(",", ":"), sort_keys=True).encode()
+    return text_of(reply)
 
 
 def numbers_of(text):

@@ -1,5 +1,5 @@
 -- What the look-ups find in a lasting part.
-use Rattle.std.specs.Prelude.{◌≡◌, ℕ, Bool, true, false, List, Option, None, Some, IsSome, find, filter, length}
+use Rattle.std.specs.Prelude.{◌≡◌, ℕ, Bool, true, false, List, Option, None, Some, IsSome, find, filter, length, ◌&&◌, [], ◌∷◌, if◌then◌else◌}
 use Rattle.std.specs.Option.{option_map, option_and_then}
 use Rattle.std.specs.declared.cmp.Ordering.{Ordering}
 use Rattle.std.specs.Ordering.{nat_cmp, is_lt, is_gt}
@@ -43,6 +43,24 @@ IsNextName rows domain nspace past (Some key) = IsNextNamed rows domain nspace p
 -- this is the owner's live key of the least alias greater than past, or there is none
 abbrev pub IsNextKey : Lasting → ℕ → ℕ → Option (List ℕ) → Option KeyRecord → Type 0
 IsNextKey part domain nspace past found = IsNextName part.keys domain nspace past found
+
+-- an owner's key of an alias greater than past
+abbrev pub is_listed : ℕ → ℕ → Option (List ℕ) → KeyRecord → Bool
+is_listed domain nspace past key = is_owned domain nspace key && is_after past key.alias
+
+-- of a key and another, if there is one, that of the lesser alias
+abbrev pub lesser : KeyRecord → Option KeyRecord → KeyRecord
+lesser key None = key
+lesser key (Some other) = if is_gt (alias_cmp key.alias other.alias) then other else key
+
+-- of keys that of the least alias
+abbrev pub least : List KeyRecord → Option KeyRecord
+least [] = None
+least (key ∷ keys) = Some (lesser key (least keys))
+
+-- an owner's live key of the least alias greater than past
+abbrev pub next_key : Lasting → ℕ → ℕ → Option (List ℕ) → Option KeyRecord
+next_key part domain nspace past = least (filter (is_listed domain nspace past) part.keys)
 
 -- how many live keys an owner has
 abbrev pub key_count : Lasting → ℕ → ℕ → ℕ

@@ -13,3 +13,4 @@ pub mod OneStore
 pub mod Opened
 pub mod Lockstep
 pub mod Afters
+pub mod Listing

@@ -2,10 +2,10 @@
 
 ghost use Rattle.std.specs.Prelude.{◌≡◌, ℕ, true, OnOk, OnErr};
 ghost use Rattle.std.specs.Option.{option_copied};
-ghost use Rattle.journal_records.specs.LastingPart.{empty_lasting};
-ghost use Rattle.journal_records.specs.Needs.{is_met};
+ghost use Rattle.journal_records.specs.LastingPart.{empty_lasting, some_has_id};
+ghost use Rattle.journal_records.specs.Needs.{has_place_for, is_met};
 ghost use Rattle.journal_records.specs.Effects.{after};
-ghost use Rattle.journal_records.specs.Lookups.{row_of, key_of_id, key_of_name, IsNextKey, key_count, named_in, numbered_in, granted_in, shared_in};
+ghost use Rattle.journal_records.specs.Lookups.{row_of, key_of_id, key_of_name, key_count, next_key, named_in, numbered_in, granted_in, shared_in};
 ghost use Rattle.key_database.specs.Held.{lasting_in, HasRoomForKey, HasRoomForGrant, HasRoomFor, KeepsRoom, CanMake, takes_memory};
 
 use crate::compared::same_part;
@@ -74,9 +74,16 @@ impl LastingTable {
     /// The owner's live key of the least alias greater than `past`, by its bytes; of all its aliases where there is no
     /// `past`.
     pub fn next_name(&self, domain: u8, nspace: u64, past: Option<&[u8]>) -> Option<&KeyRecord>
-        ensures { IsNextKey (lasting_in self.now) domain nspace (option_copied past.entry) (option_copied result) }
+        ensures { option_copied result ≡ next_key (lasting_in self.now) domain nspace (option_copied past.entry) }
     {
         self.part.keys.next_name(domain, nspace, past)
+    }
+
+    /// Whether a key of this number is live.
+    pub fn is_live(&self, id: u64) -> bool
+        ensures { result ≡ some_has_id id (lasting_in self.now).keys }
+    {
+        self.part.is_live(id)
     }
 
     /// How many live keys an owner has.
@@ -84,6 +91,13 @@ impl LastingTable {
         ensures { result ≡ key_count (lasting_in self.now) domain nspace }
     {
         self.part.keys.count(domain, nspace)
+    }
+
+    /// Whether there is a place for one more key of an owner under an alias: the key under that name makes place.
+    pub fn has_place_for(&self, domain: u8, nspace: u64, alias: &[u8]) -> bool
+        ensures { result ≡ has_place_for domain nspace alias.now (lasting_in self.now) }
+    {
+        self.part.has_place_for(domain, nspace, alias)
     }
 
     /// The live grants.

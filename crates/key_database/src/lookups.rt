@@ -3,7 +3,7 @@
 ghost use Rattle.std.specs.Prelude.{◌≡◌, ℕ, true};
 ghost use Rattle.std.specs.Option.{option_copied};
 ghost use Rattle.journal_records.specs.Needs.{is_met};
-ghost use Rattle.journal_records.specs.Lookups.{key_of_id, key_of_name, IsNextKey, key_count, named_in, numbered_in, granted_in, shared_in};
+ghost use Rattle.journal_records.specs.Lookups.{key_of_id, key_of_name, key_count, next_key, named_in, numbered_in, granted_in, shared_in};
 ghost use Rattle.key_database.specs.Stands.{lasting};
 
 use crate::database::KeyDatabase;
@@ -30,7 +30,7 @@ impl KeyDatabase {
     /// The owner's live key of the least alias greater than `past`, by its bytes; of all its aliases where there is no
     /// `past`.
     pub fn next_name(&self, domain: u8, nspace: u64, past: Option<&[u8]>) -> Option<&KeyRecord>
-        ensures { IsNextKey (lasting self.now) domain nspace (option_copied past.entry) (option_copied result) }
+        ensures { option_copied result ≡ next_key (lasting self.now) domain nspace (option_copied past.entry) }
     {
         self.table.next_name(domain, nspace, past)
     }

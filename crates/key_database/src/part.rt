@@ -76,7 +76,7 @@ impl Part {
     }
 
     /// Whether there is place for one more key: the key under its name makes place.
-    fn has_place_for(&self, domain: u8, nspace: u64, alias: &[u8]) -> bool
+    pub(crate) fn has_place_for(&self, domain: u8, nspace: u64, alias: &[u8]) -> bool
         ensures { result ≡ has_place_for domain nspace alias.now (part_of self.now) }
     {
         let rebound = self.keys.named(domain, nspace, alias).is_some();
@@ -101,7 +101,7 @@ impl Part {
     }
 
     /// Whether a key of this number is live.
-    fn is_live(&self, id: u64) -> bool
+    pub(crate) fn is_live(&self, id: u64) -> bool
         ensures { result ≡ list_any (has_id id) self.now.keys.rows }
     {
         self.keys.numbered(id).is_some()

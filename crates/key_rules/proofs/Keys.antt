@@ -1,9 +1,10 @@
 -- What the rules of a key make of its list and its size.
-use Rattle.std.proofs.Common.{◌≡◌, ℕ, ◌*◌, ◌/◌, Bool, true, false, ◌&&◌, ◌||◌, ◌==◌, if◌then◌else◌, List, [], ◌∷◌, length, Option, Some, None, Result, Ok, Err, refl, sym, subst, arith, inl, inr}
-use Rattle.std.specs.Prelude.{slice_get, is_ok, is_some, unwrap_or, OnOk}
+use Rattle.std.proofs.Common.{◌≡◌, ℕ, ◌*◌, ◌/◌, ◌%◌, ◌≤◌, Bool, true, false, ◌&&◌, ◌||◌, ◌==◌, if◌then◌else◌, List, [], ◌∷◌, length, Option, Some, None, Result, Ok, Err, refl, sym, subst, arith, inl, inr}
+use Rattle.std.specs.Prelude.{nat_le, slice_get, is_ok, is_some, unwrap_or, OnOk}
 use Rattle.std.specs.List.{list_all}
 use Rattle.std.specs.Option.{option_and_then}
 use Rattle.std.proofs.lemmas.Bool.{or_cases, and_parts, eqb-true, false≢true}
+use Rattle.std.proofs.lemmas.Bool.Decides.{nat_tests}
 use Rattle.tags.specs.declared.param.Param.{Param}
 use Rattle.tags.specs.declared.tag.Tag.TheVariants.{Digest, KeySize}
 use Rattle.tags.specs.Param.{as_number}
@@ -80,6 +81,34 @@ named_size list test h =
     let both = and_parts (stands KeySize list) (each KeySize test list) h in
     subst (λ o. is_some o ≡ true → test (unwrap_or (option_and_then (λ p. as_number p.value) o) 0) ≡ true) (find-filter (is_of KeySize) list)
     (λ there. size_alone (all_of KeySize list) test there both.1) both.0
+
+-- the sizes that are allowed have few bits
+bits_few : (list : List Param) (bits : ℕ) → is_allowed_size list bits ≡ true → bits ≤ 512
+bits_few list bits h = by_algorithm (is_aes list) (is_hmac list) h where
+  by_algorithm : (aes hmac : Bool) → (if aes then one_in (128 ∷ 192 ∷ 256 ∷ []) bits else (hmac && is_whole_bytes 64 512 bits)) ≡ true → bits ≤ 512
+  by_algorithm true hmac e =
+      elim (or_cases (bits == 128) ((bits == 192) || ((bits == 256) || false)) e) [
+        | inl one ↦ let is : bits ≡ 128 = eqb-true bits 128 one in omega (arith, is)
+        | inr more ↦ elim (or_cases (bits == 192) ((bits == 256) || false) more) [
+          | inl two ↦ let is : bits ≡ 192 = eqb-true bits 192 two in omega (arith, is)
+          | inr last ↦ elim (or_cases (bits == 256) false last) [
+            | inl three ↦ let is : bits ≡ 256 = eqb-true bits 256 three in omega (arith, is)
+            | inr none ↦ absurd (false≢true none)
+          ]
+        ]
+      ]
+  by_algorithm false hmac e =
+      let whole = (and_parts hmac (is_whole_bytes 64 512 bits) e).1 in
+      let rest = (and_parts (nat_le 64 bits) (nat_le bits 512 && (bits % 8 == 0)) whole).1 in
+      let most = (and_parts (nat_le bits 512) (bits % 8 == 0) rest).0 in
+      grind (arith, nat_tests, most)
+
+-- a generated material is short
+pub generated_short : (list : List Param) → has_allowed_size None list ≡ true → material_size list ≤ 64
+unfolding material_size
+generated_short list allowed =
+    let few : unwrap_or (number_of KeySize list) 0 ≤ 512 = bits_few list (unwrap_or (number_of KeySize list) 0) (named_size list (is_allowed_size list) allowed) in
+    omega (arith, few)
 
 drawn_size : (bits : ℕ) → one_in (128 ∷ 192 ∷ 256 ∷ []) bits ≡ true → is_aes_size (bits / 8) ≡ true
 drawn_size bits h =

@@ -1,5 +1,5 @@
 -- What becomes of a call that makes a key.
-use Rattle.std.specs.Prelude.{ℕ, ◌/◌, List, Option, Some, None, Result, unwrap_or}
+use Rattle.std.specs.Prelude.{◌≡◌, ℕ, ◌/◌, ◌≤◌, true, List, Option, Some, None, Result, unwrap_or, IfSome}
 use Rattle.tags.specs.declared.code.Code.{Code}
 use Rattle.tags.specs.declared.param.Param.{Param}
 use Rattle.tags.specs.declared.rule.Rule.{Rule}
@@ -11,22 +11,39 @@ use Rattle.key_rules.specs.declared.facts.ImportFacts.{ImportFacts}
 use Rattle.key_rules.specs.declared.facts.NewFacts.{NewFacts}
 use Rattle.key_rules.specs.declared.plan.KeyPlan.{KeyPlan}
 use Rattle.key_rules.specs.Kept.{kept, limit}
-use Rattle.key_rules.specs.Rules.{list_in}
+use Rattle.key_rules.specs.Rules.{list_in, names_new_key}
 use Rattle.key_rules.specs.Table.{rules_of}
+
+-- the bytes of a generated key's material, over the caller's list: KEY_SIZE is in bits
+unfoldable pub material_size : List Param → ℕ
+material_size list = unwrap_or (number_of tags.KeySize list) 0 / 8
+
+-- how many bytes of material are drawn: all of a generated key's, and none for an import
+abbrev pub drawn_size : Option ImportFacts → List Param → ℕ
+drawn_size None list = material_size list
+drawn_size (Some import) list = 0
+
+-- the plan of a list
+abbrev pub plan_for : Option ImportFacts → ℕ → List Param → KeyPlan
+plan_for import wall list = record { list = kept import wall list; limit = limit list; size = drawn_size import list }
 
 -- the plan of a new key
 abbrev pub plan_of : NewFacts → KeyPlan
-plan_of facts = record { list = kept facts.import facts.wall (list_in facts.params); limit = limit (list_in facts.params) }
+plan_of facts = plan_for facts.import facts.wall (list_in facts.params)
 
 -- the first broken rule of table K, or else the plan
 abbrev pub new_key : NewFacts → Result KeyPlan (Rule × Code)
 new_key facts = where_all_hold (first_broken K (rules_of facts)) (plan_of facts)
 
--- the bytes of a generated key's material, over its list: KEY_SIZE is in bits
-unfoldable pub material_size : List Param → ℕ
-material_size list = unwrap_or (number_of tags.KeySize list) 0 / 8
-
--- the bytes of a new key's material: the imported one's, or those that are to be drawn
+-- the bytes of a new key's material: the imported one's, or those that are drawn
 abbrev pub key_size : Option ImportFacts → List Param → ℕ
 key_size None list = material_size list
 key_size (Some import) list = import.length
+
+-- What a new key keeps to that the rules let through: its descriptor names one, an imported material and a drawn one have at
+-- most 64 bytes, and the kept list is spelled in at most 4,132.
+pub record IsFit (facts : NewFacts) (size bytes : ℕ) : Type 0 where
+  pub named : names_new_key facts.descriptor ≡ true
+  pub short : IfSome facts.import (λ import. import.length ≤ 64)
+  pub drawn : size ≤ 64
+  pub listed : bytes ≤ 4132

@@ -2,6 +2,9 @@
 -- AES or HMAC, it holds for the other.
 use Rattle.std.specs.Prelude.{ℕ, ◌*◌, Bool, true, false, ◌&&◌, ◌||◌, not, ◌==◌, nat_le, List, [], ◌∷◌, length, Option, Some, None, Result, Ok, Err, if◌then◌else◌, is_none, unwrap_or}
 use Rattle.std.specs.List.{list_all, list_any}
+use Rattle.key_domains.specs.declared.permission.Permission.TheVariants.{Rebind}
+use Rattle.key_domains.specs.Bits.{has}
+use Rattle.key_domains.specs.Domains.{domain_app, domain_selinux}
 use Rattle.tags.specs.declared.code.Code.{Code}
 use Rattle.tags.specs.declared.code.Code.TheVariants.{InvalidKeyArgument, InvalidTag}
 use Rattle.tags.specs.declared.descriptor.Descriptor.{Descriptor}
@@ -11,16 +14,28 @@ use Rattle.tags.specs.declared.param.ParamValue.TheVariants.{Number, Flag, Raw}
 use Rattle.tags.specs.declared.tag.Tag.{Tag}
 use Rattle.tags.specs.declared.tag.Tag.TheVariants as tags
 use Rattle.tags.specs.Descriptor.{has_alias}
-use Rattle.tags.specs.Values.{AES_PURPOSES, DIGESTS, GCM, HMAC_PURPOSES, MODES, PADDINGS, RAW, digest_bits, implies, is_whole_bytes, one_in}
+use Rattle.tags.specs.Values.{AES_PURPOSES, DIGESTS, GCM, HMAC_PURPOSES, MODES, PADDINGS, RAW, digest_bits, implies, is_whole_bytes, one_in, passes}
 use Rattle.tag_lists.specs.declared.fault.ListFault.{ListFault}
 use Rattle.tag_lists.specs.declared.fault.ListFault.TheVariants as faults
 use Rattle.tag_lists.specs.Lookups.{all_of, each, has_number, is_aes, is_hmac, number_of, stands}
 use Rattle.tag_lists.specs.Reading.{listed}
 use Rattle.key_rules.specs.declared.facts.ImportFacts.{ImportFacts}
 
--- the domain is APP with an alias of 1 to 256 bytes of UTF-8; no blob is given
+-- APP and SELINUX find a key by its alias
+abbrev pub is_by_alias : ℕ → Bool
+is_by_alias domain = (domain == domain_app) || (domain == domain_selinux)
+
+-- the domain is APP or SELINUX with an alias of 1 to 256 bytes of UTF-8; no blob is given
 abbrev pub names_new_key : Descriptor → Bool
-names_new_key descriptor = (descriptor.domain == 0) && (has_alias descriptor && is_none descriptor.blob)
+names_new_key descriptor = is_by_alias descriptor.domain && (has_alias descriptor && is_none descriptor.blob)
+
+-- the policy's row is there and has REBIND
+abbrev pub has_rebind : Option ℕ → Bool
+has_rebind row = passes (λ bits. has bits Rebind) row
+
+-- SELINUX: the policy's row of the caller's uid and the namespace has REBIND
+abbrev pub may_rebind : Descriptor → Option ℕ → Bool
+may_rebind descriptor row = implies (descriptor.domain == domain_selinux) (has_rebind row)
 
 -- the code of a list that does not read
 abbrev pub list_code : ListFault → Code

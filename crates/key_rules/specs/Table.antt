@@ -1,13 +1,13 @@
 -- Table K, a new key: a list of rules in its order, and the answer is the first that does not hold.
 use Rattle.std.specs.Prelude.{ℕ, List, [], ◌∷◌, ◌++◌, Option, Some, length, nat_le, is_ok}
-use Rattle.tags.specs.declared.code.Code.TheVariants.{ImportParameterMismatch, InvalidArgument, InvalidInputLength, InvalidKeyArgument, MissingMinMacLength, UnsupportedAlgorithm, UnsupportedBlockMode, UnsupportedDigest, UnsupportedKeyFormat, UnsupportedKeySize, UnsupportedMinMacLength, UnsupportedPaddingMode, UnsupportedPurpose, UnsupportedTag}
+use Rattle.tags.specs.declared.code.Code.TheVariants.{ImportParameterMismatch, InvalidArgument, InvalidInputLength, InvalidKeyArgument, MissingMinMacLength, PermissionDenied, UnsupportedAlgorithm, UnsupportedBlockMode, UnsupportedDigest, UnsupportedKeyFormat, UnsupportedKeySize, UnsupportedMinMacLength, UnsupportedPaddingMode, UnsupportedPurpose, UnsupportedTag}
 use Rattle.tags.specs.declared.param.Param.{Param}
 use Rattle.tags.specs.Table.{Check, check}
 use Rattle.tags.specs.Values.{RAW}
 use Rattle.tag_lists.specs.Reading.{listed}
 use Rattle.key_rules.specs.declared.facts.ImportFacts.{ImportFacts}
 use Rattle.key_rules.specs.declared.facts.NewFacts.{NewFacts}
-use Rattle.key_rules.specs.Rules.{has_allowed_size, has_fit_length, has_known_modes, has_known_paddings, has_least_length, has_no_unbuilt, has_one_authority, has_one_digest, has_own_purposes, has_own_size, has_short_ids, has_some_uses, list_in, names_algorithm, names_new_key, reading_code, takes_format}
+use Rattle.key_rules.specs.Rules.{has_allowed_size, has_fit_length, has_known_modes, has_known_paddings, has_least_length, has_no_unbuilt, has_one_authority, has_one_digest, has_own_purposes, has_own_size, has_short_ids, has_some_uses, list_in, may_rebind, names_algorithm, names_new_key, reading_code, takes_format}
 
 -- the rule of an encoded list
 abbrev pub bytes_rules : List ℕ → List Check
@@ -51,6 +51,7 @@ abbrev pub rules_of : NewFacts → List Check
 rules_of facts =
     check 1 InvalidArgument facts.connected ∷  -- the client is connected
     check 2 InvalidArgument (names_new_key facts.descriptor) ∷  -- the descriptor may name a new key
+    check 3 PermissionDenied (may_rebind facts.descriptor facts.row) ∷  -- SELINUX: the policy lets the caller put keys there
     bytes_rules facts.params ++
     list_rules facts.import (list_in facts.params)
 

@@ -1,13 +1,14 @@
 //! What becomes of a call that makes a key, and which keys are usable.
 
-ghost use Rattle.std.specs.Prelude.{◌≡◌, ◌≤◌, ◌<◌, ◌^◌, is_ok, true, IfOk, IfSome, OnOk, Ok, length};
+ghost use Rattle.std.specs.Prelude.{◌≡◌, ◌≤◌, is_ok, true, IfOk, IfSome, OnOk, Ok, length};
 ghost use Rattle.tags.specs.declared.rule.RuleTable.TheVariants.{K};
 ghost use Rattle.tags.specs.Table.{first_broken};
 ghost use Rattle.tag_lists.specs.Lookups.{IsKey};
-ghost use Rattle.key_rules.specs.Creation.{key_size, new_key, material_size as size_of};
+ghost use Rattle.tag_lists.specs.Spelling.{spelling};
+ghost use Rattle.key_rules.specs.Creation as spec;
+ghost use Rattle.key_rules.specs.Creation.{new_key};
 ghost use Rattle.key_rules.specs.Gives.{Gives};
-ghost use Rattle.key_rules.specs.Kept as model;
-ghost use Rattle.key_rules.specs.Rules.{list_in};
+ghost use Rattle.key_rules.specs.Rules.{has_allowed_size, list_in};
 ghost use Rattle.key_rules.specs.Table.{key_rules};
 
 use crate::kept::{kept, limit};
@@ -17,15 +18,40 @@ use std::alloc::Global;
 use tag_lists::AuthList;
 use tags::Tag;
 
+/// The bytes of a generated key's material: KEY_SIZE / 8, and none where no size is there.
+#[tactic(auto, unfolding(crate::specs::Creation::material_size))]
+fn material_size(list: &AuthList) -> usize
+    ensures { result ≡ spec.material_size list.now }
+{
+    (list.number(Tag::KeySize).unwrap_or(0) / 8) as usize
+}
+
+/// How many bytes of material are drawn.
+fn drawn_size(import: Option<ImportFacts>, list: &AuthList) -> usize
+    requires { has_allowed_size import list.now ≡ true }
+    ensures size { result ≡ spec.drawn_size import list.now }
+    ensures short { result ≤ 64 }
+{
+    match import {
+        None => material_size(list),
+        Some(_) => 0,
+    }
+}
+
 /// The plan of a key that meets the rules.
 fn plan(list: AuthList, import: Option<ImportFacts>, wall: u64) -> Result<KeyPlan, NewFault>
     requires short { IfSome import (λ facts. facts.length ≤ 64) }
+    requires size { has_allowed_size import list ≡ true }
     requires few { length list ≤ 4096 }
-    ensures { Gives (λ plan. plan) result (Ok (record { list = model.kept import wall list; limit = model.limit list })) }
+    requires small { length (spelling list) ≤ 4096 }
+    ensures plan { Gives (λ plan. plan) result (Ok (spec.plan_for import wall list)) }
+    ensures drawn { IfOk result (λ plan. plan.size ≤ 64) }
+    ensures listed { IfOk result (λ plan. length (spelling plan.list) ≤ 4132) }
 {
     let limit = limit(&list);
+    let size = drawn_size(import, &list);
     let list = kept(list, import, wall)?;
-    Ok(KeyPlan { list, limit })
+    Ok(KeyPlan { list, limit, size })
 }
 
 /// Whether a key of these facts may be made: the first broken rule of table K and its code, or the plan. Of a rule with
@@ -33,20 +59,11 @@ fn plan(list: AuthList, import: Option<ImportFacts>, wall: u64) -> Result<KeyPla
 /// drawn, are a key of their cipher. `Memory` comes where memory is wanted.
 pub fn check_new(alloc: Global, facts: &NewFacts) -> Result<KeyPlan, NewFault>
     ensures plan { Gives (λ plan. plan) result (new_key facts.now) }
-    ensures key { OnOk result (IsKey (list_in facts.now.params) (key_size facts.now.import (list_in facts.now.params))) }
+    ensures key { OnOk result (IsKey (list_in facts.now.params) (spec.key_size facts.now.import (list_in facts.now.params))) }
+    ensures fit { IfOk result (λ plan. spec.IsFit facts.now plan.size (length (spelling plan.list))) }
 {
     let list = check_facts(alloc, facts)?;
     plan(list, facts.import, facts.wall)
-}
-
-/// The bytes of a generated key's material, by its kept list: KEY_SIZE / 8, and none where no size is there. It takes no
-/// memory.
-#[tactic(auto, unfolding(crate::specs::Creation::material_size))]
-pub fn material_size(list: &AuthList) -> usize
-    ensures size { result ≡ size_of list.now }
-    ensures most { result < 2 ^ 61 }
-{
-    (list.number(Tag::KeySize).unwrap_or(0) / 8) as usize
 }
 
 /// Whether a list and a material of so many bytes are a key's: they meet K5 and K7 to K12 as an import, and then they are a

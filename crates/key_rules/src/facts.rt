@@ -18,6 +18,8 @@ pub struct NewFacts {
     pub connected: bool,
     /// where the key is to stand
     pub descriptor: Descriptor,
+    /// the bits of the policy's row of the caller's uid and the descriptor's nspace, where there is such a row
+    pub row: Option<u32>,
     /// the encoded authorization list
     pub params: Bytes,
     /// the import, or `None` where the key is generated

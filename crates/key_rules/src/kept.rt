@@ -3,6 +3,7 @@
 ghost use Rattle.std.specs.Prelude.{◌≡◌, ◌≤◌, ◌<◌, ◌+◌, length, IfOk, IfSome};
 ghost use Rattle.tags.specs.declared.param.ParamValue.TheVariants.{Number};
 ghost use Rattle.tag_lists.specs.Order.{Fits};
+ghost use Rattle.tag_lists.specs.Spelling.{spelling};
 ghost use Rattle.key_rules.specs.Kept as spec;
 
 use crate::ImportFacts;
@@ -16,6 +17,7 @@ fn set(list: AuthList, tag: Tag, number: u64) -> Result<AuthList, NoMemory>
     requires room { length list < 65535 }
     ensures set { IfOk result (λ new. new ≡ spec.set tag number list) }
     ensures room { IfOk result (λ new. length new ≤ length list + 1) }
+    ensures small { IfOk result (λ new. length (spelling new) ≤ length (spelling list) + 12) }
 {
     list.with(Param {
         tag,
@@ -29,6 +31,7 @@ fn set_missing(list: AuthList, tag: Tag, number: u64) -> Result<AuthList, NoMemo
     requires room { length list < 65535 }
     ensures set { IfOk result (λ new. new ≡ spec.set_missing tag number list) }
     ensures room { IfOk result (λ new. length new ≤ length list + 1) }
+    ensures small { IfOk result (λ new. length (spelling new) ≤ length (spelling list) + 12) }
 {
     if list.stands(tag) {
         Ok(list)
@@ -43,6 +46,7 @@ fn with_size(list: AuthList, import: Option<ImportFacts>) -> Result<AuthList, No
     requires room { length list < 65535 }
     ensures set { IfOk result (λ new. new ≡ spec.with_size import list) }
     ensures room { IfOk result (λ new. length new ≤ length list + 1) }
+    ensures small { IfOk result (λ new. length (spelling new) ≤ length (spelling list) + 12) }
 {
     match import {
         None => Ok(list),
@@ -54,6 +58,7 @@ fn with_size(list: AuthList, import: Option<ImportFacts>) -> Result<AuthList, No
 fn own(list: AuthList) -> AuthList
     ensures own { result ≡ spec.own list }
     ensures room { length result ≤ length list }
+    ensures small { length (spelling result) ≤ length (spelling list) }
 {
     list.without(Tag::ApplicationId)
         .without(Tag::ApplicationData)
@@ -83,7 +88,8 @@ pub(crate) fn kept(
 ) -> Result<AuthList, NoMemory>
     requires short { IfSome import (λ facts. facts.length ≤ 64) }
     requires few { length list ≤ 4096 }
-    ensures { IfOk result (λ new. new ≡ spec.kept import wall list) }
+    ensures kept { IfOk result (λ new. new ≡ spec.kept import wall list) }
+    ensures small { IfOk result (λ new. length (spelling new) ≤ length (spelling list) + 36) }
 {
     let dated = set_missing(own(list), Tag::CreationDatetime, wall)?;
     let sized = with_size(dated, import)?;

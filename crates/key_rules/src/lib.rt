@@ -16,7 +16,7 @@ mod table;
 mod values;
 
 pub use asked::read_asked;
-pub use creation::{check_new, material_size, usable};
+pub use creation::{check_new, usable};
 pub use facts::{ImportFacts, NewFacts};
 pub use fault::NewFault;
 pub use plan::KeyPlan;

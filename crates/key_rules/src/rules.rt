@@ -9,12 +9,13 @@ ghost use Rattle.key_rules.specs.Rules as spec;
 
 use crate::ImportFacts;
 use crate::values::{each_short, each_whole_bytes};
+use key_domains::{Permission, Permissions};
 use tag_lists::{AuthList, ListFault};
 use tags::values::{
     AES_PURPOSES, DIGESTS, GCM, HMAC_PURPOSES, MODES, PADDINGS, RAW, digest_bits, is_whole_bytes,
     one_in,
 };
-use tags::{Code, DOMAIN_APP, Descriptor, Param, Tag};
+use tags::{Code, DOMAIN_APP, DOMAIN_SELINUX, Descriptor, Param, Tag};
 
 /// The tags whose rules are not built yet.
 const UNBUILT: [Tag; 13] = [
@@ -33,11 +34,33 @@ const UNBUILT: [Tag; 13] = [
     Tag::UsageCountLimit,
 ];
 
-/// Whether the descriptor may name a new key; APP is the only domain by now.
+fn is_by_alias(domain: u32) -> bool
+    ensures { result ≡ spec.is_by_alias domain }
+{
+    domain == DOMAIN_APP || domain == DOMAIN_SELINUX
+}
+
+/// Whether the descriptor may name a new key.
 pub(crate) fn names_new_key(descriptor: &Descriptor) -> bool
     ensures { result ≡ spec.names_new_key descriptor.now }
 {
-    descriptor.domain == DOMAIN_APP && descriptor.has_alias() && descriptor.blob.is_none()
+    is_by_alias(descriptor.domain) && descriptor.has_alias() && descriptor.blob.is_none()
+}
+
+fn has_rebind(row: Option<u32>) -> bool
+    ensures { result ≡ spec.has_rebind row }
+{
+    match row {
+        Some(bits) => Permissions::of_bits(bits).has(Permission::Rebind),
+        None => false,
+    }
+}
+
+/// SELINUX: whether the policy lets the caller put keys into the namespace.
+pub(crate) fn may_rebind(descriptor: &Descriptor, row: Option<u32>) -> bool
+    ensures { result ≡ spec.may_rebind descriptor.now row }
+{
+    descriptor.domain != DOMAIN_SELINUX || has_rebind(row)
 }
 
 /// The code of a list that does not read.

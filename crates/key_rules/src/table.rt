@@ -4,6 +4,7 @@ ghost use Rattle.std.specs.Prelude.{◌≡◌, ℕ, ◌*◌, ◌≤◌, ◌∷�
 ghost use Rattle.tags.specs.declared.rule.RuleTable.TheVariants.{K};
 ghost use Rattle.tags.specs.Table.{Check, check as row, first_broken, rule_of, where_all_hold};
 ghost use Rattle.tag_lists.specs.Reading.{listed};
+ghost use Rattle.tag_lists.specs.Spelling.{spelling};
 ghost use Rattle.key_rules.specs.Asked.{read_by_rules};
 ghost use Rattle.key_rules.specs.Gives.{Gives};
 ghost use Rattle.key_rules.specs.Rules as rules;
@@ -12,7 +13,8 @@ ghost use Rattle.key_rules.specs.Table as spec;
 use crate::rules::{
     has_allowed_size, has_fit_length, has_known_modes, has_known_paddings, has_least_length,
     has_no_unbuilt, has_one_authority, has_one_digest, has_own_purposes, has_own_size,
-    has_short_ids, has_some_uses, list_code, names_algorithm, names_new_key, takes_format,
+    has_short_ids, has_some_uses, list_code, may_rebind, names_algorithm, names_new_key,
+    takes_format,
 };
 use crate::{ImportFacts, NewFacts, NewFault};
 use std::alloc::Global;
@@ -34,6 +36,7 @@ fn read(alloc: Global, params: &[u8]) -> Result<AuthList, NewFault>
     ensures is { IfOk result (λ list. list ≡ rules.list_in params.now) }
     ensures reads { OnOk result (is_ok (listed params.now) ≡ true) }
     ensures few { IfOk result (λ list. length list ≤ length params.now) }
+    ensures small { IfOk result (λ list. length (spelling list) ≤ length params.now) }
 {
     match AuthList::read(alloc, params) {
         Ok(list) => Ok(list),
@@ -49,6 +52,7 @@ pub(crate) fn read_by_rule(alloc: Global, params: &[u8]) -> Result<AuthList, New
     ensures is { IfOk result (λ list. list ≡ rules.list_in params.now) }
     ensures goes_on { OnOk result ((later : List Check) → first_broken K (spec.bytes_rules params.now ++ later) ≡ first_broken K later) }
     ensures few { IfOk result (λ list. length list ≤ 4096) }
+    ensures small { IfOk result (λ list. length (spelling list) ≤ 4096) }
 {
     check(rule(4), Code::InvalidInputLength, params.len() <= 4096)?;
     let list = read(alloc, params)?;
@@ -136,6 +140,7 @@ fn check_params(
     ensures size { IfOk result (λ list. rules.has_allowed_size import list ≡ true) }
     ensures digest { IfOk result (λ list. rules.has_one_digest list ≡ true) }
     ensures few { IfOk result (λ list. length list ≤ 4096) }
+    ensures small { IfOk result (λ list. length (spelling list) ≤ 4096) }
     ensures short { OnOk result (IfSome import (λ facts. facts.length ≤ 64)) }
 {
     match read_by_rule(alloc, params) {
@@ -154,13 +159,20 @@ pub(crate) fn check_facts(alloc: Global, facts: &NewFacts) -> Result<AuthList, N
     ensures size { IfOk result (λ list. rules.has_allowed_size facts.now.import list ≡ true) }
     ensures digest { IfOk result (λ list. rules.has_one_digest list ≡ true) }
     ensures few { IfOk result (λ list. length list ≤ 4096) }
+    ensures small { IfOk result (λ list. length (spelling list) ≤ 4096) }
     ensures short { OnOk result (IfSome facts.now.import (λ import. import.length ≤ 64)) }
+    ensures named { OnOk result (rules.names_new_key facts.now.descriptor ≡ true) }
 {
     check(rule(1), Code::InvalidArgument, facts.connected)?;
     check(
         rule(2),
         Code::InvalidArgument,
         names_new_key(&facts.descriptor),
+    )?;
+    check(
+        rule(3),
+        Code::PermissionDenied,
+        may_rebind(&facts.descriptor, facts.row),
     )?;
     check_params(alloc, facts.params.as_slice(), facts.import)
 }

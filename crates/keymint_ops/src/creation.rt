@@ -1,12 +1,12 @@
 //! The plan of making a key.
 
-ghost use Rattle.std.specs.Prelude.{◌≡◌, ◌<◌, ◌^◌, IfOk, Ok};
+ghost use Rattle.std.specs.Prelude.{IfOk, Ok, length};
+ghost use Rattle.key_rules.specs.Creation.{IsFit};
 ghost use Rattle.key_rules.specs.Gives.{Gives};
 ghost use Rattle.keymint_ops.specs.Creation as spec;
 
-use key_rules::{ImportFacts, KeyPlan, NewFacts, NewFault, check_new, material_size};
+use key_rules::{KeyPlan, NewFacts, NewFault, check_new};
 use std::alloc::Global;
-use tag_lists::AuthList;
 use tags::Bytes;
 
 /// What is kept with a new key, and what is drawn for it.
@@ -20,24 +20,11 @@ pub struct NewKey {
     pub size: usize,
 }
 
-/// How many bytes of material are drawn.
-fn drawn_size(import: Option<ImportFacts>, list: &AuthList) -> usize
-    ensures size { result ≡ spec.drawn_size import list.now }
-    ensures most { result < 2 ^ 61 }
-{
-    match import {
-        None => material_size(list),
-        Some(_) => 0,
-    }
-}
-
 /// A plan with its list spelled out.
-fn spelled(alloc: Global, import: Option<ImportFacts>, plan: KeyPlan) -> Result<NewKey, NewFault>
-    ensures key { Gives (λ key. key) result (Ok (spec.spelled import plan)) }
-    ensures most { IfOk result (λ key. key.size < 2 ^ 61) }
+fn spelled(alloc: Global, plan: KeyPlan) -> Result<NewKey, NewFault>
+    ensures { Gives (λ key. key) result (Ok (spec.spelled plan)) }
 {
-    let KeyPlan { list, limit } = plan;
-    let size = drawn_size(import, &list);
+    let KeyPlan { list, limit, size } = plan;
     let list = list.write(alloc)?;
     Ok(NewKey { list, limit, size })
 }
@@ -47,8 +34,8 @@ fn spelled(alloc: Global, import: Option<ImportFacts>, plan: KeyPlan) -> Result<
 #[tactic(auto, unfolding(crate::specs::Creation::planned))]
 pub fn plan_key(alloc: Global, facts: &NewFacts) -> Result<NewKey, NewFault>
     ensures key { Gives (λ key. key) result (spec.planned facts.now) }
-    ensures most { IfOk result (λ key. key.size < 2 ^ 61) }
+    ensures fit { IfOk result (λ key. IsFit facts.now key.size (length key.list)) }
 {
     let plan = check_new(alloc, facts)?;
-    spelled(alloc, facts.import, plan)
+    spelled(alloc, plan)
 }

@@ -1,6 +1,5 @@
 -- The beginning of an operation: its answer, and the tables after it.
 use Rattle.std.proofs.Common.{◌≡◌, ℕ, ◌+◌, ◌<◌, ◌≤◌, ◌==◌, ◌||◌, Bool, true, false, not, if◌then◌else◌, List, [], ◌∷◌, ◌++◌, length, find, filter, Option, Some, None, Result, Err, is_some, unwrap_or, refl, sym, ap, ◌∙◌, subst, arith, inl, inr}
-use Rattle.std.specs.Option.{option_and_then}
 use Rattle.std.specs.Prelude.{IfNone, IfSome, IsSome}
 use Rattle.std.proofs.lemmas.Bool.{cases_Bool, eqb-true}
 use Rattle.tags.specs.declared.code.Code.{Code}
@@ -16,19 +15,24 @@ use Rattle.cipher_ops.specs.Standing.{StandsFor}
 use Rattle.keymint_ops.specs.declared.begin.Begin.{Begin}
 use Rattle.keymint_ops.specs.Begin.{MayBegin, nonce_used}
 use Rattle.rule_model.specs.declared.entry.Entry.TheVariants.{Acted}
-use Rattle.rule_model.specs.declared.entry.KeyRecord.{KeyRecord}
+use Rattle.journal_records.specs.declared.record.KeyRecord.{KeyRecord}
+use Rattle.key_domains.specs.declared.access.Access.{Access}
+use Rattle.tags.specs.declared.policy.PolicyRow.{PolicyRow}
 use Rattle.rule_model.specs.declared.event.Act.TheVariants.{CreateOperation}
 use Rattle.rule_model.specs.declared.event.Event.{Event}
 use Rattle.rule_model.specs.declared.facts.Caller.{Caller}
 use Rattle.rule_model.specs.declared.reply.Reply.{Reply}
 use Rattle.rule_model.specs.declared.reply.Reply.TheVariants.{Done, Broken, Stopped}
 use Rattle.rule_model.specs.Acts.{is_begin}
-use Rattle.rule_model.specs.Answer.{answer_by_rules, broken_or, drawn_nonce, no_fields}
+use Rattle.rule_model.specs.Answer.{answer_by_rules, drawn_nonce}
+use Rattle.rule_model.specs.Replies.{broken_or, no_fields}
 use Rattle.rule_model.specs.BeginFacts.{facts_on}
 use Rattle.rule_model.specs.Clients.{caller_of}
 use Rattle.rule_model.specs.Drawn.{size_of, wanted_by_begin, wanted_by_rules}
 use Rattle.rule_model.specs.Entries.{History, count_of}
-use Rattle.rule_model.specs.Keys.{alias_of, key_found, owner_of}
+use Rattle.rule_model.specs.Access.{access_by, key_in, owner_of}
+use Rattle.rule_model.specs.Changes.{material_in}
+use Rattle.rule_model.specs.Kept.{access_at, kept, key_found}
 use Rattle.rule_model.specs.Legal.{MayFollow, Answered, WithoutMemory, WithoutEntropy}
 use Rattle.rule_model.specs.Operations.{Open, OperationChange, Opens, SameOperations, as_begun, has_number, facts_of_begin, is_busy, is_limited, nonce_of, open_after, open_of, operation_at, operation_change, operation_on, opens, step_of, without, without_pruned}
 use Rattle.rule_model.specs.Setup.{Setup}
@@ -44,21 +48,22 @@ use Rattle.pruning.specs.Victim.{OpenFacts, victim}
 use Rattle.rule_model.specs.Answer.{begun_with}
 use Rattle.keystore_core.specs.Alike.{Alike}
 use Rattle.keystore_core.specs.Beginning.{IsNewRow, MakesWay, OpensOne}
-use Rattle.keystore_core.specs.Keys.{key_named_in}
+use Rattle.key_database.specs.Held.{lasting_in}
+use Rattle.keystore_core.specs.Keys.{SameKeys}
 use Rattle.keystore_core.specs.Leaving.{ClosesOne}
 use Rattle.keystore_core.specs.Operations.{IsRow, has_row, operations_given, rows_in}
 use Rattle.keystore_core.specs.Slots.{IsKept, IsSlot}
 use Rattle.keystore_core.specs.Tables.{AnswersAfter, IsCaller, SameTables, TablesStand, event_by}
 use Rattle.keystore_core.proofs.Alike.{alike_filter, alike_images, alike_length, alike_more}
-use Rattle.keystore_core.proofs.KeyTable.{keys_stay, same_keys}
+use Rattle.keystore_core.proofs.KeyTable.{keys_stay, same_keys_twice}
 use Rattle.keystore_core.proofs.Opened.{found_more, is_other, stays_by, stays_same, without_keeps}
 use Rattle.keystore_core.proofs.Standing.{called, clients_stay, denied_tables, rows_after, same_tables, slots_after, still, tickets_stay}
 use Rattle.keystore_core.proofs.Stepped.{idle_there, row_named, slot_found, slot_named}
 
 -- no key is found where none is there
-pub no_key : (facts : BeginFacts) (found : Option KeyRecord) (caller : Caller) (key : Descriptor) (params : List ℕ) (begin : Begin)
-    → (room : Bool) → facts ≡ facts_on found caller key params room → found ≡ None → MayBegin begin facts → ⊥
-no_key facts found caller key params begin room e none may =
+pub no_key : (facts : BeginFacts) (policy : List PolicyRow) (found : Option KeyRecord) (access : Access) (caller : Caller) (key : Descriptor) (params : List ℕ) (begin : Begin)
+    → (forced room : Bool) → facts ≡ facts_on policy found access caller key params forced room → found ≡ None → MayBegin begin facts → ⊥
+no_key facts policy found access caller key params begin forced room e none may =
     let there : facts.found ≡ is_some found = ap (λ (f : BeginFacts). f.found) e in
     let no : is_some found ≡ false = rw none refl in
     cc (there, no, may.is_found)
@@ -105,8 +110,9 @@ is_free false room None f e = cc
 is_free false room (Some op) f e = tt
 
 -- the facts that were gathered say whether there was a slot
-pub gathered_room : (facts : BeginFacts) (found : Option KeyRecord) (caller : Caller) (key : Descriptor) (params : List ℕ) (room : Bool) → facts ≡ facts_on found caller key params room → facts.room ≡ room
-gathered_room facts found caller key params room e = ap (λ (f : BeginFacts). f.room) e
+pub gathered_room : (facts : BeginFacts) (policy : List PolicyRow) (found : Option KeyRecord) (access : Access) (caller : Caller) (key : Descriptor) (params : List ℕ) (forced room : Bool)
+    → facts ≡ facts_on policy found access caller key params forced room → facts.room ≡ room
+gathered_room facts policy found access caller key params forced room e = ap (λ (f : BeginFacts). f.room) e
 
 pub idle_pruned : (slots : SlotTable Rattle.cipher_ops.specs.declared.state.CipherState.CipherState) (pruned : Option ℕ) → IfSome pruned (λ op. IsSome (idle_value (held slots op))) → (op : ℕ) → pruned ≡ Some op → is_some (idle_value (held slots op)) ≡ true
 idle_pruned slots None idle op e = cc
@@ -114,41 +120,46 @@ idle_pruned slots (Some own) idle op e =
     let same : own ≡ op = cc in
     subst (λ n. IsSome (idle_value (held slots n))) same idle
 
-module _ (setup : Setup) (past : History) (tables : Tables) (caller : Caller) (key : Descriptor) (params : List ℕ) (stands : TablesStand setup tables past) (is_caller : IsCaller tables caller) where
+module _ (setup : Setup) (past : History) (tables : Tables) (caller : Caller) (key : Descriptor) (params : List ℕ) (forced : Bool) (stands : TablesStand setup tables past) (is_caller : IsCaller tables caller) where
   abbrev Beginning : Event
-  Beginning = event_by caller (CreateOperation key params false)
+  Beginning = event_by caller (CreateOperation key params forced)
 
   abbrev Facts : BeginFacts
-  Facts = begin_facts setup past caller key params false
+  Facts = begin_facts setup past caller key params forced
 
   abbrev Answer : Result Rattle.tags.specs.declared.plan.Plan.Plan (Rule × Code)
   Answer = begin_table.answer Facts
 
   same : caller ≡ caller_of past Beginning
-  same = called past tables caller (CreateOperation key params false) stands.clients is_caller
+  same = called past tables caller (CreateOperation key params forced) stands.clients is_caller
 
-  -- the key that the tables find is that of the history
-  pub found_key : option_and_then (λ uid. key_named_in tables.keys 0 uid (alias_of key)) caller.uid ≡ key_found setup past caller key
-  found_key = by_uid caller.uid where
-    by_uid : (uid : Option ℕ) → option_and_then (λ uid. key_named_in tables.keys 0 uid (alias_of key)) uid ≡ option_and_then (λ uid. Rattle.rule_model.specs.Keys.key_named setup past 0 uid (alias_of key)) uid
-    by_uid None = refl
-    by_uid (Some uid) = stands.keys.named 0 uid (alias_of key)
+  -- what the tables find is what the history says
+  pub access_is : access_by tables.policy (lasting_in tables.keys) caller key ≡ access_at setup past caller key
+  access_is = rw (stands.keys.policy_is, stands.keys.lasting_is) refl
+
+  pub found_key : (access : Access) → access ≡ access_by tables.policy (lasting_in tables.keys) caller key → key_in (lasting_in tables.keys) access ≡ key_found setup past caller key
+  found_key access is = ap (λ part. key_in part access) stands.keys.lasting_is ∙ ap (key_in (kept setup past)) (is ∙ access_is)
 
   -- what the rules read is that of the history
-  pub facts_are : (found : Option KeyRecord) (room : Bool) → found ≡ option_and_then (λ uid. key_named_in tables.keys 0 uid (alias_of key)) caller.uid → room ≡ has_room setup past (owner_of caller) false
-      → facts_on found caller key params room ≡ Facts
-  facts_are found room is has = ap (λ f. facts_on f caller key params room) (is ∙ found_key) ∙ ap (facts_on (key_found setup past caller key) caller key params) has
+  pub facts_are : (found : Option KeyRecord) (access : Access) (room : Bool) → access ≡ access_by tables.policy (lasting_in tables.keys) caller key
+      → found ≡ key_in (lasting_in tables.keys) access → room ≡ has_room setup past (owner_of caller) forced
+      → facts_on tables.policy found access caller key params forced room ≡ Facts
+  facts_are found access room at is has =
+      ap (λ policy. facts_on policy found access caller key params forced room) stands.keys.policy_is
+      ∙ ap (λ f. facts_on setup.policy f access caller key params forced room) (is ∙ found_key access at)
+      ∙ ap (λ a. facts_on setup.policy (key_found setup past caller key) a caller key params forced room) (at ∙ access_is)
+      ∙ ap (facts_on setup.policy (key_found setup past caller key) (access_at setup past caller key) caller key params forced) has
 
   answered : (drawn : List ℕ) (reply : Reply) → length drawn ≡ size_of (wanted_by_begin Answer Facts)
-      → reply ≡ answer_by_rules (CreateOperation key params false) setup past caller drawn → MayFollow setup past Beginning drawn reply
+      → reply ≡ answer_by_rules (CreateOperation key params forced) setup past caller drawn → MayFollow setup past Beginning drawn reply
   answered drawn reply drew is = Answered (record {
-    drew = drew ∙ ap (λ c. size_of (wanted_by_rules (CreateOperation key params false) setup past c)) same;
-    is_answer = is ∙ ap (λ c. answer_by_rules (CreateOperation key params false) setup past c drawn) same;
+    drew = drew ∙ ap (λ c. size_of (wanted_by_rules (CreateOperation key params forced) setup past c)) same;
+    is_answer = is ∙ ap (λ c. answer_by_rules (CreateOperation key params forced) setup past c drawn) same;
   })
 
   -- the reply of a begin that no rule denies
   abbrev Admitted : List ℕ → Reply
-  Admitted drawn = begun_with (count_of is_begin past + 1) (drawn_nonce Facts drawn) (pruned_for setup past (owner_of caller) false)
+  Admitted drawn = begun_with (count_of is_begin past + 1) (drawn_nonce Facts drawn) (pruned_for setup past (owner_of caller) forced)
 
   -- a broken rule
   pub refused : (rule : Rule) (code : Code) → Answer ≡ Err (rule, code)
@@ -175,7 +186,7 @@ module _ (setup : Setup) (past : History) (tables : Tables) (caller : Caller) (k
       → AnswersAfter setup past new Beginning (record { reply = Stopped EntropyFault; job = None; drawn = drawn })
   without_entropy new begin drawn may still few = record {
     follows = WithoutEntropy (record {
-      drew = subst (λ c. length drawn < size_of (wanted_by_rules (CreateOperation key params false) setup past c)) same (subst (λ n. length drawn < n) (sym (wanted_is begin may)) few);
+      drew = subst (λ c. length drawn < size_of (wanted_by_rules (CreateOperation key params forced) setup past c)) same (subst (λ n. length drawn < n) (sym (wanted_is begin may)) few);
       is_fault = refl;
     });
     stands = denied_tables setup past Beginning drawn (Stopped EntropyFault) tables new stands still refl refl refl;
@@ -188,7 +199,7 @@ module _ (setup : Setup) (past : History) (tables : Tables) (caller : Caller) (k
       → AnswersAfter setup past new Beginning (record { reply = Stopped MemoryAllocationFailed; job = None; drawn = drawn })
   unkept new begin drawn may still long = record {
     follows = WithoutMemory (record {
-      drew = subst (λ c. length drawn ≤ size_of (wanted_by_rules (CreateOperation key params false) setup past c)) same (omega (arith, long, wanted_is begin may));
+      drew = subst (λ c. length drawn ≤ size_of (wanted_by_rules (CreateOperation key params forced) setup past c)) same (omega (arith, long, wanted_is begin may));
       takes = refl;
       is_want = refl;
     });
@@ -208,7 +219,7 @@ module _ (setup : Setup) (past : History) (tables : Tables) (caller : Caller) (k
   -- what the operation that gives way leaves
   pub record Way (pruned : Option ℕ) (middle : Tables) : Type 0 where
     pub clients : Rattle.keystore_core.specs.Clients.SameClients tables.clients middle.clients
-    pub keys : Rattle.keystore_core.specs.Keys.SameKeys tables.keys middle.keys
+    pub keys : SameKeys tables middle
     pub rows : Alike IsRow (rows_in middle.operations) (without_pruned pruned (open_of setup past))
     pub given : operations_given middle.operations ≡ operations_given tables.operations
     pub slots : Alike IsSlot (operations_of middle.slots) (without_pruned pruned (open_of setup past))
@@ -235,11 +246,7 @@ module _ (setup : Setup) (past : History) (tables : Tables) (caller : Caller) (k
       let now : TablesStand setup start past = Rattle.keystore_core.proofs.Standing.still setup past tables start stands still in
       record {
         clients = record { uids = λ client. way.clients.uids client ∙ still.clients.uids client; given = way.clients.given ∙ still.clients.given };
-        keys = record {
-          named = λ domain nspace alias. way.keys.named domain nspace alias ∙ still.keys.named domain nspace alias;
-          count = λ test. way.keys.count test ∙ still.keys.count test;
-          next = way.keys.next ∙ still.keys.next;
-        };
+        keys = same_keys_twice tables start middle still.keys way.keys;
         rows = rw way.rows.rows (alike_filter IsRow (λ row. not (has_row op row)) (λ o. not (has_number op o)) (λ row o r. ap not (row_named op row o r)) (rows_in start.operations) (open_of setup past) now.operations.rows);
         given = way.rows.given ∙ still.operations.given;
         slots = rw way.slots.operations (alike_filter IsSlot (λ slot. not (table.has_number op slot)) (λ o. not (has_number op o)) (λ slot o r. ap not (slot_named op slot o r)) (operations_of start.slots) (open_of setup past) now.slots.slots_are);
@@ -253,9 +260,9 @@ module _ (setup : Setup) (past : History) (tables : Tables) (caller : Caller) (k
 
   pub begins : (start new : Tables) (found : KeyRecord) (begin : Begin) (row : Operation) (state : CipherState) (drawn : List ℕ) (number step : ℕ) (nonce : Option (List ℕ)) (pruned : Option ℕ)
       → key_found setup past caller key ≡ Some found → MayBegin begin Facts → SameTables tables start → length drawn ≡ begin.wanted
-      → number ≡ operations_given start.operations + 1 → nonce ≡ (if begin.wanted == 0 then None else Some drawn) → pruned ≡ pruned_for setup past (owner_of caller) false
+      → number ≡ operations_given start.operations + 1 → nonce ≡ (if begin.wanted == 0 then None else Some drawn) → pruned ≡ pruned_for setup past (owner_of caller) forced
       → ((op : ℕ) → pruned ≡ Some op → is_some (idle_value (held tables.slots op)) ≡ true) → step ≡ step_of past
-      → IsNewRow row number caller.client found begin.plan → StandsFor state begin.plan (is_limited found.limit) found.blob (nonce_used begin.nonce drawn) [] []
+      → IsNewRow row number caller.client found begin.plan → StandsFor state begin.plan (is_limited found.limit) (material_in found) (nonce_used begin.nonce drawn) [] []
       → OpensOne pruned step (owner_of caller) row state start new
       → AnswersAfter setup past new Beginning (record { reply = begun_with number nonce pruned; job = None; drawn = drawn })
   begins start new found begin row state drawn number step nonce pruned is may still_same long next nonce_told pruned_told idle is_step row_is standing one =
@@ -275,12 +282,7 @@ module _ (setup : Setup) (past : History) (tables : Tables) (caller : Caller) (k
         stands = record {
           clients = clients_stay setup past Beginning drawn reply tables.clients new.clients stands.clients
               (record { uids = λ client. one.clients.uids client ∙ way.clients.uids client; given = one.clients.given ∙ way.clients.given }) refl refl;
-          keys = keys_stay setup past (Acted Beginning drawn reply ∷ past) tables.keys new.keys stands.keys
-              (record {
-                named = λ domain nspace alias. one.keys.named domain nspace alias ∙ way.keys.named domain nspace alias;
-                count = λ test. one.keys.count test ∙ way.keys.count test;
-                next = one.keys.next ∙ way.keys.next;
-              }) refl refl;
+          keys = keys_stay setup past (Acted Beginning drawn reply ∷ past) tables new stands.keys (same_keys_twice tables one.middle new way.keys one.keys) refl;
           operations = rows_after setup past Beginning drawn reply (Opens pruned o) new.operations change
               (rw one.rows.rows (alike_more IsRow (rows_in one.middle.operations) (without_pruned pruned (open_of setup past)) row (as_begun (step_of past) o) way.rows (record {
                 number = row_is.number_is;

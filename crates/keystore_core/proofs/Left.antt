@@ -22,21 +22,22 @@ use Rattle.rule_model.specs.declared.facts.Caller.{Caller}
 use Rattle.rule_model.specs.declared.reply.Reply.{Reply}
 use Rattle.rule_model.specs.declared.reply.Reply.TheVariants.{Done, Broken, Stopped}
 use Rattle.rule_model.specs.Acts.{is_begin, is_connect, is_enter}
-use Rattle.rule_model.specs.Answer.{answer_by_rules, broken_or, given_or, leaving, no_fields}
-use Rattle.rule_model.specs.Calls.{disconnect_ruling, disconnect_rules}
+use Rattle.rule_model.specs.Answer.{answer_by_rules, given_or, leaving}
+use Rattle.rule_model.specs.Replies.{broken_or, no_fields}
+use Rattle.call_rules.specs.Table.{disconnect_rules}
+use Rattle.rule_model.specs.Calls.{disconnect_ruling}
 use Rattle.rule_model.specs.Clients.{SameClients as NoClients, caller_of, client_change}
 use Rattle.std.specs.Prelude.{IfErr}
 use Rattle.cipher_ops.specs.Jobs.{is_refusal}
 use Rattle.rule_model.specs.Drawn.{is_entropy_fault}
 use Rattle.rule_model.specs.Entries.{History, admits, count_of}
 use Rattle.rule_model.specs.Jobs.{HasJob, IsDoneOn, IsDoneOut, Stays}
-use Rattle.rule_model.specs.Keys.{makes_key}
 use Rattle.rule_model.specs.Legal.{MayFollow, Answered}
 use Rattle.rule_model.specs.Operations.{Closes, ClosesOf, Open, OperationChange, Returns, SameOperations, as_returned, has_busy, has_number, is_busy, is_limited, is_of, open_after, open_of, operation_at, operation_change, output_of, returns, step_of}
 use Rattle.rule_model.specs.Setup.{Setup}
 use Rattle.rule_model.specs.StepFacts.{brought_by}
 use Rattle.rule_model.specs.Tickets.{ComesBack, Entered, ticket_after, ticket_at, ticket_change}
-use Rattle.rule_model.proofs.Keys.{same_keys as keys_same, same_next}
+use Rattle.rule_model.proofs.Kept.{same_kept}
 use Rattle.keystore_core.specs.declared.operations.Added.{Added}
 use Rattle.keystore_core.specs.declared.operations.Operation.{Operation as Row}
 use Rattle.keystore_core.specs.declared.operations.RowChange.TheVariants.{Returns as RowReturns}
@@ -146,7 +147,7 @@ module _ (setup : Setup) (past : History) (old : Tables) (caller : Caller) (tick
         follows = Answered (record { drew = refl; is_answer = sym (ap (leaving setup past) none) });
         stands = record {
           clients = clients_stay setup past (event_by caller (Leave ticket)) [] (Stopped NoTicket) old.clients old.clients stands.clients (same_tables old).clients refl refl;
-          keys = keys_stay setup past (Left (Stopped NoTicket)) old.keys old.keys stands.keys (same_tables old).keys (keys_same setup past (event_by caller (Leave ticket)) [] (Stopped NoTicket) refl) (same_next setup past (event_by caller (Leave ticket)) [] (Stopped NoTicket) refl);
+          keys = keys_stay setup past (Left (Stopped NoTicket)) old old stands.keys (same_tables old).keys (same_kept setup past (event_by caller (Leave ticket)) [] (Stopped NoTicket) refl);
           operations = Rattle.keystore_core.proofs.Standing.operations_stay setup past (event_by caller (Leave ticket)) [] (Stopped NoTicket) old.operations old.operations stands.operations (same_tables old).operations same refl;
           slots = Rattle.keystore_core.proofs.Standing.slots_stay setup past (event_by caller (Leave ticket)) [] (Stopped NoTicket) old.slots old.slots stands.slots refl same;
           tickets = record {
@@ -211,7 +212,7 @@ module _ (setup : Setup) (past : History) (old : Tables) (caller : Caller) (tick
           follows = Answered (record { drew = refl; is_answer = ap (given_or entered.work) (came o entered.work back done_is ∙ ap (λ found. output_of found entered.work) (sym is_open)) ∙ sym (ap (leaving setup past) is_out) });
           stands = record {
             clients = clients_stay setup past event [] Reply_of old.clients new.clients stands.clients taken.clients (leave_client caller ticket entered.work back.result) no_connect;
-            keys = keys_stay setup past (Left Reply_of) old.keys new.keys stands.keys taken.keys (keys_same setup past event [] Reply_of refl) (same_next setup past event [] Reply_of refl);
+            keys = keys_stay setup past (Left Reply_of) old new stands.keys taken.keys (same_kept setup past event [] Reply_of refl);
             operations = rows_after setup past event [] Reply_of change new.operations is moved.rows (moved.given ∙ stands.operations.given ∙ sym (uncounted is_begin past event [] Reply_of no_begin));
             slots = slots_after setup past event [] Reply_of change old.slots new.slots stands.slots is moved.slots moved.capacity
                 (λ number l. moved.fresh number (stands.slots.fresh number (let grows = count_grows is_begin past event [] Reply_of in omega (arith, l, grows))))
@@ -363,12 +364,6 @@ no_fault Rattle.step_rules.specs.declared.facts.StepKind.TheVariants.Aad (Ok out
 no_fault _ (Ok out) codes = refl
 no_fault kind (Err code) codes = no_draw code codes
 
--- a client that goes has no busy operation
-pub ok_idle : (connected busy : Bool) → first_broken A (disconnect_rules connected busy) ≡ Ok tt → busy ≡ false
-ok_idle true false e = refl
-ok_idle true true e = cc
-ok_idle false busy e = cc
-
 -- a client that goes
 module _ (setup : Setup) (past : History) (old : Tables) (caller : Caller) (stands : TablesStand setup old past) (is_caller : IsCaller old caller) where
   same_caller : caller ≡ caller_of past (event_by caller Disconnect)
@@ -378,10 +373,10 @@ module _ (setup : Setup) (past : History) (old : Tables) (caller : Caller) (stan
   busy_is = alike_any IsRow (λ row. is_row_of caller.client row && row.busy) (λ o. is_of caller.client o && is_busy o) (λ row o r. rw (r.client, r.busy_is) refl) (rows_in old.operations) (open_of setup past) stands.operations.rows
 
   -- the ruling over what the tables say is that of the history
-  pub ruling_is : (connected busy : Bool) → connected ≡ is_some caller.uid → busy ≡ has_busy_row old.operations caller.client → first_broken A (disconnect_rules connected busy) ≡ disconnect_ruling setup past caller
+  pub ruling_is : (connected busy : Bool) → connected ≡ is_some caller.uid → busy ≡ has_busy_row old.operations caller.client → first_broken A (disconnect_rules connected busy) ≡ disconnect_ruling caller (has_busy setup past caller.client)
   ruling_is connected busy e f = rw (e, f, busy_is) refl
 
-  pub stays_connected : (rule : Rule) (code : Code) → disconnect_ruling setup past caller ≡ Err (rule, code)
+  pub stays_connected : (rule : Rule) (code : Code) → disconnect_ruling caller (has_busy setup past caller.client) ≡ Err (rule, code)
       → AnswersAfter setup past old (event_by caller Disconnect) (record { reply = Broken rule code; job = None; drawn = [] })
   stays_connected rule code e =
       let none : operation_change setup past (event_by caller Disconnect) [] (Broken rule code) ≡ SameOperations = either (Rattle.step_rules.specs.Table.ends_operation rule) in
@@ -395,7 +390,7 @@ module _ (setup : Setup) (past : History) (old : Tables) (caller : Caller) (stan
         either true = refl
         either false = refl
 
-  pub disconnected : (new : Tables) → disconnect_ruling setup past caller ≡ Ok tt → has_busy setup past caller.client ≡ false → EndsClient caller.client old new
+  pub disconnected : (new : Tables) → disconnect_ruling caller (has_busy setup past caller.client) ≡ Ok tt → has_busy setup past caller.client ≡ false → EndsClient caller.client old new
       → AnswersAfter setup past new (event_by caller Disconnect) (record { reply = Done no_fields; job = None; drawn = [] })
   disconnected new e idle ended =
       let event : Event = event_by caller Disconnect in
@@ -409,7 +404,7 @@ module _ (setup : Setup) (past : History) (old : Tables) (caller : Caller) (stan
             uids = λ client. ended.goes client ∙ ap (λ u. Rattle.rule_model.specs.Clients.uid_after (Rattle.rule_model.specs.Clients.Goes caller.client) client u) (stands.clients.uids client);
             given = ended.given ∙ stands.clients.given;
           };
-          keys = keys_stay setup past (Acted event [] reply ∷ past) old.keys new.keys stands.keys ended.keys (keys_same setup past event [] reply refl) (same_next setup past event [] reply refl);
+          keys = keys_stay setup past (Acted event [] reply ∷ past) old new stands.keys ended.keys (same_kept setup past event [] reply refl);
           operations = rows_after setup past event [] reply (ClosesOf caller.client) new.operations refl
               (rw ended.rows.rows (alike_filter IsRow (λ row. not (is_row_of caller.client row)) (λ o. not (is_of caller.client o)) (λ row o r. ap (λ c. not (c == caller.client)) r.client) (rows_in old.operations) (open_of setup past) stands.operations.rows))
               (ended.rows.given ∙ stands.operations.given);

@@ -1,4 +1,5 @@
 pub mod KeyTable
+pub mod Listings
 pub mod Drawn
 pub mod RowTable
 pub mod Alike

@@ -1,60 +1,71 @@
 -- A new key: its answer, and the tables after it.
-use Rattle.std.proofs.Common.{◌≡◌, ℕ, ◌+◌, ◌<◌, false, ◌||◌, if◌then◌else◌, List, [], ◌∷◌, length, Option, Some, None, Result, Ok, Err, find, refl, sym, ap, ◌∙◌, subst}
+use Rattle.std.proofs.Common.{◌≡◌, ℕ, ◌+◌, ◌<◌, ◌≤◌, Bool, true, false, ◌&&◌, List, [], ◌∷◌, length, Option, Some, None, Result, Ok, Err, if◌then◌else◌, ◌==◌, ◌^◌, arith, refl, sym, ap, ◌∙◌, subst}
 use Rattle.std.specs.Option.{option_map}
+use Rattle.std.specs.Prelude.{IfSome, is_none, unwrap_or, take, drop}
+use Rattle.std.proofs.lemmas.Bool.{and_parts, eq-eqb, le-leb, lt-ltb}
+use Rattle.std.proofs.lemmas.List.{length-append, length-drop, length-take-le}
 use Rattle.tags.specs.declared.code.Code.{Code}
-use Rattle.tags.specs.declared.code.Code.TheVariants.{EntropyFault}
+use Rattle.tags.specs.declared.code.Code.TheVariants.{EntropyFault, StoreFull}
 use Rattle.tags.specs.declared.descriptor.Descriptor.{Descriptor}
+use Rattle.tags.specs.declared.policy.PolicyRow.{PolicyRow}
+use Rattle.tags.specs.Descriptor.{has_alias, has_alias_in, is_alias}
 use Rattle.tags.specs.declared.rule.Rule.{Rule}
 use Rattle.tags.specs.declared.rule.RuleTable.TheVariants.{K}
 use Rattle.tags.specs.Table.{Ruling, first_broken, where_all_hold}
-use Rattle.key_rules.specs.declared.facts.ImportFacts.{ImportFacts}
+use Rattle.journal_records.specs.declared.change.Change.{Change}
+use Rattle.journal_records.specs.Effects.{after}
+use Rattle.journal_records.specs.LastingPart.{Lasting}
+use Rattle.journal_records.specs.Needs.{has_place_for, is_met, is_number_left, is_owner}
+use Rattle.key_database.specs.Held.{CanMake, HasRoomForKey, Held, lasting_in}
 use Rattle.key_rules.specs.declared.facts.NewFacts.{NewFacts}
 use Rattle.key_rules.specs.declared.plan.KeyPlan.{KeyPlan}
-use Rattle.key_rules.specs.Creation.{new_key, plan_of}
+use Rattle.key_rules.specs.Creation.{IsFit, new_key, plan_of}
+use Rattle.key_rules.specs.Rules.{is_by_alias, names_new_key}
 use Rattle.key_rules.specs.Table.{rules_of}
 use Rattle.keymint_ops.specs.declared.creation.NewKey.{NewKey}
 use Rattle.keymint_ops.specs.Creation.{planned, spelled, where_planned}
 use Rattle.rule_model.specs.declared.entry.Entry.TheVariants.{Acted}
-use Rattle.rule_model.specs.declared.entry.KeyRecord.{KeyRecord}
 use Rattle.rule_model.specs.declared.facts.Caller.{Caller}
 use Rattle.rule_model.specs.declared.reply.Reply.{Reply}
 use Rattle.rule_model.specs.declared.reply.Reply.TheVariants.{Done, Broken, Stopped}
 use Rattle.rule_model.specs.declared.event.Event.{Event}
 use Rattle.rule_model.specs.declared.reply.Fields.{Fields}
+use Rattle.rule_model.specs.Access.{owner_of}
 use Rattle.rule_model.specs.Acts.{is_begin, is_connect, is_enter}
-use Rattle.rule_model.specs.Answer.{answer_by_rules, broken_or, no_fields}
+use Rattle.rule_model.specs.Answer.{answer_by_rules, made_in}
+use Rattle.rule_model.specs.Replies.{broken_or, no_fields}
+use Rattle.rule_model.specs.Changes.{after_change, alias_of, change_of, kept_as, owner_for}
 use Rattle.rule_model.specs.Clients.{caller_of}
 use Rattle.rule_model.specs.Drawn.{size_of, wanted_by_key, wanted_by_rules}
-use Rattle.rule_model.specs.Entries.{History}
-use Rattle.rule_model.specs.Keys.{Makes, is_named, key_change, keys_after, keys_of, next_key, owner_of, with_key}
+use Rattle.rule_model.specs.Entries.{History, is_done}
+use Rattle.rule_model.specs.Jobs.{HasJob}
+use Rattle.rule_model.specs.Kept.{kept}
 use Rattle.rule_model.specs.Legal.{MayFollow, Answered, WithoutEntropy}
 use Rattle.rule_model.specs.NewFacts.{new_facts}
 use Rattle.rule_model.specs.Operations.{SameOperations, operation_change}
+use Rattle.rule_model.specs.Places.{has_key_place}
 use Rattle.rule_model.specs.Setup.{Setup}
-use Rattle.rule_model.proofs.Clients.{moves_clients, same_clients}
 use Rattle.rule_model.specs.Tickets.{SameTickets as NoTickets, ticket_change}
+use Rattle.rule_model.proofs.Clients.{moves_clients, same_clients}
 use Rattle.rule_model.proofs.Operations.{moves_operations, same_operations}
 use Rattle.rule_model.proofs.Tickets.{moves_tickets, same_tickets}
 use Rattle.keystore_core.specs.declared.creating.Import.{Import}
-use Rattle.keystore_core.specs.declared.keys.Keys.{Keys}
 use Rattle.keystore_core.specs.declared.tables.Tables.{Tables}
-use Rattle.keystore_core.specs.Creating.{facts_of_import, making, planned_record}
-use Rattle.keystore_core.specs.Keys.{KeysStand, PutsKey, SameKeys, apart, next_in}
+use Rattle.keystore_core.specs.Creating.{creates, facts_of_import, making, material_of}
 use Rattle.keystore_core.specs.Tables.{AnswersAfter, IsCaller, SameTables, TablesStand, event_by}
-use Rattle.keystore_core.proofs.KeyTable.{keys_put, keys_stay}
 use Rattle.keystore_core.proofs.Opened.{stays_same}
 use Rattle.keystore_core.proofs.Standing.{called, clients_stay, denied_tables, operations_stay, quiet, same_tables, slots_stay, tickets_stay}
 
-abbrev facts_of : Caller → Descriptor → List ℕ → Option Import → NewFacts
-facts_of caller key params import = new_facts caller key params (option_map facts_of_import import)
+abbrev facts_of : List PolicyRow → Caller → Descriptor → List ℕ → Option Import → NewFacts
+facts_of policy caller key params import = new_facts policy caller key params (option_map facts_of_import import)
 
 making_answer : (setup : Setup) (past : History) (caller : Caller) (key : Descriptor) (params : List ℕ) (import : Option Import) (drawn : List ℕ)
-    → answer_by_rules (making key params import) setup past caller drawn ≡ broken_or (new_key (facts_of caller key params import)) (Done (record no_fields { key = Some (next_key setup past) }))
+    → answer_by_rules (making key params import) setup past caller drawn ≡ broken_or (new_key (facts_of setup.policy caller key params import)) (made_in (kept setup past) caller key)
 making_answer setup past caller key params None drawn = refl
 making_answer setup past caller key params (Some import) drawn = refl
 
 making_wanted : (setup : Setup) (past : History) (caller : Caller) (key : Descriptor) (params : List ℕ) (import : Option Import)
-    → wanted_by_rules (making key params import) setup past caller ≡ wanted_by_key (new_key (facts_of caller key params import)) (option_map facts_of_import import)
+    → wanted_by_rules (making key params import) setup past caller ≡ wanted_by_key (new_key (facts_of setup.policy caller key params import)) (has_key_place (kept setup past) (owner_of caller) key)
 making_wanted setup past caller key params None = refl
 making_wanted setup past caller key params (Some import) = refl
 
@@ -79,13 +90,13 @@ no_tickets key params None = refl
 no_tickets key params (Some import) = refl
 
 -- a broken rule of the plan is one of the table
-broken_rule : (import : Option ImportFacts) (found : Result KeyPlan (Rule × Code)) (broken : Rule × Code) → where_planned import found ≡ Err broken → found ≡ Err broken
-broken_rule import (Ok plan) broken e = cc
-broken_rule import (Err own) broken e = let same : own ≡ broken = cc in ap Err same
+broken_rule : (found : Result KeyPlan (Rule × Code)) (broken : Rule × Code) → where_planned found ≡ Err broken → found ≡ Err broken
+broken_rule (Ok plan) broken e = cc
+broken_rule (Err own) broken e = let same : own ≡ broken = cc in ap Err same
 
-new_plan : (import : Option ImportFacts) (found : Result KeyPlan (Rule × Code)) (plan : NewKey) → where_planned import found ≡ Ok plan → (own : KeyPlan) × (found ≡ Ok own) × (plan ≡ spelled import own)
-new_plan import (Ok own) plan e = let same : plan ≡ spelled import own = cc in (own, refl, same)
-new_plan import (Err broken) plan e = cc
+new_plan : (found : Result KeyPlan (Rule × Code)) (plan : NewKey) → where_planned found ≡ Ok plan → (own : KeyPlan) × (found ≡ Ok own) × (plan ≡ spelled own)
+new_plan (Ok own) plan e = let same : plan ≡ spelled own = cc in (own, refl, same)
+new_plan (Err broken) plan e = cc
 
 held_plan : (ruling : Ruling) (facts : NewFacts) (own : KeyPlan) → where_all_hold ruling (plan_of facts) ≡ Ok own → own ≡ plan_of facts
 held_plan (Ok done) facts own e = cc
@@ -94,135 +105,189 @@ held_plan (Err broken) facts own e = cc
 -- the plan of a call that the rules let through
 pub record IsPlanned (facts : NewFacts) (plan : NewKey) : Type 0 where
   pub holds : new_key facts ≡ Ok (plan_of facts)
-  pub plan_is : plan ≡ spelled facts.import (plan_of facts)
+  pub plan_is : plan ≡ spelled (plan_of facts)
 
 pub is_planned : (facts : NewFacts) (plan : NewKey) → planned facts ≡ Ok plan → IsPlanned facts plan
 unfolding planned
 is_planned facts plan e =
-    let found = new_plan facts.import (new_key facts) plan e in
+    let found = new_plan (new_key facts) plan e in
     let own : found.0 ≡ plan_of facts = held_plan (first_broken K (rules_of facts)) facts found.0 found.1 in
-    record { holds = found.1 ∙ ap Ok own; plan_is = found.2 ∙ ap (spelled facts.import) own }
+    record { holds = found.1 ∙ ap Ok own; plan_is = found.2 ∙ ap spelled own }
 
 pub is_broken : (facts : NewFacts) (rule : Rule) (code : Code) → planned facts ≡ Err (rule, code) → new_key facts ≡ Err (rule, code)
 unfolding planned
-is_broken facts rule code e = broken_rule facts.import (new_key facts) (rule, code) e
-
--- the pieces that are wanted for it
-pieces_wanted : (import : Option Import) (own : KeyPlan) → size_of (wanted_by_key (Ok own) (option_map facts_of_import import)) ≡ (spelled (option_map facts_of_import import) own).size + 12
-pieces_wanted None own = refl
-pieces_wanted (Some import) own = refl
-
-planned_wanted : (setup : Setup) (past : History) (caller : Caller) (key : Descriptor) (params : List ℕ) (import : Option Import) (plan : NewKey)
-    → IsPlanned (facts_of caller key params import) plan → size_of (wanted_by_rules (making key params import) setup past caller) ≡ plan.size + 12
-planned_wanted setup past caller key params import plan is =
-    ap size_of (making_wanted setup past caller key params import ∙ ap (λ found. wanted_by_key found (option_map facts_of_import import)) is.holds)
-    ∙ pieces_wanted import (plan_of (facts_of caller key params import)) ∙ ap (λ (p : NewKey). p.size + 12) (sym is.plan_is)
+is_broken facts rule code e = broken_rule (new_key facts) (rule, code) e
 
 none_moves : (key : Descriptor) (params : List ℕ) (import : Option Import) → moves_operations (making key params import) ≡ false
 none_moves key params None = refl
 none_moves key params (Some import) = refl
 
-module _ (setup : Setup) (past : History) (tables : Tables) (caller : Caller) (key : Descriptor) (params : List ℕ) (stands : TablesStand setup tables past) (is_caller : IsCaller tables caller) where
-  same : (import : Option Import) → caller ≡ caller_of past (event_by caller (making key params import))
-  same import = called past tables caller (making key params import) stands.clients is_caller
+-- the owner of a new key is one
+owned : (uid domain nspace : ℕ) → uid < 2 ^ 32 → is_owner (owner_for uid domain nspace).0 (owner_for uid domain nspace).1 ≡ true
+owned uid domain nspace small = by_domain (domain == 2) where
+  by_domain : (namespace : Bool) → is_owner (if◌then◌else◌ {A = ℕ × ℕ} namespace (2, nspace) (0, uid)).0 (if◌then◌else◌ {A = ℕ × ℕ} namespace (2, nspace) (0, uid)).1 ≡ true
+  by_domain true = refl
+  by_domain false = lt-ltb uid (2 ^ 32) small
 
-  none : (import : Option Import) (drawn : List ℕ) (reply : Reply) → operation_change setup past (event_by caller (making key params import)) drawn reply ≡ SameOperations
-  none import drawn reply = same_operations setup past (event_by caller (making key params import)) drawn reply (none_moves key params import)
+-- a descriptor that may name a new key has an alias
+alias_named : (key : Descriptor) → names_new_key key ≡ true → is_alias (alias_of key) ≡ true
+alias_named key e = by_alias key.alias (and_parts (has_alias key) (is_none key.blob) (and_parts (is_by_alias key.domain) (has_alias key && is_none key.blob) e).1).0 where
+  by_alias : (alias : Option (List ℕ)) → has_alias_in alias ≡ true → is_alias (unwrap_or alias []) ≡ true
+  by_alias None e = cc
+  by_alias (Some alias) e = e
 
-  unticketed : (import : Option Import) (reply : Reply) → ticket_change (event_by caller (making key params import)) reply ≡ NoTickets
-  unticketed import reply = same_tickets (event_by caller (making key params import)) reply (no_tickets key params import)
+-- a new key's blob has few bytes
+blob_few : (import : Option Import) (size : ℕ) (drawn : List ℕ) → IfSome (option_map facts_of_import import) (λ facts. facts.length ≤ 64) → size ≤ 64 → length drawn ≡ size + 12
+    → length (kept_as (drop size drawn) (material_of import (take size drawn))) ≤ 76
+blob_few None size drawn short few long =
+    omega (arith, length-append (drop size drawn) (take size drawn), length-drop size drawn, length-take-le size drawn (omega (arith, long)), long, few)
+blob_few (Some import) size drawn short few long = omega (arith, length-append (drop size drawn) import.material, length-drop size drawn, long, few, short)
 
-  answered : (import : Option Import) (drawn : List ℕ) (reply : Reply) → length drawn ≡ size_of (wanted_by_rules (making key params import) setup past caller)
-      → reply ≡ answer_by_rules (making key params import) setup past caller drawn → MayFollow setup past (event_by caller (making key params import)) drawn reply
-  answered None drawn reply drew is = Answered (record {
-    drew = drew ∙ ap (λ c. size_of (wanted_by_rules (making key params None) setup past c)) (same None);
-    is_answer = is ∙ ap (λ c. answer_by_rules (making key params None) setup past c drawn) (same None);
-  })
-  answered (Some import) drawn reply drew is = Answered (record {
-    drew = drew ∙ ap (λ c. size_of (wanted_by_rules (making key params (Some import)) setup past c)) (same (Some import));
-    is_answer = is ∙ ap (λ c. answer_by_rules (making key params (Some import)) setup past c drawn) (same (Some import));
-  })
+-- what is made may be made: its need is met, and there is room for it
+pub may_make : (policy : List PolicyRow) (caller : Caller) (key : Descriptor) (params : List ℕ) (import : Option Import) (held : Held) (plan : NewKey) (drawn : List ℕ) → HasRoomForKey held → has_key_place (lasting_in held) (owner_of caller) key ≡ true → owner_of caller < 2 ^ 32
+    → IsFit (facts_of policy caller key params import) plan.size (length plan.list) → length drawn ≡ plan.size + 12 → CanMake held (creates (lasting_in held).next_key (owner_of caller) key plan import drawn)
+may_make policy caller key params import held plan drawn room place small fit long =
+    let part : Lasting = lasting_in held in
+    let owner : ℕ × ℕ = owner_for (owner_of caller) key.domain key.nspace in
+    let blob : List ℕ = kept_as (drop plan.size drawn) (material_of import (take plan.size drawn)) in
+    let placed = and_parts (is_number_left part.next_key) (has_place_for owner.0 owner.1 (alias_of key) part) place in
+    let few : length blob ≤ 6327 = omega (arith, blob_few import plan.size drawn fit.short fit.drawn long) in
+    (
+      rw (
+        eq-eqb part.next_key part.next_key refl,
+        placed.0,
+        owned (owner_of caller) key.domain key.nspace small,
+        alias_named key fit.named,
+        le-leb (length blob) 6327 few,
+        le-leb (length plan.list) 4140 (omega (arith, fit.listed)),
+        placed.1,
+      ) refl,
+      (λ e. room, λ e. cc),
+    )
 
-  undrawn : (import : Option Import) (drawn : List ℕ) → length drawn < size_of (wanted_by_rules (making key params import) setup past caller)
-      → MayFollow setup past (event_by caller (making key params import)) drawn (Stopped EntropyFault)
-  undrawn None drawn few = WithoutEntropy (record {
-    drew = subst (λ c. length drawn < size_of (wanted_by_rules (making key params None) setup past c)) (same None) few;
-    is_fault = refl;
-  })
-  undrawn (Some import) drawn few = WithoutEntropy (record {
-    drew = subst (λ c. length drawn < size_of (wanted_by_rules (making key params (Some import)) setup past c)) (same (Some import)) few;
-    is_fault = refl;
-  })
+module _ (setup : Setup) (past : History) (tables : Tables) (caller : Caller) (key : Descriptor) (params : List ℕ) (import : Option Import) (stands : TablesStand setup tables past) (is_caller : IsCaller tables caller) where
+  abbrev Facts : NewFacts
+  Facts = facts_of setup.policy caller key params import
+
+  abbrev Making : Event
+  Making = event_by caller (making key params import)
+
+  abbrev HasPlace : Bool
+  HasPlace = has_key_place (kept setup past) (owner_of caller) key
+
+  same : caller ≡ caller_of past Making
+  same = called past tables caller (making key params import) stands.clients is_caller
+
+  none : (drawn : List ℕ) (reply : Reply) → operation_change setup past Making drawn reply ≡ SameOperations
+  none drawn reply = same_operations setup past Making drawn reply (none_moves key params import)
+
+  unticketed : (reply : Reply) → ticket_change Making reply ≡ NoTickets
+  unticketed reply = same_tickets Making reply (no_tickets key params import)
+
+  -- what the tables read is that of the history
+  pub planned_as : (result : Result NewKey (Rule × Code)) → planned (facts_of tables.policy caller key params import) ≡ result → planned Facts ≡ result
+  planned_as result e = ap (λ policy. planned (facts_of policy caller key params import)) (sym stands.keys.policy_is) ∙ e
+
+  pub place_is : has_key_place (lasting_in tables.keys) (owner_of caller) key ≡ HasPlace
+  place_is = ap (λ part. has_key_place part (owner_of caller) key) stands.keys.lasting_is
+
+  built_is : (i : Option Import) (drawn : List ℕ) (reply : Reply) → length drawn ≡ size_of (wanted_by_rules (making key params i) setup past (caller_of past (event_by caller (making key params i))))
+      → reply ≡ answer_by_rules (making key params i) setup past (caller_of past (event_by caller (making key params i))) drawn → MayFollow setup past (event_by caller (making key params i)) drawn reply
+  built_is None drawn reply drew is = Answered (record { drew = drew; is_answer = is })
+  built_is (Some i) drawn reply drew is = Answered (record { drew = drew; is_answer = is })
+
+  answered : (drawn : List ℕ) (reply : Reply) → length drawn ≡ size_of (wanted_by_rules (making key params import) setup past caller)
+      → reply ≡ answer_by_rules (making key params import) setup past caller drawn → MayFollow setup past Making drawn reply
+  answered drawn reply drew is =
+      built_is import drawn reply (drew ∙ ap (λ c. size_of (wanted_by_rules (making key params import) setup past c)) same)
+      (is ∙ ap (λ c. answer_by_rules (making key params import) setup past c drawn) same)
+
+  undrawn_is : (i : Option Import) (drawn : List ℕ) → length drawn < size_of (wanted_by_rules (making key params i) setup past (caller_of past (event_by caller (making key params i))))
+      → MayFollow setup past (event_by caller (making key params i)) drawn (Stopped EntropyFault)
+  undrawn_is None drawn few = WithoutEntropy (record { drew = few; is_fault = refl })
+  undrawn_is (Some i) drawn few = WithoutEntropy (record { drew = few; is_fault = refl })
+
+  -- the answer of a call that leaves all as it is
+  unmade : (new : Tables) (drawn : List ℕ) (reply : Reply) → SameTables tables new → is_done reply ≡ false → MayFollow setup past Making drawn reply
+      → HasJob setup (Acted Making drawn reply ∷ past) reply None → AnswersAfter setup past new Making (record { reply = reply; job = None; drawn = drawn })
+  unmade new drawn reply still denied follows no_job = record {
+    follows = follows;
+    stands = denied_tables setup past Making drawn reply tables new stands still denied (none drawn reply) (unticketed reply);
+    has_job = no_job;
+    stays = stays_same setup past Making drawn reply (none drawn reply);
+  }
+
+  wanted_is : (found : Result KeyPlan (Rule × Code)) (place : Bool) → new_key Facts ≡ found → HasPlace ≡ place
+      → wanted_by_rules (making key params import) setup past caller ≡ wanted_by_key found place
+  wanted_is found place e is = making_wanted setup past caller key params import ∙ ap (λ f. wanted_by_key f HasPlace) e ∙ ap (wanted_by_key found) is
+
+  answer_is : (found : Result KeyPlan (Rule × Code)) (drawn : List ℕ) → new_key Facts ≡ found
+      → answer_by_rules (making key params import) setup past caller drawn ≡ broken_or found (made_in (kept setup past) caller key)
+  answer_is found drawn e = making_answer setup past caller key params import drawn ∙ ap (λ f. broken_or f (made_in (kept setup past) caller key)) e
 
   -- a broken rule
-  pub refused : (import : Option Import) (rule : Rule) (code : Code) → planned (facts_of caller key params import) ≡ Err (rule, code)
-      → AnswersAfter setup past tables (event_by caller (making key params import)) (record { reply = Broken rule code; job = None; drawn = [] })
-  refused import rule code e =
-      let broken = is_broken (facts_of caller key params import) rule code e in
-      record {
-        follows = answered import [] (Broken rule code)
-            (sym (ap size_of (making_wanted setup past caller key params import ∙ ap (λ found. wanted_by_key found (option_map facts_of_import import)) broken)))
-            (sym (making_answer setup past caller key params import [] ∙ ap (λ found. broken_or found (Done (record no_fields { key = Some (next_key setup past) }))) broken));
-        stands = denied_tables setup past (event_by caller (making key params import)) [] (Broken rule code) tables tables stands (same_tables tables) refl (none import [] (Broken rule code)) (unticketed import (Broken rule code));
-        has_job = refl;
-        stays = stays_same setup past (event_by caller (making key params import)) [] (Broken rule code) (none import [] (Broken rule code));
-      }
+  pub refused : (rule : Rule) (code : Code) → planned Facts ≡ Err (rule, code)
+      → AnswersAfter setup past tables Making (record { reply = Broken rule code; job = None; drawn = [] })
+  refused rule code e =
+      let broken = is_broken Facts rule code e in
+      unmade tables [] (Broken rule code) (same_tables tables) refl
+      (answered [] (Broken rule code) (sym (ap size_of (wanted_is (Err (rule, code)) HasPlace broken refl))) (sym (answer_is (Err (rule, code)) [] broken))) refl
+
+  -- no place for one more key
+  pub full : (plan : NewKey) → planned Facts ≡ Ok plan → HasPlace ≡ false → AnswersAfter setup past tables Making (record { reply = Stopped StoreFull; job = None; drawn = [] })
+  full plan e no_place =
+      let is = is_planned Facts plan e in
+      unmade tables [] (Stopped StoreFull) (same_tables tables) refl
+      (answered [] (Stopped StoreFull) (sym (ap size_of (wanted_is (Ok (plan_of Facts)) false is.holds no_place)))
+      (sym (answer_is (Ok (plan_of Facts)) [] is.holds ∙ ap (λ p. if p then Done (record no_fields { key = Some (kept setup past).next_key }) else Stopped StoreFull) no_place))) refl
+
+  planned_wanted : (plan : NewKey) → IsPlanned Facts plan → HasPlace ≡ true → size_of (wanted_by_rules (making key params import) setup past caller) ≡ plan.size + 12
+  planned_wanted plan is place =
+      ap size_of (wanted_is (Ok (plan_of Facts)) true is.holds place) ∙ ap (λ (p : NewKey). p.size + 12) (sym is.plan_is)
 
   -- a draw that failed
-  pub without_entropy : (import : Option Import) (new : Tables) (plan : NewKey) (drawn : List ℕ) → planned (facts_of caller key params import) ≡ Ok plan
+  pub without_entropy : (new : Tables) (plan : NewKey) (drawn : List ℕ) → planned Facts ≡ Ok plan → HasPlace ≡ true
       → SameTables tables new → length drawn < plan.size + 12
-      → AnswersAfter setup past new (event_by caller (making key params import)) (record { reply = Stopped EntropyFault; job = None; drawn = drawn })
-  without_entropy import new plan drawn e still few =
-      let is = is_planned (facts_of caller key params import) plan e in
-      record {
-        follows = undrawn import drawn (subst (λ n. length drawn < n) (sym (planned_wanted setup past caller key params import plan is)) few);
-        stands = denied_tables setup past (event_by caller (making key params import)) drawn (Stopped EntropyFault) tables new stands still refl (none import drawn (Stopped EntropyFault)) (unticketed import (Stopped EntropyFault));
-        has_job = refl;
-        stays = stays_same setup past (event_by caller (making key params import)) drawn (Stopped EntropyFault) (none import drawn (Stopped EntropyFault));
-      }
+      → AnswersAfter setup past new Making (record { reply = Stopped EntropyFault; job = None; drawn = drawn })
+  without_entropy new plan drawn e place still few =
+      let is = is_planned Facts plan e in
+      unmade new drawn (Stopped EntropyFault) still refl
+      (undrawn_is import drawn (subst (λ c. length drawn < size_of (wanted_by_rules (making key params import) setup past c)) same (subst (λ n. length drawn < n) (sym (planned_wanted plan is place)) few))) refl
 
-  -- the record of a key that is made
-  made_record : (import : Option Import) (plan : NewKey) (number : ℕ) (drawn : List ℕ) → IsPlanned (facts_of caller key params import) plan
-      → key_change (making key params import) caller drawn number ≡ Makes (planned_record number (owner_of caller) key plan import drawn)
-  made_record None plan number drawn is = rw is.plan_is refl
-  made_record (Some import) plan number drawn is = rw is.plan_is refl
-
-  made_answer : (import : Option Import) (plan : NewKey) (number : ℕ) (drawn : List ℕ) → IsPlanned (facts_of caller key params import) plan → number ≡ next_key setup past
-      → Done (record no_fields { key = Some number }) ≡ answer_by_rules (making key params import) setup past caller drawn
-  made_answer import plan number drawn is next =
-      ap (λ n. Done (record no_fields { key = Some n })) next
-      ∙ sym (making_answer setup past caller key params import drawn ∙ ap (λ found. broken_or found (Done (record no_fields { key = Some (next_key setup past) }))) is.holds)
+  -- the change of an entry that makes a key
+  made_change : (i : Option Import) (plan : NewKey) (part : Lasting) (drawn : List ℕ) → IsPlanned (facts_of setup.policy caller key params i) plan
+      → change_of (making key params i) setup.policy part caller drawn ≡ Some (creates part.next_key (owner_of caller) key plan i drawn)
+  made_change None plan part drawn is = rw is.plan_is refl
+  made_change (Some i) plan part drawn is = rw is.plan_is refl
 
   -- the keys after one that is made
-  made_keys : (import : Option Import) (middle new : Keys) (made : KeyRecord) (drawn : List ℕ) (fields : Fields) → SameKeys tables.keys middle → PutsKey made middle new
-      → key_change (making key params import) (caller_of past (event_by caller (making key params import))) drawn (next_key setup past) ≡ Makes made
-      → KeysStand setup new (Acted (event_by caller (making key params import)) drawn (Done fields) ∷ past)
-  made_keys import middle new made drawn fields still puts is =
-      keys_put setup past _ made middle new (keys_stay setup past past tables.keys middle stands.keys still refl refl) puts
-      (ap (λ change. keys_after change (keys_of setup past)) is) (one_more import) where
-        one_more : (i : Option Import) → next_key setup (Acted (event_by caller (making key params i)) drawn (Done fields) ∷ past) ≡ next_key setup past + 1
-        one_more None = refl
-        one_more (Some i) = refl
+  made_kept : (middle new : Held) (plan : NewKey) (drawn : List ℕ) (fields : Fields) → IsPlanned Facts plan → lasting_in middle ≡ kept setup past
+      → lasting_in new ≡ after (lasting_in middle) (creates (lasting_in middle).next_key (owner_of caller) key plan import drawn)
+      → lasting_in new ≡ kept setup (Acted Making drawn (Done fields) ∷ past)
+  made_kept middle new plan drawn fields is before e =
+      e ∙ ap (λ part. after part (creates part.next_key (owner_of caller) key plan import drawn)) before
+      ∙ ap (λ change. after_change change (kept setup past)) (sym (made_change import plan (kept setup past) drawn is))
+      ∙ ap (λ c. after_change (change_of (making key params import) setup.policy (kept setup past) c drawn) (kept setup past)) same
 
-  pub made : (import : Option Import) (middle : Tables) (new : Keys) (plan : NewKey) (drawn : List ℕ) (number : ℕ) → planned (facts_of caller key params import) ≡ Ok plan
-      → length drawn ≡ plan.size + 12 → number ≡ next_in middle.keys → SameTables tables middle → PutsKey (planned_record number (owner_of caller) key plan import drawn) middle.keys new
-      → AnswersAfter setup past (record middle { keys = new }) (event_by caller (making key params import)) (record { reply = Done (record no_fields { key = Some number }); job = None; drawn = drawn })
-  made import middle new plan drawn number e long first still puts =
-      let is = is_planned (facts_of caller key params import) plan e in
-      let next : number ≡ next_key setup past = first ∙ still.keys.next ∙ stands.keys.next in
-      let event : Event = event_by caller (making key params import) in
-      let reply : Reply = Done (record no_fields { key = Some number }) in
+  pub made : (middle : Tables) (new : Held) (plan : NewKey) (drawn : List ℕ) → planned Facts ≡ Ok plan → HasPlace ≡ true
+      → length drawn ≡ plan.size + 12 → SameTables tables middle
+      → lasting_in new ≡ after (lasting_in middle.keys) (creates (lasting_in middle.keys).next_key (owner_of caller) key plan import drawn)
+      → AnswersAfter setup past (record middle { keys = new }) Making (record { reply = Done (record no_fields { key = Some (lasting_in middle.keys).next_key }); job = None; drawn = drawn })
+  made middle new plan drawn e place long still makes =
+      let is = is_planned Facts plan e in
+      let before : lasting_in middle.keys ≡ kept setup past = still.keys.lasting_is ∙ stands.keys.lasting_is in
+      let reply : Reply = Done (record no_fields { key = Some (lasting_in middle.keys).next_key }) in
       record {
-        follows = answered import drawn reply (long ∙ sym (planned_wanted setup past caller key params import plan is)) (made_answer import plan number drawn is next);
+        follows = answered drawn reply (long ∙ sym (planned_wanted plan is place))
+            (ap (λ (part : Lasting). Done (record no_fields { key = Some part.next_key })) before
+            ∙ sym (answer_is (Ok (plan_of Facts)) drawn is.holds ∙ ap (λ p. if p then Done (record no_fields { key = Some (kept setup past).next_key }) else Stopped StoreFull) place));
         stands = record {
-          clients = clients_stay setup past event drawn reply tables.clients middle.clients stands.clients still.clients (same_clients event reply (moves_none key params import)) (connects_none key params import);
-          keys = made_keys import middle.keys new (planned_record number (owner_of caller) key plan import drawn) drawn _ still.keys puts
-              (ap (λ c. key_change (making key params import) c drawn (next_key setup past)) (sym (same import)) ∙ ap (λ n. key_change (making key params import) caller drawn n) (sym next)
-              ∙ made_record import plan number drawn is);
-          operations = operations_stay setup past event drawn reply tables.operations middle.operations stands.operations still.operations (none import drawn reply) (begins_none key params import);
-          slots = slots_stay setup past event drawn reply tables.slots middle.slots stands.slots still.slots (none import drawn reply);
-          tickets = tickets_stay setup past event drawn reply tables.tickets middle.tickets stands.tickets still.tickets (unticketed import reply) (quiet is_enter past event drawn reply (enters_none key params import)) (stays_same setup past event drawn reply (none import drawn reply));
+          clients = clients_stay setup past Making drawn reply tables.clients middle.clients stands.clients still.clients (same_clients Making reply (moves_none key params import)) (connects_none key params import);
+          keys = record { policy_is = still.keys.policy_is ∙ stands.keys.policy_is; lasting_is = made_kept middle.keys new plan drawn (record no_fields { key = Some (lasting_in middle.keys).next_key }) is before makes };
+          operations = operations_stay setup past Making drawn reply tables.operations middle.operations stands.operations still.operations (none drawn reply) (begins_none key params import);
+          slots = slots_stay setup past Making drawn reply tables.slots middle.slots stands.slots still.slots (none drawn reply);
+          tickets = tickets_stay setup past Making drawn reply tables.tickets middle.tickets stands.tickets still.tickets (unticketed reply) (quiet is_enter past Making drawn reply (enters_none key params import)) (stays_same setup past Making drawn reply (none drawn reply));
         };
         has_job = refl;
-        stays = stays_same setup past event drawn reply (none import drawn reply);
+        stays = stays_same setup past Making drawn reply (none drawn reply);
       }

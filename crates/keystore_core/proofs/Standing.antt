@@ -23,17 +23,16 @@ use Rattle.rule_model.specs.Jobs.{Stays}
 use Rattle.rule_model.specs.Operations.{OperationChange, SameOperations, open_after, open_of, operation_at, operation_change, step_of, stopped_operation}
 use Rattle.rule_model.specs.Setup.{Setup}
 use Rattle.rule_model.specs.Tickets.{Entered, SameTickets as NoTickets, stopped_ticket, ticket_after, ticket_at, ticket_change}
-use Rattle.rule_model.proofs.Counting.{count_few, next_few}
-use Rattle.rule_model.proofs.Keys.{denied_keys, denied_next}
+use Rattle.rule_model.proofs.Counting.{count_few}
+use Rattle.rule_model.proofs.Kept.{denied_kept}
 use Rattle.keystore_core.specs.declared.answered.Answered.{Answered}
 use Rattle.keystore_core.specs.declared.clients.Clients.{Clients}
-use Rattle.keystore_core.specs.declared.keys.Keys.{Keys}
+use Rattle.key_database.specs.Held.{Held, lasting_in}
 use Rattle.keystore_core.specs.declared.operations.Operations.{Operations}
 use Rattle.keystore_core.specs.declared.tables.Tables.{Tables}
 use Rattle.keystore_core.specs.declared.tickets.Tickets.{Tickets}
 use Rattle.keystore_core.specs.Alike.{Alike}
 use Rattle.keystore_core.specs.Clients.{ClientsStand, SameClients, clients_given}
-use Rattle.keystore_core.specs.Keys.{SameKeys, next_in}
 use Rattle.keystore_core.specs.Operations.{IsRow, OperationsStand, SameRows, operations_given, rows_in}
 use Rattle.keystore_core.specs.Slots.{IsSlot, SlotsStand}
 use Rattle.keystore_core.specs.Tables.{IsAt, IsCaller, IsTables, SameTables, ServesAfter, ServesAt, TablesStand, event_by}
@@ -44,7 +43,7 @@ use Rattle.keystore_core.proofs.Opened.{AreBusy, stays_same}
 pub same_tables : (tables : Tables) → SameTables tables tables
 same_tables tables = record {
   clients = record { uids = λ client. refl; given = refl };
-  keys = same_keys tables.keys;
+  keys = same_keys tables;
   operations = record { rows = refl; given = refl };
   slots = refl;
   tickets = record { outs = λ ticket. refl; given = refl };
@@ -142,7 +141,7 @@ module _ (setup : Setup) (past : History) (event : Event) (drawn : List ℕ) (re
       → operation_change setup past event drawn reply ≡ SameOperations → ticket_change event reply ≡ NoTickets → TablesStand setup new (Acted event drawn reply ∷ past)
   denied_tables old new stands same denied none no_ticket = record {
     clients = clients_stay old.clients new.clients stands.clients same.clients (denied_clients denied) (not_admitted denied is_connect);
-    keys = keys_stay setup past (Acted event drawn reply ∷ past) old.keys new.keys stands.keys same.keys (denied_keys setup past event drawn reply denied) (denied_next setup past event drawn reply denied);
+    keys = keys_stay setup past (Acted event drawn reply ∷ past) old new stands.keys same.keys (denied_kept setup past event drawn reply denied);
     operations = operations_stay old.operations new.operations stands.operations same.operations none (not_admitted denied is_begin);
     slots = slots_stay old.slots new.slots stands.slots same.slots none;
     tickets = tickets_stay old.tickets new.tickets stands.tickets same.tickets no_ticket (not_admitted denied is_enter) (stays_same setup past event drawn reply none);
@@ -155,7 +154,7 @@ still setup past old new stands same = record {
     uids = λ client. same.clients.uids client ∙ stands.clients.uids client;
     given = same.clients.given ∙ stands.clients.given;
   };
-  keys = keys_stay setup past past old.keys new.keys stands.keys same.keys refl refl;
+  keys = keys_stay setup past past old new stands.keys same.keys refl;
   operations = record { rows = rw same.operations.rows stands.operations.rows; given = same.operations.given ∙ stands.operations.given };
   slots = rw same.slots stands.slots;
   tickets = record {
@@ -180,9 +179,6 @@ few_operations tables is = ∥∥₁_elim is le_prop (λ t. omega (arith, t.stan
 pub few_tickets : (tables : Tables) → ∥ IsTables tables (2 ^ 62 - 1) ∥₁ → tickets_given tables.tickets < 2 ^ 62
 few_tickets tables is = ∥∥₁_elim is le_prop (λ t. omega (arith, t.stands.tickets.given, count_few is_enter t.past, t.few))
 
-pub few_keys : (tables : Tables) → ∥ IsTables tables (2 ^ 62 - 1) ∥₁ → next_in tables.keys < 2 ^ 63
-few_keys tables is = ∥∥₁_elim is le_prop (λ t. omega (arith, t.stands.keys.next, next_few t.setup t.past, t.few, t.first))
-
 -- tables at a step are tables of few entries
 pub at_few : (tables : Tables) (step : ℕ) (act : Act) (back : Option JobDone) → step ≤ 2 ^ 62 → ∥ IsAt tables step act back ∥₁ → ∥ IsTables tables (2 ^ 62 - 1) ∥₁
 at_few tables step act back few at = ∥∥₁_map at (λ t. record {
@@ -190,7 +186,6 @@ at_few tables step act back few at = ∥∥₁_map at (λ t. record {
   past = t.past;
   stands = t.stands.tables_stand;
   few = omega (arith, t.stands.step_is, few);
-  first = t.first;
 })
 
 pub IsLater-prop : (slots : SlotTable CipherState) (next : ℕ) → IsProp (IsLater slots next)
@@ -201,10 +196,10 @@ pub at_later : (tables : Tables) (step : ℕ) (act : Act) (back : Option JobDone
 at_later tables step act back at = ∥∥₁_elim at (IsLater-prop tables.slots step) (λ t. t.stands.tables_stand.slots.later step (omega (arith, t.stands.step_is)))
 
 -- tables in which one part is another that answers the same
-pub same_but_keys : (tables : Tables) (new : Keys) → SameKeys tables.keys new → SameTables tables (record tables { keys = new })
+pub same_but_keys : (tables : Tables) (new : Held) → lasting_in new ≡ lasting_in tables.keys → SameTables tables (record tables { keys = new })
 same_but_keys tables new same = record {
   clients = record { uids = λ client. refl; given = refl };
-  keys = same;
+  keys = record { policy_is = refl; lasting_is = same };
   operations = record { rows = refl; given = refl };
   slots = refl;
   tickets = record { outs = λ ticket. refl; given = refl };
@@ -213,7 +208,7 @@ same_but_keys tables new same = record {
 pub same_but_operations : (tables : Tables) (rows : Operations) → SameRows tables.operations rows → SameTables tables (record tables { operations = rows })
 same_but_operations tables rows same_rows = record {
   clients = record { uids = λ client. refl; given = refl };
-  keys = same_keys tables.keys;
+  keys = record { policy_is = refl; lasting_is = refl };
   operations = same_rows;
   slots = refl;
   tickets = record { outs = λ ticket. refl; given = refl };
@@ -222,7 +217,7 @@ same_but_operations tables rows same_rows = record {
 pub same_but_tickets : (tables : Tables) (tickets : Tickets) → SameTickets tables.tickets tickets → SameTables tables (record tables { tickets = tickets })
 same_but_tickets tables tickets same = record {
   clients = record { uids = λ client. refl; given = refl };
-  keys = same_keys tables.keys;
+  keys = record { policy_is = refl; lasting_is = refl };
   operations = record { rows = refl; given = refl };
   slots = refl;
   tickets = same;
@@ -234,17 +229,16 @@ at_any old new event (Ok answered) step back serves = λ setup past at. serves s
 at_any old new event (Err fault) step back serves = serves
 
 -- a begin looks at no job
-pub begin_at : (old new : Tables) (caller : Caller) (key : Descriptor) (params : List ℕ) (result : Result Answered NoMemory) (step : ℕ) (back : Option JobDone)
-    → ServesAt step None old new (event_by caller (CreateOperation key params false)) result → ServesAt step back old new (event_by caller (CreateOperation key params false)) result
-begin_at old new caller key params (Ok answered) step back serves = λ setup past at. serves setup past (record { tables_stand = at.tables_stand; step_is = at.step_is; done_is = tt })
-begin_at old new caller key params (Err fault) step back serves = serves
+pub begin_at : (old new : Tables) (caller : Caller) (key : Descriptor) (params : List ℕ) (forced : Bool) (result : Result Answered NoMemory) (step : ℕ) (back : Option JobDone)
+    → ServesAt step None old new (event_by caller (CreateOperation key params forced)) result → ServesAt step back old new (event_by caller (CreateOperation key params forced)) result
+begin_at old new caller key params forced (Ok answered) step back serves = λ setup past at. serves setup past (record { tables_stand = at.tables_stand; step_is = at.step_is; done_is = tt })
+begin_at old new caller key params forced (Err fault) step back serves = serves
 
-pub at_begin : (tables : Tables) (step : ℕ) (act : Act) (back : Option JobDone) (key : Descriptor) (params : List ℕ) → ∥ IsAt tables step act back ∥₁ → ∥ IsAt tables step (CreateOperation key params false) None ∥₁
-at_begin tables step act back key params at = ∥∥₁_map at (λ t. record {
+pub at_begin : (tables : Tables) (step : ℕ) (act : Act) (back : Option JobDone) (key : Descriptor) (params : List ℕ) (forced : Bool) → ∥ IsAt tables step act back ∥₁ → ∥ IsAt tables step (CreateOperation key params forced) None ∥₁
+at_begin tables step act back key params forced at = ∥∥₁_map at (λ t. record {
   setup = t.setup;
   past = t.past;
   stands = record { tables_stand = t.stands.tables_stand; step_is = t.stands.step_is; done_is = tt };
-  first = t.first;
 })
 
 -- an act that takes memory is no leave

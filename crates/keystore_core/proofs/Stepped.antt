@@ -31,18 +31,19 @@ use Rattle.rule_model.specs.declared.facts.Caller.{Caller}
 use Rattle.rule_model.specs.declared.reply.Reply.{Reply}
 use Rattle.rule_model.specs.declared.reply.Reply.TheVariants.{Done, Broken}
 use Rattle.rule_model.specs.Acts.{is_begin, is_connect, is_enter}
-use Rattle.rule_model.specs.Answer.{answer_by_rules, broken_or, no_fields}
+use Rattle.rule_model.specs.Answer.{answer_by_rules}
+use Rattle.rule_model.specs.Replies.{broken_or, no_fields}
 use Rattle.rule_model.specs.Clients.{SameClients as NoClients, caller_of, client_change}
 use Rattle.rule_model.specs.Drawn.{size_of, wanted}
 use Rattle.rule_model.specs.Entries.{History, admits, count_of}
 use Rattle.rule_model.specs.Jobs.{HasJob, IsJobOn, IsJobOut, Stays}
-use Rattle.rule_model.specs.Keys.{is_live, keys_of, makes_key, next_key}
+use Rattle.rule_model.specs.Kept.{is_live}
 use Rattle.rule_model.specs.Legal.{MayFollow, Answered}
 use Rattle.rule_model.specs.Operations.{Closes, Enters as EntersOne, Open, OperationChange, SameOperations, as_entered, closes, has_number, is_busy, is_limited, open_after, open_of, operation_at, operation_change, operation_of, step_of}
 use Rattle.rule_model.specs.Setup.{Setup}
 use Rattle.rule_model.specs.StepFacts.{brought_by, brought_by_abort, facts_of, has_ended, step_facts}
 use Rattle.rule_model.specs.Tickets.{Entered, GoesOut, SameTickets as NoTickets, next_ticket, ticket_after, ticket_at, ticket_change}
-use Rattle.rule_model.proofs.Keys.{same_keys as keys_same, same_next}
+use Rattle.rule_model.proofs.Kept.{changes_kept, same_kept}
 use Rattle.keystore_core.specs.declared.operations.Operation.{Operation as Row}
 use Rattle.keystore_core.specs.declared.operations.RowChange.TheVariants.{Enters as RowEnters}
 use Rattle.keystore_core.specs.declared.tables.Tables.{Tables}
@@ -260,7 +261,7 @@ enter_enters op (Aad input) = refl
 enter_enters op (Text input) = refl
 enter_enters op (Last input signature) = refl
 
-enter_keys : (op : ℕ) (work : Work) → makes_key (entering op work) ≡ false
+enter_keys : (op : ℕ) (work : Work) → changes_kept (entering op work) ≡ false
 enter_keys op (Aad input) = refl
 enter_keys op (Text input) = refl
 enter_keys op (Last input signature) = refl
@@ -276,14 +277,14 @@ module _ (setup : Setup) (past : History) (event : Event) (drawn : List ℕ) (re
   -- an entry that closes one operation, and touches nothing else
   pub closed_tables : (op : ℕ) (old new : Tables) → TablesStand setup old past → ClosesOne op old new → operation_change setup past event drawn reply ≡ Closes op
       → client_change event reply ≡ NoClients → ticket_change event reply ≡ NoTickets → admits is_connect (Acted event drawn reply) ≡ false → admits is_begin (Acted event drawn reply) ≡ false
-      → admits is_enter (Acted event drawn reply) ≡ false → makes_key event.act ≡ false → ((x : Open) → operation_at setup past op ≡ Some x → is_busy x ≡ false)
+      → admits is_enter (Acted event drawn reply) ≡ false → changes_kept event.act ≡ false → ((x : Open) → operation_at setup past op ≡ Some x → is_busy x ≡ false)
       → TablesStand setup new (Acted event drawn reply ∷ past) × Stays setup past (Acted event drawn reply ∷ past)
   closed_tables op old new stands closed is no_client no_ticket no_connect no_begin no_enter no_key idle =
       let stays : Stays setup past (Acted event drawn reply ∷ past) = stays_by setup past event drawn reply (Closes op) is stands.tickets.busy
       (λ ticket entered o after named busy found. without_keeps op (open_of setup past) entered.op o (is_other op entered.op (open_of setup past) o idle found busy) found) in (
         record {
           clients = clients_stay setup past event drawn reply old.clients new.clients stands.clients closed.clients no_client no_connect;
-          keys = keys_stay setup past (Acted event drawn reply ∷ past) old.keys new.keys stands.keys closed.keys (keys_same setup past event drawn reply no_key) (same_next setup past event drawn reply no_key);
+          keys = keys_stay setup past (Acted event drawn reply ∷ past) old new stands.keys closed.keys (same_kept setup past event drawn reply no_key);
           operations = rows_after setup past event drawn reply (Closes op) new.operations is
               (rw closed.rows.rows (alike_filter IsRow (λ row. not (has_row op row)) (λ o. not (has_number op o)) (λ row o r. ap not (row_named op row o r)) (rows_in old.operations) (open_of setup past) stands.operations.rows))
               (closed.rows.given ∙ stands.operations.given ∙ sym (uncounted is_begin past event drawn reply no_begin));
@@ -299,7 +300,7 @@ module _ (setup : Setup) (past : History) (event : Event) (drawn : List ℕ) (re
 
 module _ (setup : Setup) (past : History) (tables : Tables) (caller : Caller) (op : ℕ) (stands : TablesStand setup tables past) (is_caller : IsCaller tables caller) where
   -- a denial, which closes the operation where its rule ends it
-  denied : (act : Act) (new : Tables) (rule : Rule) (code : Code) → operation_of act ≡ Some op → client_change (event_by caller act) (Broken rule code) ≡ NoClients → makes_key act ≡ false
+  denied : (act : Act) (new : Tables) (rule : Rule) (code : Code) → operation_of act ≡ Some op → client_change (event_by caller act) (Broken rule code) ≡ NoClients → changes_kept act ≡ false
       → (step_table.ends_operation rule ≡ true → (x : Open) → operation_at setup past op ≡ Some x → is_busy x ≡ false) → Denies rule op tables new
       → TablesStand setup new (Acted (event_by caller act) [] (Broken rule code) ∷ past) × Stays setup past (Acted (event_by caller act) [] (Broken rule code) ∷ past)
   denied act new rule code names no_client no_key idle = by_rule (step_table.ends_operation rule) refl where
@@ -466,7 +467,7 @@ module _ (setup : Setup) (past : History) (tables : Tables) (caller : Caller) (o
         stands = record {
           clients = clients_stay setup past Entering [] reply tables.clients new.clients stands.clients
               (record { uids = λ client. sent.clients.uids client ∙ still.clients.uids client; given = sent.clients.given ∙ still.clients.given }) (enter_clients caller op work reply) no_connect;
-          keys = keys_stay setup past later start.keys new.keys now.keys sent.keys (keys_same setup past Entering [] reply (enter_keys op work)) (same_next setup past Entering [] reply (enter_keys op work));
+          keys = keys_stay setup past later start new now.keys sent.keys (same_kept setup past Entering [] reply (enter_keys op work));
           operations = rows_after setup past Entering [] reply (EntersOne op ticket) new.operations is
               (rw sent.rows.rows (alike_change IsRow (has_row op) (has_number op) (changed RowEnters) (as_entered (step_of past) ticket) (row_named op)
               (λ row x r named. record { number = r.number; client = r.client; key = r.key; plan = r.plan; limited = r.limited; aad_is = r.aad_is; text_is = r.text_is; busy_is = refl })

@@ -1,7 +1,7 @@
 -- The beginning of an operation.
 use Rattle.std.specs.Prelude.{◌≡◌, ℕ, false, List, Option, Some, None, length}
 use Rattle.tags.specs.declared.plan.Plan.{Plan}
-use Rattle.rule_model.specs.declared.entry.KeyRecord.{KeyRecord}
+use Rattle.journal_records.specs.declared.record.KeyRecord.{KeyRecord}
 use Rattle.rule_model.specs.Operations.{is_limited}
 use Rattle.keystore_core.specs.declared.operations.Operation.{Operation}
 use Rattle.keystore_core.specs.declared.room.Room.{Room}
@@ -40,7 +40,7 @@ pub record OpensOne (pruned : Option ℕ) (step uid : ℕ) (row : Operation) (st
   pub middle : Tables
   pub way : MakesWay pruned old middle
   pub clients : SameClients middle.clients new.clients
-  pub keys : SameKeys middle.keys new.keys
+  pub keys : SameKeys middle new
   pub rows : AddsRow row middle.operations new.operations
   pub slots : Begins middle.slots new.slots (idle_operation row.number uid row.client step state)
   pub found : FindsNew middle.slots new.slots (idle_operation row.number uid row.client step state)

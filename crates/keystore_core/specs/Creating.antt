@@ -1,12 +1,13 @@
--- A new key of an app.
+-- A new key.
 use Rattle.std.specs.Prelude.{ℕ, List, length, take, drop, Option, Some, None}
 use Rattle.tags.specs.declared.descriptor.Descriptor.{Descriptor}
+use Rattle.journal_records.specs.declared.change.Change.{Change}
+use Rattle.journal_records.specs.declared.change.Change.TheVariants.{Create}
 use Rattle.key_rules.specs.declared.facts.ImportFacts.{ImportFacts}
 use Rattle.keymint_ops.specs.declared.creation.NewKey.{NewKey}
-use Rattle.rule_model.specs.declared.entry.KeyRecord.{KeyRecord}
 use Rattle.rule_model.specs.declared.event.Act.{Act}
 use Rattle.rule_model.specs.declared.event.Act.TheVariants.{GenerateKey, ImportKey}
-use Rattle.rule_model.specs.Keys.{alias_of}
+use Rattle.rule_model.specs.Changes.{alias_of, kept_as, owner_for}
 use Rattle.keystore_core.specs.declared.creating.Import.{Import}
 
 abbrev pub facts_of_import : Import → ImportFacts
@@ -22,21 +23,13 @@ abbrev pub material_of : Option Import → List ℕ → List ℕ
 material_of None drawn = drawn
 material_of (Some import) drawn = import.material
 
--- an app's key by its plan, with all its uses left
-abbrev pub record_of : ℕ → ℕ → Descriptor → NewKey → List ℕ → List ℕ → KeyRecord
-record_of number owner key plan material nonce = record {
-  id = number;
-  domain = 0;
-  nspace = owner;
-  alias = alias_of key;
-  blob = material;
-  nonce = nonce;
-  list = plan.list;
-  limit = plan.limit;
-  left = plan.limit;
-}
+-- how many bytes the material has: those of the imported one, or so many that are drawn
+abbrev pub material_bytes : Option Import → ℕ → ℕ
+material_bytes None size = size
+material_bytes (Some import) size = length import.material
 
--- the record of a planned key, by the bytes that were drawn for it
-abbrev pub planned_record : ℕ → ℕ → Descriptor → NewKey → Option Import → List ℕ → KeyRecord
-planned_record number owner key plan import drawn =
-    record_of number owner key plan (material_of import (take plan.size drawn)) (drop plan.size drawn)
+-- a planned key of a uid, by the bytes that were drawn for it
+abbrev pub creates : ℕ → ℕ → Descriptor → NewKey → Option Import → List ℕ → Change
+creates number uid key plan import drawn =
+    Create number (owner_for uid key.domain key.nspace).0 (owner_for uid key.domain key.nspace).1 (alias_of key)
+    (kept_as (drop plan.size drawn) (material_of import (take plan.size drawn))) plan.list plan.limit

@@ -1,7 +1,9 @@
 -- When an engine stands for a history.
-use Rattle.std.specs.Prelude.{◌≡◌, ℕ, ◌≤◌, length, Option}
+use Rattle.std.specs.Prelude.{◌≡◌, ℕ, List, length, Option}
 use Rattle.rule_model.specs.Entries.{History}
-use Rattle.rule_model.specs.Setup.{Setup, empty_lasting}
+use Rattle.tags.specs.declared.policy.PolicyRow.{PolicyRow}
+use Rattle.journal_records.specs.LastingPart.{empty_lasting}
+use Rattle.rule_model.specs.Setup.{Setup}
 use Rattle.keystore_core.specs.declared.engine.Engine.{Engine}
 use Rattle.keystore_core.specs.Tables.{TablesStand}
 use Rattle.keystore_core.specs.Tickets.{tickets_given}
@@ -9,9 +11,10 @@ use Rattle.cipher_ops.specs.declared.job.Done.{Done}
 use Rattle.rule_model.specs.declared.event.Act.{Act}
 use Rattle.rule_model.specs.Jobs.{HasDone}
 
--- what is fixed for a fresh store with so many slots
-pub record IsFresh (setup : Setup) (slots : ℕ) : Type 0 where
+-- what is fixed for a fresh store under a policy with so many slots
+pub record IsFresh (setup : Setup) (policy : List PolicyRow) (slots : ℕ) : Type 0 where
   pub start : setup.start ≡ empty_lasting
+  pub policy_is : setup.policy ≡ policy
   pub slots_are : setup.slots ≡ slots
 
 -- how many entries an engine made
@@ -27,18 +30,16 @@ pub record Stands (setup : Setup) (engine : Engine) (past : History) : Type 0 wh
 abbrev pub tickets_of : Engine → ℕ
 tickets_of engine = tickets_given engine.tables.tickets
 
--- an engine stands for some history, over a lasting part whose next key has the number 1
+-- an engine stands for some history
 pub record StandsForSome (engine : Engine) : Type 0 where
   pub setup : Setup
   pub past : History
   pub stands : Stands setup engine past
-  pub first : setup.start.next_key ≤ 1
 
--- An engine may take an act: it stands for some history, over a lasting part whose next key has the number 1, and a leave of a
--- ticket that is out comes with what its job came back with.
+-- An engine may take an act: it stands for some history, and a leave of a ticket that is out comes with what its job came back
+-- with.
 pub record MayTake (engine : Engine) (act : Act) (back : Option Done) : Type 0 where
   pub setup : Setup
   pub past : History
   pub stands : Stands setup engine past
-  pub first : setup.start.next_key ≤ 1
   pub back_is : HasDone setup past act back

@@ -12,7 +12,7 @@ use Rattle.keystore_core.specs.Tickets.{SameTickets}
 pub record EndsClient (client : ℕ) (old new : Tables) : Type 0 where
   pub goes : ChangesClients (Goes client) old.clients new.clients
   pub given : clients_given new.clients ≡ clients_given old.clients
-  pub keys : SameKeys old.keys new.keys
+  pub keys : SameKeys old new
   pub rows : DropsRowsOf client old.operations new.operations
   pub slots : TakesOutOf old.slots new.slots client
   pub fresh : FindsNoMore old.slots new.slots
@@ -22,7 +22,7 @@ pub record EndsClient (client : ℕ) (old new : Tables) : Type 0 where
 -- one operation is closed
 pub record ClosesOne (op : ℕ) (old new : Tables) : Type 0 where
   pub clients : SameClients old.clients new.clients
-  pub keys : SameKeys old.keys new.keys
+  pub keys : SameKeys old new
   pub rows : DropsRow op old.operations new.operations
   pub slots : TakesOut old.slots new.slots op
   pub fresh : FindsNoMore old.slots new.slots

@@ -21,7 +21,7 @@ use Rattle.rule_model.specs.declared.event.Act.TheVariants.{EnterAad, EnterUpdat
 use Rattle.rule_model.specs.declared.facts.Brought.{Brought}
 use Rattle.rule_model.specs.declared.reply.Reply.{Reply}
 use Rattle.rule_model.specs.declared.reply.Reply.TheVariants.{Done as done, Stopped}
-use Rattle.rule_model.specs.Answer.{no_fields}
+use Rattle.rule_model.specs.Replies.{no_fields}
 use Rattle.keystore_core.specs.declared.operations.Added.{Added}
 use Rattle.keystore_core.specs.declared.operations.Operation.{Operation}
 use Rattle.keystore_core.specs.declared.operations.RowChange.TheVariants.{Enters, Returns}
@@ -79,7 +79,7 @@ Denies rule op old new = DeniesBy (ends_operation rule) op old new
 -- a work went out: its operation is busy, its ticket is kept, and its job is that of the state and the room
 pub record SendsJob (out : Out) (room : JobRoom) (old new : Tables) (job : Job) : Type 0 where
   pub clients : SameClients old.clients new.clients
-  pub keys : SameKeys old.keys new.keys
+  pub keys : SameKeys old new
   pub rows : ChangesRow out.op Enters old.operations new.operations
   pub slots : Takes old.slots new.slots out.op
   pub found : FindsChanged old.slots new.slots out.op made_busy
@@ -99,6 +99,6 @@ BackAs (Some state) out step old new = ChangesRow out.op (Returns (added_by out.
 -- a work came back: its ticket is gone
 pub record TakesBack (ticket : ℕ) (out : Out) (step : ℕ) (state : Option CipherState) (old new : Tables) : Type 0 where
   pub clients : SameClients old.clients new.clients
-  pub keys : SameKeys old.keys new.keys
+  pub keys : SameKeys old new
   pub tickets : TakesTicket ticket old.tickets new.tickets
   pub back_as : BackAs state out step old new

@@ -17,7 +17,7 @@ use Rattle.keystore_core.specs.declared.answered.Answered.{Answered}
 use Rattle.keystore_core.specs.declared.operations.Operation.{Operation}
 use Rattle.keystore_core.specs.declared.tables.Tables.{Tables}
 use Rattle.keystore_core.specs.Clients.{ClientsStand, SameClients, uid_in}
-use Rattle.keystore_core.specs.Keys.{KeysStand, SameKeys, live_in}
+use Rattle.keystore_core.specs.Keys.{KeysStand, SameKeys}
 use Rattle.keystore_core.specs.Operations.{OperationsStand, SameRows, operation_in}
 use Rattle.keystore_core.specs.Slots.{SlotsStand}
 use Rattle.keystore_core.specs.Tickets.{SameTickets, TicketsStand}
@@ -25,7 +25,7 @@ use Rattle.keystore_core.specs.Tickets.{SameTickets, TicketsStand}
 -- the tables stand for a history: each answers as the history says
 pub record TablesStand (setup : Setup) (tables : Tables) (past : History) : Type 0 where
   pub clients : ClientsStand tables.clients past
-  pub keys : KeysStand setup tables.keys past
+  pub keys : KeysStand setup tables past
   pub operations : OperationsStand setup tables.operations past
   pub slots : SlotsStand setup tables.slots past
   pub tickets : TicketsStand setup tables.tickets past
@@ -33,7 +33,7 @@ pub record TablesStand (setup : Setup) (tables : Tables) (past : History) : Type
 -- the tables answer as others do
 pub record SameTables (old new : Tables) : Type 0 where
   pub clients : SameClients old.clients new.clients
-  pub keys : SameKeys old.keys new.keys
+  pub keys : SameKeys old new
   pub operations : SameRows old.operations new.operations
   pub slots : new.slots ≡ old.slots
   pub tickets : SameTickets old.tickets new.tickets
@@ -45,31 +45,25 @@ row_at tables op = operation_in tables.operations op
 abbrev pub state_at : Tables → ℕ → Option CipherState
 state_at tables op = idle_value (held tables.slots op)
 
--- whether the key of a number has not ended
-abbrev pub live_key : Tables → ℕ → Bool
-live_key tables id = live_in tables.keys id
-
--- The tables stand for some history of at most so many entries, over a lasting part whose next key has the number 1.
+-- the tables stand for some history of at most so many entries
 pub record IsTables (tables : Tables) (most : ℕ) : Type 0 where
   pub setup : Setup
   pub past : History
   pub stands : TablesStand setup tables past
   pub few : length past ≤ most
-  pub first : setup.start.next_key ≤ 1
 
 -- The tables stand for a history after which this is the step's number, and a leave of a ticket that is out has what its job
 -- came back with.
-pub record StandsAt (setup : Setup) (tables : Tables) (past : History) (step : ℕ) (act : Act) (done : Option Done) : Type 0 where
+pub record StandsAt (setup : Setup) (tables : Tables) (past : History) (step : ℕ) (act : Act) (back : Option Done) : Type 0 where
   pub tables_stand : TablesStand setup tables past
   pub step_is : step ≡ step_of past
-  pub done_is : HasDone setup past act done
+  pub done_is : HasDone setup past act back
 
--- some history is such, over a lasting part whose next key has the number 1
-pub record IsAt (tables : Tables) (step : ℕ) (act : Act) (done : Option Done) : Type 0 where
+-- some history is such
+pub record IsAt (tables : Tables) (step : ℕ) (act : Act) (back : Option Done) : Type 0 where
   pub setup : Setup
   pub past : History
-  pub stands : StandsAt setup tables past step act done
-  pub first : setup.start.next_key ≤ 1
+  pub stands : StandsAt setup tables past step act back
 
 -- the uid of a caller is that of the client
 abbrev pub IsCaller : Tables → Caller → Type 0

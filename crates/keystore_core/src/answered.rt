@@ -3,7 +3,7 @@
 ghost use Rattle.std.specs.Prelude.{◌≡◌, [], None, Some};
 ghost use Rattle.tags.specs.declared.code.Code.TheVariants as codes;
 ghost use Rattle.rule_model.specs.declared.reply.Reply.TheVariants as replies;
-ghost use Rattle.rule_model.specs.Answer.{no_fields};
+ghost use Rattle.rule_model.specs.Replies.{no_fields};
 
 use cipher_ops::Job;
 use rule_model::{Fields, NO_FIELDS, Reply};
@@ -55,6 +55,15 @@ impl Answered {
         ensures drawn { result.drawn ≡ [] }
     {
         Answered::undrawn(alloc, Reply::Broken { rule, code })
+    }
+
+    /// The answer of a call that something else than a rule stopped. It takes no memory.
+    pub fn stopped(alloc: Global, code: Code) -> Answered
+        ensures reply { result.reply ≡ replies.Stopped code }
+        ensures job { result.job ≡ None }
+        ensures drawn { result.drawn ≡ [] }
+    {
+        Answered::undrawn(alloc, Reply::Stopped { code })
     }
 
     /// The answer of a call that is given up for want of memory; what was drawn is thrown away.

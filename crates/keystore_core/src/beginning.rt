@@ -8,7 +8,7 @@ ghost use Rattle.use_rules.specs.Table.{key_of};
 ghost use Rattle.cipher_ops.specs.Standing.{StandsFor};
 ghost use Rattle.keymint_ops.specs.Begin.{nonce_used};
 ghost use Rattle.rule_model.specs.declared.event.Act.TheVariants as acts;
-ghost use Rattle.rule_model.specs.declared.entry.KeyRecord.{KeyRecord};
+ghost use Rattle.journal_records.specs.declared.record.KeyRecord.{KeyRecord};
 ghost use Rattle.rule_model.specs.BeginFacts as model;
 ghost use Rattle.rule_model.specs.Operations.{is_limited};
 ghost use Rattle.keystore_core.specs.Beginning as spec;
@@ -16,9 +16,12 @@ ghost use Rattle.keystore_core.specs.Drawn.{DrewForResult};
 ghost use Rattle.keystore_core.specs.Operations.{HasRoomForOperation, operations_given};
 ghost use Rattle.keystore_core.specs.Tables.{IsAt, IsCaller, ServesAt, event_by, state_at};
 ghost use Rattle.operation_slots.specs.Table.{IsLater, has_room as is_free, held};
-ghost use Rattle.rule_model.specs.Keys.{owner_of as owner};
+ghost use Rattle.rule_model.specs.Access.{bits_in};
+ghost use Rattle.rule_model.specs.Changes.{material_in};
 
+use crate::access::{access_by, bits_in, key_in, owner_of, row_for};
 use crate::answered::Answered;
+use crate::creating::NONCE_BYTES;
 use crate::draw_room::DrawRoom;
 use crate::operations::Operation;
 use crate::room::Room;
@@ -28,10 +31,12 @@ use cipher_ops::CipherState;
 use key_rules::{read_asked, usable};
 use keymint_ops::{Begin, BeginFault, plan_begin};
 use ks_outside::Entropy;
-use rule_model::{Caller, Fields, KeyRecord, NO_FIELDS, Pieces, Reply};
+use journal_records::KeyRecord;
+use key_domains::Access;
+use rule_model::{Caller, Fields, NO_FIELDS, Pieces, Reply};
 use std::alloc::Global;
 use tag_lists::{AuthList, ListFault};
-use tags::{Bytes, Descriptor, NoMemory};
+use tags::{Bytes, Descriptor, NoMemory, Policy};
 use use_rules::BeginFacts;
 
 /// The list that is kept with a key; `None` where its bytes spell none.
@@ -45,29 +50,44 @@ fn list_of(alloc: Global, key: &KeyRecord) -> Result<Option<AuthList>, NoMemory>
     }
 }
 
+/// A key's material, behind the nonce in its record.
+fn material_in(key: &KeyRecord) -> &[u8]
+    ensures { result.now ≡ material_in key.now }
+{
+    let blob = key.blob.as_slice();
+    if blob.len() < NONCE_BYTES {
+        return &[];
+    }
+    &blob[NONCE_BYTES..]
+}
+
 /// Whether the key's material fits its list.
 fn is_usable(key: &KeyRecord, list: &Option<AuthList>) -> bool
-    ensures usable { result ≡ option_map_or (model.is_usable key.now.blob) list.now false }
-    ensures key { result ≡ true → IsKey (unwrap_or list.now []) (length key.now.blob) }
+    ensures usable { result ≡ option_map_or (model.is_usable (material_in key.now)) list.now false }
+    ensures key { result ≡ true → IsKey (unwrap_or list.now []) (length (material_in key.now)) }
 {
     match list {
-        Some(list) => usable(list, key.blob.len()),
+        Some(list) => usable(list, material_in(key).len()),
         None => false,
     }
 }
 
-/// What the rules of a begin read, by the key that is found.
+/// What the rules of a begin read, by the key that is found and the caller's bits.
 fn begin_facts(
     alloc: Global,
+    policy: &Policy,
     found: Option<&KeyRecord>,
+    access: &Access,
     caller: Caller,
     key: Descriptor,
     params: &[u8],
+    forced: bool,
     room: bool,
 ) -> Result<BeginFacts, NoMemory>
-    ensures facts { IfOk result (λ facts. facts ≡ model.facts_on (option_copied found.entry) caller key params.now room) }
-    ensures key { IfOk result (λ facts. facts.fits ≡ true → IsKey (key_of facts) (length (option_map_or (λ (key : KeyRecord). key.blob) (option_copied found.entry) []))) }
+    ensures facts { IfOk result (λ facts. facts ≡ model.facts_on policy.now (option_copied found.entry) access.now caller key params.now forced room) }
+    ensures key { IfOk result (λ facts. facts.fits ≡ true → IsKey (key_of facts) (length (option_map_or material_in (option_copied found.entry) []))) }
 {
+    let row = row_for(policy, caller, key.nspace);
     let asked = read_asked(alloc, params)?;
     let (opened, fits) = match found {
         Some(found) => {
@@ -80,7 +100,10 @@ fn begin_facts(
     Ok(BeginFacts {
         connected: caller.uid.is_some(),
         descriptor: key,
+        row,
         found: found.is_some(),
+        bits: bits_in(access),
+        forced,
         asked,
         opened,
         fits,
@@ -90,10 +113,10 @@ fn begin_facts(
 
 /// The material of the key that is found, and no bytes where none is.
 fn material_of(found: Option<&KeyRecord>) -> &[u8]
-    ensures { result.now ≡ option_map_or (λ (key : KeyRecord). key.blob) (option_copied found.entry) [] }
+    ensures { result.now ≡ option_map_or material_in (option_copied found.entry) [] }
 {
     match found {
-        Some(found) => found.blob.as_slice(),
+        Some(found) => material_in(found),
         None => &[],
     }
 }
@@ -121,10 +144,10 @@ fn new_cipher(
     begin: &Begin,
     drawn: &[u8],
 ) -> Result<CipherState, NoMemory>
-    requires { Fits begin.now.plan key.now.blob (nonce_used begin.now.nonce drawn.now) }
-    ensures { IfOk result (λ state. StandsFor state begin.now.plan (is_limited key.now.limit) key.now.blob (nonce_used begin.now.nonce drawn.now) [] []) }
+    requires { Fits begin.now.plan (material_in key.now) (nonce_used begin.now.nonce drawn.now) }
+    ensures { IfOk result (λ state. StandsFor state begin.now.plan (is_limited key.now.limit) (material_in key.now) (nonce_used begin.now.nonce drawn.now) [] []) }
 {
-    begin.start(alloc, key.limit != 0, key.blob.as_slice(), drawn)
+    begin.start(alloc, key.limit != 0, material_in(key), drawn)
 }
 
 /// The nonce that was drawn, for the reply.
@@ -136,13 +159,6 @@ fn drawn_nonce(room: Room, wanted: usize, drawn: &[u8]) -> Option<Bytes>
         return None;
     }
     Some(room.filled(drawn))
-}
-
-/// The uid of a caller; the rules let none begin that has none.
-fn owner_of(caller: Caller) -> u32
-    ensures { result ≡ owner caller }
-{
-    caller.uid.unwrap_or(0)
 }
 
 impl Tables {
@@ -174,7 +190,7 @@ impl Tables {
         self.operations.open(row);
     }
 
-    /// A client begins an operation on a key of its own.
+    /// A client begins an operation on a key that its descriptor finds.
     pub fn begin<N: Entropy>(
         &mut self,
         alloc: Global,
@@ -183,19 +199,31 @@ impl Tables {
         step: u64,
         key: Descriptor,
         params: Bytes,
+        forced: bool,
     ) -> Result<Answered, NoMemory>
-        requires at { ∥ IsAt self.old step (acts.CreateOperation key params false) None ∥₁ }
+        requires at { ∥ IsAt self.old step (acts.CreateOperation key params forced) None ∥₁ }
         requires few { step ≤ 2 ^ 62 }
         requires caller { IsCaller self.old caller }
-        ensures serves { ServesAt step None self.old self.new (event_by caller (acts.CreateOperation key params false)) result }
+        ensures serves { ServesAt step None self.old self.new (event_by caller (acts.CreateOperation key params forced)) result }
         ensures job { IfOk result (λ answered. answered.job ≡ None) }
         ensures drew { DrewForResult N.Entropy entropy.old entropy.new result }
     {
         let uid = owner_of(caller);
-        let pruned = pruned_for(&self.slots, uid, false, step);
+        let pruned = pruned_for(&self.slots, uid, forced, step);
         let room = has_slot(&self.slots, pruned);
-        let found = self.keys.found(caller, &key);
-        let facts = begin_facts(alloc, found, caller, key, params.as_slice(), room)?;
+        let access = access_by(&self.policy, &self.keys, caller, &key);
+        let found = key_in(&self.keys, &access);
+        let facts = begin_facts(
+            alloc,
+            &self.policy,
+            found,
+            &access,
+            caller,
+            key,
+            params.as_slice(),
+            forced,
+            room,
+        )?;
         let begin = match plan_begin(alloc, &facts, material_of(found)) {
             Ok(begin) => begin,
             Err(BeginFault::Broken(rule, code)) => return Ok(Answered::refused(alloc, rule, code)),

@@ -1,10 +1,7 @@
 //! A client comes, and goes.
 
-ghost use Rattle.std.specs.Prelude.{◌≡◌, ◌-◌, ◌^◌, None, Ok, IfOk, is_some};
-ghost use Rattle.tags.specs.declared.rule.RuleTable.TheVariants.{A};
-ghost use Rattle.tags.specs.Table.{first_broken, rule_of};
+ghost use Rattle.std.specs.Prelude.{◌≡◌, ◌-◌, ◌^◌, None, Ok, IfOk};
 ghost use Rattle.rule_model.specs.declared.event.Act.TheVariants as acts;
-ghost use Rattle.rule_model.specs.Calls.{disconnect_rules};
 ghost use Rattle.keystore_core.specs.Drawn.{IsUndrawn};
 ghost use Rattle.keystore_core.specs.Leaving.{EndsClient};
 ghost use Rattle.keystore_core.specs.Operations.{has_busy_row};
@@ -12,25 +9,10 @@ ghost use Rattle.keystore_core.specs.Tables.{IsCaller, IsTables, ServesAfter, ev
 
 use crate::answered::Answered;
 use crate::tables::Tables;
+use call_rules::check_disconnect;
 use rule_model::{Caller, Fields, NO_FIELDS, Reply};
 use std::alloc::Global;
-use tags::{Code, NoMemory, Rule, RuleTable, Ruling, check};
-
-/// A rule of the table by its number.
-fn rule(number: u8) -> Rule
-    ensures { result ≡ rule_of A number }
-{
-    RuleTable::A.rule(number)
-}
-
-/// The rules of a disconnect.
-fn check_disconnect(connected: bool, busy: bool) -> Ruling
-    ensures { result ≡ first_broken A (disconnect_rules connected busy) }
-{
-    check(rule(1), Code::InvalidArgument, connected)?;
-    check(rule(10), Code::OperationBusy, !busy)?;
-    Ok(())
-}
+use tags::NoMemory;
 
 impl Tables {
     /// A client comes with this uid.

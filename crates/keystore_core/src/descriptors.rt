@@ -1,10 +1,11 @@
 //! What a descriptor names.
 
 ghost use Rattle.std.specs.Prelude.{◌≡◌};
-ghost use Rattle.rule_model.specs.Keys.{alias_of};
+ghost use Rattle.rule_model.specs.Changes.{alias_of};
+ghost use Rattle.rule_model.specs.Changes as model;
 
 use std::alloc::Global;
-use tags::{Bytes, Descriptor};
+use tags::{Bytes, DOMAIN_SELINUX, Descriptor};
 
 /// The bytes of a descriptor's alias, and none where it has no alias.
 pub fn alias_bytes(key: &Descriptor) -> &[u8]
@@ -30,4 +31,15 @@ pub fn into_alias(alloc: Global, key: Descriptor) -> Bytes
         Some(alias) => alias,
         None => Bytes::empty(alloc),
     }
+}
+
+/// Whose the keys are that a uid makes and lists, by their domain and uid or namespace: its own in APP, and the namespace's
+/// in SELINUX.
+pub fn owner_for(uid: u32, domain: u32, nspace: u64) -> (u8, u64)
+    ensures { result ≡ model.owner_for uid domain nspace }
+{
+    if domain == DOMAIN_SELINUX {
+        return (2, nspace);
+    }
+    (0, u64::from(uid))
 }

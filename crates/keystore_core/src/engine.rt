@@ -26,26 +26,38 @@ pub struct Engine {
     tables: Tables,
 }
 
+/// The same policy once more.
+fn copied(alloc: Global, policy: &Policy) -> Result<Policy, NoMemory>
+    ensures { IfOk result (λ copy. copy ≡ policy.now) }
+{
+    let mut rows = Vec::new(alloc);
+    rows.extend_from_slice(policy.rows())?;
+    match Policy::of(rows) {
+        Some(copy) => Ok(copy),
+        None => unreachable!(),
+    }
+}
+
 impl Engine {
     ghost use Rattle.keystore_core.specs.Engine.{IsFresh, MayTake, Stands, StandsForSome, entries_of, tickets_of};
 
-    /// An engine without keys, clients and operations, with 1 to 64 slots: it stands for the empty history over the empty
-    /// lasting part.
+    /// An engine under a policy without keys, clients and operations, with 1 to 64 slots: it stands for the empty history
+    /// over the empty lasting part.
     pub fn fresh(
         alloc: Global,
         _device: &DeviceSecrets,
-        _policy: &Policy,
+        policy: &Policy,
         slots: usize,
     ) -> Result<Engine, NoMemory>
         requires some { 0 < slots }
         requires few { slots ≤ 64 }
-        ensures stands { IfOk result (λ engine. (setup : Setup) → IsFresh setup slots → Stands setup engine []) }
+        ensures stands { IfOk result (λ engine. (setup : Setup) → IsFresh setup policy.now slots → Stands setup engine []) }
         ensures entries { IfOk result (λ engine. entries_of engine ≡ 0) }
     {
         Ok(Engine {
             alloc,
             entries: 0,
-            tables: Tables::new(alloc, slots)?,
+            tables: Tables::new(alloc, copied(alloc, policy)?, slots)?,
         })
     }
 

@@ -4,8 +4,10 @@
 //! history with the step's entry, and that entry may follow the history by the definitions of `rule_model`.
 #![tactic(auto)]
 
+mod access;
 mod answered;
 mod beginning;
+mod calls;
 mod clients;
 mod connecting;
 mod creating;
@@ -13,8 +15,8 @@ mod descriptors;
 mod draw_room;
 mod draws;
 mod engine;
-mod keys;
 mod leaving;
+mod listing;
 mod operations;
 mod room;
 mod stepping;

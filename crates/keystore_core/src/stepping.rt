@@ -13,7 +13,8 @@ ghost use Rattle.keystore_core.specs.Drawn.{IsUndrawn};
 ghost use Rattle.keystore_core.specs.Leaving.{ClosesOne};
 ghost use Rattle.keystore_core.specs.Operations.{HasRoomForOperation};
 ghost use Rattle.keystore_core.specs.Stepping as spec;
-ghost use Rattle.keystore_core.specs.Tables.{IsCaller, IsTables, ServesAfter, TablesStand, event_by, live_key, row_at, state_at};
+ghost use Rattle.keystore_core.specs.Keys.{live_key};
+ghost use Rattle.keystore_core.specs.Tables.{IsCaller, IsTables, ServesAfter, TablesStand, event_by, row_at, state_at};
 ghost use Rattle.keystore_core.specs.Tickets.{HasRoomForTicket, tickets_given};
 
 use crate::answered::Answered;

@@ -12,22 +12,23 @@ ghost use Rattle.keystore_core.specs.Engine.{IsFresh};
 use crate::answered::Answered;
 use crate::clients::Clients;
 use crate::creating::Import;
-use crate::keys::Keys;
 use crate::operations::Operations;
 use crate::tickets::Tickets;
 use cipher_ops::{CipherState, Done, Work};
+use key_database::LastingTable;
 use ks_outside::Entropy;
 use operation_slots::Slots;
 use rule_model::{Act, Caller, Event, Reading};
 use std::alloc::Global;
-use tags::{Bytes, Code, NoMemory, Rule, RuleTable};
+use tags::{Bytes, Code, NoMemory, Policy, Rule, RuleTable};
 
-/// What the engine knows: the connected clients, the live keys, the open operations with what the rules read of them, the
-/// slots with their cipher states, and the works that are out.
+/// What the engine knows: the policy, the connected clients, the keys and grants, the open operations with what the rules
+/// read of them, the slots with their cipher states, and the works that are out.
 #[derive(Drop)]
 pub struct Tables {
+    pub(crate) policy: Policy,
     pub(crate) clients: Clients,
-    pub(crate) keys: Keys,
+    pub(crate) keys: LastingTable,
     pub(crate) operations: Operations,
     pub(crate) slots: Slots<CipherState>,
     pub(crate) tickets: Tickets,
@@ -42,15 +43,16 @@ const MALFORMED: Rule = Rule {
 impl Tables {
     ghost use Rattle.std.specs.Prelude.{[], ◌<◌};
 
-    /// Tables without clients, keys and operations, with so many slots.
-    pub fn new(alloc: Global, slots: usize) -> Result<Tables, NoMemory>
+    /// Tables under a policy without clients, keys and operations, with so many slots.
+    pub fn new(alloc: Global, policy: Policy, slots: usize) -> Result<Tables, NoMemory>
         requires some { 0 < slots }
         requires few { slots ≤ 64 }
-        ensures { IfOk result (λ tables. (setup : Setup) → IsFresh setup slots → TablesStand setup tables []) }
+        ensures { IfOk result (λ tables. (setup : Setup) → IsFresh setup policy slots → TablesStand setup tables []) }
     {
         Ok(Tables {
+            policy,
             clients: Clients::new(alloc),
-            keys: Keys::new(alloc),
+            keys: LastingTable::empty(alloc),
             operations: Operations::new(alloc),
             slots: Slots::with_capacity(alloc, slots)?,
             tickets: Tickets::new(alloc),
@@ -104,9 +106,11 @@ impl Tables {
                 let import = Some(Import { format, material });
                 self.make_key(alloc, entropy, caller, key, params, import)
             }
-            Act::CreateOperation { key, params, .. } => {
-                self.begin(alloc, entropy, caller, step, key, params)
-            }
+            Act::CreateOperation {
+                key,
+                params,
+                forced,
+            } => self.begin(alloc, entropy, caller, step, key, params, forced),
             Act::EnterAad { op, input } => self.enter(alloc, caller, op, Work::Aad { input }),
             Act::EnterUpdate { op, input } => self.enter(alloc, caller, op, Work::Text { input }),
             Act::EnterFinish {
@@ -115,6 +119,22 @@ impl Tables {
                 signature,
             } => self.enter(alloc, caller, op, Work::Last { input, signature }),
             Act::Abort { op } => Ok(self.abort(alloc, caller, op)),
+            Act::GetKeyEntry { key } => self.get_key_entry(alloc, caller, &key),
+            Act::DeleteKey { key } => Ok(self.delete_key(alloc, caller, &key)),
+            Act::Grant { key, uid, bits } => self.grant(alloc, caller, &key, uid, bits),
+            Act::Ungrant { key, uid } => Ok(self.ungrant(alloc, caller, &key, uid)),
+            Act::GetNumberOfEntries { domain, nspace } => {
+                Ok(self.get_number_of_entries(alloc, caller, domain, nspace))
+            }
+            Act::ListEntriesBatched {
+                domain,
+                nspace,
+                past,
+            } => self.list_entries_batched(alloc, caller, domain, nspace, &past),
+            Act::ClearNamespace { domain, nspace } => {
+                Ok(self.clear_namespace(alloc, caller, domain, nspace))
+            }
+            Act::UserRemoved { user } => Ok(self.user_removed(alloc, caller, user)),
             Act::Leave { ticket } => Ok(self.leave(alloc, caller, step, ticket, done)),
             _ => unreachable!(),
         }

@@ -178,15 +178,14 @@ same_jobs {old = old} {new = new} same is = record {
   past = is.past;
   stands = is.stands;
   held = λ t. subst (IsHeld is.setup is.past (ticket_at is.past t)) (sym (same t)) (is.held t);
-  first = is.first;
 }
 
 pub some_engine : {engine : Engine} {jobs : Jobs} → IsSession engine jobs → StandsForSome engine
-some_engine is = record { setup = is.setup; past = is.past; stands = is.stands; first = is.first }
+some_engine is = record { setup = is.setup; past = is.past; stands = is.stands }
 
 -- an engine takes an act that is no leave
 pub may_go : {engine : Engine} {jobs : Jobs} {act : Act} → left_by act ≡ None → IsSession engine jobs → MayTake engine act None
-may_go {act = act} no_leave is = record { setup = is.setup; past = is.past; stands = is.stands; first = is.first; back_is = not_leave is.setup is.past act no_leave }
+may_go {act = act} no_leave is = record { setup = is.setup; past = is.past; stands = is.stands; back_is = not_leave is.setup is.past act no_leave }
 
 -- what the job of a leave's ticket came back with
 pub comes_back : (setup : Setup) (past : History) (ticket : ℕ) (act : Act) (jobs : Jobs) (job : Option Job) (back : Option JobDone) → act ≡ Leave ticket → job ≡ job_in jobs ticket → JobsStand setup jobs past → Ran job back
@@ -200,6 +199,5 @@ may_leave {jobs = jobs} ticket act job back e is ran session = record {
   setup = session.setup;
   past = session.past;
   stands = session.stands;
-  first = session.first;
   back_is = comes_back session.setup session.past ticket act jobs job back e is session.held ran;
 }

@@ -8,9 +8,10 @@ use Rattle.ks_outside.specs.declared.sink.Sink.{Ghosts as SinkGhosts}
 use Rattle.ks_outside.specs.declared.source.Source.{Ghosts as SourceGhosts}
 use Rattle.tags.specs.declared.policy.PolicyRow.{PolicyRow}
 use Rattle.tags.specs.declared.secrets.DeviceSecrets.{DeviceSecrets}
+use Rattle.journal_records.specs.LastingPart.{empty_lasting}
 use Rattle.rule_model.specs.Entries.{History}
 use Rattle.rule_model.specs.Legal.{Legal}
-use Rattle.rule_model.specs.Setup.{Setup, empty_lasting}
+use Rattle.rule_model.specs.Setup.{Setup}
 use Rattle.keystore_program.specs.declared.status.Status.{Status}
 use Rattle.keystore_program.specs.declared.status.Status.TheVariants as statuses
 use Rattle.keystore_program.specs.Drawn.{DrewAll}

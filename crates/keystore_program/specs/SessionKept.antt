@@ -1,5 +1,5 @@
 -- What is kept of an engine and the jobs beside it: they stand for some history.
-use Rattle.std.specs.Prelude.{◌≡◌, ℕ, ◌≤◌, None}
+use Rattle.std.specs.Prelude.{◌≡◌, ℕ, None}
 use Rattle.rule_model.specs.Entries.{History}
 use Rattle.rule_model.specs.Setup.{Setup}
 use Rattle.rule_model.specs.Tickets.{ticket_at}
@@ -8,13 +8,12 @@ use Rattle.keystore_core.specs.Engine.{Stands}
 use Rattle.keystore_program.specs.declared.jobs.Jobs.{Jobs}
 use Rattle.keystore_program.specs.Jobs.{JobsStand}
 
--- an engine stands for some history, over a lasting part whose next key has the number 1, and jobs are those of its works
+-- an engine stands for some history, and jobs are those of its works
 pub record IsSession (engine : Engine) (jobs : Jobs) : Type 0 where
   pub setup : Setup
   pub past : History
   pub stands : Stands setup engine past
   pub held : JobsStand setup jobs past
-  pub first : setup.start.next_key ≤ 1
 
 -- an engine that stands for some history in which no work is out
 pub record IsIdle (engine : Engine) : Type 0 where
@@ -22,4 +21,3 @@ pub record IsIdle (engine : Engine) : Type 0 where
   pub past : History
   pub stands : Stands setup engine past
   pub none : (ticket : ℕ) → ticket_at past ticket ≡ None
-  pub first : setup.start.next_key ≤ 1

@@ -5,6 +5,7 @@ ghost use Rattle.tag_lists.specs.Lookups.{IsKey};
 ghost use Rattle.use_rules.specs.Table.{key_of};
 
 use crate::spelled::{AES_KEY, GCM_KEY, MAC_KEY, Pairs, app_key, encoded};
+use key_domains::Permissions;
 use key_rules::{read_asked, usable};
 use keymint_ops::{Begin, BeginFault, plan_begin};
 use std::alloc::Global;
@@ -31,7 +32,10 @@ fn facts_of(
     Ok(BeginFacts {
         connected: true,
         descriptor: app_key(alloc, b"a")?,
+        row: None,
         found: true,
+        bits: Permissions::of_bits(256),
+        forced: false,
         asked,
         opened: Some(key),
         fits,

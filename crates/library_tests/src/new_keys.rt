@@ -25,6 +25,7 @@ fn asked(
     Ok(NewFacts {
         connected: true,
         descriptor: app_key(alloc, alias)?,
+        row: None,
         params: Bytes::of(encoded(alloc, list, &[], None)?),
         import,
         wall,

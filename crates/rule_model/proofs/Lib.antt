@@ -1,6 +1,6 @@
 pub mod Clients
 pub mod Counting
-pub mod Keys
+pub mod Kept
 pub mod Legal
 pub mod Operations
 pub mod Tickets

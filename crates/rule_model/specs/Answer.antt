@@ -1,9 +1,11 @@
 -- The answer to an event over a history.
 use Rattle.std.specs.Prelude.{ℕ, ◌+◌, ◌==◌, List, Option, Some, None, Result, Ok, Err, if◌then◌else◌}
 use Rattle.tags.specs.declared.code.Code.{Code}
-use Rattle.tags.specs.declared.code.Code.TheVariants.{InvalidArgument, NoTicket}
+use Rattle.tags.specs.declared.code.Code.TheVariants.{InvalidArgument, NoTicket, StoreFull}
 use Rattle.tags.specs.declared.rule.Rule.{Rule}
 use Rattle.tags.specs.declared.rule.RuleTable.TheVariants.{L}
+use Rattle.tags.specs.declared.descriptor.Descriptor.{Descriptor}
+use Rattle.journal_records.specs.LastingPart.{Lasting}
 use Rattle.key_rules.specs.Creation.{new_key}
 use Rattle.use_rules.specs.declared.facts.BeginFacts.{BeginFacts}
 use Rattle.use_rules.specs.Plans.{nonce_wanted}
@@ -14,48 +16,26 @@ use Rattle.cipher_ops.specs.declared.room.Work.{Work}
 use Rattle.cipher_ops.specs.declared.room.Work.TheVariants.{Aad, Text, Last}
 use Rattle.rule_model.specs.declared.event.Event.{Event}
 use Rattle.rule_model.specs.declared.event.Act.{Act}
-use Rattle.rule_model.specs.declared.event.Act.TheVariants.{Connect, Disconnect, GenerateKey, ImportKey, CreateOperation, EnterAad, EnterUpdate, EnterFinish, Abort, Leave}
+use Rattle.rule_model.specs.declared.event.Act.TheVariants.{Connect, Disconnect, GenerateKey, ImportKey, CreateOperation, EnterAad, EnterUpdate, EnterFinish, Abort, GetKeyEntry, DeleteKey, Grant, Ungrant, GetNumberOfEntries, ListEntriesBatched, ClearNamespace, UserRemoved, Leave}
 use Rattle.rule_model.specs.declared.facts.Caller.{Caller}
 use Rattle.rule_model.specs.declared.reply.Fields.{Fields}
 use Rattle.rule_model.specs.declared.reply.Reply.{Reply}
 use Rattle.rule_model.specs.declared.reply.Reply.TheVariants.{Done, Broken, Stopped}
 use Rattle.rule_model.specs.Acts.{is_begin, is_built, is_connect}
-use Rattle.rule_model.specs.Calls.{disconnect_ruling}
+use Rattle.rule_model.specs.Calls.{clear_namespace_ruling, counted_in, delete_key_ruling, disconnect_ruling, get_key_entry_ruling, grant_ruling, granted_in, key_entry, listed_in, listing_ruling, ungrant_ruling, user_removed_ruling}
+use Rattle.rule_model.specs.Changes.{owner_for}
 use Rattle.rule_model.specs.Clients.{caller_of}
 use Rattle.rule_model.specs.Entries.{History, count_of}
-use Rattle.rule_model.specs.Keys.{next_key, owner_of}
+use Rattle.rule_model.specs.Access.{id_by, owner_of}
+use Rattle.rule_model.specs.Kept.{kept, key_found}
+use Rattle.rule_model.specs.Places.{has_key_place}
 use Rattle.rule_model.specs.NewFacts.{import_of, new_facts}
-use Rattle.rule_model.specs.Operations.{operation_at, output_of}
+use Rattle.rule_model.specs.Operations.{has_busy, operation_at, output_of}
+use Rattle.rule_model.specs.Replies.{broken_or, no_fields}
 use Rattle.rule_model.specs.Setup.{Setup}
 use Rattle.rule_model.specs.Slots.{begin_facts, pruned_for}
 use Rattle.rule_model.specs.StepFacts.{brought_by, brought_by_abort, step_facts}
 use Rattle.rule_model.specs.Tickets.{Entered, next_ticket, ticket_at}
-
-abbrev pub no_fields : Fields
-no_fields = record {
-  client = None;
-  key = None;
-  op = None;
-  challenge = None;
-  ticket = None;
-  pruned = None;
-  grant = None;
-  count = None;
-  uses = None;
-  domain = None;
-  nspace = None;
-  alias = None;
-  nonce = None;
-  out = None;
-  blob = None;
-  list = None;
-  entries = None;
-}
-
--- the first broken rule of a table, or else this reply
-abbrev pub broken_or : {T : Type 0} → Result T (Rule × Code) → Reply → Reply
-broken_or (Ok found) reply = reply
-broken_or (Err (rule, code)) reply = Broken rule code
 
 -- the nonce that a begin drew
 abbrev pub drawn_nonce : BeginFacts → List ℕ → Option (List ℕ)
@@ -85,6 +65,11 @@ leaving setup past (Some entered) = given_or entered.work (output_of (operation_
 abbrev pub begun_with : ℕ → Option (List ℕ) → Option ℕ → Reply
 begun_with op nonce pruned = Done (record no_fields { op = Some op; nonce = nonce; pruned = pruned })
 
+-- a new key takes the next number, where there is a place for it
+abbrev pub made_in : Lasting → Caller → Descriptor → Reply
+made_in part caller key =
+    if has_key_place part (owner_of caller) key then Done (record no_fields { key = Some part.next_key }) else Stopped StoreFull
+
 -- the answer to a line that is no event
 abbrev pub malformed : Reply
 malformed = Broken (record { table = L; number = 1 }) InvalidArgument
@@ -93,9 +78,9 @@ malformed = Broken (record { table = L; number = 1 }) InvalidArgument
 abbrev pub answer_by_rules : Act → Setup → History → Caller → List ℕ → Reply
 answer_by_rules (Connect uid) setup past caller drawn = Done (record no_fields { client = Some (count_of is_connect past + 1) })
 answer_by_rules (GenerateKey key params) setup past caller drawn =
-    broken_or (new_key (new_facts caller key params None)) (Done (record no_fields { key = Some (next_key setup past) }))
+    broken_or (new_key (new_facts setup.policy caller key params None)) (made_in (kept setup past) caller key)
 answer_by_rules (ImportKey key params format material) setup past caller drawn =
-    broken_or (new_key (new_facts caller key params (import_of format material))) (Done (record no_fields { key = Some (next_key setup past) }))
+    broken_or (new_key (new_facts setup.policy caller key params (import_of format material))) (made_in (kept setup past) caller key)
 answer_by_rules (CreateOperation key params forced) setup past caller drawn =
     broken_or (begin_table.answer (begin_facts setup past caller key params forced))
     (begun_with (count_of is_begin past + 1) (drawn_nonce (begin_facts setup past caller key params forced) drawn) (pruned_for setup past (owner_of caller) forced))
@@ -104,7 +89,19 @@ answer_by_rules (EnterUpdate op input) setup past caller drawn = entering setup 
 answer_by_rules (EnterFinish op input signature) setup past caller drawn = entering setup past caller op (Last input signature)
 answer_by_rules (Abort op) setup past caller drawn =
     broken_or (step_table.answer (step_facts setup past caller op brought_by_abort)) (Done no_fields)
-answer_by_rules Disconnect setup past caller drawn = broken_or (disconnect_ruling setup past caller) (Done no_fields)
+answer_by_rules Disconnect setup past caller drawn = broken_or (disconnect_ruling caller (has_busy setup past caller.client)) (Done no_fields)
+answer_by_rules (GetKeyEntry key) setup past caller drawn =
+    broken_or (get_key_entry_ruling setup.policy (kept setup past) caller key) (key_entry (key_found setup past caller key))
+answer_by_rules (DeleteKey key) setup past caller drawn = broken_or (delete_key_ruling setup.policy (kept setup past) caller key) (Done no_fields)
+answer_by_rules (Grant key uid bits) setup past caller drawn =
+    broken_or (grant_ruling setup.policy (kept setup past) caller key bits) (granted_in (kept setup past) (id_by setup.policy (kept setup past) caller key) uid)
+answer_by_rules (Ungrant key uid) setup past caller drawn = broken_or (ungrant_ruling setup.policy (kept setup past) caller key uid) (Done no_fields)
+answer_by_rules (GetNumberOfEntries domain nspace) setup past caller drawn =
+    broken_or (listing_ruling setup.policy caller domain nspace) (counted_in (kept setup past) (owner_for (owner_of caller) domain nspace))
+answer_by_rules (ListEntriesBatched domain nspace behind) setup past caller drawn =
+    broken_or (listing_ruling setup.policy caller domain nspace) (listed_in (kept setup past) (owner_for (owner_of caller) domain nspace) behind)
+answer_by_rules (ClearNamespace domain nspace) setup past caller drawn = broken_or (clear_namespace_ruling caller domain nspace) (Done no_fields)
+answer_by_rules (UserRemoved user) setup past caller drawn = broken_or (user_removed_ruling caller user) (Done no_fields)
 answer_by_rules (Leave ticket) setup past caller drawn = leaving setup past (ticket_at past ticket)
 answer_by_rules _ setup past caller drawn = malformed
 

@@ -4,9 +4,8 @@ use Rattle.tags.specs.declared.code.Code.{Code}
 use Rattle.tags.specs.declared.code.Code.TheVariants.{EntropyFault}
 use Rattle.tags.specs.declared.plan.Plan.{Plan}
 use Rattle.tags.specs.declared.rule.Rule.{Rule}
-use Rattle.key_rules.specs.declared.facts.ImportFacts.{ImportFacts}
 use Rattle.key_rules.specs.declared.plan.KeyPlan.{KeyPlan}
-use Rattle.key_rules.specs.Creation.{material_size, new_key}
+use Rattle.key_rules.specs.Creation.{new_key}
 use Rattle.use_rules.specs.declared.facts.BeginFacts.{BeginFacts}
 use Rattle.use_rules.specs.Plans.{nonce_wanted}
 use Rattle.use_rules.specs.Table as begin_table
@@ -20,10 +19,13 @@ use Rattle.rule_model.specs.declared.facts.Caller.{Caller}
 use Rattle.rule_model.specs.declared.facts.Pieces.{Pieces}
 use Rattle.rule_model.specs.declared.reply.Reply.{Reply}
 use Rattle.rule_model.specs.declared.reply.Reply.TheVariants.{Done, Broken, Stopped}
+use Rattle.rule_model.specs.Access.{owner_of}
 use Rattle.rule_model.specs.Acts.{fixed_for, is_built}
 use Rattle.rule_model.specs.Clients.{caller_of}
 use Rattle.rule_model.specs.Entries.{History}
+use Rattle.rule_model.specs.Kept.{kept}
 use Rattle.rule_model.specs.NewFacts.{import_of, new_facts}
+use Rattle.rule_model.specs.Places.{has_key_place}
 use Rattle.rule_model.specs.Setup.{Setup}
 use Rattle.rule_model.specs.Slots.{begin_facts}
 
@@ -34,11 +36,11 @@ size_of pieces = pieces.first + pieces.second
 abbrev pub no_pieces : Pieces
 no_pieces = record { first = 0; second = 0 }
 
--- what a new key draws: a generated material, and then the 12 bytes of a nonce
-abbrev pub wanted_by_key : Result KeyPlan (Rule × Code) → Option ImportFacts → Pieces
-wanted_by_key (Err broken) import = no_pieces
-wanted_by_key (Ok plan) None = record { first = material_size plan.list; second = 12 }
-wanted_by_key (Ok plan) (Some import) = record { first = 0; second = 12 }
+-- what a new key draws, where there is a place for it: a generated material, and then the 12 bytes of a nonce
+abbrev pub wanted_by_key : Result KeyPlan (Rule × Code) → Bool → Pieces
+wanted_by_key (Err broken) place = no_pieces
+wanted_by_key (Ok plan) false = no_pieces
+wanted_by_key (Ok plan) true = record { first = plan.size; second = 12 }
 
 -- what a begin draws: the nonce, where one is wanted
 abbrev pub wanted_by_begin : Result Plan (Rule × Code) → BeginFacts → Pieces
@@ -46,9 +48,10 @@ wanted_by_begin (Err broken) facts = no_pieces
 wanted_by_begin (Ok plan) facts = record { first = nonce_wanted (asked_of facts) (key_of facts); second = 0 }
 
 abbrev pub wanted_by_rules : Act → Setup → History → Caller → Pieces
-wanted_by_rules (GenerateKey key params) setup past caller = wanted_by_key (new_key (new_facts caller key params None)) None
+wanted_by_rules (GenerateKey key params) setup past caller =
+    wanted_by_key (new_key (new_facts setup.policy caller key params None)) (has_key_place (kept setup past) (owner_of caller) key)
 wanted_by_rules (ImportKey key params format material) setup past caller =
-    wanted_by_key (new_key (new_facts caller key params (import_of format material))) (import_of format material)
+    wanted_by_key (new_key (new_facts setup.policy caller key params (import_of format material))) (has_key_place (kept setup past) (owner_of caller) key)
 wanted_by_rules (CreateOperation key params forced) setup past caller =
     wanted_by_begin (begin_table.answer (begin_facts setup past caller key params forced)) (begin_facts setup past caller key params forced)
 wanted_by_rules _ setup past caller = no_pieces

@@ -10,7 +10,7 @@ use Rattle.rule_model.specs.Acts.{fixed_for}
 use Rattle.rule_model.specs.Answer.{answer}
 use Rattle.rule_model.specs.Drawn.{size_of, wanted}
 use Rattle.rule_model.specs.Entries.{History, after_settling}
-use Rattle.rule_model.specs.Keys.{is_unsettled}
+use Rattle.rule_model.specs.Settling.{is_unsettled}
 use Rattle.rule_model.specs.Setup.{Setup}
 
 -- an entry with the answer of the rules, and as many bytes as are wanted

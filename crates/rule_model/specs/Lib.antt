@@ -2,8 +2,14 @@ pub mod Acts
 pub mod Entries
 pub mod Clients
 pub mod Setup
+pub mod Access
 pub mod NewFacts
-pub mod Keys
+pub mod Changes
+pub mod Settling
+pub mod Kept
+pub mod Places
+pub mod Replies
+pub mod Listing
 pub mod BeginFacts
 pub mod Tickets
 pub mod Operations

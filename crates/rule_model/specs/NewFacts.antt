@@ -1,19 +1,22 @@
 -- What the rules of a new key read.
 use Rattle.std.specs.Prelude.{ℕ, List, Option, Some, is_some, length}
 use Rattle.tags.specs.declared.descriptor.Descriptor.{Descriptor}
+use Rattle.tags.specs.declared.policy.PolicyRow.{PolicyRow}
 use Rattle.key_rules.specs.declared.facts.ImportFacts.{ImportFacts}
 use Rattle.key_rules.specs.declared.facts.NewFacts.{NewFacts}
 use Rattle.rule_model.specs.declared.facts.Caller.{Caller}
+use Rattle.rule_model.specs.Access.{row_for}
 
 -- what is known of an imported material
 abbrev pub import_of : ℕ → List ℕ → Option ImportFacts
 import_of format material = Some (record { format = format; length = length material })
 
 -- the facts of a caller's call
-abbrev pub new_facts : Caller → Descriptor → List ℕ → Option ImportFacts → NewFacts
-new_facts caller key params import = record {
+abbrev pub new_facts : List PolicyRow → Caller → Descriptor → List ℕ → Option ImportFacts → NewFacts
+new_facts policy caller key params import = record {
   connected = is_some caller.uid;
   descriptor = key;
+  row = row_for policy caller key.nspace;
   params = params;
   import = import;
   wall = caller.reading.wall;

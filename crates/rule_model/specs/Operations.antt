@@ -1,5 +1,5 @@
 -- The operations of a history: what began them, what they have taken, which work is out, and what they put out.
-use Rattle.std.specs.Prelude.{ℕ, ◌+◌, Bool, true, ◌&&◌, not, ◌==◌, List, [], ◌∷◌, ◌++◌, Option, Some, None, Result, Ok, if◌then◌else◌, unwrap_or, is_some, length, map, filter, find}
+use Rattle.std.specs.Prelude.{ℕ, ◌+◌, Bool, true, false, ◌&&◌, not, ◌==◌, List, [], ◌∷◌, ◌++◌, Option, Some, None, Result, Ok, if◌then◌else◌, unwrap_or, is_some, length, map, filter, find}
 use Rattle.std.specs.List.{list_any}
 use Rattle.tags.specs.declared.code.Code.{Code}
 use Rattle.tags.specs.declared.descriptor.Descriptor.{Descriptor}
@@ -13,7 +13,7 @@ use Rattle.cipher_ops.specs.declared.room.Work.{Work}
 use Rattle.cipher_ops.specs.declared.room.Work.TheVariants.{Aad, Text, Last}
 use Rattle.cipher_ops.specs.Output.{update_output, finish_output}
 use Rattle.rule_model.specs.declared.entry.Entry.TheVariants.{Acted, Settling}
-use Rattle.rule_model.specs.declared.entry.KeyRecord.{KeyRecord}
+use Rattle.journal_records.specs.declared.record.KeyRecord.{KeyRecord}
 use Rattle.rule_model.specs.declared.event.Event.{Event}
 use Rattle.rule_model.specs.declared.event.Act.{Act}
 use Rattle.rule_model.specs.declared.event.Act.TheVariants.{Disconnect, CreateOperation, EnterAad, EnterUpdate, EnterFinish, Abort, Leave, Restart}
@@ -24,7 +24,9 @@ use Rattle.rule_model.specs.declared.reply.Reply.TheVariants.{Done, Broken, Stop
 use Rattle.rule_model.specs.BeginFacts.{facts_on}
 use Rattle.rule_model.specs.Clients.{caller_of}
 use Rattle.rule_model.specs.Entries.{History}
-use Rattle.rule_model.specs.Keys.{key_found, owner_of}
+use Rattle.rule_model.specs.Access.{owner_of}
+use Rattle.rule_model.specs.Changes.{material_in}
+use Rattle.rule_model.specs.Kept.{access_at, key_found}
 use Rattle.rule_model.specs.Setup.{Setup}
 use Rattle.rule_model.specs.Tickets.{Entered, ticket_at}
 
@@ -56,7 +58,7 @@ operation_on key facts caller number drawn = record {
   client = caller.client;
   uid = owner_of caller;
   key = Some key.id;
-  material = key.blob;
+  material = material_in key;
   list = key_of facts;
   limit = key.limit;
   plan = plan_of (asked_of facts) (key_of facts);
@@ -93,9 +95,10 @@ pub data OperationChange : Type 0 where
   ClosesOf : ℕ → OperationChange
   ClosesAll : OperationChange
 
--- what a begin on a key reads, whether or not there is a slot
+-- what a begin on a key reads, whether or not it forces and there is a slot
 abbrev pub facts_of_begin : Setup → History → Caller → Descriptor → List ℕ → BeginFacts
-facts_of_begin setup past caller key params = facts_on (key_found setup past caller key) caller key params true
+facts_of_begin setup past caller key params =
+    facts_on setup.policy (key_found setup past caller key) (access_at setup past caller key) caller key params false true
 
 abbrev pub opens : Option KeyRecord → BeginFacts → Caller → Fields → List ℕ → OperationChange
 opens (Some key) facts caller fields drawn = opens_as fields.op where

@@ -6,7 +6,8 @@ use Rattle.pruning.specs.Victim.{OpenFacts, victim}
 use Rattle.rule_model.specs.declared.facts.Caller.{Caller}
 use Rattle.rule_model.specs.BeginFacts.{facts_on}
 use Rattle.rule_model.specs.Entries.{History}
-use Rattle.rule_model.specs.Keys.{key_found, owner_of}
+use Rattle.rule_model.specs.Access.{owner_of}
+use Rattle.rule_model.specs.Kept.{access_at, key_found}
 use Rattle.rule_model.specs.Operations.{Open, is_busy, open_of, step_of}
 use Rattle.rule_model.specs.Setup.{Setup}
 
@@ -36,4 +37,5 @@ has_room setup past uid forced = has_free setup past || is_some (pruned_for setu
 -- what the rules read of a caller's begin
 abbrev pub begin_facts : Setup → History → Caller → Descriptor → List ℕ → Bool → BeginFacts
 begin_facts setup past caller key params forced =
-    facts_on (key_found setup past caller key) caller key params (has_room setup past (owner_of caller) forced)
+    facts_on setup.policy (key_found setup past caller key) (access_at setup past caller key) caller key params forced
+    (has_room setup past (owner_of caller) forced)

@@ -9,7 +9,7 @@ use Rattle.cipher_ops.specs.declared.room.Work.TheVariants.{Aad, Text, Last}
 use Rattle.rule_model.specs.declared.facts.Brought.{Brought}
 use Rattle.rule_model.specs.declared.facts.Caller.{Caller}
 use Rattle.rule_model.specs.Entries.{History}
-use Rattle.rule_model.specs.Keys.{is_live}
+use Rattle.rule_model.specs.Kept.{is_live}
 use Rattle.rule_model.specs.Operations.{Open, is_busy, operation_at}
 use Rattle.rule_model.specs.Setup.{Setup}
 

@@ -37,17 +37,10 @@ impl Act {
         }
     }
 
-    /// Whether the act is a begin that forces.
-    fn is_forced(&self) -> bool
-        ensures { result ≡ Rattle.rule_model.specs.Acts.is_forced self.now }
-    {
-        matches!(self, Act::CreateOperation { forced: true, .. })
-    }
-
     /// Whether the act is an event by now. One that is not is answered as a malformed line.
     pub fn is_built(&self) -> bool
         ensures { result ≡ is_event self.now }
     {
-        self.kind().row().is_built && !self.is_forced()
+        self.kind().row().is_built
     }
 }

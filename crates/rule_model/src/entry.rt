@@ -1,4 +1,4 @@
-//! The entries of a history, what a step gives back, and a key that lasts.
+//! The entries of a history, and what a step gives back.
 
 use crate::{Event, Reply};
 use cipher_ops::Job;
@@ -29,26 +29,4 @@ pub struct Stepped {
     pub job: Option<Job>,
     /// the bytes that were drawn
     pub drawn: Bytes,
-}
-
-/// A key of the lasting part.
-#[derive(Debug, Drop)]
-pub struct KeyRecord {
-    pub id: u64,
-    /// the domain of the owner: 0 for an app, 2 for a namespace
-    pub domain: u32,
-    /// the owner's uid or namespace
-    pub nspace: u64,
-    /// UTF-8
-    pub alias: Bytes,
-    /// the key's material, as the service keeps it
-    pub blob: Bytes,
-    /// the 12 bytes that were drawn to seal it with
-    pub nonce: Bytes,
-    /// the authorization list, encoded
-    pub list: Bytes,
-    /// how many uses the key has in its life, or 0 for no limit
-    pub limit: u32,
-    /// how many of them are left
-    pub left: u32,
 }

@@ -6,3 +6,4 @@ pub mod Fields
 pub mod Laws
 pub mod Lookups
 pub mod Members
+pub mod Sizes

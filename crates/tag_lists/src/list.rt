@@ -8,7 +8,7 @@ ghost use Rattle.tags.specs.Param.{as_number};
 ghost use Rattle.tags.specs.Values as values;
 ghost use Rattle.tags.specs.Values.{passes};
 ghost use Rattle.tag_lists.specs.Order.{Fits, IsCanonical, MayBeListed, canonical, with_param};
-ghost use Rattle.tag_lists.specs.Spelling.{spelling, IsListOf};
+ghost use Rattle.tag_lists.specs.Spelling.{spelled, spelling, IsListOf};
 ghost use Rattle.tag_lists.specs.Reading.{Gives, listed};
 ghost use Rattle.tag_lists.specs.Lookups as spec;
 
@@ -139,6 +139,9 @@ impl AuthList {
         // Each parameter takes five bytes at least.
         ensures few { IfOk result (λ list. 2 + 5 * length list ≤ length bytes.now) }
 
+        // The canonical spelling has no more bytes.
+        ensures small { IfOk result (λ list. length (spelling list) ≤ length bytes.now) }
+
         // What is spelled so is read.
         ensures only { (order : List Param) → length order ≤ 65535 → MayBeListed order → bytes.now ≡ spelling order → Gives (λ list. list) result (Ok (canonical order)) }
 
@@ -189,6 +192,7 @@ impl AuthList {
     pub fn without(self, tag: Tag) -> AuthList
         ensures list { result ≡ spec.without tag self }
         ensures len { length result ≤ length self }
+        ensures small { length (spelling result) ≤ length (spelling self) }
     {
         let AuthList { mut params } = self;
         params.retain(|param| !is_tag(param.tag, tag));
@@ -201,6 +205,7 @@ impl AuthList {
         requires room { length self < 65535 }
         ensures list { IfOk result (λ list. list ≡ with_param param (spec.without param.tag self)) }
         ensures len { IfOk result (λ list. length list ≤ length self + 1) }
+        ensures small { IfOk result (λ list. length (spelling list) ≤ length (spelling self) + length (spelled param)) }
     {
         let AuthList { mut params } = self.without(param.tag);
         let own = rank(&param);

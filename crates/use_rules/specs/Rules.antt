@@ -2,6 +2,9 @@
 -- key's list (`key`). Where a part names AES or HMAC, it holds for the other.
 use Rattle.std.specs.Prelude.{ℕ, Bool, true, ◌&&◌, ◌||◌, ◌==◌, nat_le, List, Option, Some, None, if◌then◌else◌, is_some, unwrap_or, length}
 use Rattle.std.specs.Option.{option_or}
+use Rattle.key_domains.specs.declared.permission.Permission.TheVariants.{ReqForcedOp, Use}
+use Rattle.key_domains.specs.Bits.{has}
+use Rattle.key_domains.specs.Domains.{domain_app, domain_grant, domain_key_id, domain_selinux}
 use Rattle.tags.specs.declared.descriptor.Descriptor.{Descriptor}
 use Rattle.tags.specs.declared.param.Param.{Param}
 use Rattle.tags.specs.declared.tag.Tag.{Tag}
@@ -10,9 +13,24 @@ use Rattle.tags.specs.Descriptor.{has_alias}
 use Rattle.tags.specs.Values.{AES_PURPOSES, CBC, CTR, DECRYPT, DIGESTS, ENCRYPT, GCM, HMAC_PURPOSES, MODES, PADDINGS, SIGN, UNPADDED, digest_bits, implies, is_whole_bytes, one_in, passes}
 use Rattle.tag_lists.specs.Lookups.{bytes_of, has_number, is_aes, is_hmac, is_only, number_of, only_number, stands}
 
--- the domain is APP, with an alias of 1 to 256 bytes of UTF-8
+-- APP and SELINUX find a key by its alias, GRANT and KEY_ID by a number
+abbrev pub is_by_alias : ℕ → Bool
+is_by_alias domain = (domain == domain_app) || (domain == domain_selinux)
+
+abbrev pub is_by_number : ℕ → Bool
+is_by_number domain = (domain == domain_grant) || (domain == domain_key_id)
+
+-- the domain is APP or SELINUX with an alias of 1 to 256 bytes of UTF-8, or GRANT or KEY_ID
 abbrev pub names_key : Descriptor → Bool
-names_key descriptor = (descriptor.domain == 0) && has_alias descriptor
+names_key descriptor = (is_by_alias descriptor.domain && has_alias descriptor) || is_by_number descriptor.domain
+
+-- SELINUX: the policy has a row of the caller's uid and the namespace
+abbrev pub is_in_policy : Descriptor → Option ℕ → Bool
+is_in_policy descriptor row = implies (descriptor.domain == domain_selinux) (is_some row)
+
+-- the caller's bits have USE, and REQ_FORCED_OP where the begin forces
+abbrev pub may_begin : ℕ → Bool → Bool
+may_begin bits forced = has bits Use && implies forced (has bits ReqForcedOp)
 
 -- ENCRYPT or DECRYPT for AES, SIGN or VERIFY for HMAC
 abbrev pub serves : List Param → ℕ → Bool

@@ -1,14 +1,14 @@
 -- Table B, the beginning of an operation: a list of rules in its order, and the answer is the first that does not hold.
 use Rattle.std.specs.Prelude.{◌≡◌, Bool, true, List, [], ◌∷◌, ◌++◌, Result, Ok, Err, is_some, is_ok, unwrap_or}
 use Rattle.tags.specs.declared.code.Code.{Code}
-use Rattle.tags.specs.declared.code.Code.TheVariants.{InvalidArgument, KeyNotFound, InvalidTag, InvalidKeyBlob, UnsupportedPurpose, IncompatiblePurpose, UnsupportedBlockMode, IncompatibleBlockMode, UnsupportedPaddingMode, IncompatiblePaddingMode, UnsupportedDigest, IncompatibleDigest, MissingMacLength, UnsupportedMacLength, InvalidMacLength, CallerNonceProhibited, MissingNonce, InvalidNonce, BackendBusy}
+use Rattle.tags.specs.declared.code.Code.TheVariants.{InvalidArgument, KeyNotFound, PermissionDenied, InvalidTag, InvalidKeyBlob, UnsupportedPurpose, IncompatiblePurpose, UnsupportedBlockMode, IncompatibleBlockMode, UnsupportedPaddingMode, IncompatiblePaddingMode, UnsupportedDigest, IncompatibleDigest, MissingMacLength, UnsupportedMacLength, InvalidMacLength, CallerNonceProhibited, MissingNonce, InvalidNonce, BackendBusy}
 use Rattle.tags.specs.declared.param.Param.{Param}
 use Rattle.tags.specs.declared.plan.Plan.{Plan}
 use Rattle.tags.specs.declared.rule.Rule.{Rule}
 use Rattle.tags.specs.declared.rule.RuleTable.TheVariants.{B}
 use Rattle.tags.specs.Table.{Check, check, first_broken, where_all_hold}
 use Rattle.use_rules.specs.declared.facts.BeginFacts.{BeginFacts}
-use Rattle.use_rules.specs.Rules.{names_key, names_purpose, key_has_purpose, names_mode, key_has_mode, names_padding, takes_padding, names_digest, key_has_digest, gives_length, takes_length, reaches_least, may_give_nonce, has_nonce, fits_nonce}
+use Rattle.use_rules.specs.Rules.{names_key, is_in_policy, may_begin, names_purpose, key_has_purpose, names_mode, key_has_mode, names_padding, takes_padding, names_digest, key_has_digest, gives_length, takes_length, reaches_least, may_give_nonce, has_nonce, fits_nonce}
 use Rattle.use_rules.specs.Plans.{plan_of}
 
 -- the operation's list, where it was read
@@ -33,7 +33,9 @@ abbrev pub call_rules : BeginFacts → List Check
 call_rules facts =
     check 1 InvalidArgument facts.connected ∷  -- the client is connected
     check 2 InvalidArgument (names_key facts.descriptor) ∷  -- the descriptor has the form of its domain
+    check 3 PermissionDenied (is_in_policy facts.descriptor facts.row) ∷  -- SELINUX: the policy knows the caller there
     check 4 KeyNotFound facts.found ∷  -- the key is found
+    check 5 PermissionDenied (may_begin facts.bits facts.forced) ∷  -- the caller may use it, and force where it forces
     check 6 (fault_of facts.asked) (is_ok facts.asked) ∷  -- the operation's list reads
     check 7 InvalidKeyBlob (is_some facts.opened) ∷  -- the blob opens
     check 8 InvalidKeyBlob facts.fits ∷  -- to a list and a material that are usable

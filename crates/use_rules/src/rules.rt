@@ -3,18 +3,45 @@
 ghost use Rattle.std.specs.Prelude.{◌≡◌};
 ghost use Rattle.use_rules.specs.Rules as spec;
 
+use key_domains::{Permission, Permissions};
 use tag_lists::AuthList;
 use tags::values::{
     AES_PURPOSES, CBC, CTR, DECRYPT, DIGESTS, ENCRYPT, GCM, HMAC_PURPOSES, MODES, PADDINGS, SIGN,
     UNPADDED, digest_bits, is_whole_bytes, one_in,
 };
-use tags::{DOMAIN_APP, Descriptor, Tag};
+use tags::{DOMAIN_APP, DOMAIN_GRANT, DOMAIN_KEY_ID, DOMAIN_SELINUX, Descriptor, Tag};
 
-/// Whether the descriptor has the form of its domain; APP is the only one by now.
+fn is_by_alias(domain: u32) -> bool
+    ensures { result ≡ spec.is_by_alias domain }
+{
+    domain == DOMAIN_APP || domain == DOMAIN_SELINUX
+}
+
+fn is_by_number(domain: u32) -> bool
+    ensures { result ≡ spec.is_by_number domain }
+{
+    domain == DOMAIN_GRANT || domain == DOMAIN_KEY_ID
+}
+
+/// Whether the descriptor has the form of its domain; a domain that finds no key by now has none.
 pub fn names_key(descriptor: &Descriptor) -> bool
     ensures { result ≡ spec.names_key descriptor.now }
 {
-    descriptor.domain == DOMAIN_APP && descriptor.has_alias()
+    is_by_alias(descriptor.domain) && descriptor.has_alias() || is_by_number(descriptor.domain)
+}
+
+/// SELINUX: whether the policy has a row of the caller and the namespace.
+pub fn is_in_policy(descriptor: &Descriptor, row: Option<u32>) -> bool
+    ensures { result ≡ spec.is_in_policy descriptor.now row }
+{
+    descriptor.domain != DOMAIN_SELINUX || row.is_some()
+}
+
+/// Whether the caller may use the key, and force where the begin forces.
+pub fn may_begin(bits: Permissions, forced: bool) -> bool
+    ensures { result ≡ spec.may_begin bits forced }
+{
+    bits.has(Permission::Use) && (!forced || bits.has(Permission::ReqForcedOp))
 }
 
 fn serves(key: &AuthList, purpose: u64) -> bool

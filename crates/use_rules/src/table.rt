@@ -11,9 +11,9 @@ ghost use Rattle.use_rules.specs.Table as spec;
 use crate::BeginFacts;
 use crate::plans::plan_of;
 use crate::rules::{
-    fits_nonce, gives_length, has_nonce, key_has_digest, key_has_mode, key_has_purpose,
-    may_give_nonce, names_digest, names_key, names_mode, names_padding, names_purpose,
-    reaches_least, takes_length, takes_padding,
+    fits_nonce, gives_length, has_nonce, is_in_policy, key_has_digest, key_has_mode,
+    key_has_purpose, may_begin, may_give_nonce, names_digest, names_key, names_mode, names_padding,
+    names_purpose, reaches_least, takes_length, takes_padding,
 };
 use tag_lists::AuthList;
 use tags::{Code, Plan, Rule, RuleTable, Ruling, check};
@@ -113,7 +113,17 @@ pub fn check_begin(facts: &BeginFacts) -> Result<Plan, (Rule, Code)>
 {
     check(rule(1), Code::InvalidArgument, facts.connected)?;
     check(rule(2), Code::InvalidArgument, names_key(&facts.descriptor))?;
+    check(
+        rule(3),
+        Code::PermissionDenied,
+        is_in_policy(&facts.descriptor, facts.row),
+    )?;
     check(rule(4), Code::KeyNotFound, facts.found)?;
+    check(
+        rule(5),
+        Code::PermissionDenied,
+        may_begin(facts.bits, facts.forced),
+    )?;
     let asked = match &facts.asked {
         Ok(list) => list,
         Err(code) => return Err((rule(6), *code)),

@@ -7,7 +7,6 @@ answer-answered-requires-clause-at g c = ∥∥₁_map c.requires.takes (λ t. r
   setup = t.setup;
   past = t.past;
   stands = record { tables_stand = t.stands.tables; step_is = ap (λ n. n + 1) t.stands.entries; done_is = t.back_is };
-  first = t.first;
 })
 
 pub returns-clause-stands : goal.returns-clause-stands

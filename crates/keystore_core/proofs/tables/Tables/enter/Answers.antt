@@ -4,7 +4,7 @@ use denote.Struct.Props.{≡_prop}
 use Rattle.std.specs.Coded.{coded_bool}
 use Rattle.step_rules.specs.Table.{answer}
 use Rattle.operation_slots.specs.Table.{held}
-use Rattle.rule_model.specs.Keys.{is_live}
+use Rattle.rule_model.specs.Kept.{is_live}
 use Rattle.rule_model.specs.Operations.{operation_at}
 use Rattle.rule_model.specs.StepFacts.{brought_by}
 use Rattle.keystore_core.specs.Tables.{row_at, state_at}

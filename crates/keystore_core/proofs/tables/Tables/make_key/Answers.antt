@@ -1,42 +1,73 @@
-use Rattle.std.proofs.Common.{◌≡◌, ◌+◌, ◌<◌, length, ap, sym, ◌∙◌, arith}
+use Rattle.std.proofs.Common.{◌≡◌, ℕ, ◌+◌, ◌<◌, ◌^◌, true, length, ap, sym, ◌∙◌, arith}
+use Rattle.key_database.specs.Held.{lasting_in}
 use Rattle.key_rules.specs.declared.facts.NewFacts.{NewFacts}
 use Rattle.keymint_ops.specs.Creation.{planned}
-use Rattle.keystore_core.proofs.Making.{made, refused, without_entropy}
-use Rattle.keystore_core.proofs.Standing.{few_keys, same_but_keys}
+use Rattle.rule_model.specs.Access.{owner_of}
+use Rattle.rule_model.specs.Places.{has_key_place}
+use Rattle.keystore_core.proofs.Making.{full, made, may_make, place_is, planned_as, refused, without_entropy}
+use Rattle.keystore_core.proofs.Standing.{same_but_keys}
 use Rattle.keystore_core.proofs.tables.Tables.make_key.Goals as goal
 
 pub returns-in-Err-Broken-clause-serves : goal.returns-in-Err-Broken-clause-serves
 returns-in-Err-Broken-clause-serves g c = λ setup past stands.
     let facts = c.new_facts-facts.ensures in
-    let broken = sym (ap planned facts) ∙ rw c.in-Err-Broken.field-0-is at c.in-Err-Broken.ensures.key in
+    let broken = planned_as setup past c.args.self.now c.args.caller c.args.key c.args.params c.args.import stands c.requires.caller _
+        (sym (ap planned facts) ∙ rw c.in-Err-Broken.field-0-is at c.in-Err-Broken.ensures.key) in
     rw (c.refused.ensures.reply, c.refused.ensures.job, c.refused.ensures.drawn, c.in-Err-Broken.rule-is, c.in-Err-Broken.code-is)
-    (refused setup past c.args.self.now c.args.caller c.args.key c.args.params stands c.requires.caller c.args.import _ _ broken)
+    (refused setup past c.args.self.now c.args.caller c.args.key c.args.params c.args.import stands c.requires.caller _ _ broken)
+
+pub returns-then-not-has_key_place-clause-serves : goal.returns-then-not-has_key_place-clause-serves
+returns-then-not-has_key_place-clause-serves g c = λ setup past stands.
+    let facts = c.new_facts-facts.ensures in
+    let told = rw (c.owner_of-uid.ensures, ap (λ (f : NewFacts). f.descriptor) facts) at c.has_key_place.ensures in
+    let plan = planned_as setup past c.args.self.now c.args.caller c.args.key c.args.params c.args.import stands c.requires.caller _
+        (sym (ap planned facts) ∙ c.in-Ok.ensures.key) in
+    rw (c.stopped.ensures.reply, c.stopped.ensures.job, c.stopped.ensures.drawn)
+    (full setup past c.args.self.now c.args.caller c.args.key c.args.params c.args.import stands c.requires.caller c.in-Ok.plan plan
+    (sym (place_is setup past c.args.self.now c.args.caller c.args.key c.args.params c.args.import stands c.requires.caller) ∙ sym told
+    ∙ c.if-not-has_key_place.true))
 
 pub returns-in-Err-clause-serves : goal.returns-in-Err-clause-serves
 returns-in-Err-clause-serves g c = λ setup past stands.
-    let is = sym (ap planned c.new_facts-facts.ensures) ∙ c.in-Ok.ensures.key in
+    let facts = c.new_facts-facts.ensures in
+    let told = rw (c.owner_of-uid.ensures, ap (λ (f : NewFacts). f.descriptor) facts) at c.has_key_place.ensures in
+    let plan = planned_as setup past c.args.self.now c.args.caller c.args.key c.args.params c.args.import stands c.requires.caller _
+        (sym (ap planned facts) ∙ c.in-Ok.ensures.key) in
+    let place = sym (place_is setup past c.args.self.now c.args.caller c.args.key c.args.params c.args.import stands c.requires.caller) ∙ sym told
+        ∙ c.if-not-has_key_place.false in
     let few : length c.in-Err.drawn < c.in-Ok.plan.size + 12 = omega (arith, c.in-Err.ensures.part, c.in_ok-draws.ensures) in
     rw (c.without_entropy.ensures.reply, c.without_entropy.ensures.job, c.without_entropy.ensures.drawn)
-    (without_entropy setup past c.args.self.now c.args.caller c.args.key c.args.params stands c.requires.caller c.args.import _ c.in-Ok.plan c.in-Err.drawn is
-    (same_but_keys c.args.self.now c.reserve.new.self c.in_ok-reserve.ensures.same) few)
+    (without_entropy setup past c.args.self.now c.args.caller c.args.key c.args.params c.args.import stands c.requires.caller _ c.in-Ok.plan c.in-Err.drawn plan place
+    (same_but_keys c.args.self.now c.reserve_key.new.self c.in_ok-reserve_key.ensures.same) few)
 
-pub put-requires-clause-few : goal.put-requires-clause-few
-put-requires-clause-few g c = omega (arith, c.in_ok-reserve.ensures.same.next, few_keys c.args.self.now c.requires.tables)
+pub make-requires : goal.make-requires
+make-requires g c =
+    let told = rw (c.owner_of-uid.ensures, ap (λ (f : NewFacts). f.descriptor) c.new_facts-facts.ensures) at c.has_key_place.ensures in
+    let place : has_key_place (lasting_in c.reserve_key.new.self) (owner_of c.args.caller) c.args.key ≡ true =
+    ap (λ part. has_key_place part (owner_of c.args.caller) c.args.key) c.in_ok-reserve_key.ensures.same ∙ sym told ∙ c.if-not-has_key_place.false in
+    let small : owner_of c.args.caller < 2 ^ 32 = rw c.owner_of-uid.ensures at c.owner_of-uid.type_inv in
+    let long : length c.in-Ok-draw.drawn ≡ c.in-Ok.plan.size + 12 = omega (arith, c.in-Ok-draw.ensures.whole, c.in_ok-draws.ensures) in
+    let changed = rw (
+      c.owner_of-uid.ensures,
+      ap (λ (f : NewFacts). f.descriptor) c.new_facts-facts.ensures,
+      c.as_slice.ensures,
+      ap (λ (n : ℕ × ℕ). n.0) c.next_numbers-id.ensures,
+    ) at c.new_key-change.ensures in
+    rw changed
+    (may_make c.args.self.now.policy c.args.caller c.args.key c.args.params c.args.import c.reserve_key.new.self c.in-Ok.plan c.in-Ok-draw.drawn c.in_ok-reserve_key.ensures.room place small
+    (rw c.new_facts-facts.ensures at c.in-Ok.ensures.fit) long)
 
 pub returns-clause-serves : goal.returns-clause-serves
 returns-clause-serves g c = λ setup past stands.
-    let is = sym (ap planned c.new_facts-facts.ensures) ∙ c.in-Ok.ensures.key in
+    let facts = c.new_facts-facts.ensures in
+    let told = rw (c.owner_of-uid.ensures, ap (λ (f : NewFacts). f.descriptor) facts) at c.has_key_place.ensures in
+    let plan = planned_as setup past c.args.self.now c.args.caller c.args.key c.args.params c.args.import stands c.requires.caller _
+        (sym (ap planned facts) ∙ c.in-Ok.ensures.key) in
+    let place = sym (place_is setup past c.args.self.now c.args.caller c.args.key c.args.params c.args.import stands c.requires.caller) ∙ sym told
+        ∙ c.if-not-has_key_place.false in
     let long : length c.in-Ok-draw.drawn ≡ c.in-Ok.plan.size + 12 = omega (arith, c.in-Ok-draw.ensures.whole, c.in_ok-draws.ensures) in
-    made setup past c.args.self.now c.args.caller c.args.key c.args.params stands c.requires.caller c.args.import
-    (record c.args.self.now { keys = c.reserve.new.self }) c.put.new.self c.in-Ok.plan c.in-Ok-draw.drawn c.next-id.result is long c.next-id.ensures
-    (same_but_keys c.args.self.now c.reserve.new.self c.in_ok-reserve.ensures.same)
-    (rw (
-      c.new_record.ensures,
-      c.unwrap_or-owner.ensures,
-      c.material_of-material.ensures,
-      c.filled-nonce.ensures,
-      c.split_at.ensures.front,
-      c.split_at.ensures.back,
-      c.as_slice.ensures,
-      ap (λ (f : NewFacts). f.descriptor) c.new_facts-facts.ensures,
-    ) at c.put.ensures)
+    let number : c.next_numbers-id.result.0 ≡ (lasting_in c.reserve_key.new.self).next_key = ap (λ (n : ℕ × ℕ). n.0) c.next_numbers-id.ensures in
+    let changed = rw (c.owner_of-uid.ensures, ap (λ (f : NewFacts). f.descriptor) facts, c.as_slice.ensures, number) at c.new_key-change.ensures in
+    rw number
+    (made setup past c.args.self.now c.args.caller c.args.key c.args.params c.args.import stands c.requires.caller (record c.args.self.now { keys = c.reserve_key.new.self }) c.make.new.self
+    c.in-Ok.plan c.in-Ok-draw.drawn plan place long (same_but_keys c.args.self.now c.reserve_key.new.self c.in_ok-reserve_key.ensures.same) (rw changed at c.make.ensures))

@@ -1,4 +1,4 @@
-use Rattle.std.proofs.Common.{subst, ◌∙◌}
+use Rattle.std.proofs.Common.{refl, subst, ◌∙◌}
 use Rattle.cipher_ops.specs.Running.{GoesOn}
 use Rattle.keystore_core.proofs.Standing.{same_tables}
 use Rattle.keystore_core.proofs.tables.Tables.send.Goals as goal
@@ -6,7 +6,7 @@ use Rattle.keystore_core.proofs.tables.Tables.send.Goals as goal
 pub returns : goal.returns
 returns c = record {
   clients = (same_tables c.args.self.now).clients;
-  keys = (same_tables c.args.self.now).keys;
+  keys = record { policy_is = refl; lasting_is = refl };
   rows = c.change.ensures;
   slots = c.in-Found.ensures.takes;
   found = c.in-Found.ensures.found;

@@ -1,25 +1,12 @@
-use Rattle.std.proofs.Common.{◌≡◌, Bool, true, false, IsTrue, not, refl}
 use Rattle.keystore_core.proofs.Standing.{at_any, at_begin, at_few, begin_at}
 use Rattle.keystore_core.proofs.tables.Tables.serve.Goals as goal
 
--- a begin that is built is not forced
-unforced : (forced : Bool) → IsTrue (not forced) → forced ≡ false
-unforced false built = refl
-unforced true built = cc
-
 pub returns-in-CreateOperation-clause-serves : goal.returns-in-CreateOperation-clause-serves
 returns-in-CreateOperation-clause-serves g c =
-    let plain = unforced c.in-CreateOperation.forced (rw c.in-CreateOperation.is at c.requires.built) in
-    rw (c.in-CreateOperation.is, plain) (begin_at c.args.self.now _ c.args.caller _ _ _ c.args.step c.args.done c.begin.ensures.serves)
+    rw c.in-CreateOperation.is (begin_at c.args.self.now _ c.args.caller _ _ _ _ c.args.step c.args.done c.begin.ensures.serves)
 
 pub connect-requires : goal.connect-requires
 connect-requires g c = at_few c.args.self.now c.args.step _ _ c.requires.few c.requires.at
-
-pub make_key-requires-clause-tables : goal.make_key-requires-clause-tables
-make_key-requires-clause-tables g c = at_few c.args.self.now c.args.step _ _ c.requires.few c.requires.at
-
-pub make_key-requires-in-ImportKey-clause-tables : goal.make_key-requires-in-ImportKey-clause-tables
-make_key-requires-in-ImportKey-clause-tables g c = at_few c.args.self.now c.args.step _ _ c.requires.few c.requires.at
 
 pub enter-requires-clause-tables : goal.enter-requires-clause-tables
 enter-requires-clause-tables g c = at_few c.args.self.now c.args.step _ _ c.requires.few c.requires.at
@@ -34,4 +21,4 @@ pub abort-requires-clause-tables : goal.abort-requires-clause-tables
 abort-requires-clause-tables g c = at_few c.args.self.now c.args.step _ _ c.requires.few c.requires.at
 
 pub begin-requires-clause-at : goal.begin-requires-clause-at
-begin-requires-clause-at g c = at_begin c.args.self.now c.args.step _ _ c.in-CreateOperation.key c.in-CreateOperation.params c.requires.at
+begin-requires-clause-at g c = at_begin c.args.self.now c.args.step _ _ c.in-CreateOperation.key c.in-CreateOperation.params c.in-CreateOperation.forced c.requires.at

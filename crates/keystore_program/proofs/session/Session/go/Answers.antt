@@ -20,7 +20,6 @@ invariant_of-self g c = record {
     held = held_on is.setup is.past c.args.event c.step-settled.result.settled c.step-settled.result.drawn c.step-settled.result.reply c.step-settled.result.job (tickets_of c.args.self.now.engine + 1) c.args.self.now.jobs c.hold.new.self c.requires.act c.step-settled.ensures.settled
         (c.step-settled.ensures.follows is.setup is.past is.stands done) (c.step-settled.ensures.job is.setup is.past is.stands done) (c.step-settled.ensures.stays is.setup is.past is.stands done)
         c.step-settled.ensures.number (subst (λ n. Holds n c.step-settled.result.job c.args.self.now.jobs c.hold.new.self) c.next_ticket-next.ensures c.hold.ensures) is.held;
-    first = is.first;
   });
 }
 

@@ -15,7 +15,6 @@ invariant_of-self g c = record {
         stands = c.step.ensures.stands is.setup is.past is.stands done;
         held = held_left is.setup is.past c.args.ticket c.args.event c.step.result.settled c.step.result.drawn c.step.result.reply c.args.self.now.jobs c.take.new.self c.requires.act c.step.ensures.settled
             (c.step.ensures.follows is.setup is.past is.stands done) (c.step.ensures.stays is.setup is.past is.stands done) c.take.ensures.taken is.held;
-        first = is.first;
       });
 }
 

@@ -10,6 +10,5 @@ invariant_of-result c = record {
     past = idle.past;
     stands = idle.stands;
     held = λ ticket. subst (λ e. IsHeld idle.setup idle.past e (job_in c.new.result ticket)) (sym (idle.none ticket)) (subst (IsHeld idle.setup idle.past None) (sym (c.new.ensures ticket)) tt);
-    first = idle.first;
   });
 }

@@ -1,10 +1,11 @@
-use Rattle.std.proofs.Common.{◌≡◌, ltb, rules, subst, sym, ◌∙◌}
+use Rattle.std.proofs.Common.{◌≡◌, ltb, not, rules, subst, sym, ◌∙◌, arith}
 use Rattle.std.specs.List.Sorted.{IsNonDecreasingBy}
 use Rattle.std.proofs.lemmas.List.Sorted.{IsPartitionPoint-from_clause, IsPartitionedBy-ltb}
 use Rattle.tag_lists.specs.Order.{rank}
-use Rattle.tag_lists.specs.Lookups.{without}
+use Rattle.tag_lists.specs.Lookups.{is_of, without}
 use Rattle.tag_lists.proofs.Lookups.{IsEnd, ranks_rise}
 use Rattle.tag_lists.proofs.Edits.{IsInserted, inserted}
+use Rattle.tag_lists.proofs.Sizes.{small_filter, small_with}
 use Rattle.tag_lists.proofs.list.AuthList.with.Goals as goal
 
 is_inserted : (c : goal.In_ok-insert) → IsInserted c.args.param c.args.self c.insert.new.self.items
@@ -23,3 +24,10 @@ returns-clause-list c = (is_inserted c).is
 
 pub returns-clause-len : goal.returns-clause-len
 returns-clause-len c = (is_inserted c).len
+
+pub returns-clause-small : goal.returns-clause-small
+returns-clause-small c = rw (is_inserted c).is (omega (
+  arith,
+  small_with c.args.param (without c.args.param.tag c.args.self),
+  small_filter (λ p. not (is_of c.args.param.tag p)) c.args.self,
+))

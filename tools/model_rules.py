@@ -1,0 +1,205 @@
+"""The rules of second_model.py that read lists and lengths: K4 to K16, B6 to B21 and S4 to S8."""
+from model_values import (
+    AES, CBC, CTR, DIGEST_BITS, ECB, ENCRYPT, GCM, HMAC, LATER_TAGS, MOST_ID_BYTES, MOST_LIST_BYTES, MOST_OPERATION_BYTES,
+    NO_PADDING, NONCE_BYTES, PKCS7, PURPOSES, RAW, SIGN, Denied, Plan, one,
+)
+from script_events import ListFault, read_list
+
+
+def read_params(data, rule):
+    """The list of a call, by K4 or B6."""
+    if len(data) > MOST_LIST_BYTES:
+        raise Denied(-21, rule)
+    try:
+        params = read_list(data)
+    except ListFault as fault:
+        raise Denied(fault.code, rule)
+    for name in ("APPLICATION_ID", "APPLICATION_DATA"):
+        if any(len(value) > MOST_ID_BYTES for value in params.get(name, [])):
+            raise Denied(-21, rule)
+    return params
+
+
+# Table K.
+
+def is_size(algorithm, bits):
+    """Whether a key of the algorithm may have so many bits."""
+    if algorithm == AES:
+        return bits in (128, 192, 256)
+    return bits is not None and 64 <= bits <= 512 and bits % 8 == 0
+
+
+def check_size(algorithm, params, material):
+    """K7; the material is None for a key that is to be generated."""
+    bits = one(params, "KEY_SIZE")
+    if not is_size(algorithm, bits if material is None else 8 * len(material)):
+        raise Denied(-6, "K7")
+    if material is not None and bits is not None and bits != 8 * len(material):
+        raise Denied(-44, "K7")
+
+
+def check_uses(algorithm, params):
+    """K8 to K11."""
+    if any(purpose not in PURPOSES[algorithm] for purpose in params.get("PURPOSE", [])):
+        raise Denied(-2, "K8")
+    if algorithm == AES:
+        if any(mode not in (ECB, CBC, CTR, GCM) for mode in params.get("BLOCK_MODE", [])):
+            raise Denied(-7, "K9")
+        if any(padding not in (NO_PADDING, PKCS7) for padding in params.get("PADDING", [])):
+            raise Denied(-10, "K10")
+    elif one(params, "DIGEST") not in DIGEST_BITS:
+        raise Denied(-12, "K11")
+
+
+def check_least_mac(algorithm, params):
+    """K12."""
+    if algorithm == HMAC:
+        low, high = 64, DIGEST_BITS[one(params, "DIGEST")]
+    elif GCM in params.get("BLOCK_MODE", []):
+        low, high = 96, 128
+    else:
+        return
+    least = one(params, "MIN_MAC_LENGTH")
+    if least is None:
+        raise Denied(-58, "K12")
+    if least % 8 != 0 or not low <= least <= high:
+        raise Denied(-59, "K12")
+
+
+def check_restrictions(params):
+    """K13 to K16."""
+    if "NO_AUTH_REQUIRED" in params and "USER_SECURE_ID" in params:
+        raise Denied(-38, "K13")
+    if one(params, "USAGE_COUNT_LIMIT") == 0:
+        raise Denied(-38, "K14")
+    if any(name in params for name in LATER_TAGS):
+        raise Denied(-39, "K16")
+
+
+def check_new(event, params, material):
+    """K5 to K16; the material is None for a key that is to be generated."""
+    algorithm = one(params, "ALGORITHM")
+    if algorithm not in (AES, HMAC):
+        raise Denied(-4, "K5")
+    if material is not None and event["format"] != RAW:
+        raise Denied(-17, "K6")
+    check_size(algorithm, params, material)
+    check_uses(algorithm, params)
+    check_least_mac(algorithm, params)
+    check_restrictions(params)
+
+
+# Table B.
+
+def check_purpose(asked, kept):
+    """B9."""
+    purpose = one(asked, "PURPOSE")
+    if purpose not in PURPOSES[one(kept, "ALGORITHM")]:
+        raise Denied(-2, "B9")
+    if purpose not in kept.get("PURPOSE", []):
+        raise Denied(-3, "B9")
+
+
+def check_mode(asked, kept):
+    """B17 and B18."""
+    mode = one(asked, "BLOCK_MODE")
+    if mode not in (ECB, CBC, CTR, GCM):
+        raise Denied(-7, "B17")
+    if mode not in kept.get("BLOCK_MODE", []):
+        raise Denied(-8, "B17")
+    padding = one(asked, "PADDING")
+    if padding not in (NO_PADDING, PKCS7):
+        raise Denied(-10, "B18")
+    if padding not in kept.get("PADDING", []) or mode in (CTR, GCM) and padding != NO_PADDING:
+        raise Denied(-11, "B18")
+
+
+def check_digest(asked, kept):
+    """B19."""
+    if "DIGEST" not in asked:
+        return
+    if one(asked, "DIGEST") not in DIGEST_BITS:
+        raise Denied(-12, "B19")
+    if one(asked, "DIGEST") != one(kept, "DIGEST"):
+        raise Denied(-13, "B19")
+
+
+def check_mac_length(asked, kept):
+    """B20."""
+    if one(asked, "PURPOSE") == SIGN:
+        low, high = 0, DIGEST_BITS[one(kept, "DIGEST")]
+    else:
+        low, high = 96, 128
+    length = one(asked, "MAC_LENGTH")
+    if length is None:
+        raise Denied(-53, "B20")
+    if length % 8 != 0 or not low <= length <= high:
+        raise Denied(-9, "B20")
+    if length < one(kept, "MIN_MAC_LENGTH"):
+        raise Denied(-57, "B20")
+
+
+def check_nonce(asked, kept):
+    """B21."""
+    is_encryption = one(asked, "PURPOSE") == ENCRYPT
+    nonce = one(asked, "NONCE")
+    if is_encryption and nonce is not None and "CALLER_NONCE" not in kept:
+        raise Denied(-55, "B21")
+    if not is_encryption and nonce is None:
+        raise Denied(-51, "B21")
+    if nonce is not None and len(nonce) != NONCE_BYTES[one(asked, "BLOCK_MODE")]:
+        raise Denied(-52, "B21")
+
+
+def check_begin(asked, kept):
+    """B9 to B21, for the list of the operation and that of its key."""
+    check_purpose(asked, kept)
+    is_aes = one(kept, "ALGORITHM") == AES
+    mode = one(asked, "BLOCK_MODE") if is_aes else None
+    if is_aes:
+        check_mode(asked, kept)
+    else:
+        check_digest(asked, kept)
+    if one(asked, "PURPOSE") == SIGN or mode == GCM:
+        check_mac_length(asked, kept)
+    if mode in NONCE_BYTES:
+        check_nonce(asked, kept)
+
+
+def plan_of(asked, kept):
+    """The plan of an operation that breaks no rule."""
+    is_aes = one(kept, "ALGORITHM") == AES
+    return Plan(
+        mode=one(asked, "BLOCK_MODE") if is_aes else None,
+        is_forward=one(asked, "PURPOSE") in (ENCRYPT, SIGN),
+        is_padded=is_aes and one(asked, "PADDING") == PKCS7,
+        digest=one(kept, "DIGEST"),
+        mac_bytes=(one(asked, "MAC_LENGTH") or 0) // 8,
+        least_mac_bytes=(one(kept, "MIN_MAC_LENGTH") or 0) // 8,
+    )
+
+
+# Table S.
+
+def check_length(plan, length):
+    """S8, for the length of the whole text."""
+    if plan.mode in (ECB, CBC):
+        is_opening = plan.is_padded and not plan.is_forward
+        if (is_opening or not plan.is_padded) and length % 16 != 0:
+            raise Denied(-21, "S8")
+        if is_opening and length < 16:
+            raise Denied(-21, "S8")
+    if plan.mode == GCM and not plan.is_forward and length < plan.mac_bytes:
+        raise Denied(-21, "S8")
+
+
+def check_step(operation, event):
+    """S4 to S8, which end the operation that breaks them."""
+    if not operation.key.is_live:
+        raise Denied(-33, "S4")
+    if event["act"] == "updateAad" and (operation.plan.mode != GCM or operation.text):
+        raise Denied(-40, "S6")
+    if len(operation.additional) + len(operation.text) + len(event["input"]) > MOST_OPERATION_BYTES:
+        raise Denied(-21, "S7")
+    if event["act"] == "finish":
+        check_length(operation.plan, len(operation.text) + len(event["input"]))

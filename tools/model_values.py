@@ -1,0 +1,103 @@
+"""The words of second_model.py: the numbers of the rules, and the keys, grants and operations that a service holds."""
+from dataclasses import dataclass
+
+# The tags whose rules are not built yet.
+LATER_TAGS = [
+    "EARLY_BOOT_ONLY", "ACTIVE_DATETIME", "ORIGINATION_EXPIRE_DATETIME", "USAGE_EXPIRE_DATETIME", "MAX_USES_PER_BOOT",
+    "USER_ID", "USER_SECURE_ID", "USER_AUTH_TYPE", "AUTH_TIMEOUT", "UNLOCKED_DEVICE_REQUIRED", "APPLICATION_ID",
+    "APPLICATION_DATA", "USAGE_COUNT_LIMIT",
+]
+
+AES, HMAC = 32, 128
+ENCRYPT, DECRYPT, SIGN, VERIFY = range(4)
+ECB, CBC, CTR, GCM = 1, 2, 3, 32
+NO_PADDING, PKCS7 = 1, 64
+RAW = 3
+PURPOSES = {AES: (ENCRYPT, DECRYPT), HMAC: (SIGN, VERIFY)}
+DIGEST_NAMES = {3: "sha224", 4: "sha256", 5: "sha384", 6: "sha512"}
+DIGEST_BITS = {3: 224, 4: 256, 5: 384, 6: 512}
+NONCE_BYTES = {CBC: 16, CTR: 16, GCM: 12}
+
+MOST_LIST_BYTES = 4096
+MOST_ID_BYTES = 1024
+MOST_STEP_BYTES = 32768
+MOST_OPERATION_BYTES = 1048576
+
+APP, GRANT, SELINUX, BLOB, KEY_ID = range(5)
+DELETE, GET_INFO, MAY_GRANT, MANAGE_BLOB, REBIND, REQ_FORCED_OP, UPDATE, USE = 1, 4, 8, 16, 32, 64, 128, 256
+APP_BITS = DELETE | GET_INFO | MAY_GRANT | REBIND | UPDATE | USE
+SYSTEM_UID = 1000
+UIDS_OF_A_USER = 100000
+MOST_UID = 4294967295
+MOST_USER = MOST_UID // UIDS_OF_A_USER
+MOST_KEYS = MOST_GRANTS = 65536
+MOST_LISTED = 256
+# The policy of the program: the bits of a uid in a namespace.
+DEMO_POLICY = {(1000, 100): 509, (1000, 0): REQ_FORCED_OP}
+
+
+class Denied(Exception):
+    """A call is answered with a code: that of the rule which it breaks, or one that belongs to no rule."""
+
+    def __init__(self, code, rule=None):
+        super().__init__(code, rule)
+        self.code = code
+        self.rule = rule
+
+
+
+def one(params, name):
+    """The value of a tag that stands exactly once, or None."""
+    values = params.get(name, [])
+    return values[0] if len(values) == 1 else None
+
+
+@dataclass
+class Key:
+    """A key that was made: whose it is, the list that is kept with it, and its material."""
+
+    number: int
+    domain: int
+    nspace: int
+    alias: bytes
+    params: dict
+    material: bytes
+    is_live: bool = True
+
+
+@dataclass
+class Grant:
+    """What a key's owner lets a uid do with it."""
+
+    number: int
+    key: Key
+    uid: int
+    bits: int
+
+
+@dataclass
+class Plan:
+    """How an operation works: the mode of AES or None for a mac, and what belongs to the mode."""
+
+    mode: int | None
+    is_forward: bool
+    is_padded: bool
+    digest: int | None
+    mac_bytes: int
+    least_mac_bytes: int
+
+
+@dataclass
+class Operation:
+    """An open operation; `work` is the event that entered it while that is out, and `touched` the step that last did."""
+
+    number: int
+    client: int
+    uid: int
+    key: Key
+    plan: Plan
+    nonce: bytes | None
+    touched: int
+    additional: bytes = b""
+    text: bytes = b""
+    work: dict | None = None
