@@ -24,6 +24,12 @@ fn begin(alloc: Global, asked: Pairs, key: Pairs) -> Result<BeginFacts, AllocErr
         asked: AuthList::read(alloc, &asked).map_err(|_| Code::InvalidTag),
         opened: AuthList::read(alloc, &key).ok(),
         fits: true,
+        wall: 1000,
+        user: 0,
+        early_ended: false,
+        unlocked: false,
+        timely: false,
+        begins: 0,
         room: true,
     })
 }
