@@ -115,6 +115,7 @@ fn fill(key: &[u8; 32], nonce: [u8; 12], text: &[u8], out: &mut [u8])
     requires { length out.old ≡ length text.now + 32 }
     ensures blob { out.new ≡ START ++ (nonce ++ gcm_seal (cipher key.now) nonce 16 START text.now) }
     ensures opens { (x : Sealed) → sealed_in text.now ≡ Some x → opened key.now out.new ≡ Ok x }
+    ensures len { length out.new ≡ length out.old }
 {
     let (head, sealed) = out.split_at_mut(16);
     put_head(head, nonce);
@@ -133,6 +134,7 @@ pub fn seal(
     requires { IsSealable sealed.now }
     ensures blob { IfOk result (λ blob. blob ≡ blob_of device.now.seal nonce sealed.now) }
     ensures opens { IfOk result (λ blob. opened device.now.seal blob ≡ Ok sealed.now) }
+    ensures len { IfOk result (λ blob. length blob ≡ length (text_of sealed.now) + 32) }
 {
     let text = text_of(alloc, sealed)?;
     let mut blob = vec![in alloc; 0; text.len() + 32]?;

@@ -1,14 +1,14 @@
 -- Which key a descriptor finds for a caller, and what the caller may do with it.
 use Rattle.std.specs.Prelude.{ℕ, List, Option, None, Some, ◌==◌, if◌then◌else◌}
-use Rattle.key_domains.specs.Domains.{domain_app, domain_grant, domain_selinux, domain_key_id}
+use Rattle.key_domains.specs.Domains.{domain_app, domain_grant, domain_selinux, domain_blob, domain_key_id}
 use Rattle.tags.specs.declared.policy.PolicyRow.{PolicyRow}
 use Rattle.tags.specs.declared.descriptor.Descriptor.{Descriptor}
 use Rattle.key_domains.specs.declared.access.Access.{Access}
-use Rattle.key_domains.specs.declared.access.Access.TheVariants.{Found, Nothing}
+use Rattle.key_domains.specs.declared.access.Access.TheVariants.{Found, Blob, Nothing}
 use Rattle.key_domains.specs.declared.view.KeyRow.{KeyRow}
 use Rattle.key_domains.specs.declared.view.GrantedRow.{GrantedRow}
 use Rattle.key_domains.specs.declared.view.KeyDatabaseView.{KeyDatabaseView}
-use Rattle.key_domains.specs.CallerBits.{caller_bits, OfApp, OfNamespace, ByGrant, ByNumber}
+use Rattle.key_domains.specs.CallerBits.{caller_bits, OfApp, OfNamespace, OfBlob, ByGrant, ByNumber}
 
 -- a key that a look-up found, with these bits
 abbrev pub found : Option KeyRow → ℕ → Access
@@ -26,11 +26,12 @@ module _ (policy : List PolicyRow) (uid : ℕ) where
   by_number None shared = Nothing
   by_number (Some key) shared = Found key (caller_bits policy uid (ByNumber key shared))
 
-  -- by the descriptor's domain
+  -- By the descriptor's domain. In BLOB the key is the blob that is handed in: it is always found, whatever lives.
   abbrev pub access : Descriptor → KeyDatabaseView → Access
   access descriptor keys =
       if descriptor.domain == domain_app then found keys.named (caller_bits policy uid OfApp)
       else (if descriptor.domain == domain_grant then by_grant keys.granted
       else (if descriptor.domain == domain_selinux then found keys.named (caller_bits policy uid (OfNamespace descriptor.nspace))
+      else (if descriptor.domain == domain_blob then Blob (caller_bits policy uid (OfBlob descriptor.nspace))
       else (if descriptor.domain == domain_key_id then by_number keys.numbered keys.shared
-      else Nothing)))
+      else Nothing))))

@@ -26,11 +26,12 @@ owned_bits policy uid key =
     if (key.domain == domain_app) && (key.nspace == uid) then app_bits policy uid
     else (if key.domain == domain_selinux then row_bits policy uid key.nspace else 0)
 
--- the ways to a key: an app by its alias, a namespace by its alias, a grant with its bits, a key's number with the
--- bits of a grant of it, where there is one
+-- the ways to a key: an app by its alias, a namespace by its alias, a blob that is handed in for a namespace, a grant with its
+-- bits, a key's number with the bits of a grant of it, where there is one
 pub data Way : Type 0 where
   OfApp : Way
   OfNamespace : ℕ → Way
+  OfBlob : ℕ → Way
   ByGrant : ℕ → Way
   ByNumber : KeyRow → Option ℕ → Way
 
@@ -38,5 +39,6 @@ pub data Way : Type 0 where
 abbrev pub caller_bits : List PolicyRow → ℕ → Way → ℕ
 caller_bits policy uid OfApp = app_bits policy uid
 caller_bits policy uid (OfNamespace nspace) = row_bits policy uid nspace
+caller_bits policy uid (OfBlob nspace) = row_bits policy uid nspace
 caller_bits policy uid (ByGrant bits) = bits
 caller_bits policy uid (ByNumber key granted) = joined (owned_bits policy uid key) (unwrap_or granted 0)

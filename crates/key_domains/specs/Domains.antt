@@ -10,5 +10,8 @@ domain_grant = 1
 abbrev pub domain_selinux : ℕ
 domain_selinux = 2
 
+abbrev pub domain_blob : ℕ
+domain_blob = 3
+
 abbrev pub domain_key_id : ℕ
 domain_key_id = 4

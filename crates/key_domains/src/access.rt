@@ -8,13 +8,17 @@ ghost use Rattle.key_domains.specs.View.{view_of};
 
 use crate::caller::{app_bits, owned_bits, row_bits};
 use crate::{KeyDatabaseView, KeyLookups, KeyRow, Permissions};
-use tags::{DOMAIN_APP, DOMAIN_GRANT, DOMAIN_KEY_ID, DOMAIN_SELINUX, Descriptor, Policy};
+use tags::{
+    DOMAIN_APP, DOMAIN_BLOB, DOMAIN_GRANT, DOMAIN_KEY_ID, DOMAIN_SELINUX, Descriptor, Policy,
+};
 
 /// What a descriptor finds for a caller.
 #[derive(Clone, Copy, Debug, PartialEq, Eq)]
 pub enum Access {
     /// a live key, and what the caller may do with it
     Found { key: KeyRow, bits: Permissions },
+    /// the blob that is handed in, and what the caller may do with it; whether it opens is not looked at
+    Blob { bits: Permissions },
     /// no live key, or the grant is another uid's
     Nothing,
 }
@@ -57,8 +61,8 @@ fn by_number(uid: u32, policy: &Policy, keys: &KeyDatabaseView) -> Access
     }
 }
 
-/// What a descriptor finds for a uid, of what their look-ups found. In another domain than APP, GRANT, SELINUX and
-/// KEY_ID there is nothing to find.
+/// What a descriptor finds for a uid, of what their look-ups found. In BLOB it is always the blob that is handed in, with the
+/// bits of the policy's row of the uid and the nspace. In a domain that is none of the five there is nothing to find.
 pub fn resolve(descriptor: &Descriptor, uid: u32, policy: &Policy, keys: &KeyDatabaseView) -> Access
     ensures { result ≡ access policy.now uid descriptor.now keys.now }
 {
@@ -66,6 +70,9 @@ pub fn resolve(descriptor: &Descriptor, uid: u32, policy: &Policy, keys: &KeyDat
         DOMAIN_APP => found(keys.named, app_bits(policy, uid)),
         DOMAIN_GRANT => by_grant(uid, keys),
         DOMAIN_SELINUX => found(keys.named, row_bits(policy, uid, descriptor.nspace)),
+        DOMAIN_BLOB => Access::Blob {
+            bits: row_bits(policy, uid, descriptor.nspace),
+        },
         DOMAIN_KEY_ID => by_number(uid, policy, keys),
         _ => Access::Nothing,
     }

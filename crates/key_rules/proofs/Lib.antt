@@ -3,3 +3,4 @@ pub mod Dropped
 pub mod Limits
 pub mod Walks
 pub mod Keys
+pub mod Ids

@@ -1,12 +1,13 @@
 -- What becomes of a call that makes a key.
-use Rattle.std.specs.Prelude.{◌≡◌, ℕ, ◌/◌, ◌≤◌, true, List, Option, Some, None, Result, unwrap_or, IfSome}
+use Rattle.std.specs.Prelude.{◌≡◌, ℕ, ◌/◌, ◌≤◌, true, List, length, Option, Some, None, Result, unwrap_or, IfSome}
 use Rattle.tags.specs.declared.code.Code.{Code}
 use Rattle.tags.specs.declared.param.Param.{Param}
 use Rattle.tags.specs.declared.rule.Rule.{Rule}
 use Rattle.tags.specs.declared.rule.RuleTable.TheVariants.{K}
 use Rattle.tags.specs.declared.tag.Tag.TheVariants as tags
 use Rattle.tags.specs.Table.{first_broken, where_all_hold}
-use Rattle.tag_lists.specs.Lookups.{number_of}
+use Rattle.tag_lists.specs.Spelling.{spelling}
+use Rattle.tag_lists.specs.Lookups.{bytes_of, number_of}
 use Rattle.key_rules.specs.declared.facts.ImportFacts.{ImportFacts}
 use Rattle.key_rules.specs.declared.facts.NewFacts.{NewFacts}
 use Rattle.key_rules.specs.declared.plan.KeyPlan.{KeyPlan}
@@ -25,7 +26,13 @@ drawn_size (Some import) list = 0
 
 -- the plan of a list
 abbrev pub plan_for : Option ImportFacts → ℕ → List Param → KeyPlan
-plan_for import wall list = record { list = kept import wall list; limit = limit list; size = drawn_size import list }
+plan_for import wall list = record {
+  list = kept import wall list;
+  app_id = bytes_of tags.ApplicationId list;
+  app_bytes = bytes_of tags.ApplicationData list;
+  limit = limit list;
+  size = drawn_size import list;
+}
 
 -- the plan of a new key
 abbrev pub plan_of : NewFacts → KeyPlan
@@ -40,10 +47,20 @@ abbrev pub key_size : Option ImportFacts → List Param → ℕ
 key_size None list = material_size list
 key_size (Some import) list = import.length
 
--- What a new key keeps to that the rules let through: its descriptor names one, an imported material and a drawn one have at
--- most 64 bytes, and the kept list is spelled in at most 4,132.
-pub record IsFit (facts : NewFacts) (size bytes : ℕ) : Type 0 where
+-- an id that may be absent is short
+abbrev pub IsShortId : Option (List ℕ) → Type 0
+IsShortId id = IfSome id (λ bytes. length bytes ≤ 1024)
+
+-- a drawn material has at most 64 bytes, the kept list is spelled in at most 4,132, and each of the ids has at most 1,024
+pub record IsSmall (plan : KeyPlan) : Type 0 where
+  pub drawn : plan.size ≤ 64
+  pub listed : length (spelling plan.list) ≤ 4132
+  pub id : IsShortId plan.app_id
+  pub bytes : IsShortId plan.app_bytes
+
+-- What a new key keeps to that the rules let through: its descriptor names one, an imported material has at most 64 bytes, and
+-- so small is its plan.
+pub record IsFit (facts : NewFacts) (plan : KeyPlan) : Type 0 where
   pub named : names_new_key facts.descriptor ≡ true
   pub short : IfSome facts.import (λ import. import.length ≤ 64)
-  pub drawn : size ≤ 64
-  pub listed : bytes ≤ 4132
+  pub small : IsSmall plan

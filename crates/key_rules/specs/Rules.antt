@@ -1,10 +1,11 @@
 -- The rules of a new key: each part says whether it holds over the facts of the call and over the list. Where a part names
 -- AES or HMAC, it holds for the other.
 use Rattle.std.specs.Prelude.{ℕ, ◌*◌, Bool, true, false, ◌&&◌, ◌||◌, not, ◌==◌, nat_le, List, [], ◌∷◌, length, Option, Some, None, Result, Ok, Err, if◌then◌else◌, is_none, unwrap_or}
-use Rattle.std.specs.List.{list_all, list_any}
-use Rattle.key_domains.specs.declared.permission.Permission.TheVariants.{Rebind}
+use Rattle.std.specs.List.{list_all}
+use Rattle.key_domains.specs.declared.permission.Permission.{Permission}
+use Rattle.key_domains.specs.declared.permission.Permission.TheVariants.{ManageBlob, Rebind}
 use Rattle.key_domains.specs.Bits.{has}
-use Rattle.key_domains.specs.Domains.{domain_app, domain_selinux}
+use Rattle.key_domains.specs.Domains.{domain_app, domain_blob, domain_selinux}
 use Rattle.tags.specs.declared.code.Code.{Code}
 use Rattle.tags.specs.declared.code.Code.TheVariants.{InvalidKeyArgument, InvalidTag}
 use Rattle.tags.specs.declared.descriptor.Descriptor.{Descriptor}
@@ -25,17 +26,23 @@ use Rattle.key_rules.specs.declared.facts.ImportFacts.{ImportFacts}
 abbrev pub is_by_alias : ℕ → Bool
 is_by_alias domain = (domain == domain_app) || (domain == domain_selinux)
 
--- the domain is APP or SELINUX with an alias of 1 to 256 bytes of UTF-8; no blob is given
+-- APP and SELINUX with an alias of 1 to 256 bytes of UTF-8, or BLOB, whatever the alias
+abbrev pub names_place : Descriptor → Bool
+names_place descriptor = (is_by_alias descriptor.domain && has_alias descriptor) || (descriptor.domain == domain_blob)
+
+-- the descriptor names a place of one of these domains, and no blob is given
 abbrev pub names_new_key : Descriptor → Bool
-names_new_key descriptor = is_by_alias descriptor.domain && (has_alias descriptor && is_none descriptor.blob)
+names_new_key descriptor = names_place descriptor && is_none descriptor.blob
 
--- the policy's row is there and has REBIND
-abbrev pub has_rebind : Option ℕ → Bool
-has_rebind row = passes (λ bits. has bits Rebind) row
+-- the policy's row is there and has the permission
+abbrev pub row_has : Permission → Option ℕ → Bool
+row_has permission row = passes (λ bits. has bits permission) row
 
--- SELINUX: the policy's row of the caller's uid and the namespace has REBIND
-abbrev pub may_rebind : Descriptor → Option ℕ → Bool
-may_rebind descriptor row = implies (descriptor.domain == domain_selinux) (has_rebind row)
+-- the policy's row of the caller's uid and the namespace has, in SELINUX, REBIND, and in BLOB MANAGE_BLOB
+abbrev pub may_make : Descriptor → Option ℕ → Bool
+may_make descriptor row =
+    implies (descriptor.domain == domain_selinux) (row_has Rebind row) &&
+    implies (descriptor.domain == domain_blob) (row_has ManageBlob row)
 
 -- the code of a list that does not read
 abbrev pub list_code : ListFault → Code
@@ -143,14 +150,18 @@ has_one_authority list = not (stands tags.NoAuthRequired list && stands tags.Use
 abbrev pub has_some_uses : List Param → Bool
 has_some_uses list = not (has_number tags.UsageCountLimit 0 list)
 
+-- a tag whose count the engine keeps beside a stored key: USAGE_COUNT_LIMIT or MAX_USES_PER_BOOT
+abbrev pub counts_uses : List Param → Bool
+counts_uses list = stands tags.UsageCountLimit list || stands tags.MaxUsesPerBoot list
+
+-- in BLOB no use is counted
+abbrev pub has_own_counts : ℕ → List Param → Bool
+has_own_counts domain list = implies (domain == domain_blob) (not (counts_uses list))
+
 -- EARLY_BOOT_ONLY: early boot has not ended
 abbrev pub is_early : List Param → Bool → Bool
 is_early list early_ended = implies (stands tags.EarlyBootOnly list) (not early_ended)
 
--- the tags whose rules are not built yet
-abbrev pub unbuilt : List Tag
-unbuilt = tags.UsageCountLimit ∷ tags.ApplicationId ∷ tags.ApplicationData ∷ []
-
--- the list has no such tag
-abbrev pub has_no_unbuilt : List Param → Bool
-has_no_unbuilt list = not (list_any (λ tag. stands tag list) unbuilt)
+-- the list has no USAGE_COUNT_LIMIT, which no rule enforces yet
+abbrev pub has_no_limit : List Param → Bool
+has_no_limit list = not (stands tags.UsageCountLimit list)

@@ -3,12 +3,12 @@
 ghost use Rattle.std.specs.Prelude.{◌≡◌, ◌≤◌, is_ok, true, IfOk, IfSome, OnOk, Ok, length};
 ghost use Rattle.tags.specs.declared.rule.RuleTable.TheVariants.{K};
 ghost use Rattle.tags.specs.Table.{first_broken};
-ghost use Rattle.tag_lists.specs.Lookups.{IsKey};
+ghost use Rattle.tag_lists.specs.Lookups.{IsKey, bytes_of};
 ghost use Rattle.tag_lists.specs.Spelling.{spelling};
 ghost use Rattle.key_rules.specs.Creation as spec;
 ghost use Rattle.key_rules.specs.Creation.{new_key};
 ghost use Rattle.key_rules.specs.Gives.{Gives};
-ghost use Rattle.key_rules.specs.Rules.{has_allowed_size, list_in};
+ghost use Rattle.key_rules.specs.Rules.{each_short, has_allowed_size, has_short_ids, list_in};
 ghost use Rattle.key_rules.specs.Table.{key_rules};
 
 use crate::kept::{kept, limit};
@@ -16,7 +16,7 @@ use crate::table::{check_facts, check_key};
 use crate::{ImportFacts, KeyPlan, NewFacts, NewFault};
 use std::alloc::Global;
 use tag_lists::AuthList;
-use tags::Tag;
+use tags::{Bytes, NoMemory, Tag};
 
 /// The bytes of a generated key's material: KEY_SIZE / 8, and none where no size is there.
 #[tactic(auto, unfolding(crate::specs::Creation::material_size))]
@@ -38,20 +38,45 @@ fn drawn_size(import: Option<ImportFacts>, list: &AuthList) -> usize
     }
 }
 
+/// A short id of the list, in memory of its own.
+fn id_in(alloc: Global, list: &AuthList, tag: Tag) -> Result<Option<Bytes>, NoMemory>
+    requires { each_short tag list.now ≡ true }
+    ensures id { IfOk result (λ id. id ≡ bytes_of tag list.now) }
+    ensures short { IfOk result spec.IsShortId }
+{
+    match list.bytes(tag) {
+        Some(bytes) => Ok(Some(Bytes::copy_of(alloc, bytes)?)),
+        None => Ok(None),
+    }
+}
+
 /// The plan of a key that meets the rules.
-fn plan(list: AuthList, import: Option<ImportFacts>, wall: u64) -> Result<KeyPlan, NewFault>
+fn plan(
+    alloc: Global,
+    list: AuthList,
+    import: Option<ImportFacts>,
+    wall: u64,
+) -> Result<KeyPlan, NewFault>
+    requires ids { has_short_ids list ≡ true }
     requires short { IfSome import (λ facts. facts.length ≤ 64) }
     requires size { has_allowed_size import list ≡ true }
     requires few { length list ≤ 4096 }
     requires small { length (spelling list) ≤ 4096 }
     ensures plan { Gives (λ plan. plan) result (Ok (spec.plan_for import wall list)) }
-    ensures drawn { IfOk result (λ plan. plan.size ≤ 64) }
-    ensures listed { IfOk result (λ plan. length (spelling plan.list) ≤ 4132) }
+    ensures small { IfOk result spec.IsSmall }
 {
     let limit = limit(&list);
     let size = drawn_size(import, &list);
+    let app_id = id_in(alloc, &list, Tag::ApplicationId)?;
+    let app_bytes = id_in(alloc, &list, Tag::ApplicationData)?;
     let list = kept(list, import, wall)?;
-    Ok(KeyPlan { list, limit, size })
+    Ok(KeyPlan {
+        list,
+        app_id,
+        app_bytes,
+        limit,
+        size,
+    })
 }
 
 /// Whether a key of these facts may be made: the first broken rule of table K and its code, or the plan. Of a rule with
@@ -60,10 +85,10 @@ fn plan(list: AuthList, import: Option<ImportFacts>, wall: u64) -> Result<KeyPla
 pub fn check_new(alloc: Global, facts: &NewFacts) -> Result<KeyPlan, NewFault>
     ensures plan { Gives (λ plan. plan) result (new_key facts.now) }
     ensures key { OnOk result (IsKey (list_in facts.now.params) (spec.key_size facts.now.import (list_in facts.now.params))) }
-    ensures fit { IfOk result (λ plan. spec.IsFit facts.now plan.size (length (spelling plan.list))) }
+    ensures fit { IfOk result (λ plan. spec.IsFit facts.now plan) }
 {
     let list = check_facts(alloc, facts)?;
-    plan(list, facts.import, facts.wall)
+    plan(alloc, list, facts.import, facts.wall)
 }
 
 /// Whether a list and a material of so many bytes are a key's: they meet K5 and K7 to K12 as an import, and then they are a

@@ -1,10 +1,9 @@
 //! The parts of the rules of a new key.
 
 ghost use Rattle.std.specs.Prelude.{◌≡◌, ◌≤◌, true, IfSome};
-ghost use Rattle.std.specs.List.{list_all, list_any};
+ghost use Rattle.std.specs.List.{list_all};
 ghost use Rattle.tags.specs.Param.{as_number};
 ghost use Rattle.tags.specs.Values.{passes};
-ghost use Rattle.tag_lists.specs.Lookups.{stands};
 ghost use Rattle.key_rules.specs.Rules as spec;
 
 use crate::ImportFacts;
@@ -15,14 +14,7 @@ use tags::values::{
     AES_PURPOSES, DIGESTS, GCM, HMAC_PURPOSES, MODES, PADDINGS, RAW, digest_bits, is_whole_bytes,
     one_in,
 };
-use tags::{Code, DOMAIN_APP, DOMAIN_SELINUX, Descriptor, Param, Tag};
-
-/// The tags whose rules are not built yet.
-const UNBUILT: [Tag; 3] = [
-    Tag::UsageCountLimit,
-    Tag::ApplicationId,
-    Tag::ApplicationData,
-];
+use tags::{Code, DOMAIN_APP, DOMAIN_BLOB, DOMAIN_SELINUX, Descriptor, Param, Tag};
 
 fn is_by_alias(domain: u32) -> bool
     ensures { result ≡ spec.is_by_alias domain }
@@ -30,27 +22,35 @@ fn is_by_alias(domain: u32) -> bool
     domain == DOMAIN_APP || domain == DOMAIN_SELINUX
 }
 
+fn names_place(descriptor: &Descriptor) -> bool
+    ensures { result ≡ spec.names_place descriptor.now }
+{
+    is_by_alias(descriptor.domain) && descriptor.has_alias() || descriptor.domain == DOMAIN_BLOB
+}
+
 /// Whether the descriptor may name a new key.
 pub(crate) fn names_new_key(descriptor: &Descriptor) -> bool
     ensures { result ≡ spec.names_new_key descriptor.now }
 {
-    is_by_alias(descriptor.domain) && descriptor.has_alias() && descriptor.blob.is_none()
+    names_place(descriptor) && descriptor.blob.is_none()
 }
 
-fn has_rebind(row: Option<u32>) -> bool
-    ensures { result ≡ spec.has_rebind row }
+fn row_has(permission: Permission, row: Option<u32>) -> bool
+    ensures { result ≡ spec.row_has permission row }
 {
     match row {
-        Some(bits) => Permissions::of_bits(bits).has(Permission::Rebind),
+        Some(bits) => Permissions::of_bits(bits).has(permission),
         None => false,
     }
 }
 
-/// SELINUX: whether the policy lets the caller put keys into the namespace.
-pub(crate) fn may_rebind(descriptor: &Descriptor, row: Option<u32>) -> bool
-    ensures { result ≡ spec.may_rebind descriptor.now row }
+/// SELINUX and BLOB: whether the policy lets the caller make keys in the namespace.
+pub(crate) fn may_make(descriptor: &Descriptor, row: Option<u32>) -> bool
+    ensures { result ≡ spec.may_make descriptor.now row }
 {
-    descriptor.domain != DOMAIN_SELINUX || has_rebind(row)
+    let stored = descriptor.domain != DOMAIN_SELINUX || row_has(Permission::Rebind, row);
+    let handed = descriptor.domain != DOMAIN_BLOB || row_has(Permission::ManageBlob, row);
+    stored && handed
 }
 
 /// The code of a list that does not read.
@@ -226,6 +226,19 @@ pub(crate) fn has_some_uses(list: &AuthList) -> bool
     !list.has(Tag::UsageCountLimit, 0)
 }
 
+fn counts_uses(list: &AuthList) -> bool
+    ensures { result ≡ spec.counts_uses list.now }
+{
+    list.stands(Tag::UsageCountLimit) || list.stands(Tag::MaxUsesPerBoot)
+}
+
+/// BLOB: whether the list asks for no count of uses, which is kept for stored keys alone.
+pub(crate) fn has_own_counts(domain: u32, list: &AuthList) -> bool
+    ensures { result ≡ spec.has_own_counts domain list.now }
+{
+    domain != DOMAIN_BLOB || !counts_uses(list)
+}
+
 /// EARLY_BOOT_ONLY: whether early boot has not ended.
 pub(crate) fn is_early(list: &AuthList, early_ended: bool) -> bool
     ensures { result ≡ spec.is_early list.now early_ended }
@@ -233,16 +246,9 @@ pub(crate) fn is_early(list: &AuthList, early_ended: bool) -> bool
     !list.stands(Tag::EarlyBootOnly) || !early_ended
 }
 
-/// Whether one of the tags is there.
-fn any_stands(list: &AuthList, tags: &[Tag]) -> bool
-    ensures { result ≡ list_any (λ tag. stands tag list.now) tags.now }
+/// Whether no use limit is there, which no rule enforces yet.
+pub(crate) fn has_no_limit(list: &AuthList) -> bool
+    ensures { result ≡ spec.has_no_limit list.now }
 {
-    tags.iter().any(|tag| list.stands(*tag))
-}
-
-/// Whether no tag is there whose rules are not built yet.
-pub(crate) fn has_no_unbuilt(list: &AuthList) -> bool
-    ensures { result ≡ spec.has_no_unbuilt list.now }
-{
-    !any_stands(list, UNBUILT.as_slice())
+    !list.stands(Tag::UsageCountLimit)
 }

@@ -1,8 +1,9 @@
 //! The plans of making a key and of beginning an operation, over what the service knows of the call: what is kept, and how
-//! many bytes are drawn, before any are.
+//! many bytes are drawn, before any are; the blob that a new key is sealed in, and what a begin reads of one.
 //!
 //! Its one contract: `plan_key` answers by table K, with the kept list spelled out and the size of the material that is
-//! drawn; `plan_begin` answers by table B, and what it plans starts, by `Begin::start`, with the key's material and any
+//! drawn, and `seal_key` gives the one blob of that plan; `open_key` opens a blob once, and `plan_begin` answers by table B
+//! over what was opened, and what it plans starts, by `Begin::start`, with the key's material and any
 //! nonce of the size that it wants. The material of an AES key has a length of FIPS 197 section 6.1, a nonce the length of
 //! its mode (SP 800-38A section 5.3, SP 800-38D section 5.2.1.1). Making keys and beginning operations follow KeyMint's
 //! `IKeyMintDevice`.
@@ -10,6 +11,8 @@
 
 mod begin;
 mod creation;
+mod opening;
 
 pub use begin::{Begin, BeginFault, plan_begin};
-pub use creation::{NewKey, plan_key};
+pub use creation::{NewKey, plan_key, seal_key};
+pub use opening::{OpenedKey, open_key};

@@ -2,7 +2,7 @@
 //!
 //! The one contract is that of `run_words`, in the module `run`: a legal history follows the lines of the input, its
 //! text is what was written, and what was drawn for it is what the entropy gave. This file hands the process's words,
-//! input and output and the system's random device to it.
+//! input and output, the device and the policy of the current folder and the system's random device to it.
 #![tactic(auto)]
 
 mod jobs;
@@ -18,6 +18,7 @@ mod writer;
 
 use crate::run::run_words;
 use crate::status::Status;
+use device_files::{FileFault, read_device, read_policy};
 use ks_outside::{EmptyDisk, ReaderSource, WriterSink, open_device};
 use std::process::ExitCode;
 use std::{env, io};
@@ -33,13 +34,9 @@ fn words_of(rt: &HostRuntime) -> io::Result<Vec<String>> {
 }
 
 /// Serves the words over standard input and output.
-fn run_process(rt: &HostRuntime) -> io::Result<Status> {
+fn run_process(rt: &HostRuntime, device: &DeviceSecrets, policy: &Policy) -> io::Result<Status> {
     let alloc = rt.alloc();
     let words = words_of(rt)?;
-    let Ok(policy) = Policy::demo(alloc) else {
-        return Ok(Status::Memory);
-    };
-    let device = DeviceSecrets::demo();
     let mut source = ReaderSource::new(rt.reader());
     let mut sink = WriterSink::new(io::writer(rt));
     let mut disk = EmptyDisk;
@@ -47,8 +44,8 @@ fn run_process(rt: &HostRuntime) -> io::Result<Status> {
     Ok(run_words(
         alloc,
         words.as_slice(),
-        &device,
-        &policy,
+        device,
+        policy,
         &mut source,
         &mut sink,
         &mut disk,
@@ -56,10 +53,35 @@ fn run_process(rt: &HostRuntime) -> io::Result<Status> {
     ))
 }
 
-fn main(rt: HostRuntime) -> ExitCode {
-    let status = run_process(&rt).unwrap_or(Status::Memory);
+/// Tells a status on standard error, and ends with its number.
+fn ended(rt: &HostRuntime, status: Status) -> ExitCode {
     if status != Status::Ok {
         let _ = eprintln!(rt; "keystore2: {status}");
     }
     ExitCode::from(status.number())
+}
+
+/// Ends before anything was served, as for words that are no form: a file that is there does not read so.
+fn refused(rt: &HostRuntime, fault: FileFault, text: &str) -> ExitCode {
+    match fault {
+        FileFault::Malformed => {
+            let _ = eprintln!(rt; "keystore2: {text}");
+            ExitCode::from(Status::Usage.number())
+        }
+        FileFault::Memory => ended(rt, Status::Memory),
+    }
+}
+
+/// The files of the device are read first, whatever the words are.
+fn main(rt: HostRuntime) -> ExitCode {
+    let device = match read_device(&rt, "device.key") {
+        Ok(device) => device,
+        Err(fault) => return refused(&rt, fault, "bad device file"),
+    };
+    let policy = match read_policy(&rt, "policy.json") {
+        Ok(policy) => policy,
+        Err(fault) => return refused(&rt, fault, "bad policy file"),
+    };
+    let status = run_process(&rt, &device, &policy).unwrap_or(Status::Memory);
+    ended(&rt, status)
 }

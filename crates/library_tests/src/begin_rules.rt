@@ -144,6 +144,42 @@ fn each_domain_has_its_form_and_its_rights(rt: HostRuntime) -> Result<(), Fail> 
     Ok(())
 }
 
+/// Whether a blob is given in BLOB, the bits of the policy's row, those of the caller, and the rule that is broken with its
+/// code.
+type Handed = (bool, Option<u32>, u32, Option<(u8, Code)>);
+
+static HANDED: [Handed; 7] = [
+    (true, Some(16), 272, None),
+    (false, Some(16), 272, Some((2, Code::InvalidArgument))),
+    (false, None, 0, Some((2, Code::InvalidArgument))),
+    (true, None, 272, Some((3, Code::PermissionDenied))),
+    (true, Some(493), 493, Some((3, Code::PermissionDenied))),
+    (true, Some(0), 272, Some((3, Code::PermissionDenied))),
+    (true, Some(16), 16, Some((5, Code::PermissionDenied))),
+];
+
+#[test]
+fn a_blob_is_handed_in_where_the_policy_lets_it(rt: HostRuntime) -> Result<(), Fail> {
+    let alloc = rt.alloc();
+    let mut facts = begin(alloc, &[(Tag::Purpose, 2), (Tag::MacLength, 256)], MAC_KEY)?;
+    facts.descriptor.domain = 3;
+    for (given, row, bits, broken) in &HANDED {
+        facts.descriptor.blob = if *given {
+            Some(Bytes::empty(alloc))
+        } else {
+            None
+        };
+        facts.row = *row;
+        facts.bits = Permissions::of_bits(*bits);
+        let right = match broken {
+            None => check_begin(&facts).is_ok(),
+            Some((number, code)) => breaks(&facts, *number, *code),
+        };
+        assert!(rt; right, "with row {row:?} and {bits}");
+    }
+    Ok(())
+}
+
 const SIGN: Pairs = &[(Tag::Purpose, 2), (Tag::MacLength, 256)];
 
 const VERIFY: Pairs = &[(Tag::Purpose, 3)];

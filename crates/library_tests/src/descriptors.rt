@@ -103,11 +103,14 @@ const SYSTEM_KEY: KeyRow = KeyRow {
     nspace: 1000,
 };
 
+/// What stands for the number of a blob.
+const BLOB: u64 = 1000;
+
 /// A descriptor (domain, nspace, and how often which byte its alias has), a caller, and what it finds: the key's number
 /// or 0, and the bits.
 type Case = (u32, u64, Option<(usize, u8)>, u32, u64, u32);
 
-static CASES: [Case; 41] = [
+static CASES: [Case; 46] = [
     // an app's keys are its own, whatever the nspace says
     (0, 5, Some((1, 97)), 10001, 1, 429),
     (0, 0, Some((1, 97)), 10001, 1, 429),
@@ -152,8 +155,14 @@ static CASES: [Case; 41] = [
     (4, 4, None, 1000, 4, 493),
     (4, 0, None, 1000, 0, 0),
     (4, 18_446_744_073_709_551_615, None, 1000, 0, 0),
+    // a blob is always found, with the bits of the row of its namespace
+    (3, 100, None, 1000, BLOB, 509),
+    (3, 100, Some((1, 97)), 1000, BLOB, 509),
+    (3, 0, None, 1000, BLOB, 64),
+    (3, 101, None, 1000, BLOB, 0),
+    (3, 100, None, 10001, BLOB, 0),
+    (3, 1, None, 10001, BLOB, 0),
     // nothing is found in other domains
-    (3, 100, Some((1, 97)), 1000, 0, 0),
     (5, 1, Some((1, 97)), 1000, 0, 0),
 ];
 
@@ -185,6 +194,7 @@ fn finds(alloc: Global, case: &Case, policy: &Policy) -> Result<bool, NoMemory> 
     let descriptor = descriptor(alloc, case)?;
     Ok(match find_key(&descriptor, case.3, policy, &FewKeys) {
         Access::Found { key, bits } => key.id == case.4 && bits.bits() == case.5,
+        Access::Blob { bits } => case.4 == BLOB && bits.bits() == case.5,
         Access::Nothing => case.4 == 0,
     })
 }

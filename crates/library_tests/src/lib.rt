@@ -7,6 +7,8 @@ mod begin_rules;
 #[cfg(test)]
 mod beginnings;
 #[cfg(test)]
+mod blobs;
+#[cfg(test)]
 mod descriptors;
 #[cfg(test)]
 mod kept_tokens;

@@ -3,11 +3,10 @@
 //! `checks/new-key-lists.jsonl`.
 
 use crate::spelled::{AES_KEY, GCM_KEY, MAC_KEY, Pairs, app_key, encoded};
-use key_rules::{ImportFacts, NewFacts, NewFault, check_new, material_size, read_asked, usable};
+use key_rules::{ImportFacts, NewFacts, NewFault, check_new, read_asked, usable};
 use keymint_ops::plan_key;
 use std::alloc::{AllocError, Global};
 use std::test::Fail;
-use tag_lists::AuthList;
 use tags::{Bytes, Code, Rule, RuleTable, Tag};
 
 /// What a call of making a key is asked: the alias, the list, the length of an imported material, and the wall reading.
@@ -113,11 +112,11 @@ fn is_kept(alloc: Global, facts: &NewFacts, list: &[u8], size: usize) -> Result<
     let drawn = if facts.import.is_some() { 0 } else { size };
     Ok(
         plan.limit == 0
-            && material_size(&plan.list) == size
+            && plan.size == drawn
             && written.as_slice() == list
             && key.list.as_slice() == list
-            && key.limit == 0
-            && key.size == drawn,
+            && key.plan.limit == 0
+            && key.plan.size == drawn,
     )
 }
 
@@ -128,7 +127,6 @@ fn the_kept_list_has_what_is_set_and_not_what_is_dropped(rt: HostRuntime) -> Res
         let facts = asked(alloc, b"k", list, *length, *wall)?;
         assert!(rt; is_kept(alloc, &facts, expected, *size)?, "in row {row}");
     }
-    assert!(rt; material_size(&AuthList::empty(alloc)) == 0);
     Ok(())
 }
 
@@ -178,6 +176,186 @@ fn a_key_that_breaks_a_rule_is_not_made(rt: HostRuntime) -> Result<(), Fail> {
             breaks(&plan_key(alloc, &facts), rule, *code),
             "in row {row}"
         );
+    }
+    Ok(())
+}
+
+/// An HMAC key that begins once a boot.
+const ONCE_A_BOOT: Pairs = &[
+    (Tag::Purpose, 2),
+    (Tag::Purpose, 3),
+    (Tag::Algorithm, 128),
+    (Tag::Digest, 4),
+    (Tag::MinMacLength, 64),
+    (Tag::NoAuthRequired, 1),
+    (Tag::MaxUsesPerBoot, 1),
+];
+
+/// One that is used once.
+const ONCE: Pairs = &[
+    (Tag::Purpose, 2),
+    (Tag::Purpose, 3),
+    (Tag::Algorithm, 128),
+    (Tag::Digest, 4),
+    (Tag::MinMacLength, 64),
+    (Tag::NoAuthRequired, 1),
+    (Tag::UsageCountLimit, 1),
+];
+
+/// One that is never used.
+const NEVER: Pairs = &[
+    (Tag::Purpose, 2),
+    (Tag::Purpose, 3),
+    (Tag::Algorithm, 128),
+    (Tag::Digest, 4),
+    (Tag::MinMacLength, 64),
+    (Tag::NoAuthRequired, 1),
+    (Tag::UsageCountLimit, 0),
+];
+
+/// Where a key is to stand: the domain, whether an alias and a blob are given, the bits of the policy's row, its list, and the
+/// rule that is broken.
+type Placed = (u32, bool, bool, Option<u32>, Pairs, Option<(u8, Code)>);
+
+static PLACED: [Placed; 19] = [
+    (0, true, false, None, MAC_KEY, None),
+    (
+        0,
+        true,
+        true,
+        None,
+        MAC_KEY,
+        Some((2, Code::InvalidArgument)),
+    ),
+    (
+        0,
+        false,
+        false,
+        None,
+        MAC_KEY,
+        Some((2, Code::InvalidArgument)),
+    ),
+    (2, true, false, Some(32), MAC_KEY, None),
+    (
+        2,
+        true,
+        false,
+        Some(16),
+        MAC_KEY,
+        Some((3, Code::PermissionDenied)),
+    ),
+    (
+        2,
+        true,
+        false,
+        None,
+        MAC_KEY,
+        Some((3, Code::PermissionDenied)),
+    ),
+    (
+        2,
+        true,
+        true,
+        Some(32),
+        MAC_KEY,
+        Some((2, Code::InvalidArgument)),
+    ),
+    // a blob is made whatever the alias, by MANAGE_BLOB alone
+    (3, false, false, Some(16), MAC_KEY, None),
+    (3, true, false, Some(16), MAC_KEY, None),
+    (
+        3,
+        false,
+        true,
+        Some(16),
+        MAC_KEY,
+        Some((2, Code::InvalidArgument)),
+    ),
+    (
+        3,
+        false,
+        false,
+        Some(493),
+        MAC_KEY,
+        Some((3, Code::PermissionDenied)),
+    ),
+    (
+        3,
+        false,
+        false,
+        None,
+        MAC_KEY,
+        Some((3, Code::PermissionDenied)),
+    ),
+    (
+        1,
+        true,
+        false,
+        Some(509),
+        MAC_KEY,
+        Some((2, Code::InvalidArgument)),
+    ),
+    (
+        4,
+        true,
+        false,
+        Some(509),
+        MAC_KEY,
+        Some((2, Code::InvalidArgument)),
+    ),
+    // and its uses are not counted
+    (
+        3,
+        false,
+        false,
+        Some(16),
+        ONCE_A_BOOT,
+        Some((14, Code::UnsupportedTag)),
+    ),
+    (
+        3,
+        false,
+        false,
+        Some(16),
+        ONCE,
+        Some((14, Code::UnsupportedTag)),
+    ),
+    (
+        3,
+        false,
+        false,
+        Some(16),
+        NEVER,
+        Some((14, Code::InvalidKeyArgument)),
+    ),
+    (0, true, false, None, ONCE_A_BOOT, None),
+    (0, true, false, None, ONCE, Some((16, Code::UnsupportedTag))),
+];
+
+/// The facts of an import of 20 bytes to such a place.
+fn placed(alloc: Global, row: &Placed) -> Result<NewFacts, AllocError> {
+    let mut facts = asked(alloc, b"k", row.4, Some(20), 1000)?;
+    facts.descriptor.domain = row.0;
+    if !row.1 {
+        facts.descriptor.alias = None;
+    }
+    if row.2 {
+        facts.descriptor.blob = Some(Bytes::empty(alloc));
+    }
+    facts.row = row.3;
+    Ok(facts)
+}
+
+#[test]
+fn keys_are_made_where_the_domain_and_the_policy_let_them(rt: HostRuntime) -> Result<(), Fail> {
+    let alloc = rt.alloc();
+    for (number, row) in PLACED.iter().enumerate() {
+        let told = match check_new(alloc, &placed(alloc, row)?) {
+            Ok(_) => None,
+            Err(NewFault::Broken(rule, code)) => Some((rule.number, code)),
+            Err(NewFault::Memory) => return Err("memory".into()),
+        };
+        assert!(rt; told == row.5, "in row {number}");
     }
     Ok(())
 }

@@ -2,9 +2,9 @@
 -- key's list (`key`). Where a part names AES or HMAC, it holds for the other.
 use Rattle.std.specs.Prelude.{ℕ, Bool, true, not, ◌&&◌, ◌||◌, ◌==◌, nat_le, nat_lt, List, Option, Some, None, if◌then◌else◌, is_some, unwrap_or, length}
 use Rattle.std.specs.Option.{option_or}
-use Rattle.key_domains.specs.declared.permission.Permission.TheVariants.{ReqForcedOp, Use}
+use Rattle.key_domains.specs.declared.permission.Permission.TheVariants.{ManageBlob, ReqForcedOp, Use}
 use Rattle.key_domains.specs.Bits.{has}
-use Rattle.key_domains.specs.Domains.{domain_app, domain_grant, domain_key_id, domain_selinux}
+use Rattle.key_domains.specs.Domains.{domain_app, domain_blob, domain_grant, domain_key_id, domain_selinux}
 use Rattle.tags.specs.declared.descriptor.Descriptor.{Descriptor}
 use Rattle.tags.specs.declared.param.Param.{Param}
 use Rattle.tags.specs.declared.tag.Tag.{Tag}
@@ -20,13 +20,23 @@ is_by_alias domain = (domain == domain_app) || (domain == domain_selinux)
 abbrev pub is_by_number : ℕ → Bool
 is_by_number domain = (domain == domain_grant) || (domain == domain_key_id)
 
--- the domain is APP or SELINUX with an alias of 1 to 256 bytes of UTF-8, or GRANT or KEY_ID
-abbrev pub names_key : Descriptor → Bool
-names_key descriptor = (is_by_alias descriptor.domain && has_alias descriptor) || is_by_number descriptor.domain
+-- BLOB with a blob, of any bytes
+abbrev pub hands_blob : Descriptor → Bool
+hands_blob descriptor = (descriptor.domain == domain_blob) && is_some descriptor.blob
 
--- SELINUX: the policy has a row of the caller's uid and the namespace
+-- the domain is APP or SELINUX with an alias of 1 to 256 bytes of UTF-8, or GRANT or KEY_ID, or BLOB with a blob
+abbrev pub names_key : Descriptor → Bool
+names_key descriptor = (is_by_alias descriptor.domain && has_alias descriptor) || (is_by_number descriptor.domain || hands_blob descriptor)
+
+-- the policy's row is there and has MANAGE_BLOB
+abbrev pub has_manage_blob : Option ℕ → Bool
+has_manage_blob row = passes (λ bits. has bits ManageBlob) row
+
+-- SELINUX: the policy has a row of the caller's uid and the namespace; BLOB: and it has MANAGE_BLOB
 abbrev pub is_in_policy : Descriptor → Option ℕ → Bool
-is_in_policy descriptor row = implies (descriptor.domain == domain_selinux) (is_some row)
+is_in_policy descriptor row =
+    implies (descriptor.domain == domain_selinux) (is_some row) &&
+    implies (descriptor.domain == domain_blob) (has_manage_blob row)
 
 -- the caller's bits have USE, and REQ_FORCED_OP where the begin forces
 abbrev pub may_begin : ℕ → Bool → Bool

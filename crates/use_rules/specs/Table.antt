@@ -33,12 +33,12 @@ abbrev pub call_rules : BeginFacts → List Check
 call_rules facts =
     check 1 InvalidArgument facts.connected ∷  -- the client is connected
     check 2 InvalidArgument (names_key facts.descriptor) ∷  -- the descriptor has the form of its domain
-    check 3 PermissionDenied (is_in_policy facts.descriptor facts.row) ∷  -- SELINUX: the policy knows the caller there
-    check 4 KeyNotFound facts.found ∷  -- the key is found
+    check 3 PermissionDenied (is_in_policy facts.descriptor facts.row) ∷  -- SELINUX and BLOB: the policy knows the caller there
+    check 4 KeyNotFound facts.found ∷  -- the key is found; a blob that is handed in always is
     check 5 PermissionDenied (may_begin facts.bits facts.forced) ∷  -- the caller may use it, and force where it forces
     check 6 (fault_of facts.asked) (is_ok facts.asked) ∷  -- the operation's list reads
     check 7 InvalidKeyBlob (is_some facts.opened) ∷  -- the blob opens
-    check 8 InvalidKeyBlob facts.fits ∷  -- to a list and a material that are usable
+    check 8 InvalidKeyBlob facts.fits ∷  -- for this device and these ids, to a list and a material that are usable
     []
 
 -- the rules of what the key is for, when, and for whom

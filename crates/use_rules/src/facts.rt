@@ -12,7 +12,7 @@ pub struct BeginFacts {
     pub descriptor: Descriptor,
     /// the bits of the policy's row of the caller's uid and the descriptor's nspace, where there is such a row
     pub row: Option<u32>,
-    /// the descriptor finds a key
+    /// the descriptor finds a key; in BLOB it always does
     pub found: bool,
     /// what the caller may do with that key
     pub bits: Permissions,
@@ -20,9 +20,10 @@ pub struct BeginFacts {
     pub forced: bool,
     /// the operation's list as it was read, or the code for one that does not read or is too long
     pub asked: Result<AuthList, Code>,
-    /// the key's list, and nothing where its blob does not open
+    /// the list in the key's blob, and nothing where the blob does not open; where `fits` is false any list
     pub opened: Option<AuthList>,
-    /// the key's list and its material are usable
+    /// the blob was sealed for the device's root of trust, and for the application id and data of the operation's list, of
+    /// which an absent one is equal to an absent one alone; and its list and material are usable
     pub fits: bool,
     /// the wall reading, in milliseconds since 1970
     pub wall: u64,

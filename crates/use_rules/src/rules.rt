@@ -9,7 +9,7 @@ use tags::values::{
     AES_PURPOSES, CBC, CTR, DECRYPT, DIGESTS, ENCRYPT, GCM, HMAC_PURPOSES, MODES, PADDINGS, SIGN,
     UNPADDED, digest_bits, is_whole_bytes, one_in,
 };
-use tags::{DOMAIN_APP, DOMAIN_GRANT, DOMAIN_KEY_ID, DOMAIN_SELINUX, Descriptor, Tag};
+use tags::{DOMAIN_APP, DOMAIN_BLOB, DOMAIN_GRANT, DOMAIN_KEY_ID, DOMAIN_SELINUX, Descriptor, Tag};
 
 fn is_by_alias(domain: u32) -> bool
     ensures { result ≡ spec.is_by_alias domain }
@@ -23,18 +23,37 @@ fn is_by_number(domain: u32) -> bool
     domain == DOMAIN_GRANT || domain == DOMAIN_KEY_ID
 }
 
-/// Whether the descriptor has the form of its domain; a domain that finds no key by now has none.
+fn hands_blob(descriptor: &Descriptor) -> bool
+    ensures { result ≡ spec.hands_blob descriptor.now }
+{
+    descriptor.domain == DOMAIN_BLOB && descriptor.blob.is_some()
+}
+
+/// Whether the descriptor has the form of its domain.
 pub fn names_key(descriptor: &Descriptor) -> bool
     ensures { result ≡ spec.names_key descriptor.now }
 {
-    is_by_alias(descriptor.domain) && descriptor.has_alias() || is_by_number(descriptor.domain)
+    is_by_alias(descriptor.domain) && descriptor.has_alias()
+        || is_by_number(descriptor.domain)
+        || hands_blob(descriptor)
 }
 
-/// SELINUX: whether the policy has a row of the caller and the namespace.
+fn has_manage_blob(row: Option<u32>) -> bool
+    ensures { result ≡ spec.has_manage_blob row }
+{
+    match row {
+        Some(bits) => Permissions::of_bits(bits).has(Permission::ManageBlob),
+        None => false,
+    }
+}
+
+/// SELINUX: whether the policy has a row of the caller and the namespace; BLOB: whether that row lets it hand in blobs.
 pub fn is_in_policy(descriptor: &Descriptor, row: Option<u32>) -> bool
     ensures { result ≡ spec.is_in_policy descriptor.now row }
 {
-    descriptor.domain != DOMAIN_SELINUX || row.is_some()
+    let stored = descriptor.domain != DOMAIN_SELINUX || row.is_some();
+    let handed = descriptor.domain != DOMAIN_BLOB || has_manage_blob(row);
+    stored && handed
 }
 
 /// Whether the caller may use the key, and force where the begin forces.

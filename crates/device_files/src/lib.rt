@@ -1,0 +1,18 @@
+//! What the two files of a device spell: its secrets, and the policy that stands in place of SELinux.
+//!
+//! Its one contract: `device_in` and `policy_in` answer what the definitions of `specs/` say of the bytes of `device.key` and
+//! `policy.json`, and a fault exactly where these say nothing. JSON is that of RFC 8259, as `serde_json` reads it. What a
+//! real file holds no clause says; `read_device` and `read_policy` are shown by tests.
+#![tactic(auto)]
+
+mod device;
+mod fault;
+mod files;
+mod policy;
+#[cfg(test)]
+mod tests;
+
+pub use device::device_in;
+pub use fault::FileFault;
+pub use files::{read_device, read_policy};
+pub use policy::policy_in;
