@@ -151,8 +151,7 @@ may_make policy caller key params import held plan drawn room place small fit lo
     let owner : ℕ × ℕ = owner_for (owner_of caller) key.domain key.nspace in
     let blob : List ℕ = kept_as (drop plan.size drawn) (material_of import (take plan.size drawn)) in
     let placed = and_parts (is_number_left part.next_key) (has_place_for owner.0 owner.1 (alias_of key) part) place in
-    let few : length blob ≤ 6327 = omega (arith, blob_few import plan.size drawn fit.short fit.drawn long) in
-    (
+    let few : length blob ≤ 6327 = omega (arith, blob_few import plan.size drawn fit.short fit.drawn long) in (
       rw (
         eq-eqb part.next_key part.next_key refl,
         placed.0,
