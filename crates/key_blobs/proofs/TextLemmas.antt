@@ -12,7 +12,7 @@ use Rattle.tag_lists.specs.declared.fault.ListFault.{ListFault}
 use Rattle.tag_lists.specs.Spelling.{spelling}
 use Rattle.tag_lists.specs.Reading.{listed}
 use Rattle.key_blobs.specs.declared.sealed.Sealed.{Sealed}
-use Rattle.key_blobs.specs.Text.{counted, optional, text_of, IsShort, IsSealable, front_at, counted_at, optional_at, ended, parts_in, canonical_in, sealed_in}
+use Rattle.key_blobs.specs.Text.{counted, id_size, optional, text_of, text_size, IsShort, IsSealable, front_at, counted_at, optional_at, ended, parts_in, canonical_in, sealed_in}
 
 front_again : (n : ℕ) (front rest : List ℕ) → length front ≡ n → front_at n (front ++ rest) ≡ Some (front, rest)
 front_again n front rest len =
@@ -39,6 +39,32 @@ canonical_again : (list : List Param) → listed (spelling list) ≡ Ok list →
 canonical_again list back =
     let same : bytes_eq (spelling list) (spelling list) ≡ true = (bytes_eq-Decides (spelling list) (spelling list)).1 refl in
     rw (back, same) refl
+
+counted_size : (n : ℕ) (bytes : List ℕ) → length (counted n bytes) ≡ n + length bytes
+counted_size n bytes = length-append (big_bytes n (length bytes)) bytes ∙ ap (λ k. k + length bytes) (length-bytes_high_first n (length bytes))
+
+optional_size : (bytes : Option (List ℕ)) → length (optional bytes) ≡ id_size bytes
+optional_size None = refl
+optional_size (Some bytes) = omega (arith, counted_size 2 bytes)
+
+-- how long a text is
+pub text_long : (x : Sealed) → length x.root ≡ 32 → length (text_of x) ≡ text_size x
+unfolding text_of
+text_long x long =
+    let list : List ℕ = counted 4 (spelling x.list) in
+    let material : List ℕ = counted 1 x.material in
+    omega (
+      arith,
+      long,
+      optional_size x.app_id,
+      optional_size x.app_bytes,
+      counted_size 4 (spelling x.list),
+      counted_size 1 x.material,
+      length-append x.root (optional x.app_id ++ (optional x.app_bytes ++ (list ++ material))),
+      length-append (optional x.app_id) (optional x.app_bytes ++ (list ++ material)),
+      length-append (optional x.app_bytes) (list ++ material),
+      length-append list material,
+    )
 
 pub sealed_again : (x : Sealed) → length x.root ≡ 32 → IsSealable x → listed (spelling x.list) ≡ Ok x.list → sealed_in (text_of x) ≡ Some x
 unfolding text_of parts_in

@@ -1,5 +1,5 @@
 -- The text inside a blob: how it is spelled, and how it is read. Numbers are big-endian.
-use Rattle.std.specs.Prelude.{◌≡◌, ◌<◌, ◌≤◌, ◌^◌, ℕ, List, [], ◌∷◌, ◌++◌, length, take, drop, Option, Some, None, Result, Ok, Err, nat_lt, ◌==◌, if◌then◌else◌, ⊤}
+use Rattle.std.specs.Prelude.{◌≡◌, ◌+◌, ◌<◌, ◌≤◌, ◌^◌, ℕ, List, [], ◌∷◌, ◌++◌, length, take, drop, Option, Some, None, Result, Ok, Err, nat_lt, ◌==◌, if◌then◌else◌, ⊤}
 use Rattle.std.specs.Option.{option_and_then, option_copied}
 use Rattle.std.specs.Str.{bytes_eq}
 use Rattle.byteorder.specs.Endian.{big_bytes, big_number}
@@ -34,6 +34,15 @@ pub record IsSealable (x : Sealed) : Type 0 where
   pub bytes : IsShort x.app_bytes
   pub list : length (spelling x.list) < 2 ^ 32
   pub material : length x.material ≤ 255
+
+-- how many bytes an id takes
+abbrev pub id_size : Option (List ℕ) → ℕ
+id_size None = 1
+id_size (Some bytes) = 3 + length bytes
+
+-- how many bytes the text has
+abbrev pub text_size : Sealed → ℕ
+text_size x = 37 + (id_size x.app_id + (id_size x.app_bytes + (length (spelling x.list) + length x.material)))
 
 -- the first n bytes, and what stands behind them
 abbrev pub front_at : ℕ → List ℕ → Option (List ℕ × List ℕ)

@@ -6,7 +6,7 @@ ghost use Rattle.aes_core.specs.Cipher.{cipher};
 ghost use Rattle.aes_wide.specs.WideKey.{wide_key_of};
 ghost use Rattle.gcm_mode.specs.Gcm.{gcm_seal, gcm_open};
 ghost use Rattle.key_blobs.specs.declared.sealed.Sealed.{Sealed};
-ghost use Rattle.key_blobs.specs.Text.{counted, optional, text_of, sealed_in, IsShort, IsSealable};
+ghost use Rattle.key_blobs.specs.Text.{counted, optional, text_of, sealed_in, text_size, IsShort, IsSealable};
 ghost use Rattle.key_blobs.specs.Blobs.{START, blob_of, opened};
 
 use crate::sealed::Sealed;
@@ -82,6 +82,7 @@ fn text_of(alloc: Global, sealed: &Sealed) -> Result<Vec<u8>, NoMemory>
     requires { IsSealable sealed.now }
     ensures text { IfOk result (λ text. text.items ≡ text_of sealed.now) }
     ensures again { IfOk result (λ text. sealed_in text.items ≡ Some sealed.now) }
+    ensures len { IfOk result (λ text. length text.items ≡ text_size sealed.now) }
 {
     let list = sealed.list.write(alloc)?;
     let text = joined(alloc, sealed, list.as_slice())?;
@@ -134,7 +135,7 @@ pub fn seal(
     requires { IsSealable sealed.now }
     ensures blob { IfOk result (λ blob. blob ≡ blob_of device.now.seal nonce sealed.now) }
     ensures opens { IfOk result (λ blob. opened device.now.seal blob ≡ Ok sealed.now) }
-    ensures len { IfOk result (λ blob. length blob ≡ length (text_of sealed.now) + 32) }
+    ensures len { IfOk result (λ blob. length blob ≡ text_size sealed.now + 32) }
 {
     let text = text_of(alloc, sealed)?;
     let mut blob = vec![in alloc; 0; text.len() + 32]?;

@@ -1,5 +1,5 @@
 -- An id of a list whose ids are short is short.
-use Rattle.std.proofs.Common.{◌≡◌, ◌≤◌, Bool, true, ◌&&◌, List, [], ◌∷◌, length, Option, Some, None, subst}
+use Rattle.std.proofs.Common.{◌≡◌, ◌≤◌, ℕ, Bool, true, ◌&&◌, sym, List, [], ◌∷◌, length, Option, Some, None, subst}
 use Rattle.std.specs.Prelude.{IfSome, nat_le, slice_get}
 use Rattle.std.specs.List.{list_all}
 use Rattle.std.specs.Option.{option_and_then}
@@ -25,3 +25,8 @@ short_alone (p ∷ ps) e = short_value p.value (and_parts (is_short p.value) (li
 
 pub short_id : (tag : Tag) (list : List Param) → each_short tag list ≡ true → IsShortId (bytes_of tag list)
 short_id tag list e = subst (λ o. IsShortId (option_and_then (λ p. as_bytes p.value) o)) (find-filter (is_of tag) list) (short_alone _ e)
+
+-- and so is a copy of it
+pub short_copy : (tag : Tag) (list : List Param) (bytes copy : List ℕ) → each_short tag list ≡ true → bytes_of tag list ≡ Some bytes → copy ≡ bytes → length copy ≤ 1024
+short_copy tag list bytes copy short found same =
+    subst (λ (l : List ℕ). length l ≤ 1024) (sym same) (subst IsShortId found (short_id tag list short))

@@ -4,7 +4,7 @@ ghost use Rattle.std.specs.Prelude.{◌≡◌, ◌≤◌, IfOk, Ok, length};
 ghost use Rattle.key_rules.specs.Creation.{IsFit, IsSmall};
 ghost use Rattle.key_rules.specs.Gives.{Gives};
 ghost use Rattle.key_blobs.specs.Blobs.{blob_of, opened};
-ghost use Rattle.key_blobs.specs.Text.{IsSealable, text_of};
+ghost use Rattle.key_blobs.specs.Text.{IsSealable, text_size};
 ghost use Rattle.keymint_ops.specs.Creation as spec;
 
 use key_blobs::{Sealed, seal};
@@ -47,7 +47,7 @@ fn sealed_as(root: [u8; 32], plan: KeyPlan, material: Bytes) -> Sealed
     requires short { length material ≤ 64 }
     ensures sealed { result ≡ spec.sealed_as root plan material }
     ensures sealable { IsSealable result }
-    ensures few { length (text_of result) ≤ 6287 }
+    ensures few { text_size result ≤ 6287 }
 {
     let KeyPlan {
         list,

@@ -1,13 +1,12 @@
 -- What lasts until the next restart: three tables, each with its own words.
 use Rattle.std.specs.Prelude.{◌≡◌, ℕ, Bool, false, List, [], Option}
 use Rattle.std.specs.List.{list_any}
-use Rattle.std.specs.Option.{option_and_then, option_map_or}
-use Rattle.journal_records.specs.declared.record.KeyRecord.{KeyRecord}
+use Rattle.std.specs.Option.{option_map_or}
+use Rattle.tags.specs.declared.param.Param.{Param}
 use Rattle.token_store.specs.Fitting.{opens}
 use Rattle.rule_model.specs.declared.facts.Caller.{Caller}
 use Rattle.rule_model.specs.declared.facts.Conditions.{Conditions}
 use Rattle.rule_model.specs.Access.{user_of}
-use Rattle.rule_model.specs.BeginFacts.{list_of}
 use Rattle.rule_model.specs.Entries.{History}
 use Rattle.rule_model.specs.Setup.{Setup}
 use Rattle.keystore_core.specs.declared.boot.Boot.{Boot}
@@ -33,12 +32,12 @@ pub record BootStands (setup : Setup) (boot : Boot) (past : History) : Type 0 wh
   pub tokens : TokensStand setup boot.tokens past
   pub begins : BeginsStand setup boot.begins past
 
--- the conditions of a caller's begin on the key that is found
-abbrev pub conditions_in : Boot → Caller → Option KeyRecord → Bool → Conditions
-conditions_in boot caller found room = record {
+-- the conditions of a caller's begin on a key of this list, and of this number where it is stored
+abbrev pub conditions_in : Boot → Caller → Option (List Param) → Option ℕ → Bool → Conditions
+conditions_in boot caller list id room = record {
   early_ended = early_in boot.device;
   unlocked = unlocked_in boot.device (user_of caller);
-  timely = option_map_or (λ list. list_any (λ token. opens list caller.reading.boot token) (tokens_in boot.tokens)) (option_and_then list_of found) false;
-  begins = option_map_or (λ (key : KeyRecord). begins_in boot.begins key.id) found 0;
+  timely = option_map_or (λ list. list_any (λ token. opens list caller.reading.boot token) (tokens_in boot.tokens)) list false;
+  begins = option_map_or (begins_in boot.begins) id 0;
   room = room;
 }

@@ -7,7 +7,7 @@ use Rattle.key_rules.specs.declared.facts.ImportFacts.{ImportFacts}
 use Rattle.keymint_ops.specs.declared.creation.NewKey.{NewKey}
 use Rattle.rule_model.specs.declared.event.Act.{Act}
 use Rattle.rule_model.specs.declared.event.Act.TheVariants.{GenerateKey, ImportKey}
-use Rattle.rule_model.specs.Changes.{alias_of, kept_as, owner_for}
+use Rattle.rule_model.specs.Changes.{alias_of, owner_for}
 use Rattle.keystore_core.specs.declared.creating.Import.{Import}
 
 abbrev pub facts_of_import : Import → ImportFacts
@@ -23,13 +23,7 @@ abbrev pub material_of : Option Import → List ℕ → List ℕ
 material_of None drawn = drawn
 material_of (Some import) drawn = import.material
 
--- how many bytes the material has: those of the imported one, or so many that are drawn
-abbrev pub material_bytes : Option Import → ℕ → ℕ
-material_bytes None size = size
-material_bytes (Some import) size = length import.material
-
--- a planned key of a uid, by the bytes that were drawn for it
-abbrev pub creates : ℕ → ℕ → Descriptor → NewKey → Option Import → List ℕ → Change
-creates number uid key plan import drawn =
-    Create number (owner_for uid key.domain key.nspace).0 (owner_for uid key.domain key.nspace).1 (alias_of key)
-    (kept_as (drop plan.size drawn) (material_of import (take plan.size drawn))) plan.list plan.limit
+-- a key of a uid that is stored in its blob, with its list and limit
+abbrev pub creates : ℕ → ℕ → Descriptor → List ℕ → List ℕ → ℕ → Change
+creates number uid key blob list limit =
+    Create number (owner_for uid key.domain key.nspace).0 (owner_for uid key.domain key.nspace).1 (alias_of key) blob list limit

@@ -5,7 +5,7 @@ use Rattle.auth_tokens.specs.declared.token.AuthToken.{AuthToken}
 use Rattle.token_store.specs.Fitting.{fits}
 use Rattle.rule_model.specs.Acts.{is_begin}
 use Rattle.rule_model.specs.Entries.{History, count_of, gives}
-use Rattle.rule_model.specs.Operations.{Open, is_busy, is_limited, open_of}
+use Rattle.rule_model.specs.Operations.{Open, is_busy, open_of}
 use Rattle.rule_model.specs.Setup.{Setup}
 use Rattle.keystore_core.specs.declared.operations.Operation.{Operation}
 use Rattle.keystore_core.specs.declared.operations.Operations.{Operations}
@@ -96,7 +96,7 @@ pub record IsRow (row : Operation) (o : Open) : Type 0 where
   pub client : row.client ≡ o.operation.client
   pub key : row.key ≡ o.operation.key
   pub plan : row.plan ≡ o.operation.plan
-  pub limited : row.limited ≡ is_limited o.operation.limit
+  pub limited : row.limited ≡ o.operation.limited
   pub aad_is : row.aad ≡ length o.aad
   pub text_is : row.text ≡ length o.text
   pub busy_is : row.busy ≡ is_busy o

@@ -21,12 +21,13 @@ pub fn access_by(policy: &Policy, keys: &LastingTable, caller: Caller, key: &Des
     }
 }
 
-/// The key that was found.
+/// The stored key that was found.
 pub fn key_in<'a>(keys: &'a LastingTable, access: &Access) -> Option<&'a KeyRecord>
     ensures { option_copied result ≡ model.key_in (lasting_in keys.now) access.now }
 {
     match access {
         Access::Found { key, bits: _ } => keys.by_id(key.id),
+        Access::Blob { bits: _ } => None,
         Access::Nothing => None,
     }
 }
@@ -37,6 +38,7 @@ pub fn bits_in(access: &Access) -> Permissions
 {
     match access {
         Access::Found { key: _, bits } => *bits,
+        Access::Blob { bits } => *bits,
         Access::Nothing => Permissions::NONE,
     }
 }

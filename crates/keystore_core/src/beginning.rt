@@ -1,6 +1,6 @@
 //! The beginning of an operation.
 
-ghost use Rattle.std.specs.Prelude.{◌≡◌, ℕ, ◌^◌, ◌==◌, ◌<◌, ◌≤◌, List, [], true, false, unwrap_or, Some, None, IfNone, IfOk, IfSome, IsSome, is_some, length, if◌then◌else◌};
+ghost use Rattle.std.specs.Prelude.{◌≡◌, ℕ, ◌^◌, ◌==◌, ◌<◌, ◌≤◌, List, [], true, false, unwrap_or, Some, None, IfNone, IfOk, IfSome, IsSome, OnOk, is_some, length, if◌then◌else◌};
 ghost use Rattle.std.specs.List.{list_any};
 ghost use Rattle.std.specs.Option.{option_and_then, option_copied, option_map_or};
 ghost use Rattle.byteorder.specs.Endian.{big_number};
@@ -12,7 +12,6 @@ ghost use Rattle.keymint_ops.specs.Begin.{nonce_used};
 ghost use Rattle.rule_model.specs.declared.event.Act.TheVariants as acts;
 ghost use Rattle.journal_records.specs.declared.record.KeyRecord.{KeyRecord};
 ghost use Rattle.rule_model.specs.BeginFacts as model;
-ghost use Rattle.rule_model.specs.Operations.{is_limited};
 ghost use Rattle.keystore_core.specs.Beginning as spec;
 ghost use Rattle.keystore_core.specs.Drawn.{DrewForResult};
 ghost use Rattle.keystore_core.specs.Operations.{HasRoomForOperation, operations_given};
@@ -20,16 +19,15 @@ ghost use Rattle.keystore_core.specs.Tables.{IsAt, IsCaller, ServesAt, event_by,
 ghost use Rattle.operation_slots.specs.Table.{IsLater, has_room as is_free, held};
 ghost use Rattle.rule_model.specs.Access as users;
 ghost use Rattle.token_store.specs.Fitting.{opens};
-ghost use Rattle.keystore_core.specs.Begins.{HasRoomForBegin, begins_in};
+ghost use Rattle.keystore_core.specs.Begins.{ChangesBegins, SameBegins, begins_in};
+ghost use Rattle.rule_model.specs.Boot.{begins_on as begins_of_key};
 ghost use Rattle.keystore_core.specs.Boot.{conditions_in};
 ghost use Rattle.keystore_core.specs.Tokens.{tokens_in};
-ghost use Rattle.rule_model.specs.Changes.{material_in};
 
 use crate::access::{access_by, bits_in, key_in, owner_of, row_for};
 use crate::answered::Answered;
 use crate::begins::Begins;
 use crate::boot::Boot;
-use crate::creating::NONCE_BYTES;
 use crate::draw_room::DrawRoom;
 use crate::operations::Operation;
 use crate::room::Room;
@@ -40,68 +38,80 @@ use byteorder::{BigEndian, ByteOrder};
 use cipher_ops::CipherState;
 use journal_records::KeyRecord;
 use key_domains::Access;
-use key_rules::{read_asked, usable};
-use keymint_ops::{Begin, BeginFault, plan_begin};
+use key_rules::read_asked;
+use keymint_ops::{Begin, BeginFault, OpenedKey, open_key, plan_begin};
 use ks_outside::Entropy;
 use rule_model::{Caller, Conditions, Fields, NO_FIELDS, Pieces, Reply};
 use std::alloc::Global;
-use tag_lists::{AuthList, ListFault};
-use tags::{Bytes, Descriptor, NoMemory, Policy};
+use tag_lists::AuthList;
+use tags::{Bytes, Code, Descriptor, DeviceSecrets, NoMemory, Policy, Tag};
 use use_rules::{BeginFacts, challenge_wanted};
 
-/// The list that is kept with a key; `None` where its bytes spell none.
-fn list_of(alloc: Global, key: &KeyRecord) -> Result<Option<AuthList>, NoMemory>
-    ensures { IfOk result (λ list. list ≡ model.list_of key.now) }
+/// The key of a begin.
+struct BeginKey {
+    /// whether there is one
+    found: bool,
+    /// its number, where it is stored
+    id: Option<u64>,
+    /// what its blob gave to the operation's list
+    opened: OpenedKey,
+    /// whether all output comes at the finish
+    limited: bool,
+}
+
+/// The blob of the stored key, or the one that is handed in; no bytes, which open nowhere, where there is none.
+fn blob_for<'a>(
+    access: &Access,
+    stored: Option<&'a KeyRecord>,
+    key: &'a Descriptor,
+) -> &'a [u8]
+    ensures { result.now ≡ model.blob_for access.now (option_copied stored.entry) key.now }
 {
-    match AuthList::read(alloc, key.list.as_slice()) {
-        Ok(list) => Ok(Some(list)),
-        Err(ListFault::Memory) => Err(NoMemory),
-        Err(_) => Ok(None),
+    match (access, &key.blob, stored) {
+        (Access::Blob { bits: _ }, Some(blob), _) => blob.as_slice(),
+        (Access::Blob { bits: _ }, None, _) => &[],
+        (_, _, Some(stored)) => stored.blob.as_slice(),
+        (_, _, None) => &[],
     }
 }
 
-/// A key's material, behind the nonce in its record.
-fn material_in(key: &KeyRecord) -> &[u8]
-    ensures { result.now ≡ material_in key.now }
-{
-    let blob = key.blob.as_slice();
-    if blob.len() < NONCE_BYTES {
-        return &[];
-    }
-    &blob[NONCE_BYTES..]
-}
-
-/// The list of the key that is found.
-fn opened_by(alloc: Global, found: Option<&KeyRecord>) -> Result<Option<AuthList>, NoMemory>
-    ensures { IfOk result (λ opened. opened ≡ option_and_then model.list_of (option_copied found.entry)) }
-{
-    match found {
-        Some(found) => list_of(alloc, found),
-        None => Ok(None),
+/// Whether all output comes at the finish: a stored key is limited by its record, and a blob that is handed in by its list.
+fn limited_by(access: &Access, stored: Option<&KeyRecord>, opened: &Option<AuthList>) -> bool {
+    match (access, opened, stored) {
+        (Access::Blob { bits: _ }, Some(list), _) => list.stands(Tag::UsageCountLimit),
+        (Access::Blob { bits: _ }, None, _) => false,
+        (_, _, Some(stored)) => stored.limit != 0,
+        (_, _, None) => false,
     }
 }
 
-/// Whether the key's material fits its list.
-fn is_usable(key: &KeyRecord, list: &Option<AuthList>) -> bool
-    ensures usable { result ≡ option_map_or (model.is_usable (material_in key.now)) list.now false }
-    ensures key { result ≡ true → IsKey (unwrap_or list.now []) (length (material_in key.now)) }
+/// Whether there is a key: a blob that is handed in always is one.
+fn is_found(access: &Access, stored: Option<&KeyRecord>) -> bool
+    ensures { result ≡ model.is_found access.now (option_copied stored.entry) }
 {
-    match list {
-        Some(list) => usable(list, material_in(key).len()),
-        None => false,
+    match access {
+        Access::Blob { bits: _ } => true,
+        _ => stored.is_some(),
     }
 }
 
-/// Whether the material of the key that is found fits this list of it.
-fn fits_list(found: Option<&KeyRecord>, opened: &Option<AuthList>) -> bool
-    requires { opened.now ≡ option_and_then model.list_of (option_copied found.entry) }
-    ensures fits { result ≡ spec.fits_key (option_copied found.entry) }
-    ensures key { result ≡ true → IsKey (unwrap_or opened.now []) (length (option_map_or material_in (option_copied found.entry) [])) }
-{
-    match found {
-        Some(found) => is_usable(found, opened),
-        None => false,
-    }
+/// The key of a begin, whose blob is opened for the operation's list.
+fn begin_key(
+    alloc: Global,
+    device: &DeviceSecrets,
+    access: &Access,
+    stored: Option<&KeyRecord>,
+    key: &Descriptor,
+    asked: &Result<AuthList, Code>,
+) -> Result<BeginKey, NoMemory> {
+    let opened = open_key(alloc, device, blob_for(access, stored, key), asked)?;
+    let limited = limited_by(access, stored, &opened.list);
+    Ok(BeginKey {
+        found: is_found(access, stored),
+        id: stored.map(|stored| stored.id),
+        opened,
+        limited,
+    })
 }
 
 /// The user of a caller.
@@ -121,61 +131,48 @@ fn is_timely(tokens: &Tokens, opened: &Option<AuthList>, boot: u64) -> bool
     }
 }
 
-/// How many operations began on the key that is found.
-fn begins_on(begins: &Begins, found: Option<&KeyRecord>) -> u64
-    ensures { result ≡ option_map_or (λ (key : KeyRecord). begins_in begins.now key.id) (option_copied found.entry) 0 }
+/// How many operations began on the key of a number; none on one that is not stored.
+fn begins_on(begins: &Begins, id: Option<u64>) -> u64
+    ensures { result ≡ option_map_or (begins_in begins.now) id 0 }
 {
-    match found {
-        Some(found) => begins.of(found.id),
+    match id {
+        Some(id) => begins.of(id),
         None => 0,
     }
 }
 
-/// The conditions of a caller's begin on the key that is found, which has this list.
-fn conditions(
-    boot: &Boot,
-    caller: Caller,
-    found: Option<&KeyRecord>,
-    opened: &Option<AuthList>,
-    room: bool,
-) -> Conditions
-    requires { opened.now ≡ option_and_then model.list_of (option_copied found.entry) }
-    ensures { result ≡ conditions_in boot.now caller (option_copied found.entry) room }
+/// The conditions of a caller's begin on a key.
+fn conditions(boot: &Boot, caller: Caller, key: &BeginKey, room: bool) -> Conditions
+    ensures { result ≡ conditions_in boot.now caller key.now.opened.list key.now.id room }
 {
     Conditions {
         early_ended: boot.device.has_early_ended(),
         unlocked: boot.device.is_unlocked(user_of(caller)),
-        timely: is_timely(&boot.tokens, opened, caller.reading.boot),
-        begins: begins_on(&boot.begins, found),
+        timely: is_timely(&boot.tokens, &key.opened.list, caller.reading.boot),
+        begins: begins_on(&boot.begins, key.id),
         room,
     }
 }
 
-/// What the rules of a begin read, by the key that is found, its list, the caller's bits and the conditions.
+/// What the rules of a begin read, by the list of its key, the caller's bits and the conditions.
 fn begin_facts(
-    alloc: Global,
     policy: &Policy,
-    found: Option<&KeyRecord>,
+    found: bool,
     opened: Option<AuthList>,
+    fits: bool,
     access: &Access,
     caller: Caller,
     key: Descriptor,
-    params: &[u8],
+    asked: Result<AuthList, Code>,
     forced: bool,
     conditions: Conditions,
-) -> Result<BeginFacts, NoMemory>
-    requires { opened ≡ option_and_then model.list_of (option_copied found.entry) }
-    ensures facts { IfOk result (λ facts. facts ≡ model.facts_on policy.now (option_copied found.entry) access.now caller key params.now forced conditions) }
-    ensures key { IfOk result (λ facts. facts.fits ≡ true → IsKey (key_of facts) (length (option_map_or material_in (option_copied found.entry) []))) }
-{
+) -> BeginFacts {
     let row = row_for(policy, caller, key.nspace);
-    let asked = read_asked(alloc, params)?;
-    let fits = fits_list(found, &opened);
-    Ok(BeginFacts {
+    BeginFacts {
         connected: caller.uid.is_some(),
         descriptor: key,
         row,
-        found: found.is_some(),
+        found,
         bits: bits_in(access),
         forced,
         asked,
@@ -188,16 +185,6 @@ fn begin_facts(
         timely: conditions.timely,
         begins: conditions.begins,
         room: conditions.room,
-    })
-}
-
-/// The material of the key that is found, and no bytes where none is.
-fn material_of(found: Option<&KeyRecord>) -> &[u8]
-    ensures { result.now ≡ option_map_or material_in (option_copied found.entry) [] }
-{
-    match found {
-        Some(found) => material_in(found),
-        None => &[],
     }
 }
 
@@ -205,19 +192,20 @@ fn material_of(found: Option<&KeyRecord>) -> &[u8]
 fn new_operation(
     number: u64,
     client: u64,
-    key: &KeyRecord,
+    id: Option<u64>,
+    limited: bool,
     begin: &Begin,
     list: AuthList,
     challenge: Option<u64>,
 ) -> Operation
-    ensures { spec.IsNewRow result number client key.now begin.now.plan list challenge }
+    ensures { spec.IsNewRow result number client id limited begin.now.plan list challenge }
 {
     Operation {
         number,
         client,
-        key: Some(key.id),
+        key: id,
         plan: begin.plan,
-        limited: key.limit != 0,
+        limited,
         aad: 0,
         text: 0,
         busy: false,
@@ -225,19 +213,6 @@ fn new_operation(
         shown: false,
         list,
     }
-}
-
-/// The cipher's state of a new operation on a key.
-fn new_cipher(
-    alloc: Global,
-    key: &KeyRecord,
-    begin: &Begin,
-    drawn: &[u8],
-) -> Result<CipherState, NoMemory>
-    requires { Fits begin.now.plan (material_in key.now) (nonce_used begin.now.nonce drawn.now) }
-    ensures { IfOk result (λ state. StandsFor state begin.now.plan (is_limited key.now.limit) (material_in key.now) (nonce_used begin.now.nonce drawn.now) [] []) }
-{
-    begin.start(alloc, key.limit != 0, material_in(key), drawn)
 }
 
 /// The nonce that was drawn, for the reply.
@@ -261,6 +236,28 @@ fn challenge_in(drawn: &[u8]) -> Option<u64>
     Some(BigEndian::read_u64(drawn))
 }
 
+/// Takes room for a begin on a key, where it is stored.
+fn reserve_begin(begins: &mut Begins, id: Option<u64>) -> Result<(), NoMemory>
+    ensures room { OnOk result (spec.HasRoomOn begins.new id) }
+    ensures same { SameBegins begins.old begins.new }
+{
+    match id {
+        Some(id) => begins.reserve(id),
+        None => Ok(()),
+    }
+}
+
+/// Counts a begin on a key, where it is stored.
+fn count_begin(begins: &mut Begins, id: Option<u64>)
+    requires room { spec.HasRoomOn begins.old id }
+    requires few { IfSome id (λ key. begins_in begins.old key < 2 ^ 62) }
+    ensures { ChangesBegins (begins_of_key id) begins.old begins.new }
+{
+    if let Some(id) = id {
+        begins.count(id);
+    }
+}
+
 impl Tables {
     /// Closes the operation that gives way, where one does; then a slot is free.
     fn make_way(&mut self, pruned: Option<u64>)
@@ -275,13 +272,14 @@ impl Tables {
         }
     }
 
-    /// Opens an operation of a uid on a key with its state, in the place of one that gives way, and counts it for the key.
+    /// Opens an operation of a uid on a key with its state, in the place of one that gives way, and counts it for the key where
+    /// that is stored.
     fn open(
         &mut self,
         pruned: Option<u64>,
         step: u64,
         uid: u32,
-        key: u64,
+        key: Option<u64>,
         row: Operation,
         state: CipherState,
     )
@@ -291,11 +289,11 @@ impl Tables {
         requires later { IsLater self.old.slots step }
         requires room { HasRoomForOperation self.old.operations }
         requires few { operations_given self.old.operations < 2 ^ 62 }
-        requires counted { HasRoomForBegin self.old.boot.begins key }
-        requires less { begins_in self.old.boot.begins key < 2 ^ 62 }
+        requires counted { spec.HasRoomOn self.old.boot.begins key }
+        requires less { IfSome key (λ id. begins_in self.old.boot.begins id < 2 ^ 62) }
         ensures { spec.OpensOne pruned step uid key row state self.old self.new }
     {
-        self.boot.begins.count(key);
+        count_begin(&mut self.boot.begins, key);
         self.make_way(pruned);
         self.slots.begin(row.number, uid, row.client, step, state);
         self.operations.open(row);
@@ -323,27 +321,38 @@ impl Tables {
         let pruned = pruned_for(&self.slots, uid, forced, step);
         let room = has_slot(&self.slots, pruned);
         let access = access_by(&self.policy, &self.keys, caller, &key);
-        let found = key_in(&self.keys, &access);
-        let opened = opened_by(alloc, found)?;
-        let conditions = conditions(&self.boot, caller, found, &opened, room);
+        let stored = key_in(&self.keys, &access);
+        let asked = read_asked(alloc, params.as_slice())?;
+        let own = begin_key(alloc, &self.device, &access, stored, &key, &asked)?;
+        let conditions = conditions(&self.boot, caller, &own, room);
+        let BeginKey {
+            found,
+            id,
+            opened,
+            limited,
+        } = own;
+        let OpenedKey {
+            list,
+            fits,
+            material,
+        } = opened;
         let facts = begin_facts(
-            alloc,
             &self.policy,
             found,
-            opened,
+            list,
+            fits,
             &access,
             caller,
             key,
-            params.as_slice(),
+            asked,
             forced,
             conditions,
-        )?;
-        let begin = match plan_begin(alloc, &facts, material_of(found)) {
+        );
+        let begin = match plan_begin(alloc, &facts, material.as_slice()) {
             Ok(begin) => begin,
             Err(BeginFault::Broken(rule, code)) => return Ok(Answered::refused(alloc, rule, code)),
             Err(BeginFault::Memory) => return Err(NoMemory),
         };
-        let Some(found) = found else { unreachable!() };
         let nonce = Room::of(alloc, begin.wanted)?;
         let pieces = Pieces {
             first: begin.wanted,
@@ -351,21 +360,20 @@ impl Tables {
         };
         let draws = DrawRoom::of(alloc, pieces)?;
         let op = self.operations.next();
-        let id = found.id;
         self.operations.reserve()?;
-        self.boot.begins.reserve(id)?;
+        reserve_begin(&mut self.boot.begins, id)?;
         let drawn = match draws.draw(entropy) {
             Ok(drawn) => drawn,
             Err(drawn) => return Ok(Answered::without_entropy(drawn)),
         };
         let (front, back) = drawn.as_slice().split_at(begin.wanted);
-        let Ok(state) = new_cipher(alloc, found, &begin, front) else {
+        let Ok(state) = begin.start(alloc, limited, material.as_slice(), front) else {
             return Ok(Answered::without_memory(drawn));
         };
         let challenge = challenge_in(back);
         let nonce = drawn_nonce(nonce, begin.wanted, front);
         let list = facts.opened.unwrap_or(AuthList::empty(alloc));
-        let row = new_operation(op, caller.client, found, &begin, list, challenge);
+        let row = new_operation(op, caller.client, id, limited, &begin, list, challenge);
         self.open(pruned, step, uid, id, row, state);
         let fields = Fields {
             op: Some(op),

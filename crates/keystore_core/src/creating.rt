@@ -18,11 +18,11 @@ use crate::room::Room;
 use crate::tables::Tables;
 use journal_records::Change;
 use key_rules::{ImportFacts, NewFacts, NewFault};
-use keymint_ops::{NewKey, plan_key};
+use keymint_ops::{NewKey, plan_key, seal_key};
 use ks_outside::Entropy;
 use rule_model::{Caller, Fields, NO_FIELDS, Pieces, Reply};
 use std::alloc::Global;
-use tags::{Bytes, Code, Descriptor, NoMemory, Policy};
+use tags::{Bytes, Code, DOMAIN_BLOB, Descriptor, NoMemory, Policy};
 
 /// The bytes of the nonce that a key is sealed with.
 pub const NONCE_BYTES: usize = 12;
@@ -72,49 +72,43 @@ fn new_facts(
     }
 }
 
-/// How many bytes a new key's material has, where so many are drawn for a generated one.
-fn material_bytes(import: &Option<Import>, size: usize) -> usize
-    ensures { result ≡ spec.material_bytes import.now size }
+/// A new key's material: the imported one, or these drawn bytes in the room that was taken.
+fn material_of(import: Option<Import>, room: Room, drawn: &[u8]) -> Bytes
+    requires { room_in room ≡ length drawn.now }
+    ensures { result ≡ spec.material_of import drawn.now }
 {
     match import {
-        Some(import) => import.material.len(),
-        None => size,
+        Some(Import {
+            format: _,
+            material,
+        }) => material,
+        None => room.filled(drawn),
     }
 }
 
-/// A new key's material: the imported one, or these drawn bytes.
-fn material_of<'a>(import: &'a Option<Import>, drawn: &'a [u8]) -> &'a [u8]
-    ensures { result.now ≡ spec.material_of import.now drawn.now }
+/// The nonce of a blob.
+fn nonce_in(drawn: &[u8]) -> [u8; 12]
+    requires { length drawn.now ≡ 12 }
+    ensures { result ≡ drawn.now }
 {
-    match import {
-        Some(import) => import.material.as_slice(),
-        None => drawn,
-    }
+    let mut nonce = [0; 12];
+    nonce.copy_from_slice(drawn);
+    nonce
 }
 
-/// A planned key of a uid, by the bytes that were drawn for it, in the room that was taken.
-fn new_key(
+/// The record of a key of a uid that is stored.
+fn stored_key(
     alloc: Global,
     id: u64,
     uid: u32,
     key: Descriptor,
-    plan: NewKey,
-    import: &Option<Import>,
-    room: Room,
-    drawn: &[u8],
+    blob: Bytes,
+    list: Bytes,
+    limit: u32,
 ) -> Change
-    requires drawn { length drawn.now ≡ plan.size + 12 }
-    requires room { room_in room ≡ 12 + spec.material_bytes import.now plan.size }
-    ensures { result ≡ spec.creates id uid key plan import.now drawn.now }
+    ensures { result ≡ spec.creates id uid key blob list limit }
 {
-    let (front, nonce) = drawn.split_at(plan.size);
-    let blob = room.joined(nonce, material_of(import, front));
     let (domain, nspace) = owner_for(uid, key.domain, key.nspace);
-    let NewKey {
-        list,
-        limit,
-        size: _,
-    } = plan;
     Change::Create {
         id,
         domain,
@@ -127,13 +121,40 @@ fn new_key(
 }
 
 impl Tables {
-    /// Whether there is a place for one more key of a uid: the key under its name makes place.
+    /// Whether there is a place for one more key of a uid: the key under its name makes place, and a blob takes none.
     fn has_key_place(&self, uid: u32, key: &Descriptor) -> bool
         ensures { result ≡ has_key_place (lasting_in self.now.keys) uid key.now }
     {
+        if key.domain == DOMAIN_BLOB {
+            return true;
+        }
         let (domain, nspace) = owner_for(uid, key.domain, key.nspace);
         self.keys.next_numbers().0 < NUMBERS_END
             && self.keys.has_place_for(domain, nspace, alias_bytes(key))
+    }
+
+    /// Keeps a new key of a uid in its blob, or hands the blob out where it is made in BLOB.
+    fn keep(
+        &mut self,
+        alloc: Global,
+        uid: u32,
+        key: Descriptor,
+        blob: Bytes,
+        list: Bytes,
+        limit: u32,
+    ) -> Fields {
+        if key.domain == DOMAIN_BLOB {
+            return Fields {
+                blob: Some(blob),
+                ..NO_FIELDS
+            };
+        }
+        let id = self.keys.next_numbers().0;
+        self.keys.make(stored_key(alloc, id, uid, key, blob, list, limit));
+        Fields {
+            key: Some(id),
+            ..NO_FIELDS
+        }
     }
 
     /// A client makes a key: an imported one, or else a generated one.
@@ -153,8 +174,8 @@ impl Tables {
     {
         let early_ended = self.boot.device.has_early_ended();
         let facts = new_facts(&self.policy, caller, key, params, &import, early_ended);
-        let plan = match plan_key(alloc, &facts) {
-            Ok(plan) => plan,
+        let new = match plan_key(alloc, &facts) {
+            Ok(new) => new,
             Err(NewFault::Broken(rule, code)) => return Ok(Answered::refused(alloc, rule, code)),
             Err(NewFault::Memory) => return Err(NoMemory),
         };
@@ -162,9 +183,12 @@ impl Tables {
         if !self.has_key_place(uid, &facts.descriptor) {
             return Ok(Answered::stopped(alloc, Code::StoreFull));
         }
-        let room = Room::of(alloc, NONCE_BYTES + material_bytes(&import, plan.size))?;
+        let NewKey { plan, list } = new;
+        let size = plan.size;
+        let limit = plan.limit;
+        let room = Room::of(alloc, size)?;
         let pieces = Pieces {
-            first: plan.size,
+            first: size,
             second: NONCE_BYTES,
         };
         let draws = DrawRoom::of(alloc, pieces)?;
@@ -173,14 +197,12 @@ impl Tables {
             Ok(drawn) => drawn,
             Err(drawn) => return Ok(Answered::without_entropy(drawn)),
         };
-        let id = self.keys.next_numbers().0;
-        let key = facts.descriptor;
-        let change = new_key(alloc, id, uid, key, plan, &import, room, drawn.as_slice());
-        self.keys.make(change);
-        let fields = Fields {
-            key: Some(id),
-            ..NO_FIELDS
+        let (front, back) = drawn.as_slice().split_at(size);
+        let material = material_of(import, room, front);
+        let Ok(blob) = seal_key(alloc, &self.device, nonce_in(back), plan, material) else {
+            return Ok(Answered::without_memory(drawn));
         };
+        let fields = self.keep(alloc, uid, facts.descriptor, blob, list, limit);
         Ok(Answered {
             reply: Reply::Done(fields),
             job: None,

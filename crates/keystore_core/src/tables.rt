@@ -24,10 +24,11 @@ use rule_model::{Act, Caller, Event, Reading};
 use std::alloc::Global;
 use tags::{Bytes, Code, DeviceSecrets, NoMemory, Policy, Rule, RuleTable};
 
-/// What the engine knows: the policy, the connected clients, the keys and grants, the open operations with what the rules
+/// What the engine knows: the device's secrets with its root of trust, the policy, the connected clients, the keys and grants, the open operations with what the rules
 /// read of them, the slots with their cipher states, the works that are out, and what lasts until the next restart.
 #[derive(Drop)]
 pub struct Tables {
+    pub(crate) device: DeviceSecrets,
     pub(crate) policy: Policy,
     pub(crate) clients: Clients,
     pub(crate) keys: LastingTable,
@@ -58,6 +59,7 @@ impl Tables {
         ensures { IfOk result (λ tables. (setup : Setup) → IsFresh setup device.now policy slots → TablesStand setup tables []) }
     {
         Ok(Tables {
+            device: *device,
             policy,
             clients: Clients::new(alloc),
             keys: LastingTable::empty(alloc),

@@ -1,6 +1,7 @@
 -- Entries that leave the keys and grants as they are.
 use Rattle.std.proofs.Common.{◌≡◌, ℕ, Bool, true, false, ◌&&◌, if◌then◌else◌, List, ◌∷◌, Option, None, refl, ap}
 use Rattle.tags.specs.declared.policy.PolicyRow.{PolicyRow}
+use Rattle.tags.specs.declared.secrets.DeviceSecrets.{DeviceSecrets}
 use Rattle.tags.specs.declared.settled.Settled.{Settled}
 use Rattle.journal_records.specs.LastingPart.{Lasting}
 use Rattle.rule_model.specs.declared.entry.Entry.TheVariants.{Acted}
@@ -10,6 +11,7 @@ use Rattle.rule_model.specs.declared.event.Event.{Event}
 use Rattle.rule_model.specs.declared.facts.Caller.{Caller}
 use Rattle.rule_model.specs.declared.reply.Reply.{Reply}
 use Rattle.rule_model.specs.declared.reply.Reply.TheVariants.{Done, Broken, Stopped}
+use Rattle.rule_model.specs.Blobs.{device_at}
 use Rattle.rule_model.specs.Changes.{after_change, change_of}
 use Rattle.rule_model.specs.Clients.{caller_of}
 use Rattle.rule_model.specs.Entries.{History, is_done}
@@ -28,15 +30,15 @@ changes_kept (ClearNamespace domain nspace) = true
 changes_kept (UserRemoved user) = true
 changes_kept _ = false
 
-none_changed : (act : Act) (policy : List PolicyRow) (part : Lasting) (caller : Caller) (drawn : List ℕ) → changes_kept act ≡ false → change_of act policy part caller drawn ≡ None
-none_changed (GenerateKey key params) policy part caller drawn e = cc
-none_changed (ImportKey key params format material) policy part caller drawn e = cc
-none_changed (DeleteKey key) policy part caller drawn e = cc
-none_changed (Grant key uid bits) policy part caller drawn e = cc
-none_changed (Ungrant key uid) policy part caller drawn e = cc
-none_changed (ClearNamespace domain nspace) policy part caller drawn e = cc
-none_changed (UserRemoved user) policy part caller drawn e = cc
-none_changed _ policy part caller drawn e = refl
+none_changed : (act : Act) (device : DeviceSecrets) (policy : List PolicyRow) (part : Lasting) (caller : Caller) (drawn : List ℕ) → changes_kept act ≡ false → change_of act device policy part caller drawn ≡ None
+none_changed (GenerateKey key params) device policy part caller drawn e = cc
+none_changed (ImportKey key params format material) device policy part caller drawn e = cc
+none_changed (DeleteKey key) device policy part caller drawn e = cc
+none_changed (Grant key uid bits) device policy part caller drawn e = cc
+none_changed (Ungrant key uid) device policy part caller drawn e = cc
+none_changed (ClearNamespace domain nspace) device policy part caller drawn e = cc
+none_changed (UserRemoved user) device policy part caller drawn e = cc
+none_changed _ device policy part caller drawn e = refl
 
 -- an entry that is not admitted and was not settled counts for nothing
 uncounted : (faulted : Bool) (setup : Setup) (past : History) (change : Lasting → Lasting)
@@ -51,12 +53,12 @@ denied_kept setup past event drawn (Done fields) e = cc
 denied_kept setup past event drawn (Broken rule code) e = refl
 denied_kept setup past event drawn (Stopped code) e =
     uncounted (is_faulted (is_unsettled past) event.act (Stopped code)) setup past
-    (λ part. after_change (change_of event.act setup.policy part (caller_of past event) drawn) part)
+    (λ part. after_change (change_of event.act (device_at setup past) setup.policy part (caller_of past event) drawn) part)
 
 -- an entry whose act changes none
 pub same_kept : (setup : Setup) (past : History) (event : Event) (drawn : List ℕ) (reply : Reply) → changes_kept event.act ≡ false
     → kept setup (Acted event drawn reply ∷ past) ≡ kept setup past
 same_kept setup past event drawn (Done fields) e =
-    ap (λ change. after_change change (kept setup past)) (none_changed event.act setup.policy (kept setup past) (caller_of past event) drawn e)
+    ap (λ change. after_change change (kept setup past)) (none_changed event.act (device_at setup past) setup.policy (kept setup past) (caller_of past event) drawn e)
 same_kept setup past event drawn (Broken rule code) e = denied_kept setup past event drawn (Broken rule code) refl
 same_kept setup past event drawn (Stopped code) e = denied_kept setup past event drawn (Stopped code) refl

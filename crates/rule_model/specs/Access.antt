@@ -5,7 +5,7 @@ use Rattle.tags.specs.declared.descriptor.Descriptor.{Descriptor}
 use Rattle.tags.specs.declared.policy.PolicyRow.{PolicyRow}
 use Rattle.tags.specs.Policy.{bits_of}
 use Rattle.key_domains.specs.declared.access.Access.{Access}
-use Rattle.key_domains.specs.declared.access.Access.TheVariants.{Found, Nothing}
+use Rattle.key_domains.specs.declared.access.Access.TheVariants.{Found, Blob, Nothing}
 use Rattle.key_domains.specs.Access.{access}
 use Rattle.key_domains.specs.View.{view_of}
 use Rattle.journal_records.specs.declared.record.KeyRecord.{KeyRecord}
@@ -33,9 +33,10 @@ access_by policy part caller key = by_uid caller.uid where
   by_uid None = Nothing
   by_uid (Some uid) = access_of policy part uid key
 
--- the key that was found
+-- the stored key that was found
 abbrev pub key_in : Lasting → Access → Option KeyRecord
 key_in part (Found row bits) = key_of_id part row.id
+key_in part (Blob bits) = None
 key_in part Nothing = None
 
 -- its number
@@ -49,6 +50,7 @@ id_by policy part caller key = id_of (key_in part (access_by policy part caller 
 -- what the caller may do with it
 abbrev pub bits_in : Access → ℕ
 bits_in (Found row bits) = bits
+bits_in (Blob bits) = bits
 bits_in Nothing = 0
 
 -- the bits of the policy's row of a caller's uid and a namespace

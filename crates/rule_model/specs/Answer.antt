@@ -5,6 +5,7 @@ use Rattle.tags.specs.declared.code.Code.TheVariants.{InvalidArgument, NoTicket,
 use Rattle.tags.specs.declared.rule.Rule.{Rule}
 use Rattle.tags.specs.declared.rule.RuleTable.TheVariants.{L}
 use Rattle.tags.specs.declared.descriptor.Descriptor.{Descriptor}
+use Rattle.key_domains.specs.Domains.{domain_blob}
 use Rattle.journal_records.specs.LastingPart.{Lasting}
 use Rattle.key_rules.specs.Creation.{new_key}
 use Rattle.use_rules.specs.declared.facts.BeginFacts.{BeginFacts}
@@ -22,7 +23,8 @@ use Rattle.rule_model.specs.declared.reply.Reply.TheVariants.{Done, Broken, Stop
 use Rattle.rule_model.specs.Acts.{is_begin, is_built, is_connect}
 use Rattle.rule_model.specs.Boot.{has_early_ended, last_tokens, token_of}
 use Rattle.rule_model.specs.Calls.{accepted_in, add_auth_token_ruling, clear_namespace_ruling, counted_in, delete_key_ruling, disconnect_ruling, early_boot_ended_ruling, get_key_entry_ruling, grant_ruling, granted_in, key_entry, listed_in, listing_ruling, ungrant_ruling, user_call_ruling}
-use Rattle.rule_model.specs.Changes.{owner_for}
+use Rattle.rule_model.specs.Blobs.{device_at}
+use Rattle.rule_model.specs.Changes.{new_blob, owner_for, planned}
 use Rattle.rule_model.specs.Clients.{caller_of}
 use Rattle.rule_model.specs.Entries.{History, count_of}
 use Rattle.rule_model.specs.Access.{id_by, owner_of}
@@ -64,10 +66,12 @@ leaving setup past (Some entered) = given_or entered.work (output_of (operation_
 abbrev pub begun_with : ℕ → Option ℕ → Option (List ℕ) → Option ℕ → Reply
 begun_with op challenge nonce pruned = Done (record no_fields { op = Some op; challenge = challenge; nonce = nonce; pruned = pruned })
 
--- a new key takes the next number, where there is a place for it
-abbrev pub made_in : Lasting → Caller → Descriptor → Reply
-made_in part caller key =
-    if has_key_place part (owner_of caller) key then Done (record no_fields { key = Some part.next_key }) else Stopped StoreFull
+-- A new key takes the next number, where there is a place for it. One that is made in BLOB is handed out as its blob.
+abbrev pub made_in : Lasting → Caller → Descriptor → List ℕ → Reply
+made_in part caller key blob =
+    if has_key_place part (owner_of caller) key
+    then Done (if key.domain == domain_blob then record no_fields { blob = Some blob } else record no_fields { key = Some part.next_key })
+    else Stopped StoreFull
 
 -- the answer to a line that is no event
 abbrev pub malformed : Reply
@@ -77,9 +81,12 @@ malformed = Broken (record { table = L; number = 1 }) InvalidArgument
 abbrev pub answer_by_rules : Act → Setup → History → Caller → List ℕ → Reply
 answer_by_rules (Connect uid) setup past caller drawn = Done (record no_fields { client = Some (count_of is_connect past + 1) })
 answer_by_rules (GenerateKey key params) setup past caller drawn =
-    broken_or (new_key (new_facts setup.policy caller key params None (has_early_ended setup past))) (made_in (kept setup past) caller key)
+    broken_or (new_key (new_facts setup.policy caller key params None (has_early_ended setup past)))
+    (made_in (kept setup past) caller key (new_blob (device_at setup past) (planned setup.policy caller key params None) None drawn))
 answer_by_rules (ImportKey key params format material) setup past caller drawn =
-    broken_or (new_key (new_facts setup.policy caller key params (import_of format material) (has_early_ended setup past))) (made_in (kept setup past) caller key)
+    broken_or (new_key (new_facts setup.policy caller key params (import_of format material) (has_early_ended setup past)))
+    (made_in (kept setup past) caller key
+    (new_blob (device_at setup past) (planned setup.policy caller key params (import_of format material)) (Some material) drawn))
 answer_by_rules (CreateOperation key params forced) setup past caller drawn =
     broken_or (begin_table.answer (begin_facts setup past caller key params forced))
     (begun_with (count_of is_begin past + 1) (challenge_of (begin_facts setup past caller key params forced) drawn)

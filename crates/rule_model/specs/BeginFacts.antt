@@ -1,43 +1,76 @@
 -- What the rules of a begin read.
-use Rattle.std.specs.Prelude.{ℕ, Bool, false, List, Option, is_ok, is_some, length}
-use Rattle.std.specs.Result.{result_ok}
-use Rattle.std.specs.Option.{option_and_then, option_map_or}
+use Rattle.std.specs.Prelude.{ℕ, Bool, true, false, not, ◌==◌, List, [], Option, Some, None, Result, is_some, unwrap_or}
+use Rattle.std.specs.Option.{option_map_or}
+use Rattle.tags.specs.declared.code.Code.{Code}
 use Rattle.tags.specs.declared.descriptor.Descriptor.{Descriptor}
 use Rattle.tags.specs.declared.param.Param.{Param}
 use Rattle.tags.specs.declared.policy.PolicyRow.{PolicyRow}
-use Rattle.tags.specs.declared.rule.RuleTable.TheVariants.{K}
-use Rattle.tags.specs.Table.{first_broken}
-use Rattle.tag_lists.specs.Reading.{listed}
+use Rattle.tags.specs.declared.secrets.DeviceSecrets.{DeviceSecrets}
+use Rattle.tags.specs.declared.tag.Tag.TheVariants.{UsageCountLimit}
+use Rattle.tag_lists.specs.Lookups.{stands}
 use Rattle.key_domains.specs.declared.access.Access.{Access}
+use Rattle.key_domains.specs.declared.access.Access.TheVariants.{Found, Blob, Nothing}
 use Rattle.journal_records.specs.declared.record.KeyRecord.{KeyRecord}
+use Rattle.key_blobs.specs.declared.fault.BlobFault.{BlobFault}
+use Rattle.key_blobs.specs.declared.sealed.Opened.{Opened}
 use Rattle.key_rules.specs.Asked.{asked}
-use Rattle.key_rules.specs.Table.{key_rules}
 use Rattle.use_rules.specs.declared.facts.BeginFacts.{BeginFacts}
 use Rattle.rule_model.specs.declared.facts.Caller.{Caller}
 use Rattle.rule_model.specs.declared.facts.Conditions.{Conditions}
-use Rattle.rule_model.specs.Access.{bits_in, row_for, user_of}
-use Rattle.rule_model.specs.Changes.{material_in}
+use Rattle.rule_model.specs.Access.{bits_in, id_of, row_for, user_of}
+use Rattle.rule_model.specs.Blobs.{fits_key, list_read, opened_for}
 
--- the list that is kept with a key
-abbrev pub list_of : KeyRecord → Option (List Param)
-list_of key = result_ok (listed key.list)
+-- ---- the key of a begin
 
--- the key's list and material are those of a key
-abbrev pub is_usable : List ℕ → List Param → Bool
-is_usable material list = is_ok (first_broken K (key_rules (length material) list))
+-- whether there is one, its number where it is stored, what its blob gives to the operation's list, and whether all output comes
+-- at the finish
+pub record BeginKey : Type 0 where
+  pub found : Bool
+  pub id : Option ℕ
+  pub opened : Result Opened BlobFault
+  pub limited : Bool
 
--- the facts of a caller's call, by the key that is found with the caller's bits, and the conditions
-abbrev pub facts_on : List PolicyRow → Option KeyRecord → Access → Caller → Descriptor → List ℕ → Bool → Conditions → BeginFacts
-facts_on policy found access caller key params forced conditions = record {
+-- a stored key is there where it was found; a blob that is handed in always is
+abbrev pub is_found : Access → Option KeyRecord → Bool
+is_found (Blob bits) stored = true
+is_found access stored = is_some stored
+
+-- the blob of the stored key, or the one that is handed in; no bytes, which open nowhere, where there is none
+abbrev pub blob_for : Access → Option KeyRecord → Descriptor → List ℕ
+blob_for (Blob bits) stored key = unwrap_or key.blob []
+blob_for access stored key = option_map_or (λ (held : KeyRecord). held.blob) stored []
+
+-- a key with a use limit is limited
+abbrev pub is_limited : ℕ → Bool
+is_limited limit = not (limit == 0)
+
+-- a stored key is limited by its record, and a blob that is handed in by its list
+abbrev pub limited_by : Access → Option KeyRecord → Result Opened BlobFault → Bool
+limited_by (Blob bits) stored opened = option_map_or (stands UsageCountLimit) (list_read opened) false
+limited_by access stored opened = option_map_or (λ (held : KeyRecord). is_limited held.limit) stored false
+
+abbrev pub begin_key : DeviceSecrets → Access → Option KeyRecord → Descriptor → List ℕ → BeginKey
+begin_key device access stored key params = record {
+  found = is_found access stored;
+  id = id_of stored;
+  opened = opened_for device (asked params) (blob_for access stored key);
+  limited = limited_by access stored (opened_for device (asked params) (blob_for access stored key));
+}
+
+-- ---- the facts
+
+-- the facts of a caller's call, by the key of the begin, the caller's bits, and the conditions
+abbrev pub facts_on : List PolicyRow → BeginKey → Access → Caller → Descriptor → List ℕ → Bool → Conditions → BeginFacts
+facts_on policy begun access caller key params forced conditions = record {
   connected = is_some caller.uid;
   descriptor = key;
   row = row_for policy caller key.nspace;
-  found = is_some found;
+  found = begun.found;
   bits = bits_in access;
   forced = forced;
   asked = asked params;
-  opened = option_and_then list_of found;
-  fits = option_map_or (λ key. option_map_or (is_usable (material_in key)) (list_of key) false) found false;
+  opened = list_read begun.opened;
+  fits = fits_key begun.opened;
   wall = caller.reading.wall;
   user = user_of caller;
   early_ended = conditions.early_ended;

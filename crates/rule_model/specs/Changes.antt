@@ -1,15 +1,15 @@
 -- The change that a counting entry makes of the lasting part.
-use Rattle.std.specs.Prelude.{ℕ, false, ◌==◌, ◌++◌, List, [], Option, Some, None, if◌then◌else◌, unwrap_or, take, drop, find}
+use Rattle.std.specs.Prelude.{ℕ, false, ◌==◌, List, [], Option, Some, None, if◌then◌else◌, unwrap_or, take, drop, find}
 use Rattle.std.specs.Option.{option_and_then, option_map, option_map_or}
 use Rattle.tags.specs.declared.descriptor.Descriptor.{Descriptor}
 use Rattle.tags.specs.declared.policy.PolicyRow.{PolicyRow}
+use Rattle.tags.specs.declared.secrets.DeviceSecrets.{DeviceSecrets}
 use Rattle.tag_lists.specs.Spelling.{spelling}
-use Rattle.key_domains.specs.Domains.{domain_app, domain_selinux}
+use Rattle.key_domains.specs.Domains.{domain_app, domain_blob, domain_selinux}
 use Rattle.grants.specs.declared.row.GrantRow.{GrantRow}
 use Rattle.grants.specs.Rows.{is_for}
 use Rattle.journal_records.specs.declared.change.Change.{Change}
 use Rattle.journal_records.specs.declared.change.Change.TheVariants as changes
-use Rattle.journal_records.specs.declared.record.KeyRecord.{KeyRecord}
 use Rattle.journal_records.specs.Effects.{after}
 use Rattle.journal_records.specs.LastingPart.{Lasting}
 use Rattle.key_rules.specs.declared.facts.ImportFacts.{ImportFacts}
@@ -19,6 +19,7 @@ use Rattle.rule_model.specs.declared.event.Act.{Act}
 use Rattle.rule_model.specs.declared.event.Act.TheVariants.{GenerateKey, ImportKey, DeleteKey, Grant, Ungrant, ClearNamespace, UserRemoved}
 use Rattle.rule_model.specs.declared.facts.Caller.{Caller}
 use Rattle.rule_model.specs.Access.{id_by, owner_of}
+use Rattle.rule_model.specs.Blobs.{kept_as}
 use Rattle.rule_model.specs.NewFacts.{import_of, new_facts}
 
 abbrev pub alias_of : Descriptor → List ℕ
@@ -33,18 +34,20 @@ abbrev pub material_of : Option (List ℕ) → List ℕ → List ℕ
 material_of None drawn = drawn
 material_of (Some material) drawn = material
 
--- How a key's material is kept in its record: behind the nonce, the 12 bytes that were drawn last for it.
-abbrev pub kept_as : List ℕ → List ℕ → List ℕ
-kept_as nonce material = nonce ++ material
-
-abbrev pub material_in : KeyRecord → List ℕ
-material_in key = drop 12 key.blob
+-- the blob of a new key, by its plan and the drawn bytes: the material, where it is generated, and then the nonce
+abbrev pub new_blob : DeviceSecrets → KeyPlan → Option (List ℕ) → List ℕ → List ℕ
+new_blob device plan import drawn = kept_as device plan (drop plan.size drawn) (material_of import (take plan.size drawn))
 
 -- a new key has the next number, and is made by its plan and the drawn bytes
-abbrev pub creating : Lasting → ℕ → Descriptor → KeyPlan → Option (List ℕ) → List ℕ → Change
-creating part uid key plan import drawn =
+abbrev pub creating : DeviceSecrets → Lasting → ℕ → Descriptor → KeyPlan → Option (List ℕ) → List ℕ → Change
+creating device part uid key plan import drawn =
     changes.Create part.next_key (owner_for uid key.domain key.nspace).0 (owner_for uid key.domain key.nspace).1 (alias_of key)
-    (kept_as (drop plan.size drawn) (material_of import (take plan.size drawn))) (spelling plan.list) plan.limit
+    (new_blob device plan import drawn) (spelling plan.list) plan.limit
+
+-- a key that is made in BLOB is not stored
+abbrev pub storing : DeviceSecrets → Lasting → ℕ → Descriptor → KeyPlan → Option (List ℕ) → List ℕ → Option Change
+storing device part uid key plan import drawn =
+    if key.domain == domain_blob then None else Some (creating device part uid key plan import drawn)
 
 -- the grant of a key to a uid
 abbrev pub grant_at : Lasting → ℕ → ℕ → Option GrantRow
@@ -65,19 +68,19 @@ granting part uid bits key = changes.Grant (record { grant = grant_number part k
 abbrev pub planned : List PolicyRow → Caller → Descriptor → List ℕ → Option ImportFacts → KeyPlan
 planned policy caller key params import = plan_of (new_facts policy caller key params import false)
 
--- A key is made by generateKey and importKey and ends by deleteKey; a grant is made by grant, and ends by ungrant. Many keys end
+-- A key is made by generateKey and importKey outside domain BLOB and ends by deleteKey; a grant is made by grant, and ends by ungrant. Many keys end
 -- by clearNamespace and userRemoved. No other act changes what lasts.
-abbrev pub change_of : Act → List PolicyRow → Lasting → Caller → List ℕ → Option Change
-change_of (GenerateKey key params) policy part caller drawn =
-    Some (creating part (owner_of caller) key (planned policy caller key params None) None drawn)
-change_of (ImportKey key params format material) policy part caller drawn =
-    Some (creating part (owner_of caller) key (planned policy caller key params (import_of format material)) (Some material) drawn)
-change_of (DeleteKey key) policy part caller drawn = option_map changes.Delete (id_by policy part caller key)
-change_of (Grant key uid bits) policy part caller drawn = option_map (granting part uid bits) (id_by policy part caller key)
-change_of (Ungrant key uid) policy part caller drawn = option_map changes.Ungrant (grant_of part (id_by policy part caller key) uid)
-change_of (ClearNamespace domain nspace) policy part caller drawn = Some (changes.Clear domain nspace)
-change_of (UserRemoved user) policy part caller drawn = Some (changes.Removed user)
-change_of _ policy part caller drawn = None
+abbrev pub change_of : Act → DeviceSecrets → List PolicyRow → Lasting → Caller → List ℕ → Option Change
+change_of (GenerateKey key params) device policy part caller drawn =
+    storing device part (owner_of caller) key (planned policy caller key params None) None drawn
+change_of (ImportKey key params format material) device policy part caller drawn =
+    storing device part (owner_of caller) key (planned policy caller key params (import_of format material)) (Some material) drawn
+change_of (DeleteKey key) device policy part caller drawn = option_map changes.Delete (id_by policy part caller key)
+change_of (Grant key uid bits) device policy part caller drawn = option_map (granting part uid bits) (id_by policy part caller key)
+change_of (Ungrant key uid) device policy part caller drawn = option_map changes.Ungrant (grant_of part (id_by policy part caller key) uid)
+change_of (ClearNamespace domain nspace) device policy part caller drawn = Some (changes.Clear domain nspace)
+change_of (UserRemoved user) device policy part caller drawn = Some (changes.Removed user)
+change_of _ device policy part caller drawn = None
 
 -- the lasting part after that change
 abbrev pub after_change : Option Change → Lasting → Lasting

@@ -10,18 +10,18 @@ use Rattle.rule_model.specs.declared.event.Act.TheVariants.{Leave}
 use Rattle.rule_model.specs.declared.reply.Reply.{Reply}
 use Rattle.rule_model.specs.declared.reply.Reply.TheVariants.{Done, Broken, Stopped}
 use Rattle.rule_model.specs.Entries.{History}
-use Rattle.rule_model.specs.Operations.{Open, is_limited, operation_at}
+use Rattle.rule_model.specs.Operations.{Open, operation_at}
 use Rattle.rule_model.specs.Setup.{Setup}
 use Rattle.rule_model.specs.Tickets.{Entered, ticket_at}
 
 -- a job is a work on an open operation, by the plan, material and nonce of its begin and what it has taken
 abbrev pub IsJobOn : Option Open → Work → Job → Type 0
 IsJobOn None work job = ⊥
-IsJobOn (Some o) work job = JobFor job o.operation.plan (is_limited o.operation.limit) o.operation.material o.operation.nonce o.aad o.text work
+IsJobOn (Some o) work job = JobFor job o.operation.plan o.operation.limited o.operation.material o.operation.nonce o.aad o.text work
 
 -- what a work on an open operation comes to, with one of two codes where its output is refused
 pub record ComesBackAs (o : Open) (work : Work) (back : JobDone) : Type 0 where
-  pub comes : ComesTo back o.operation.plan (is_limited o.operation.limit) o.operation.material o.operation.nonce o.aad o.text work
+  pub comes : ComesTo back o.operation.plan o.operation.limited o.operation.material o.operation.nonce o.aad o.text work
   pub refuses : IfErr back.result (λ code. is_refusal code ≡ true)
 
 -- a job comes back with that

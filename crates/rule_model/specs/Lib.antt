@@ -4,13 +4,14 @@ pub mod Clients
 pub mod Setup
 pub mod Access
 pub mod NewFacts
+pub mod Blobs
 pub mod Changes
 pub mod Settling
+pub mod BeginFacts
 pub mod Kept
 pub mod Places
 pub mod Replies
 pub mod Listing
-pub mod BeginFacts
 pub mod Boot
 pub mod Tickets
 pub mod Operations

@@ -16,7 +16,6 @@ use Rattle.cipher_ops.specs.declared.room.Work.{Work}
 use Rattle.cipher_ops.specs.declared.room.Work.TheVariants.{Aad, Text, Last}
 use Rattle.cipher_ops.specs.Output.{update_output, finish_output}
 use Rattle.rule_model.specs.declared.entry.Entry.TheVariants.{Acted, Settling}
-use Rattle.journal_records.specs.declared.record.KeyRecord.{KeyRecord}
 use Rattle.rule_model.specs.declared.event.Event.{Event}
 use Rattle.rule_model.specs.declared.event.Act.{Act}
 use Rattle.rule_model.specs.declared.event.Act.TheVariants.{AddAuthToken, Disconnect, CreateOperation, EnterAad, EnterUpdate, EnterFinish, Abort, Leave, Restart}
@@ -25,19 +24,19 @@ use Rattle.rule_model.specs.declared.facts.Conditions.{Conditions}
 use Rattle.rule_model.specs.declared.reply.Fields.{Fields}
 use Rattle.rule_model.specs.declared.reply.Reply.{Reply}
 use Rattle.rule_model.specs.declared.reply.Reply.TheVariants.{Done, Broken, Stopped}
-use Rattle.rule_model.specs.BeginFacts.{facts_on}
+use Rattle.rule_model.specs.BeginFacts.{BeginKey, facts_on}
+use Rattle.rule_model.specs.Blobs.{material_read}
 use Rattle.rule_model.specs.Clients.{caller_of}
 use Rattle.rule_model.specs.Boot.{token_of}
 use Rattle.rule_model.specs.Entries.{History, gives}
 use Rattle.rule_model.specs.Access.{owner_of}
-use Rattle.rule_model.specs.Changes.{material_in}
-use Rattle.rule_model.specs.Kept.{access_at, key_found}
+use Rattle.rule_model.specs.Kept.{access_at, begin_key_at}
 use Rattle.rule_model.specs.Setup.{Setup}
 use Rattle.rule_model.specs.Tickets.{Entered, ticket_at}
 
--- An operation: its number, its client with the uid, the key's number where it has one, the key's material, list and limit as
--- its begin read them, what its work is, from which nonce, and the challenge that a token for it has to name, where one has to
--- be shown to it.
+-- An operation: its number, its client with the uid, the key's number where the key is stored, the key's material and list as its
+-- begin read them, whether all output comes at the finish, what its work is, from which nonce, and the challenge that a token
+-- for it has to name, where one has to be shown to it.
 pub record Operation : Type 0 where
   pub number : ℕ
   pub client : ℕ
@@ -45,14 +44,10 @@ pub record Operation : Type 0 where
   pub key : Option ℕ
   pub material : List ℕ
   pub list : List Param
-  pub limit : ℕ
+  pub limited : Bool
   pub plan : Plan
   pub nonce : List ℕ
   pub challenge : Option ℕ
-
--- a key with a use limit gives all output at the finish
-abbrev pub is_limited : ℕ → Bool
-is_limited limit = not (limit == 0)
 
 -- how many of a begin's drawn bytes are its nonce
 abbrev pub nonce_size : BeginFacts → ℕ
@@ -66,16 +61,16 @@ nonce_of facts drawn = unwrap_or (nonce_given (asked_of facts) (key_of facts)) (
 abbrev pub challenge_of : BeginFacts → List ℕ → Option ℕ
 challenge_of facts drawn = if is_per_operation (key_of facts) then Some (big_number 8 (drop (nonce_size facts) drawn)) else None
 
--- the operation of a begin on a stored key
-abbrev pub operation_on : KeyRecord → BeginFacts → Caller → ℕ → List ℕ → Operation
+-- the operation of a begin on a key; one on a blob that was handed in has no key that could end
+abbrev pub operation_on : BeginKey → BeginFacts → Caller → ℕ → List ℕ → Operation
 operation_on key facts caller number drawn = record {
   number = number;
   client = caller.client;
   uid = owner_of caller;
-  key = Some key.id;
-  material = material_in key;
+  key = key.id;
+  material = material_read key.opened;
   list = key_of facts;
-  limit = key.limit;
+  limited = key.limited;
   plan = plan_of (asked_of facts) (key_of facts);
   nonce = nonce_of facts drawn;
   challenge = challenge_of facts drawn;
@@ -127,14 +122,13 @@ no_conditions = record { early_ended = false; unlocked = false; timely = false; 
 
 abbrev pub facts_of_begin : Setup → History → Caller → Descriptor → List ℕ → BeginFacts
 facts_of_begin setup past caller key params =
-    facts_on setup.policy (key_found setup past caller key) (access_at setup past caller key) caller key params false no_conditions
+    facts_on setup.policy (begin_key_at setup past caller key params) (access_at setup past caller key) caller key params false no_conditions
 
-abbrev pub opens : Option KeyRecord → BeginFacts → Caller → Fields → List ℕ → OperationChange
-opens (Some key) facts caller fields drawn = opens_as fields.op where
+abbrev pub opens : BeginKey → BeginFacts → Caller → Fields → List ℕ → OperationChange
+opens key facts caller fields drawn = opens_as fields.op where
   opens_as : Option ℕ → OperationChange
   opens_as None = SameOperations
   opens_as (Some number) = Opens fields.pruned (operation_on key facts caller number drawn)
-opens None facts caller fields drawn = SameOperations
 
 abbrev pub enters : ℕ → Option ℕ → OperationChange
 enters op None = SameOperations
@@ -157,7 +151,7 @@ returns (Some entered) = by_work entered.work where
 -- on. A token is shown. An abort, the client's disconnect and a restart close.
 abbrev pub admitted_operation : Act → Setup → History → Event → List ℕ → Fields → OperationChange
 admitted_operation (CreateOperation key params forced) setup past event drawn fields =
-    opens (key_found setup past (caller_of past event) key) (facts_of_begin setup past (caller_of past event) key params) (caller_of past event) fields drawn
+    opens (begin_key_at setup past (caller_of past event) key params) (facts_of_begin setup past (caller_of past event) key params) (caller_of past event) fields drawn
 admitted_operation (EnterAad op input) setup past event drawn fields = enters op fields.ticket
 admitted_operation (EnterUpdate op input) setup past event drawn fields = enters op fields.ticket
 admitted_operation (EnterFinish op input signature) setup past event drawn fields = enters op fields.ticket
@@ -249,6 +243,6 @@ abbrev pub output_of : Option Open → Work → Result (List ℕ) Code
 output_of None work = Ok []
 output_of (Some o) (Aad input) = Ok []
 output_of (Some o) (Text input) =
-    Ok (update_output o.operation.plan (is_limited o.operation.limit) o.operation.material o.operation.nonce o.text (o.text ++ input))
+    Ok (update_output o.operation.plan o.operation.limited o.operation.material o.operation.nonce o.text (o.text ++ input))
 output_of (Some o) (Last input signature) =
-    finish_output o.operation.plan (is_limited o.operation.limit) o.operation.material o.operation.nonce o.aad o.text (o.text ++ input) signature
+    finish_output o.operation.plan o.operation.limited o.operation.material o.operation.nonce o.aad o.text (o.text ++ input) signature
