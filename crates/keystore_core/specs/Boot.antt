@@ -23,7 +23,7 @@ pub record IsStartOf (key : List ℕ) (boot : Boot) : Type 0 where
 
 pub record SameBoot (old new : Boot) : Type 0 where
   pub device : new.device ≡ old.device
-  pub tokens : new.tokens ≡ old.tokens
+  pub tokens : SameTokens old.tokens new.tokens
   pub begins : SameBegins old.begins new.begins
 
 -- the three stand for a history

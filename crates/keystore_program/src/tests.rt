@@ -10,6 +10,7 @@ mod orders;
 mod script;
 mod sealing;
 mod tickets;
+mod tokens;
 mod vectors;
 
 use crate::run::run_words;
