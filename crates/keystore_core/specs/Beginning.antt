@@ -2,7 +2,10 @@
 use Rattle.std.specs.Prelude.{◌≡◌, ℕ, Bool, false, List, Option, Some, None, length}
 use Rattle.tags.specs.declared.param.Param.{Param}
 use Rattle.tags.specs.declared.plan.Plan.{Plan}
+use Rattle.rule_model.specs.BeginFacts.{BeginKey}
+use Rattle.rule_model.specs.Blobs.{fits_key, list_read, material_read}
 use Rattle.rule_model.specs.Boot.{begins_on}
+use Rattle.keystore_core.specs.declared.beginning.BeginKey.{BeginKey as OwnKey}
 use Rattle.keystore_core.specs.declared.operations.Operation.{Operation}
 use Rattle.keystore_core.specs.declared.room.Room.{Room}
 use Rattle.keystore_core.specs.declared.tables.Tables.{Tables}
@@ -16,6 +19,15 @@ use Rattle.keystore_core.specs.Leaving.{ClosesOne}
 use Rattle.keystore_core.specs.Operations.{AddsRow}
 use Rattle.keystore_core.specs.Room.{room_in}
 use Rattle.keystore_core.specs.Tickets.{SameTickets}
+
+-- the key of a begin as the rules read it
+pub record IsBeginKey (own : OwnKey) (key : BeginKey) : Type 0 where
+  pub found_is : own.found ≡ key.found
+  pub id_is : own.id ≡ key.id
+  pub list_is : own.opened.list ≡ list_read key.opened
+  pub fits_is : own.opened.fits ≡ fits_key key.opened
+  pub material_is : own.opened.material ≡ material_read key.opened
+  pub limited_is : own.limited ≡ key.limited
 
 -- there is room for a begin on a key, where it is stored
 abbrev pub HasRoomOn : TheBegins → Option ℕ → Type 0

@@ -60,11 +60,7 @@ struct BeginKey {
 }
 
 /// The blob of the stored key, or the one that is handed in; no bytes, which open nowhere, where there is none.
-fn blob_for<'a>(
-    access: &Access,
-    stored: Option<&'a KeyRecord>,
-    key: &'a Descriptor,
-) -> &'a [u8]
+fn blob_for<'a>(access: &Access, stored: Option<&'a KeyRecord>, key: &'a Descriptor) -> &'a [u8]
     ensures { result.now ≡ model.blob_for access.now (option_copied stored.entry) key.now }
 {
     match (access, &key.blob, stored) {
@@ -76,8 +72,10 @@ fn blob_for<'a>(
 }
 
 /// Whether all output comes at the finish: a stored key is limited by its record, and a blob that is handed in by its list.
-fn limited_by(access: &Access, stored: Option<&KeyRecord>, opened: &Option<AuthList>) -> bool {
-    match (access, opened, stored) {
+fn limited_by(access: &Access, stored: Option<&KeyRecord>, list: &Option<AuthList>) -> bool
+    ensures { result ≡ model.limited_by access.now (option_copied stored.entry) list.now }
+{
+    match (access, list, stored) {
         (Access::Blob { bits: _ }, Some(list), _) => list.stands(Tag::UsageCountLimit),
         (Access::Blob { bits: _ }, None, _) => false,
         (_, _, Some(stored)) => stored.limit != 0,
@@ -103,7 +101,10 @@ fn begin_key(
     stored: Option<&KeyRecord>,
     key: &Descriptor,
     asked: &Result<AuthList, Code>,
-) -> Result<BeginKey, NoMemory> {
+) -> Result<BeginKey, NoMemory>
+    ensures key { IfOk result (λ own. spec.IsBeginKey own (model.begin_key device.now access.now (option_copied stored.entry) key.now asked.now)) }
+    ensures usable { IfOk result (λ own. own.opened.fits ≡ true → IsKey (unwrap_or own.opened.list []) (length own.opened.material)) }
+{
     let opened = open_key(alloc, device, blob_for(access, stored, key), asked)?;
     let limited = limited_by(access, stored, &opened.list);
     Ok(BeginKey {
@@ -166,7 +167,9 @@ fn begin_facts(
     asked: Result<AuthList, Code>,
     forced: bool,
     conditions: Conditions,
-) -> BeginFacts {
+) -> BeginFacts
+    ensures { result ≡ model.facts_by policy.now found opened fits access.now caller key asked forced conditions }
+{
     let row = row_for(policy, caller, key.nspace);
     BeginFacts {
         connected: caller.uid.is_some(),

@@ -78,10 +78,12 @@ fn material_of(import: Option<Import>, room: Room, drawn: &[u8]) -> Bytes
     ensures { result ≡ spec.material_of import drawn.now }
 {
     match import {
-        Some(Import {
-            format: _,
-            material,
-        }) => material,
+        Some(
+            Import {
+                format: _,
+                material,
+            },
+        ) => material,
         None => room.filled(drawn),
     }
 }
@@ -150,7 +152,8 @@ impl Tables {
             };
         }
         let id = self.keys.next_numbers().0;
-        self.keys.make(stored_key(alloc, id, uid, key, blob, list, limit));
+        self.keys
+            .make(stored_key(alloc, id, uid, key, blob, list, limit));
         Fields {
             key: Some(id),
             ..NO_FIELDS

@@ -13,7 +13,7 @@ use Rattle.key_domains.specs.declared.access.Access.TheVariants.{Found, Blob, No
 use Rattle.journal_records.specs.declared.record.KeyRecord.{KeyRecord}
 use Rattle.key_blobs.specs.declared.fault.BlobFault.{BlobFault}
 use Rattle.key_blobs.specs.declared.sealed.Opened.{Opened}
-use Rattle.key_rules.specs.Asked.{asked}
+use Rattle.key_rules.specs.Asked.{asked as asked_in}
 use Rattle.use_rules.specs.declared.facts.BeginFacts.{BeginFacts}
 use Rattle.rule_model.specs.declared.facts.Caller.{Caller}
 use Rattle.rule_model.specs.declared.facts.Conditions.{Conditions}
@@ -45,32 +45,33 @@ abbrev pub is_limited : ℕ → Bool
 is_limited limit = not (limit == 0)
 
 -- a stored key is limited by its record, and a blob that is handed in by its list
-abbrev pub limited_by : Access → Option KeyRecord → Result Opened BlobFault → Bool
-limited_by (Blob bits) stored opened = option_map_or (stands UsageCountLimit) (list_read opened) false
-limited_by access stored opened = option_map_or (λ (held : KeyRecord). is_limited held.limit) stored false
+abbrev pub limited_by : Access → Option KeyRecord → Option (List Param) → Bool
+limited_by (Blob bits) stored list = option_map_or (stands UsageCountLimit) list false
+limited_by access stored list = option_map_or (λ (held : KeyRecord). is_limited held.limit) stored false
 
-abbrev pub begin_key : DeviceSecrets → Access → Option KeyRecord → Descriptor → List ℕ → BeginKey
-begin_key device access stored key params = record {
+abbrev pub begin_key : DeviceSecrets → Access → Option KeyRecord → Descriptor → Result (List Param) Code → BeginKey
+begin_key device access stored key asked = record {
   found = is_found access stored;
   id = id_of stored;
-  opened = opened_for device (asked params) (blob_for access stored key);
-  limited = limited_by access stored (opened_for device (asked params) (blob_for access stored key));
+  opened = opened_for device asked (blob_for access stored key);
+  limited = limited_by access stored (list_read (opened_for device asked (blob_for access stored key)));
 }
 
 -- ---- the facts
 
--- the facts of a caller's call, by the key of the begin, the caller's bits, and the conditions
-abbrev pub facts_on : List PolicyRow → BeginKey → Access → Caller → Descriptor → List ℕ → Bool → Conditions → BeginFacts
-facts_on policy begun access caller key params forced conditions = record {
+-- the facts of a caller's call, by whether there is a key, the list in its blob and whether it fits, the caller's bits, the
+-- operation's list, and the conditions
+abbrev pub facts_by : List PolicyRow → Bool → Option (List Param) → Bool → Access → Caller → Descriptor → Result (List Param) Code → Bool → Conditions → BeginFacts
+facts_by policy found opened fits access caller key asked forced conditions = record {
   connected = is_some caller.uid;
   descriptor = key;
   row = row_for policy caller key.nspace;
-  found = begun.found;
+  found = found;
   bits = bits_in access;
   forced = forced;
-  asked = asked params;
-  opened = list_read begun.opened;
-  fits = fits_key begun.opened;
+  asked = asked;
+  opened = opened;
+  fits = fits;
   wall = caller.reading.wall;
   user = user_of caller;
   early_ended = conditions.early_ended;
@@ -79,3 +80,8 @@ facts_on policy begun access caller key params forced conditions = record {
   begins = conditions.begins;
   room = conditions.room;
 }
+
+-- by the key of the begin
+abbrev pub facts_on : List PolicyRow → BeginKey → Access → Caller → Descriptor → List ℕ → Bool → Conditions → BeginFacts
+facts_on policy begun access caller key params forced conditions =
+    facts_by policy begun.found (list_read begun.opened) (fits_key begun.opened) access caller key (asked_in params) forced conditions

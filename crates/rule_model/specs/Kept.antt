@@ -11,6 +11,7 @@ use Rattle.rule_model.specs.declared.entry.Entry.TheVariants.{Acted, Settling}
 use Rattle.rule_model.specs.declared.event.Act.{Act}
 use Rattle.rule_model.specs.declared.facts.Caller.{Caller}
 use Rattle.rule_model.specs.Access.{access_by, key_in}
+use Rattle.key_rules.specs.Asked.{asked}
 use Rattle.rule_model.specs.BeginFacts.{BeginKey, begin_key}
 use Rattle.rule_model.specs.Blobs.{device_at}
 use Rattle.rule_model.specs.Changes.{after_change, change_of}
@@ -45,7 +46,7 @@ key_found setup past caller key = key_in (kept setup past) (access_at setup past
 -- the key of a caller's begin
 abbrev pub begin_key_at : Setup → History → Caller → Descriptor → List ℕ → BeginKey
 begin_key_at setup past caller key params =
-    begin_key (device_at setup past) (access_at setup past caller key) (key_found setup past caller key) key params
+    begin_key (device_at setup past) (access_at setup past caller key) (key_found setup past caller key) key (asked params)
 
 -- whether a key of this number has not ended
 abbrev pub is_live : Setup → History → ℕ → Bool
