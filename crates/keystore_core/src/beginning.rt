@@ -94,7 +94,7 @@ fn is_usable(key: &KeyRecord, list: &Option<AuthList>) -> bool
 
 /// Whether the material of the key that is found fits this list of it.
 fn fits_list(found: Option<&KeyRecord>, opened: &Option<AuthList>) -> bool
-    requires { opened.now ≡ option_and_then model.list_of (option_copied found.entry) }
+    requires { opened.now ≡ option_and_then model.list_of (option_copied found) }
     ensures fits { result ≡ spec.fits_key (option_copied found.entry) }
     ensures key { result ≡ true → IsKey (unwrap_or opened.now []) (length (option_map_or material_in (option_copied found.entry) [])) }
 {
@@ -139,7 +139,7 @@ fn conditions(
     opened: &Option<AuthList>,
     room: bool,
 ) -> Conditions
-    requires { opened.now ≡ option_and_then model.list_of (option_copied found.entry) }
+    requires { opened.now ≡ option_and_then model.list_of (option_copied found) }
     ensures { result ≡ conditions_in boot.now caller (option_copied found.entry) room }
 {
     Conditions {
@@ -164,7 +164,7 @@ fn begin_facts(
     forced: bool,
     conditions: Conditions,
 ) -> Result<BeginFacts, NoMemory>
-    requires { opened ≡ option_and_then model.list_of (option_copied found.entry) }
+    requires { opened ≡ option_and_then model.list_of (option_copied found) }
     ensures facts { IfOk result (λ facts. facts ≡ model.facts_on policy.now (option_copied found.entry) access.now caller key params.now forced conditions) }
     ensures key { IfOk result (λ facts. facts.fits ≡ true → IsKey (key_of facts) (length (option_map_or material_in (option_copied found.entry) []))) }
 {
