@@ -2,17 +2,18 @@
 use Rattle.std.proofs.Common.{◌≡◌, ℕ, ◌≤◌, ◌<◌, ◌-◌, ◌^◌, Bool, false, List, ◌∷◌, length, Option, Some, None, refl, sym, ap, ◌∙◌, arith}
 use Rattle.std.proofs.Math.Bridge.{le_prop}
 use mathlib.Core.Logic.{∥∥₁_elim}
-use Rattle.std.specs.Option.{option_and_then, option_map_or}
+use Rattle.std.specs.Option.{option_map_or}
 use Rattle.std.specs.List.{list_any}
 use Rattle.tags.specs.declared.param.Param.{Param}
-use Rattle.journal_records.specs.declared.record.KeyRecord.{KeyRecord}
 use Rattle.auth_tokens.specs.declared.token.AuthToken.{AuthToken}
 use Rattle.token_store.specs.Fitting.{opens}
 use Rattle.rule_model.specs.declared.entry.Entry.TheVariants.{Acted}
 use Rattle.rule_model.specs.declared.event.Event.{Event}
 use Rattle.rule_model.specs.declared.facts.Caller.{Caller}
 use Rattle.rule_model.specs.declared.reply.Reply.{Reply}
-use Rattle.rule_model.specs.Boot.{BootChange, SameBoot as NoBoot, begins_after, begins_of, boot_change, early_after, has_early_ended, is_unlocked, last_tokens, tokens_after, unlocked_after}
+use Rattle.rule_model.specs.BeginFacts.{BeginKey}
+use Rattle.rule_model.specs.Blobs.{list_read}
+use Rattle.rule_model.specs.Boot.{BootChange, SameBoot as NoBoot, begins_after, begins_of, boot_change, early_after, has_early_ended, is_unlocked, last_tokens, begins_on, tokens_after, unlocked_after}
 use Rattle.rule_model.specs.Entries.{History}
 use Rattle.rule_model.specs.Setup.{Setup}
 use Rattle.rule_model.specs.Slots.{conditions_on}
@@ -74,15 +75,31 @@ module _ (setup : Setup) (past : History) (boot : Boot) (stands : BootStands set
   timely_is None = refl
   timely_is (Some list) = ap (list_any (λ token. opens list caller.reading.boot token)) stands.tokens.tokens_are
 
-  begins_are : (found : Option KeyRecord) → option_map_or (λ (key : KeyRecord). begins_in boot.begins key.id) found 0 ≡ option_map_or (λ (key : KeyRecord). begins_of setup past key.id) found 0
+  begins_are : (id : Option ℕ) → option_map_or (begins_in boot.begins) id 0 ≡ option_map_or (begins_of setup past) id 0
   begins_are None = refl
-  begins_are (Some key) = stands.begins key.id
+  begins_are (Some id) = stands.begins id
 
-  pub conditions_are : (found : Option KeyRecord) (told room : Bool) → told ≡ room → conditions_in boot caller found told ≡ conditions_on setup past caller found room
-  conditions_are found told room is = rw (
+  pub conditions_are : (key : BeginKey) (list : Option (List Param)) (id : Option ℕ) (told room : Bool) → list ≡ list_read key.opened → id ≡ key.id → told ≡ room
+      → conditions_in boot caller list id told ≡ conditions_on setup past caller key room
+  conditions_are key list id told room list_is id_is is = rw (
+    list_is,
+    id_is,
     stands.device.early,
     stands.device.users (Rattle.rule_model.specs.Access.user_of caller),
-    timely_is (option_and_then Rattle.rule_model.specs.BeginFacts.list_of found),
-    begins_are found,
+    timely_is (list_read key.opened),
+    begins_are key.id,
     is,
   ) refl
+
+-- a begin on a key, stored or not, moves nothing but the begins
+pub begun_users : (id : Option ℕ) (user : ℕ) (before : Bool) → unlocked_after (begins_on id) user before ≡ before
+begun_users None user before = refl
+begun_users (Some id) user before = refl
+
+pub begun_early : (id : Option ℕ) (before : Bool) → early_after (begins_on id) before ≡ before
+begun_early None before = refl
+begun_early (Some id) before = refl
+
+pub begun_tokens : (id : Option ℕ) (before : List AuthToken) → tokens_after (begins_on id) before ≡ before
+begun_tokens None before = refl
+begun_tokens (Some id) before = refl

@@ -7,7 +7,7 @@ use Rattle.std.proofs.lemmas.Bool.{and_parts, eq-eqb}
 use Rattle.tags.specs.declared.descriptor.Descriptor.{Descriptor}
 use Rattle.tags.specs.declared.policy.PolicyRow.{PolicyRow}
 use Rattle.key_domains.specs.declared.access.Access.{Access}
-use Rattle.key_domains.specs.declared.access.Access.TheVariants.{Found, Nothing}
+use Rattle.key_domains.specs.declared.access.Access.TheVariants.{Found, Blob, Nothing}
 use Rattle.grants.specs.declared.row.GrantRow.{GrantRow}
 use Rattle.grants.specs.Rows.{is_for, is_numbered}
 use Rattle.journal_records.specs.declared.record.KeyRecord.{KeyRecord}
@@ -15,6 +15,7 @@ use Rattle.journal_records.specs.LastingPart.{Lasting, has_id, some_has_id}
 use Rattle.journal_records.specs.Needs.{is_grant_numbered, is_number_left}
 use Rattle.rule_model.specs.declared.facts.Caller.{Caller}
 use Rattle.rule_model.specs.Access.{access_by, id_by, id_of, key_in}
+use Rattle.rule_model.specs.Blobs.{device_at}
 use Rattle.rule_model.specs.Changes.{grant_at, grant_number, grant_of}
 use Rattle.rule_model.specs.Places.{has_grant_place}
 use Rattle.rule_model.specs.Entries.{History}
@@ -24,15 +25,16 @@ use Rattle.keystore_core.specs.declared.tables.Tables.{Tables}
 use Rattle.keystore_core.specs.Keys.{KeysStand, SameKeys}
 
 pub same_keys : (tables : Tables) → SameKeys tables tables
-same_keys tables = record { policy_is = refl; lasting_is = refl }
+same_keys tables = record { device_is = refl; policy_is = refl; lasting_is = refl }
 
 pub same_keys_twice : (old middle new : Tables) → SameKeys old middle → SameKeys middle new → SameKeys old new
-same_keys_twice old middle new first second = record { policy_is = second.policy_is ∙ first.policy_is; lasting_is = second.lasting_is ∙ first.lasting_is }
+same_keys_twice old middle new first second = record { device_is = second.device_is ∙ first.device_is; policy_is = second.policy_is ∙ first.policy_is; lasting_is = second.lasting_is ∙ first.lasting_is }
 
 -- an entry that leaves the keys and grants as they are
-pub keys_stay : (setup : Setup) (past later : History) (old new : Tables) → KeysStand setup old past → SameKeys old new → kept setup later ≡ kept setup past
+pub keys_stay : (setup : Setup) (past later : History) (old new : Tables) → KeysStand setup old past → SameKeys old new → kept setup later ≡ kept setup past → device_at setup later ≡ device_at setup past
     → KeysStand setup new later
-keys_stay setup past later old new stands same is = record {
+keys_stay setup past later old new stands same is device_is = record {
+  device_is = same.device_is ∙ stands.device_is ∙ sym device_is;
   policy_is = same.policy_is ∙ stands.policy_is;
   lasting_is = same.lasting_is ∙ stands.lasting_is ∙ sym is;
 }
@@ -53,6 +55,7 @@ pub found_live : (policy : List PolicyRow) (part : Lasting) (caller : Caller) (k
 found_live policy part caller key id e = by_access (access_by policy part caller key) e where
   by_access : (access : Access) → id_of (key_in part access) ≡ Some id → some_has_id id part.keys ≡ true
   by_access (Found row bits) found = id_found row.id id part.keys found
+  by_access (Blob bits) found = cc
   by_access Nothing found = cc
 
 -- a grant that is found is held

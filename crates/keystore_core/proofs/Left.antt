@@ -34,11 +34,11 @@ use Rattle.rule_model.specs.Entries.{History, admits, count_of}
 use Rattle.rule_model.specs.Boot.{SameBoot as NoBoot, boot_change}
 use Rattle.rule_model.specs.Jobs.{HasJob, IsDoneOn, IsDoneOut, Stays}
 use Rattle.rule_model.specs.Legal.{MayFollow, Answered}
-use Rattle.rule_model.specs.Operations.{Closes, ClosesOf, Open, OperationChange, Returns, SameOperations, as_returned, has_busy, has_number, is_busy, is_limited, is_of, open_after, open_of, operation_at, operation_change, output_of, returns, step_of}
+use Rattle.rule_model.specs.Operations.{Closes, ClosesOf, Open, OperationChange, Returns, SameOperations, as_returned, has_busy, has_number, is_busy, is_of, open_after, open_of, operation_at, operation_change, output_of, returns, step_of}
 use Rattle.rule_model.specs.Setup.{Setup}
 use Rattle.rule_model.specs.StepFacts.{brought_by}
 use Rattle.rule_model.specs.Tickets.{ComesBack, Entered, ticket_after, ticket_at, ticket_change}
-use Rattle.rule_model.proofs.Kept.{same_kept}
+use Rattle.rule_model.proofs.Kept.{same_device, same_kept}
 use Rattle.keystore_core.specs.declared.operations.Added.{Added}
 use Rattle.keystore_core.specs.declared.operations.Operation.{Operation as Row}
 use Rattle.keystore_core.specs.declared.operations.RowChange.TheVariants.{Returns as RowReturns}
@@ -156,7 +156,7 @@ module _ (setup : Setup) (past : History) (old : Tables) (caller : Caller) (tick
         follows = Answered (record { drew = refl; is_answer = sym (ap (leaving setup past) none) });
         stands = record {
           clients = clients_stay setup past (event_by caller (Leave ticket)) [] (Stopped NoTicket) old.clients old.clients stands.clients (same_tables old).clients refl refl;
-          keys = keys_stay setup past (Left (Stopped NoTicket)) old old stands.keys (same_tables old).keys (same_kept setup past (event_by caller (Leave ticket)) [] (Stopped NoTicket) refl);
+          keys = keys_stay setup past (Left (Stopped NoTicket)) old old stands.keys (same_tables old).keys (same_kept setup past (event_by caller (Leave ticket)) [] (Stopped NoTicket) refl) (same_device setup past (event_by caller (Leave ticket)) [] (Stopped NoTicket) refl);
           operations = Rattle.keystore_core.proofs.Standing.operations_stay setup past (event_by caller (Leave ticket)) [] (Stopped NoTicket) old.operations old.operations stands.operations (same_tables old).operations same refl;
           slots = Rattle.keystore_core.proofs.Standing.slots_stay setup past (event_by caller (Leave ticket)) [] (Stopped NoTicket) old.slots old.slots stands.slots refl same;
           tickets = record {
@@ -222,7 +222,7 @@ module _ (setup : Setup) (past : History) (old : Tables) (caller : Caller) (tick
           follows = Answered (record { drew = refl; is_answer = ap (given_or entered.work) (came o entered.work back done_is ∙ ap (λ found. output_of found entered.work) (sym is_open)) ∙ sym (ap (leaving setup past) is_out) });
           stands = record {
             clients = clients_stay setup past event [] Reply_of old.clients new.clients stands.clients taken.clients (leave_client caller ticket entered.work back.result) no_connect;
-            keys = keys_stay setup past (Left Reply_of) old new stands.keys taken.keys (same_kept setup past event [] Reply_of refl);
+            keys = keys_stay setup past (Left Reply_of) old new stands.keys taken.keys (same_kept setup past event [] Reply_of refl) (same_device setup past event [] Reply_of refl);
             operations = rows_after setup past event [] Reply_of change new.operations is moved.rows (moved.given ∙ stands.operations.given ∙ sym (uncounted is_begin past event [] Reply_of no_begin));
             slots = slots_after setup past event [] Reply_of change old.slots new.slots stands.slots is moved.slots moved.capacity
                 (λ number l. moved.fresh number (stands.slots.fresh number (let grows = count_grows is_begin past event [] Reply_of in omega (arith, l, grows))))
@@ -305,11 +305,11 @@ pub came_back : (setup : Setup) (past : History) (old : Tables) (caller : Caller
     → ticket_at past ticket ≡ Some (record { op = op; work = work }) → IsOut out (record { op = op; work = work }) → operation_at setup past op ≡ Some o → IsBusyWith ticket work o → IsDoneOn (Some o) work back → step ≡ step_of past
     → TakesBack ticket out step back.state old new → AnswersAfter setup past new (event_by caller (Leave ticket)) (record { reply = given_or work back.result; job = None; drawn = [] })
 came_back setup past old caller ticket stands new op (Aad input) out o step back is_out same_out is_open busy done_is is_step taken =
-    let state = going_state back.state o.operation.plan (is_limited o.operation.limit) o.operation.material o.operation.nonce (o.aad ++ input) o.text done_is.comes.1 in
+    let state = going_state back.state o.operation.plan o.operation.limited o.operation.material o.operation.nonce (o.aad ++ input) o.text done_is.comes.1 in
     goes_on setup past old caller ticket stands new (record { op = op; work = Aad input }) out o step back is_out same_out is_open busy done_is is_step taken input [] state.0 refl (ap added_by same_out.brought)
     (omega (arith, busy.within)) (rw (append-nil o.text) state.2) state.1
 came_back setup past old caller ticket stands new op (Text input) out o step back is_out same_out is_open busy done_is is_step taken =
-    let state = going_state back.state o.operation.plan (is_limited o.operation.limit) o.operation.material o.operation.nonce o.aad (o.text ++ input) done_is.comes.1 in
+    let state = going_state back.state o.operation.plan o.operation.limited o.operation.material o.operation.nonce o.aad (o.text ++ input) done_is.comes.1 in
     goes_on setup past old caller ticket stands new (record { op = op; work = Text input }) out o step back is_out same_out is_open busy done_is is_step taken [] input state.0 refl (ap added_by same_out.brought)
     (omega (arith, busy.within)) (rw (append-nil o.aad) state.2) state.1
 came_back setup past old caller ticket stands new op (Last input signature) out o step back is_out same_out is_open busy done_is is_step taken =
@@ -415,7 +415,7 @@ module _ (setup : Setup) (past : History) (old : Tables) (caller : Caller) (stan
             uids = λ client. ended.goes client ∙ ap (λ u. Rattle.rule_model.specs.Clients.uid_after (Rattle.rule_model.specs.Clients.Goes caller.client) client u) (stands.clients.uids client);
             given = ended.given ∙ stands.clients.given;
           };
-          keys = keys_stay setup past (Acted event [] reply ∷ past) old new stands.keys ended.keys (same_kept setup past event [] reply refl);
+          keys = keys_stay setup past (Acted event [] reply ∷ past) old new stands.keys ended.keys (same_kept setup past event [] reply refl) (same_device setup past event [] reply refl);
           operations = rows_after setup past event [] reply (ClosesOf caller.client) new.operations refl
               (rw ended.rows.rows (alike_filter IsRow (λ row. not (is_row_of caller.client row)) (λ o. not (is_of caller.client o)) (λ row o r. ap (λ c. not (c == caller.client)) r.client) (rows_in old.operations) (open_of setup past) stands.operations.rows))
               (ended.rows.given ∙ stands.operations.given);

@@ -11,3 +11,6 @@ pub mod Making
 pub mod Begun
 pub mod Stepped
 pub mod Left
+pub mod Shown
+pub mod Users
+pub mod BeginKeys

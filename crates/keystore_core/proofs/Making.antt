@@ -1,26 +1,27 @@
 -- A new key: its answer, and the tables after it.
-use Rattle.std.proofs.Common.{◌≡◌, ℕ, ◌+◌, ◌<◌, ◌≤◌, Bool, true, false, ◌&&◌, List, [], ◌∷◌, length, Option, Some, None, Result, Ok, Err, if◌then◌else◌, ◌==◌, ◌^◌, arith, refl, sym, ap, ◌∙◌, subst}
+use Rattle.std.proofs.Common.{◌≡◌, ℕ, ◌+◌, ◌<◌, ◌≤◌, Bool, true, false, ◌&&◌, ◌||◌, List, [], ◌∷◌, length, Option, Some, None, Result, Ok, Err, if◌then◌else◌, ◌==◌, ◌^◌, arith, refl, sym, ap, ◌∙◌, subst}
 use Rattle.std.specs.Option.{option_map}
 use Rattle.std.specs.Prelude.{IfSome, is_none, unwrap_or, take, drop}
 use Rattle.std.proofs.lemmas.Bool.{and_parts, eq-eqb, le-leb, lt-ltb}
 use Rattle.std.proofs.lemmas.List.{length-append, length-drop, length-take-le}
 use Rattle.tags.specs.declared.code.Code.{Code}
-use Rattle.tags.specs.declared.code.Code.TheVariants.{EntropyFault, StoreFull}
+use Rattle.tags.specs.declared.code.Code.TheVariants.{EntropyFault, MemoryAllocationFailed, StoreFull}
 use Rattle.tags.specs.declared.descriptor.Descriptor.{Descriptor}
 use Rattle.tags.specs.declared.policy.PolicyRow.{PolicyRow}
+use Rattle.tags.specs.declared.secrets.DeviceSecrets.{DeviceSecrets}
+use Rattle.tag_lists.specs.Spelling.{spelling}
+use Rattle.key_domains.specs.Domains.{domain_blob}
 use Rattle.tags.specs.Descriptor.{has_alias, has_alias_in, is_alias}
 use Rattle.tags.specs.declared.rule.Rule.{Rule}
 use Rattle.tags.specs.declared.rule.RuleTable.TheVariants.{K}
 use Rattle.tags.specs.Table.{Ruling, first_broken, where_all_hold}
-use Rattle.journal_records.specs.declared.change.Change.{Change}
-use Rattle.journal_records.specs.Effects.{after}
 use Rattle.journal_records.specs.LastingPart.{Lasting}
 use Rattle.journal_records.specs.Needs.{has_place_for, is_met, is_number_left, is_owner}
-use Rattle.key_database.specs.Held.{CanMake, HasRoomForKey, Held, lasting_in}
+use Rattle.key_database.specs.Held.{HasRoomForKey, Held, lasting_in}
 use Rattle.key_rules.specs.declared.facts.NewFacts.{NewFacts}
 use Rattle.key_rules.specs.declared.plan.KeyPlan.{KeyPlan}
 use Rattle.key_rules.specs.Creation.{IsFit, new_key, plan_of}
-use Rattle.key_rules.specs.Rules.{is_by_alias, names_new_key}
+use Rattle.key_rules.specs.Rules.{is_by_alias, names_new_key, names_place}
 use Rattle.key_rules.specs.Table.{rules_of}
 use Rattle.keymint_ops.specs.declared.creation.NewKey.{NewKey}
 use Rattle.keymint_ops.specs.Creation.{planned, spelled, where_planned}
@@ -34,14 +35,15 @@ use Rattle.rule_model.specs.Access.{owner_of}
 use Rattle.rule_model.specs.Acts.{is_begin, is_connect, is_enter}
 use Rattle.rule_model.specs.Answer.{answer_by_rules, made_in}
 use Rattle.rule_model.specs.Replies.{broken_or, no_fields}
-use Rattle.rule_model.specs.Changes.{after_change, alias_of, change_of, kept_as, owner_for}
+use Rattle.rule_model.specs.Blobs.{device_at}
+use Rattle.rule_model.specs.Changes.{after_change, alias_of, change_of, new_blob, owner_for}
 use Rattle.rule_model.specs.Boot.{has_early_ended}
 use Rattle.rule_model.specs.Clients.{caller_of}
 use Rattle.rule_model.specs.Drawn.{size_of, wanted_by_key, wanted_by_rules}
 use Rattle.rule_model.specs.Entries.{History, is_done}
 use Rattle.rule_model.specs.Jobs.{HasJob}
 use Rattle.rule_model.specs.Kept.{kept}
-use Rattle.rule_model.specs.Legal.{MayFollow, Answered, WithoutEntropy}
+use Rattle.rule_model.specs.Legal.{MayFollow, Answered, WithoutEntropy, WithoutMemory}
 use Rattle.rule_model.specs.NewFacts.{new_facts}
 use Rattle.rule_model.specs.Operations.{SameOperations, operation_change}
 use Rattle.rule_model.specs.Places.{has_key_place}
@@ -53,7 +55,7 @@ use Rattle.rule_model.proofs.Operations.{moves_operations, same_operations}
 use Rattle.rule_model.proofs.Tickets.{moves_tickets, same_tickets}
 use Rattle.keystore_core.specs.declared.creating.Import.{Import}
 use Rattle.keystore_core.specs.declared.tables.Tables.{Tables}
-use Rattle.keystore_core.specs.Creating.{creates, facts_of_import, making, material_of}
+use Rattle.keystore_core.specs.Creating.{CanKeep, blob_made, facts_of_import, keeping, kept_fields, making, material_of}
 use Rattle.keystore_core.specs.Tables.{AnswersAfter, IsCaller, SameTables, TablesStand, event_by}
 use Rattle.keystore_core.specs.Device.{early_in}
 use Rattle.keystore_core.proofs.Booted.{boot_stays}
@@ -64,7 +66,8 @@ abbrev facts_of : List PolicyRow → Caller → Descriptor → List ℕ → Opti
 facts_of policy caller key params import early_ended = new_facts policy caller key params (option_map facts_of_import import) early_ended
 
 making_answer : (setup : Setup) (past : History) (caller : Caller) (key : Descriptor) (params : List ℕ) (import : Option Import) (drawn : List ℕ)
-    → answer_by_rules (making key params import) setup past caller drawn ≡ broken_or (new_key (facts_of setup.policy caller key params import (has_early_ended setup past))) (made_in (kept setup past) caller key)
+    → answer_by_rules (making key params import) setup past caller drawn ≡ broken_or (new_key (facts_of setup.policy caller key params import (has_early_ended setup past)))
+    (made_in (kept setup past) caller key (blob_made (device_at setup past) (plan_of (facts_of setup.policy caller key params import (has_early_ended setup past))) import drawn))
 making_answer setup past caller key params None drawn = refl
 making_answer setup past caller key params (Some import) drawn = refl
 
@@ -137,40 +140,52 @@ owned uid domain nspace small = by_domain (domain == 2) where
   by_domain true = refl
   by_domain false = lt-ltb uid (2 ^ 32) small
 
--- a descriptor that may name a new key has an alias
-alias_named : (key : Descriptor) → names_new_key key ≡ true → is_alias (alias_of key) ≡ true
-alias_named key e = by_alias key.alias (and_parts (has_alias key) (is_none key.blob) (and_parts (is_by_alias key.domain) (has_alias key && is_none key.blob) e).1).0 where
-  by_alias : (alias : Option (List ℕ)) → has_alias_in alias ≡ true → is_alias (unwrap_or alias []) ≡ true
-  by_alias None e = cc
-  by_alias (Some alias) e = e
+-- a descriptor that may name a new key has an alias, but in BLOB
+not_or : (a b : Bool) → (a || b) ≡ true → b ≡ false → a ≡ true
+not_or true b e none = refl
+not_or false b e none = cc
 
--- a new key's blob has few bytes
-blob_few : (import : Option Import) (size : ℕ) (drawn : List ℕ) → IfSome (option_map facts_of_import import) (λ facts. facts.length ≤ 64) → size ≤ 64 → length drawn ≡ size + 12
-    → length (kept_as (drop size drawn) (material_of import (take size drawn))) ≤ 76
-blob_few None size drawn short few long =
-    omega (arith, length-append (drop size drawn) (take size drawn), length-drop size drawn, length-take-le size drawn (omega (arith, long)), long, few)
-blob_few (Some import) size drawn short few long = omega (arith, length-append (drop size drawn) import.material, length-drop size drawn, long, few, short)
+alias_named : (key : Descriptor) → names_new_key key ≡ true → (key.domain == domain_blob) ≡ false → is_alias (alias_of key) ≡ true
+alias_named key e stored =
+    by_alias key.alias
+    (and_parts (is_by_alias key.domain) (has_alias key)
+    (not_or (is_by_alias key.domain && has_alias key) (key.domain == domain_blob) (and_parts (names_place key) (is_none key.blob) e).0 stored)).1 where
+      by_alias : (alias : Option (List ℕ)) → has_alias_in alias ≡ true → is_alias (unwrap_or alias []) ≡ true
+      by_alias None e = cc
+      by_alias (Some alias) e = e
+
+or_left : (a b : Bool) → (a || b) ≡ true → a ≡ false → b ≡ true
+or_left true b e none = cc
+or_left false b e none = e
 
 -- what is made may be made: its need is met, and there is room for it
-pub may_make : (policy : List PolicyRow) (caller : Caller) (key : Descriptor) (params : List ℕ) (import : Option Import) (early_ended : Bool) (held : Held) (plan : NewKey) (drawn : List ℕ) → HasRoomForKey held → has_key_place (lasting_in held) (owner_of caller) key ≡ true → owner_of caller < 2 ^ 32
-    → IsFit (facts_of policy caller key params import early_ended) plan.size (length plan.list) → length drawn ≡ plan.size + 12 → CanMake held (creates (lasting_in held).next_key (owner_of caller) key plan import drawn)
-may_make policy caller key params import early_ended held plan drawn room place small fit long =
+pub may_keep : (policy : List PolicyRow) (caller : Caller) (key : Descriptor) (params : List ℕ) (import : Option Import) (early_ended : Bool) (held : Held) (plan : KeyPlan) (blob list : List ℕ) (limit : ℕ) → HasRoomForKey held → has_key_place (lasting_in held) (owner_of caller) key ≡ true → owner_of caller < 2 ^ 32
+    → IsFit (facts_of policy caller key params import early_ended) plan → length blob ≤ 6319 → length list ≤ 4132 → CanKeep held (owner_of caller) key blob list limit
+may_keep policy caller key params import early_ended held plan blob list limit room place small fit few short = λ stored.
     let part : Lasting = lasting_in held in
     let owner : ℕ × ℕ = owner_for (owner_of caller) key.domain key.nspace in
-    let blob : List ℕ = kept_as (drop plan.size drawn) (material_of import (take plan.size drawn)) in
-    let placed = and_parts (is_number_left part.next_key) (has_place_for owner.0 owner.1 (alias_of key) part) place in
-    let few : length blob ≤ 6327 = omega (arith, blob_few import plan.size drawn fit.short fit.drawn long) in (
+    let placed = and_parts (is_number_left part.next_key) (has_place_for owner.0 owner.1 (alias_of key) part)
+    (or_left (key.domain == domain_blob) (is_number_left part.next_key && has_place_for owner.0 owner.1 (alias_of key) part) place stored) in (
       rw (
         eq-eqb part.next_key part.next_key refl,
         placed.0,
         owned (owner_of caller) key.domain key.nspace small,
-        alias_named key fit.named,
-        le-leb (length blob) 6327 few,
-        le-leb (length plan.list) 4140 (omega (arith, fit.listed)),
+        alias_named key fit.named stored,
+        le-leb (length blob) 6327 (omega (arith, few)),
+        le-leb (length list) 4140 (omega (arith, short)),
         placed.1,
       ) refl,
       (λ e. room, λ e. cc),
     )
+
+-- the material of the import that the model speaks of
+abbrev imported : Option Import → Option (List ℕ)
+imported import = option_map (λ (i : Import). i.material) import
+
+-- the blob is that of the model
+blob_is : (device : DeviceSecrets) (plan : KeyPlan) (import : Option Import) (drawn : List ℕ) → blob_made device plan import drawn ≡ new_blob device plan (imported import) drawn
+blob_is device plan None drawn = refl
+blob_is device plan (Some import) drawn = refl
 
 module _ (setup : Setup) (past : History) (tables : Tables) (caller : Caller) (key : Descriptor) (params : List ℕ) (import : Option Import) (stands : TablesStand setup tables past) (is_caller : IsCaller tables caller) where
   abbrev Facts : NewFacts
@@ -230,9 +245,13 @@ module _ (setup : Setup) (past : History) (tables : Tables) (caller : Caller) (k
       → wanted_by_rules (making key params import) setup past caller ≡ wanted_by_key found place
   wanted_is found place e is = making_wanted setup past caller key params import ∙ ap (λ f. wanted_by_key f HasPlace) e ∙ ap (wanted_by_key found) is
 
+  -- the blob of the key
+  abbrev Blob : List ℕ → List ℕ
+  Blob drawn = blob_made (device_at setup past) (plan_of Facts) import drawn
+
   answer_is : (found : Result KeyPlan (Rule × Code)) (drawn : List ℕ) → new_key Facts ≡ found
-      → answer_by_rules (making key params import) setup past caller drawn ≡ broken_or found (made_in (kept setup past) caller key)
-  answer_is found drawn e = making_answer setup past caller key params import drawn ∙ ap (λ f. broken_or f (made_in (kept setup past) caller key)) e
+      → answer_by_rules (making key params import) setup past caller drawn ≡ broken_or found (made_in (kept setup past) caller key (Blob drawn))
+  answer_is found drawn e = making_answer setup past caller key params import drawn ∙ ap (λ f. broken_or f (made_in (kept setup past) caller key (Blob drawn))) e
 
   -- a broken rule
   pub refused : (rule : Rule) (code : Code) → planned Facts ≡ Err (rule, code)
@@ -248,51 +267,82 @@ module _ (setup : Setup) (past : History) (tables : Tables) (caller : Caller) (k
       let is = is_planned Facts plan e in
       unmade tables [] (Stopped StoreFull) (same_tables tables) refl
       (answered [] (Stopped StoreFull) (sym (ap size_of (wanted_is (Ok (plan_of Facts)) false is.holds no_place)))
-      (sym (answer_is (Ok (plan_of Facts)) [] is.holds ∙ ap (λ p. if p then Done (record no_fields { key = Some (kept setup past).next_key }) else Stopped StoreFull) no_place))) refl
+      (sym (answer_is (Ok (plan_of Facts)) [] is.holds ∙ ap (λ p. if p then Done (kept_fields (kept setup past) key (Blob [])) else Stopped StoreFull) no_place))) refl
 
-  planned_wanted : (plan : NewKey) → IsPlanned Facts plan → HasPlace ≡ true → size_of (wanted_by_rules (making key params import) setup past caller) ≡ plan.size + 12
+  planned_wanted : (plan : NewKey) → IsPlanned Facts plan → HasPlace ≡ true → size_of (wanted_by_rules (making key params import) setup past caller) ≡ plan.plan.size + 12
   planned_wanted plan is place =
-      ap size_of (wanted_is (Ok (plan_of Facts)) true is.holds place) ∙ ap (λ (p : NewKey). p.size + 12) (sym is.plan_is)
+      ap size_of (wanted_is (Ok (plan_of Facts)) true is.holds place) ∙ ap (λ (p : NewKey). p.plan.size + 12) (sym is.plan_is)
 
   -- a draw that failed
   pub without_entropy : (new : Tables) (plan : NewKey) (drawn : List ℕ) → planned Facts ≡ Ok plan → HasPlace ≡ true
-      → SameTables tables new → length drawn < plan.size + 12
+      → SameTables tables new → length drawn < plan.plan.size + 12
       → AnswersAfter setup past new Making (record { reply = Stopped EntropyFault; job = None; drawn = drawn })
   without_entropy new plan drawn e place still few =
       let is = is_planned Facts plan e in
       unmade new drawn (Stopped EntropyFault) still refl
       (undrawn_is import drawn (subst (λ c. length drawn < size_of (wanted_by_rules (making key params import) setup past c)) same (subst (λ n. length drawn < n) (sym (planned_wanted plan is place)) few))) refl
 
+  unkept_is : (i : Option Import) (drawn : List ℕ) → length drawn ≤ size_of (wanted_by_rules (making key params i) setup past (caller_of past (event_by caller (making key params i))))
+      → MayFollow setup past (event_by caller (making key params i)) drawn (Stopped MemoryAllocationFailed)
+  unkept_is None drawn few = WithoutMemory (record { drew = few; takes = refl; is_want = refl })
+  unkept_is (Some i) drawn few = WithoutMemory (record { drew = few; takes = refl; is_want = refl })
+
+  -- want of memory for the blob
+  pub unkept : (new : Tables) (plan : NewKey) (drawn : List ℕ) → planned Facts ≡ Ok plan → HasPlace ≡ true → SameTables tables new → length drawn ≡ plan.plan.size + 12
+      → AnswersAfter setup past new Making (record { reply = Stopped MemoryAllocationFailed; job = None; drawn = drawn })
+  unkept new plan drawn e place still long =
+      let is = is_planned Facts plan e in
+      unmade new drawn (Stopped MemoryAllocationFailed) still refl
+      (unkept_is import drawn (subst (λ c. length drawn ≤ size_of (wanted_by_rules (making key params import) setup past c)) same (omega (arith, long, planned_wanted plan is place)))) refl
+
+  -- the blob that was made is that of the history
+  made_blob : (plan : NewKey) (drawn : List ℕ) → IsPlanned Facts plan → blob_made tables.device plan.plan import drawn ≡ Blob drawn
+  made_blob plan drawn is =
+      ap (λ d. blob_made d plan.plan import drawn) stands.keys.device_is ∙ ap (λ (p : NewKey). blob_made (device_at setup past) p.plan import drawn) is.plan_is
+
   -- the change of an entry that makes a key
-  made_change : (i : Option Import) (plan : NewKey) (part : Lasting) (drawn : List ℕ) → IsPlanned (facts_of setup.policy caller key params i (has_early_ended setup past)) plan
-      → change_of (making key params i) setup.policy part caller drawn ≡ Some (creates part.next_key (owner_of caller) key plan i drawn)
-  made_change None plan part drawn is = rw is.plan_is refl
-  made_change (Some i) plan part drawn is = rw is.plan_is refl
+  made_change : (i : Option Import) (part : Lasting) (drawn : List ℕ)
+      → change_of (making key params i) (device_at setup past) setup.policy part caller drawn
+      ≡ keeping part (owner_of caller) key (blob_made (device_at setup past) (plan_of (facts_of setup.policy caller key params i (has_early_ended setup past))) i drawn)
+      (spelling (plan_of (facts_of setup.policy caller key params i (has_early_ended setup past))).list) (plan_of (facts_of setup.policy caller key params i (has_early_ended setup past))).limit
+  made_change None part drawn = refl
+  made_change (Some i) part drawn = refl
 
   -- the keys after one that is made
   made_kept : (middle new : Held) (plan : NewKey) (drawn : List ℕ) (fields : Fields) → IsPlanned Facts plan → lasting_in middle ≡ kept setup past
-      → lasting_in new ≡ after (lasting_in middle) (creates (lasting_in middle).next_key (owner_of caller) key plan import drawn)
+      → lasting_in new ≡ after_change (keeping (lasting_in middle) (owner_of caller) key (blob_made tables.device plan.plan import drawn) plan.list plan.plan.limit) (lasting_in middle)
       → lasting_in new ≡ kept setup (Acted Making drawn (Done fields) ∷ past)
   made_kept middle new plan drawn fields is before e =
-      e ∙ ap (λ part. after part (creates part.next_key (owner_of caller) key plan import drawn)) before
-      ∙ ap (λ change. after_change change (kept setup past)) (sym (made_change import plan (kept setup past) drawn is))
-      ∙ ap (λ c. after_change (change_of (making key params import) setup.policy (kept setup past) c drawn) (kept setup past)) same
+      e ∙ ap (λ part. after_change (keeping part (owner_of caller) key (blob_made tables.device plan.plan import drawn) plan.list plan.plan.limit) part) before
+      ∙ ap (λ b. after_change (keeping (kept setup past) (owner_of caller) key b plan.list plan.plan.limit) (kept setup past)) (made_blob plan drawn is)
+      ∙ ap (λ (p : NewKey). after_change (keeping (kept setup past) (owner_of caller) key (Blob drawn) p.list p.plan.limit) (kept setup past)) is.plan_is
+      ∙ ap (λ change. after_change change (kept setup past)) (sym (made_change import (kept setup past) drawn))
+      ∙ ap (λ c. after_change (change_of (making key params import) (device_at setup past) setup.policy (kept setup past) c drawn) (kept setup past)) same
+
+  made_device : (i : Option Import) (drawn : List ℕ) (fields : Fields) → device_at setup (Acted (event_by caller (making key params i)) drawn (Done fields) ∷ past) ≡ device_at setup past
+  made_device None drawn fields = refl
+  made_device (Some i) drawn fields = refl
 
   pub made : (middle : Tables) (new : Held) (plan : NewKey) (drawn : List ℕ) → planned Facts ≡ Ok plan → HasPlace ≡ true
-      → length drawn ≡ plan.size + 12 → SameTables tables middle
-      → lasting_in new ≡ after (lasting_in middle.keys) (creates (lasting_in middle.keys).next_key (owner_of caller) key plan import drawn)
-      → AnswersAfter setup past (record middle { keys = new }) Making (record { reply = Done (record no_fields { key = Some (lasting_in middle.keys).next_key }); job = None; drawn = drawn })
+      → length drawn ≡ plan.plan.size + 12 → SameTables tables middle
+      → lasting_in new ≡ after_change (keeping (lasting_in middle.keys) (owner_of caller) key (blob_made tables.device plan.plan import drawn) plan.list plan.plan.limit) (lasting_in middle.keys)
+      → AnswersAfter setup past (record middle { keys = new }) Making (record { reply = Done (kept_fields (lasting_in middle.keys) key (blob_made tables.device plan.plan import drawn)); job = None; drawn = drawn })
   made middle new plan drawn e place long still makes =
       let is = is_planned Facts plan e in
       let before : lasting_in middle.keys ≡ kept setup past = still.keys.lasting_is ∙ stands.keys.lasting_is in
-      let reply : Reply = Done (record no_fields { key = Some (lasting_in middle.keys).next_key }) in
+      let reply : Reply = Done (kept_fields (lasting_in middle.keys) key (blob_made tables.device plan.plan import drawn)) in
       record {
         follows = answered drawn reply (long ∙ sym (planned_wanted plan is place))
-            (ap (λ (part : Lasting). Done (record no_fields { key = Some part.next_key })) before
-            ∙ sym (answer_is (Ok (plan_of Facts)) drawn is.holds ∙ ap (λ p. if p then Done (record no_fields { key = Some (kept setup past).next_key }) else Stopped StoreFull) place));
+            (ap (λ (part : Lasting). Done (kept_fields part key (blob_made tables.device plan.plan import drawn))) before
+            ∙ ap (λ b. Done (kept_fields (kept setup past) key b)) (made_blob plan drawn is)
+            ∙ sym (answer_is (Ok (plan_of Facts)) drawn is.holds ∙ ap (λ p. if p then Done (kept_fields (kept setup past) key (Blob drawn)) else Stopped StoreFull) place));
         stands = record {
           clients = clients_stay setup past Making drawn reply tables.clients middle.clients stands.clients still.clients (same_clients Making reply (moves_none key params import)) (connects_none key params import);
-          keys = record { policy_is = still.keys.policy_is ∙ stands.keys.policy_is; lasting_is = made_kept middle.keys new plan drawn (record no_fields { key = Some (lasting_in middle.keys).next_key }) is before makes };
+          keys = record {
+            device_is = still.keys.device_is ∙ stands.keys.device_is ∙ sym (made_device import drawn (kept_fields (lasting_in middle.keys) key (blob_made tables.device plan.plan import drawn)));
+            policy_is = still.keys.policy_is ∙ stands.keys.policy_is;
+            lasting_is = made_kept middle.keys new plan drawn (kept_fields (lasting_in middle.keys) key (blob_made tables.device plan.plan import drawn)) is before makes;
+          };
           operations = operations_stay setup past Making drawn reply tables.operations middle.operations stands.operations still.operations (none drawn reply) (begins_none key params import);
           slots = slots_stay setup past Making drawn reply tables.slots middle.slots stands.slots still.slots (none drawn reply);
           tickets = tickets_stay setup past Making drawn reply tables.tickets middle.tickets stands.tickets still.tickets (unticketed reply) (quiet is_enter past Making drawn reply (enters_none key params import)) (stays_same setup past Making drawn reply (none drawn reply));

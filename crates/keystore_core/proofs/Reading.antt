@@ -12,6 +12,7 @@ use Rattle.rule_model.specs.declared.reply.Reply.{Reply}
 use Rattle.rule_model.specs.declared.reply.Reply.TheVariants.{Done}
 use Rattle.rule_model.specs.Acts.{fixed_for, is_begin, is_built, is_connect, is_enter}
 use Rattle.rule_model.specs.Answer.{answer_by_rules, malformed}
+use Rattle.rule_model.specs.Blobs.{device_at}
 use Rattle.rule_model.specs.Changes.{after_change, change_of}
 use Rattle.rule_model.specs.Clients.{caller_of}
 use Rattle.rule_model.specs.Drawn.{no_pieces, size_of, wanted_by_rules}
@@ -22,7 +23,7 @@ use Rattle.rule_model.specs.Legal.{Answered}
 use Rattle.rule_model.specs.Setup.{Setup}
 use Rattle.rule_model.proofs.Boot.{moves_boot, same_boot as same_boot_after}
 use Rattle.rule_model.proofs.Clients.{moves_clients, none_connects, same_clients}
-use Rattle.rule_model.proofs.Kept.{changes_kept, denied_kept, same_kept}
+use Rattle.rule_model.proofs.Kept.{changes_kept, denied_device, denied_kept, same_device, same_kept}
 use Rattle.rule_model.proofs.Operations.{moves_operations, none_begins, same_operations}
 use Rattle.rule_model.proofs.Tickets.{moves_tickets, none_enters, same_tickets}
 use Rattle.keystore_core.specs.declared.tables.Tables.{Tables}
@@ -88,19 +89,19 @@ module _ (setup : Setup) (past : History) (tables : Tables) (caller : Caller) (a
   pub denies : (new : Held) (reply : Reply) → lasting_in new ≡ lasting_in tables.keys → is_done reply ≡ false → reply ≡ answer_by_rules act setup past caller [] → HasJob setup (Acted Calling [] reply ∷ past) reply None
       → AnswersAfter setup past (record tables { keys = new }) Calling (record { reply = reply; job = None; drawn = [] })
   denies new reply still denied is no_job =
-      answers_call new reply (keys_stay setup past (Acted Calling [] reply ∷ past) tables (record tables { keys = new }) stands.keys (record { policy_is = refl; lasting_is = still }) (denied_kept setup past Calling [] reply denied)) is no_job
+      answers_call new reply (keys_stay setup past (Acted Calling [] reply ∷ past) tables (record tables { keys = new }) stands.keys (record { device_is = refl; policy_is = refl; lasting_is = still }) (denied_kept setup past Calling [] reply denied) (denied_device setup past Calling [] reply denied)) is no_job
 
   -- an act that changes nothing
   pub reads : (reply : Reply) → changes_kept act ≡ false → reply ≡ answer_by_rules act setup past caller [] → HasJob setup (Acted Calling [] reply ∷ past) reply None
       → AnswersAfter setup past tables Calling (record { reply = reply; job = None; drawn = [] })
   reads reply quiet_act is no_job =
-      answers_call tables.keys reply (keys_stay setup past (Acted Calling [] reply ∷ past) tables tables stands.keys (same_keys tables) (same_kept setup past Calling [] reply quiet_act)) is no_job
+      answers_call tables.keys reply (keys_stay setup past (Acted Calling [] reply ∷ past) tables tables stands.keys (same_keys tables) (same_kept setup past Calling [] reply quiet_act) (same_device setup past Calling [] reply quiet_act)) is no_job
 
   -- an act that is admitted with this change of the keys and grants
-  pub changes : (new : Held) (fields : Fields) (change : Change) → change_of act setup.policy (kept setup past) caller [] ≡ Some change → lasting_in new ≡ after (lasting_in tables.keys) change
+  pub changes : (new : Held) (fields : Fields) (change : Change) → device_at setup (Acted Calling [] (Done fields) ∷ past) ≡ device_at setup past → change_of act (device_at setup past) setup.policy (kept setup past) caller [] ≡ Some change → lasting_in new ≡ after (lasting_in tables.keys) change
       → Done fields ≡ answer_by_rules act setup past caller [] → HasJob setup (Acted Calling [] (Done fields) ∷ past) (Done fields) None
       → AnswersAfter setup past (record tables { keys = new }) Calling (record { reply = Done fields; job = None; drawn = [] })
-  changes new fields change is_change makes is no_job = answers_call new (Done fields) (record { policy_is = stands.keys.policy_is; lasting_is = lasting }) is no_job where
+  changes new fields change same_root is_change makes is no_job = answers_call new (Done fields) (record { device_is = stands.keys.device_is ∙ sym same_root; policy_is = stands.keys.policy_is; lasting_is = lasting }) is no_job where
     lasting : lasting_in new ≡ kept setup (Acted Calling [] (Done fields) ∷ past)
     lasting = makes ∙ ap (λ part. after part change) stands.keys.lasting_is ∙ ap (λ c. after_change c (kept setup past)) (sym is_change)
-        ∙ ap (λ c. after_change (change_of act setup.policy (kept setup past) c []) (kept setup past)) same
+        ∙ ap (λ c. after_change (change_of act (device_at setup past) setup.policy (kept setup past) c []) (kept setup past)) same

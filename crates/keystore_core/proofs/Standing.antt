@@ -27,7 +27,7 @@ use Rattle.rule_model.specs.Setup.{Setup}
 use Rattle.rule_model.specs.Tickets.{Entered, SameTickets as NoTickets, stopped_ticket, ticket_after, ticket_at, ticket_change}
 use Rattle.rule_model.proofs.Boot.{begins_few}
 use Rattle.rule_model.proofs.Counting.{count_few}
-use Rattle.rule_model.proofs.Kept.{denied_kept}
+use Rattle.rule_model.proofs.Kept.{denied_device, denied_kept}
 use Rattle.keystore_core.specs.declared.answered.Answered.{Answered}
 use Rattle.keystore_core.specs.declared.begins.Begins.{Begins}
 use Rattle.keystore_core.specs.declared.clients.Clients.{Clients}
@@ -166,7 +166,7 @@ module _ (setup : Setup) (past : History) (event : Event) (drawn : List ℕ) (re
       → operation_change setup past event drawn reply ≡ SameOperations → ticket_change event reply ≡ NoTickets → TablesStand setup new (Acted event drawn reply ∷ past)
   denied_tables old new stands same denied none no_ticket = record {
     clients = clients_stay old.clients new.clients stands.clients same.clients (denied_clients denied) (not_admitted denied is_connect);
-    keys = keys_stay setup past (Acted event drawn reply ∷ past) old new stands.keys same.keys (denied_kept setup past event drawn reply denied);
+    keys = keys_stay setup past (Acted event drawn reply ∷ past) old new stands.keys same.keys (denied_kept setup past event drawn reply denied) (denied_device setup past event drawn reply denied);
     operations = operations_stay old.operations new.operations stands.operations same.operations none (not_admitted denied is_begin);
     slots = slots_stay old.slots new.slots stands.slots same.slots none;
     tickets = tickets_stay old.tickets new.tickets stands.tickets same.tickets no_ticket (not_admitted denied is_enter) (stays_same setup past event drawn reply none);
@@ -180,7 +180,7 @@ still setup past old new stands same = record {
     uids = λ client. same.clients.uids client ∙ stands.clients.uids client;
     given = same.clients.given ∙ stands.clients.given;
   };
-  keys = keys_stay setup past past old new stands.keys same.keys refl;
+  keys = keys_stay setup past past old new stands.keys same.keys refl refl;
   operations = record { rows = rw same.operations.rows stands.operations.rows; given = same.operations.given ∙ stands.operations.given };
   slots = rw same.slots stands.slots;
   tickets = record {
@@ -229,7 +229,7 @@ at_later tables step act back at = ∥∥₁_elim at (IsLater-prop tables.slots 
 pub same_but_keys : (tables : Tables) (new : Held) → lasting_in new ≡ lasting_in tables.keys → SameTables tables (record tables { keys = new })
 same_but_keys tables new same = record {
   clients = record { uids = λ client. refl; given = refl };
-  keys = record { policy_is = refl; lasting_is = same };
+  keys = record { device_is = refl; policy_is = refl; lasting_is = same };
   operations = record { rows = refl; given = refl };
   slots = refl;
   tickets = record { outs = λ ticket. refl; given = refl };
@@ -241,7 +241,7 @@ pub same_but_begun : (tables : Tables) (rows : Operations) (begins : Begins) →
     → SameTables tables (record tables { operations = rows; boot = record tables.boot { begins = begins } })
 same_but_begun tables rows begins same_rows same_begins = record {
   clients = record { uids = λ client. refl; given = refl };
-  keys = record { policy_is = refl; lasting_is = refl };
+  keys = record { device_is = refl; policy_is = refl; lasting_is = refl };
   operations = same_rows;
   slots = refl;
   tickets = record { outs = λ ticket. refl; given = refl };
@@ -251,7 +251,7 @@ same_but_begun tables rows begins same_rows same_begins = record {
 pub same_but_tickets : (tables : Tables) (tickets : Tickets) → SameTickets tables.tickets tickets → SameTables tables (record tables { tickets = tickets })
 same_but_tickets tables tickets same = record {
   clients = record { uids = λ client. refl; given = refl };
-  keys = record { policy_is = refl; lasting_is = refl };
+  keys = record { device_is = refl; policy_is = refl; lasting_is = refl };
   operations = record { rows = refl; given = refl };
   slots = refl;
   tickets = same;

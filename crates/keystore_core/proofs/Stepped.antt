@@ -1,5 +1,5 @@
 -- A step of an open operation: that its work may go out, its answer, and the tables after it.
-use Rattle.std.proofs.Common.{◌≡◌, ℕ, ◌+◌, ◌<◌, ◌≤◌, Bool, true, false, not, ◌==◌, if◌then◌else◌, List, [], ◌∷◌, length, find, map, filter, Option, Some, None, Result, Ok, Err, is_some, refl, sym, ap, ◌∙◌, subst, arith, inl, inr, length-append}
+use Rattle.std.proofs.Common.{◌≡◌, ◌&&◌, ℕ, ◌+◌, ◌<◌, ◌≤◌, Bool, true, false, not, ◌==◌, if◌then◌else◌, List, [], ◌∷◌, length, find, map, filter, Option, Some, None, Result, Ok, Err, is_some, refl, sym, ap, ◌∙◌, subst, arith, inl, inr, length-append}
 use Rattle.std.proofs.Math.Bridge.{le_prop}
 use Rattle.std.proofs.Props.{props}
 use Rattle.std.proofs.lemmas.Bool.{cases_Bool, eqb-true, eq-eqb}
@@ -40,11 +40,11 @@ use Rattle.rule_model.specs.Jobs.{HasJob, IsJobOn, IsJobOut, Stays}
 use Rattle.rule_model.specs.Kept.{is_live}
 use Rattle.rule_model.specs.Boot.{SameBoot as NoBoot, boot_change}
 use Rattle.rule_model.specs.Legal.{MayFollow, Answered}
-use Rattle.rule_model.specs.Operations.{Closes, Enters as EntersOne, Open, OperationChange, SameOperations, as_entered, closes, has_number, is_busy, is_limited, open_after, open_of, operation_at, operation_change, operation_of, step_of}
+use Rattle.rule_model.specs.Operations.{Closes, Enters as EntersOne, Open, OperationChange, SameOperations, as_entered, closes, has_number, is_busy, open_after, open_of, operation_at, operation_change, operation_of, step_of}
 use Rattle.rule_model.specs.Setup.{Setup}
 use Rattle.rule_model.specs.StepFacts.{brought_by, brought_by_abort, facts_of, has_ended, step_facts}
 use Rattle.rule_model.specs.Tickets.{Entered, GoesOut, SameTickets as NoTickets, next_ticket, ticket_after, ticket_at, ticket_change}
-use Rattle.rule_model.proofs.Kept.{changes_kept, same_kept}
+use Rattle.rule_model.proofs.Kept.{changes_kept, same_device, same_kept}
 use Rattle.keystore_core.specs.declared.operations.Operation.{Operation as Row}
 use Rattle.keystore_core.specs.declared.operations.RowChange.TheVariants.{Enters as RowEnters}
 use Rattle.keystore_core.specs.declared.tables.Tables.{Tables}
@@ -153,7 +153,7 @@ module _ (live : ℕ → Bool) (caller : Caller) where
 
   -- the room of a row is that of its operation
   pub room_of : (row : Row) (o : Open) (work : Work) (room : JobRoom) → IsRow row o → IsRoom room row.plan row.limited row.text work
-      → IsRoom room o.operation.plan (is_limited o.operation.limit) (length o.text) work
+      → IsRoom room o.operation.plan o.operation.limited (length o.text) work
   room_of row o work room same is_room = rw (same.plan, same.limited, same.text_is) at is_room
 
   pub can_work : (work : Work) (row : Option Row) (o : Option Open) (slot : Option (Slot CipherState)) (room : JobRoom) → BothFound IsRow row o → BothFound IsSlot slot o
@@ -165,7 +165,7 @@ module _ (live : ℕ → Bool) (caller : Caller) where
       let state = kept_state (idle_value (Some slot)) _ o o.ticket kept.state idle in
       subst (λ v. CanWork v room) (sym state.1) ∣ record {
         plan = o.operation.plan;
-        limited = is_limited o.operation.limit;
+        limited = o.operation.limited;
         key = o.operation.material;
         nonce = o.operation.nonce;
         aad = o.aad;
@@ -186,8 +186,8 @@ module _ (live : ℕ → Bool) (caller : Caller) where
   job_on work (Some row) (Some o) None room job same kept idle enters is_room is = absurd kept
   job_on work (Some row) (Some o) (Some slot) room job same kept idle enters is_room is =
       let state = kept_state (idle_value (Some slot)) _ o o.ticket kept.state idle in
-      is o.operation.plan (is_limited o.operation.limit) o.operation.material o.operation.nonce o.aad o.text work
-      (subst (λ v. GoesOn v o.operation.plan (is_limited o.operation.limit) o.operation.material o.operation.nonce o.aad o.text) (sym state.1) state.2)
+      is o.operation.plan o.operation.limited o.operation.material o.operation.nonce o.aad o.text work
+      (subst (λ v. GoesOn v o.operation.plan o.operation.limited o.operation.material o.operation.nonce o.aad o.text) (sym state.1) state.2)
       (room_of row o work room same is_room) (may_come o work enters)
 
   -- it is not busy, where the facts say so
@@ -293,7 +293,7 @@ module _ (setup : Setup) (past : History) (event : Event) (drawn : List ℕ) (re
       (λ ticket entered o after named busy found. without_keeps op (open_of setup past) entered.op o (is_other op entered.op (open_of setup past) o idle found busy) found) in (
         record {
           clients = clients_stay setup past event drawn reply old.clients new.clients stands.clients closed.clients no_client no_connect;
-          keys = keys_stay setup past (Acted event drawn reply ∷ past) old new stands.keys closed.keys (same_kept setup past event drawn reply no_key);
+          keys = keys_stay setup past (Acted event drawn reply ∷ past) old new stands.keys closed.keys (same_kept setup past event drawn reply no_key) (same_device setup past event drawn reply no_key);
           operations = rows_after setup past event drawn reply (Closes op) new.operations is
               (rw closed.rows.rows (alike_filter IsRow (λ row. not (has_row op row)) (λ o. not (has_number op o)) (λ row o r. ap not (row_named op row o r)) (rows_in old.operations) (open_of setup past) stands.operations.rows))
               (closed.rows.given ∙ stands.operations.given ∙ sym (uncounted is_begin past event drawn reply no_begin));
@@ -477,7 +477,7 @@ module _ (setup : Setup) (past : History) (tables : Tables) (caller : Caller) (o
         stands = record {
           clients = clients_stay setup past Entering [] reply tables.clients new.clients stands.clients
               (record { uids = λ client. sent.clients.uids client ∙ still.clients.uids client; given = sent.clients.given ∙ still.clients.given }) (enter_clients caller op work reply) no_connect;
-          keys = keys_stay setup past later start new now.keys sent.keys (same_kept setup past Entering [] reply (enter_keys op work));
+          keys = keys_stay setup past later start new now.keys sent.keys (same_kept setup past Entering [] reply (enter_keys op work)) (same_device setup past Entering [] reply (enter_keys op work));
           operations = rows_after setup past Entering [] reply (EntersOne op ticket) new.operations is
               (rw sent.rows.rows (alike_change IsRow (has_row op) (has_number op) (changed RowEnters) (as_entered (step_of past) ticket) (row_named op)
               (λ row x r named. record { number = r.number; client = r.client; key = r.key; plan = r.plan; limited = r.limited; aad_is = r.aad_is; text_is = r.text_is; busy_is = refl; challenge_is = r.challenge_is; shown_is = r.shown_is; list_is = r.list_is })

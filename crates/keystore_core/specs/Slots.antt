@@ -6,13 +6,13 @@ use Rattle.operation_slots.specs.declared.operation.Operation.{Operation}
 use Rattle.operation_slots.specs.Table.{IsLater, SlotTable, capacity_of, client_of, held, idle_value, number_of, operations_of, stamp_of, uid_of}
 use Rattle.rule_model.specs.Acts.{is_begin}
 use Rattle.rule_model.specs.Entries.{History, count_of}
-use Rattle.rule_model.specs.Operations.{Open, is_limited, open_of}
+use Rattle.rule_model.specs.Operations.{Open, open_of}
 use Rattle.rule_model.specs.Setup.{Setup}
 use Rattle.keystore_core.specs.Alike.{Alike}
 
 -- the state of an open operation stands for what it has taken
 abbrev pub IsStateOf : CipherState → Open → Type 0
-IsStateOf state o = StandsFor state o.operation.plan (is_limited o.operation.limit) o.operation.material o.operation.nonce o.aad o.text
+IsStateOf state o = StandsFor state o.operation.plan o.operation.limited o.operation.material o.operation.nonce o.aad o.text
 
 -- an idle operation has its state in its slot, with the step that last touched it; that of a busy one is with its job
 abbrev pub IsKept : Option CipherState → ℕ → Open → Option ℕ → Type 0

@@ -15,6 +15,7 @@ adding token = AddAuthToken token.challenge token.user token.authenticator token
 -- a token is the last of its triple, and is shown to the operations that it is for
 pub record AcceptsToken (token : AuthToken) (old new : Tables) : Type 0 where
   pub clients : new.clients ≡ old.clients
+  pub secrets : new.device ≡ old.device
   pub policy : new.policy ≡ old.policy
   pub keys : new.keys ≡ old.keys
   pub rows : ShowsRows token old.operations new.operations
@@ -27,6 +28,7 @@ pub record AcceptsToken (token : AuthToken) (old new : Tables) : Type 0 where
 -- there is no place for it: the tables are as they were
 pub record RefusesToken (old new : Tables) : Type 0 where
   pub clients : new.clients ≡ old.clients
+  pub secrets : new.device ≡ old.device
   pub policy : new.policy ≡ old.policy
   pub keys : new.keys ≡ old.keys
   pub operations : new.operations ≡ old.operations

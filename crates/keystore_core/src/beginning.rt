@@ -93,6 +93,16 @@ fn is_found(access: &Access, stored: Option<&KeyRecord>) -> bool
     }
 }
 
+/// The number of the stored key.
+fn id_of(stored: Option<&KeyRecord>) -> Option<u64>
+    ensures { result ≡ users.id_of (option_copied stored.entry) }
+{
+    match stored {
+        Some(stored) => Some(stored.id),
+        None => None,
+    }
+}
+
 /// The key of a begin, whose blob is opened for the operation's list.
 fn begin_key(
     alloc: Global,
@@ -109,7 +119,7 @@ fn begin_key(
     let limited = limited_by(access, stored, &opened.list);
     Ok(BeginKey {
         found: is_found(access, stored),
-        id: stored.map(|stored| stored.id),
+        id: id_of(stored),
         opened,
         limited,
     })
@@ -267,6 +277,7 @@ impl Tables {
         requires idle { IfSome pruned (λ op. IsSome (state_at self.old op)) }
         requires free { IfNone pruned (is_free self.old.slots ≡ true) }
         ensures way { spec.MakesWay pruned self.old self.new }
+        ensures boot { self.new.boot ≡ self.old.boot }
         ensures free { is_free self.new.slots ≡ true }
         ensures room { HasRoomForOperation self.old.operations → HasRoomForOperation self.new.operations }
     {
@@ -296,10 +307,10 @@ impl Tables {
         requires less { IfSome key (λ id. begins_in self.old.boot.begins id < 2 ^ 62) }
         ensures { spec.OpensOne pruned step uid key row state self.old self.new }
     {
-        count_begin(&mut self.boot.begins, key);
         self.make_way(pruned);
         self.slots.begin(row.number, uid, row.client, step, state);
         self.operations.open(row);
+        count_begin(&mut self.boot.begins, key);
     }
 
     /// A client begins an operation on a key that its descriptor finds.

@@ -4,6 +4,7 @@ ghost use Rattle.std.specs.Prelude.{◌≡◌, ◌+◌, length, None, IfOk};
 ghost use Rattle.std.specs.Option.{option_map};
 ghost use Rattle.key_database.specs.Held.{lasting_in};
 ghost use Rattle.rule_model.specs.NewFacts as model;
+ghost use Rattle.rule_model.specs.Changes.{after_change};
 ghost use Rattle.rule_model.specs.Places.{has_key_place};
 ghost use Rattle.keystore_core.specs.Creating as spec;
 ghost use Rattle.keystore_core.specs.Drawn.{DrewForResult};
@@ -17,6 +18,7 @@ use crate::draw_room::DrawRoom;
 use crate::room::Room;
 use crate::tables::Tables;
 use journal_records::Change;
+use key_database::LastingTable;
 use key_rules::{ImportFacts, NewFacts, NewFault};
 use keymint_ops::{NewKey, plan_key, seal_key};
 use ks_outside::Entropy;
@@ -122,6 +124,34 @@ fn stored_key(
     }
 }
 
+/// Keeps a new key of a uid in its blob, or hands the blob out where it is made in BLOB.
+fn keep(
+    alloc: Global,
+    keys: &mut LastingTable,
+    uid: u32,
+    key: Descriptor,
+    blob: Bytes,
+    list: Bytes,
+    limit: u32,
+) -> Fields
+    requires { spec.CanKeep keys.old uid key blob list limit }
+    ensures fields { result ≡ spec.kept_fields (lasting_in keys.old) key blob }
+    ensures lasting { lasting_in keys.new ≡ after_change (spec.keeping (lasting_in keys.old) uid key blob list limit) (lasting_in keys.old) }
+{
+    if key.domain == DOMAIN_BLOB {
+        return Fields {
+            blob: Some(blob),
+            ..NO_FIELDS
+        };
+    }
+    let id = keys.next_numbers().0;
+    keys.make(stored_key(alloc, id, uid, key, blob, list, limit));
+    Fields {
+        key: Some(id),
+        ..NO_FIELDS
+    }
+}
+
 impl Tables {
     /// Whether there is a place for one more key of a uid: the key under its name makes place, and a blob takes none.
     fn has_key_place(&self, uid: u32, key: &Descriptor) -> bool
@@ -133,31 +163,6 @@ impl Tables {
         let (domain, nspace) = owner_for(uid, key.domain, key.nspace);
         self.keys.next_numbers().0 < NUMBERS_END
             && self.keys.has_place_for(domain, nspace, alias_bytes(key))
-    }
-
-    /// Keeps a new key of a uid in its blob, or hands the blob out where it is made in BLOB.
-    fn keep(
-        &mut self,
-        alloc: Global,
-        uid: u32,
-        key: Descriptor,
-        blob: Bytes,
-        list: Bytes,
-        limit: u32,
-    ) -> Fields {
-        if key.domain == DOMAIN_BLOB {
-            return Fields {
-                blob: Some(blob),
-                ..NO_FIELDS
-            };
-        }
-        let id = self.keys.next_numbers().0;
-        self.keys
-            .make(stored_key(alloc, id, uid, key, blob, list, limit));
-        Fields {
-            key: Some(id),
-            ..NO_FIELDS
-        }
     }
 
     /// A client makes a key: an imported one, or else a generated one.
@@ -205,7 +210,15 @@ impl Tables {
         let Ok(blob) = seal_key(alloc, &self.device, nonce_in(back), plan, material) else {
             return Ok(Answered::without_memory(drawn));
         };
-        let fields = self.keep(alloc, uid, facts.descriptor, blob, list, limit);
+        let fields = keep(
+            alloc,
+            &mut self.keys,
+            uid,
+            facts.descriptor,
+            blob,
+            list,
+            limit,
+        );
         Ok(Answered {
             reply: Reply::Done(fields),
             job: None,

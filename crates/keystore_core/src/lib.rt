@@ -15,6 +15,7 @@ mod connecting;
 mod creating;
 mod descriptors;
 mod device;
+mod device_state;
 mod draw_room;
 mod draws;
 mod engine;

@@ -1,6 +1,7 @@
 //! Scripts from their bytes to their text, and each status.
 
 mod answered;
+mod blobs;
 mod blocks;
 mod draws;
 mod lengths;

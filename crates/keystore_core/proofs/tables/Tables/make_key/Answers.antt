@@ -4,7 +4,7 @@ use Rattle.key_rules.specs.declared.facts.NewFacts.{NewFacts}
 use Rattle.keymint_ops.specs.Creation.{planned}
 use Rattle.rule_model.specs.Access.{owner_of}
 use Rattle.rule_model.specs.Places.{has_key_place}
-use Rattle.keystore_core.proofs.Making.{full, made, may_make, place_is, planned_as, refused, without_entropy}
+use Rattle.keystore_core.proofs.Making.{full, made, may_keep, place_is, planned_as, refused, unkept, without_entropy}
 use Rattle.keystore_core.proofs.Standing.{same_but_keys}
 use Rattle.keystore_core.proofs.tables.Tables.make_key.Goals as goal
 
@@ -23,7 +23,7 @@ returns-then-not-has_key_place-clause-serves g c = λ setup past stands.
     let plan = planned_as setup past c.args.self.now c.args.caller c.args.key c.args.params c.args.import stands c.requires.caller _
     (sym (ap planned facts) ∙ c.in-Ok.ensures.key) in
     rw (c.stopped.ensures.reply, c.stopped.ensures.job, c.stopped.ensures.drawn)
-    (full setup past c.args.self.now c.args.caller c.args.key c.args.params c.args.import stands c.requires.caller c.in-Ok.plan plan
+    (full setup past c.args.self.now c.args.caller c.args.key c.args.params c.args.import stands c.requires.caller c.in-Ok.new plan
     (sym (place_is setup past c.args.self.now c.args.caller c.args.key c.args.params c.args.import stands c.requires.caller) ∙ sym told
     ∙ c.if-not-has_key_place.true))
 
@@ -35,27 +35,33 @@ returns-in-Err-clause-serves g c = λ setup past stands.
     (sym (ap planned facts) ∙ c.in-Ok.ensures.key) in
     let place = sym (place_is setup past c.args.self.now c.args.caller c.args.key c.args.params c.args.import stands c.requires.caller) ∙ sym told
     ∙ c.if-not-has_key_place.false in
-    let few : length c.in-Err.drawn < c.in-Ok.plan.size + 12 = omega (arith, c.in-Err.ensures.part, c.in_ok-draws.ensures) in
+    let few : length c.in-Err.drawn < c.in-Ok.new.plan.size + 12 = omega (arith, c.in-Err.ensures.part, c.in_ok-draws.ensures) in
     rw (c.without_entropy.ensures.reply, c.without_entropy.ensures.job, c.without_entropy.ensures.drawn)
-    (without_entropy setup past c.args.self.now c.args.caller c.args.key c.args.params c.args.import stands c.requires.caller _ c.in-Ok.plan c.in-Err.drawn plan place
+    (without_entropy setup past c.args.self.now c.args.caller c.args.key c.args.params c.args.import stands c.requires.caller _ c.in-Ok.new c.in-Err.drawn plan place
     (same_but_keys c.args.self.now c.reserve_key.new.self c.in_ok-reserve_key.ensures.same) few)
 
-pub make-requires : goal.make-requires
-make-requires g c =
+pub returns-in_default-seal_key-clause-serves : goal.returns-in_default-seal_key-clause-serves
+returns-in_default-seal_key-clause-serves g c = λ setup past stands.
+    let facts = rw c.has_early_ended-early_ended.ensures at c.new_facts-facts.ensures in
+    let told = rw (c.owner_of-uid.ensures, ap (λ (f : NewFacts). f.descriptor) facts) at c.has_key_place.ensures in
+    let plan = planned_as setup past c.args.self.now c.args.caller c.args.key c.args.params c.args.import stands c.requires.caller _
+    (sym (ap planned facts) ∙ c.in-Ok.ensures.key) in
+    let place = sym (place_is setup past c.args.self.now c.args.caller c.args.key c.args.params c.args.import stands c.requires.caller) ∙ sym told
+    ∙ c.if-not-has_key_place.false in
+    let long : length c.in-Ok-draw.drawn ≡ c.in-Ok.new.plan.size + 12 = omega (arith, c.in-Ok-draw.ensures.whole, c.in_ok-draws.ensures) in
+    rw (c.without_memory.ensures.reply, c.without_memory.ensures.job, c.without_memory.ensures.drawn)
+    (unkept setup past c.args.self.now c.args.caller c.args.key c.args.params c.args.import stands c.requires.caller _ c.in-Ok.new c.in-Ok-draw.drawn plan place
+    (same_but_keys c.args.self.now c.reserve_key.new.self c.in_ok-reserve_key.ensures.same) long)
+
+pub keep-requires : goal.keep-requires
+keep-requires g c =
     let told = rw (c.owner_of-uid.ensures, ap (λ (f : NewFacts). f.descriptor) c.new_facts-facts.ensures) at c.has_key_place.ensures in
     let place : has_key_place (lasting_in c.reserve_key.new.self) (owner_of c.args.caller) c.args.key ≡ true =
     ap (λ part. has_key_place part (owner_of c.args.caller) c.args.key) c.in_ok-reserve_key.ensures.same ∙ sym told ∙ c.if-not-has_key_place.false in
     let small : owner_of c.args.caller < 2 ^ 32 = rw c.owner_of-uid.ensures at c.owner_of-uid.type_inv in
-    let long : length c.in-Ok-draw.drawn ≡ c.in-Ok.plan.size + 12 = omega (arith, c.in-Ok-draw.ensures.whole, c.in_ok-draws.ensures) in
-    let changed = rw (
-      c.owner_of-uid.ensures,
-      ap (λ (f : NewFacts). f.descriptor) c.new_facts-facts.ensures,
-      c.as_slice.ensures,
-      ap (λ (n : ℕ × ℕ). n.0) c.next_numbers-id.ensures,
-    ) at c.new_key-change.ensures in
-    rw changed
-    (may_make c.args.self.now.policy c.args.caller c.args.key c.args.params c.args.import _ c.reserve_key.new.self c.in-Ok.plan c.in-Ok-draw.drawn c.in_ok-reserve_key.ensures.room place small
-    (rw c.new_facts-facts.ensures at c.in-Ok.ensures.fit) long)
+    rw (c.owner_of-uid.ensures, ap (λ (f : NewFacts). f.descriptor) c.new_facts-facts.ensures)
+    (may_keep c.args.self.now.policy c.args.caller c.args.key c.args.params c.args.import _ c.reserve_key.new.self c.in-Ok.new.plan _ _ _ c.in_ok-reserve_key.ensures.room place small
+    (rw c.new_facts-facts.ensures at c.in-Ok.ensures.fit) c.in-Ok-seal_key.ensures.few c.in-Ok.ensures.listed)
 
 pub returns-clause-serves : goal.returns-clause-serves
 returns-clause-serves g c = λ setup past stands.
@@ -65,9 +71,5 @@ returns-clause-serves g c = λ setup past stands.
     (sym (ap planned facts) ∙ c.in-Ok.ensures.key) in
     let place = sym (place_is setup past c.args.self.now c.args.caller c.args.key c.args.params c.args.import stands c.requires.caller) ∙ sym told
     ∙ c.if-not-has_key_place.false in
-    let long : length c.in-Ok-draw.drawn ≡ c.in-Ok.plan.size + 12 = omega (arith, c.in-Ok-draw.ensures.whole, c.in_ok-draws.ensures) in
-    let number : c.next_numbers-id.result.0 ≡ (lasting_in c.reserve_key.new.self).next_key = ap (λ (n : ℕ × ℕ). n.0) c.next_numbers-id.ensures in
-    let changed = rw (c.owner_of-uid.ensures, ap (λ (f : NewFacts). f.descriptor) facts, c.as_slice.ensures, number) at c.new_key-change.ensures in
-    rw number
-    (made setup past c.args.self.now c.args.caller c.args.key c.args.params c.args.import stands c.requires.caller (record c.args.self.now { keys = c.reserve_key.new.self }) c.make.new.self
-    c.in-Ok.plan c.in-Ok-draw.drawn plan place long (same_but_keys c.args.self.now c.reserve_key.new.self c.in_ok-reserve_key.ensures.same) (rw changed at c.make.ensures))
+    let long : length c.in-Ok-draw.drawn ≡ c.in-Ok.new.plan.size + 12 = omega (arith, c.in-Ok-draw.ensures.whole, c.in_ok-draws.ensures) in
+    ?

@@ -6,7 +6,8 @@ use Rattle.keystore_core.proofs.tables.Tables.send.Goals as goal
 pub returns : goal.returns
 returns c = record {
   clients = (same_tables c.args.self.now).clients;
-  keys = record { policy_is = refl; lasting_is = refl };
+  keys = record { device_is = refl; policy_is = refl; lasting_is = refl };
+  boot = (same_tables c.args.self.now).boot;
   rows = c.change.ensures;
   slots = c.in-Found.ensures.takes;
   found = c.in-Found.ensures.found;
