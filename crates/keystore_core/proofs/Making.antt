@@ -323,6 +323,11 @@ module _ (setup : Setup) (past : History) (tables : Tables) (caller : Caller) (k
   made_device None drawn fields = refl
   made_device (Some i) drawn fields = refl
 
+  no_ticket : (later : History) (handed : Bool) (blob : List ℕ) (number : ℕ)
+      → HasJob setup later (Done (if handed then record no_fields { blob = Some blob } else record no_fields { key = Some number })) None
+  no_ticket later true blob number = refl
+  no_ticket later false blob number = refl
+
   pub made : (middle : Tables) (new : Held) (plan : NewKey) (drawn : List ℕ) → planned Facts ≡ Ok plan → HasPlace ≡ true
       → length drawn ≡ plan.plan.size + 12 → SameTables tables middle
       → lasting_in new ≡ after_change (keeping (lasting_in middle.keys) (owner_of caller) key (blob_made tables.device plan.plan import drawn) plan.list plan.plan.limit) (lasting_in middle.keys)
@@ -348,6 +353,6 @@ module _ (setup : Setup) (past : History) (tables : Tables) (caller : Caller) (k
           tickets = tickets_stay setup past Making drawn reply tables.tickets middle.tickets stands.tickets still.tickets (unticketed reply) (quiet is_enter past Making drawn reply (enters_none key params import)) (stays_same setup past Making drawn reply (none drawn reply));
           boot = boot_stays setup past Making drawn reply tables.boot middle.boot stands.boot still.boot (same_boot_after setup past Making reply (no_boot key params import));
         };
-        has_job = refl;
+        has_job = no_ticket (Acted Making drawn reply ∷ past) (key.domain == domain_blob) (blob_made tables.device plan.plan import drawn) (lasting_in middle.keys).next_key;
         stays = stays_same setup past Making drawn reply (none drawn reply);
       }

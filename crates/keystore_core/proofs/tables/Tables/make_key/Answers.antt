@@ -40,8 +40,8 @@ returns-in-Err-clause-serves g c = λ setup past stands.
     (without_entropy setup past c.args.self.now c.args.caller c.args.key c.args.params c.args.import stands c.requires.caller _ c.in-Ok.new c.in-Err.drawn plan place
     (same_but_keys c.args.self.now c.reserve_key.new.self c.in_ok-reserve_key.ensures.same) few)
 
-pub returns-in_default-seal_key-clause-serves : goal.returns-in_default-seal_key-clause-serves
-returns-in_default-seal_key-clause-serves g c = λ setup past stands.
+pub returns-in_default-clause-serves : goal.returns-in_default-clause-serves
+returns-in_default-clause-serves g c = λ setup past stands.
     let facts = rw c.has_early_ended-early_ended.ensures at c.new_facts-facts.ensures in
     let told = rw (c.owner_of-uid.ensures, ap (λ (f : NewFacts). f.descriptor) facts) at c.has_key_place.ensures in
     let plan = planned_as setup past c.args.self.now c.args.caller c.args.key c.args.params c.args.import stands c.requires.caller _
@@ -53,8 +53,8 @@ returns-in_default-seal_key-clause-serves g c = λ setup past stands.
     (unkept setup past c.args.self.now c.args.caller c.args.key c.args.params c.args.import stands c.requires.caller _ c.in-Ok.new c.in-Ok-draw.drawn plan place
     (same_but_keys c.args.self.now c.reserve_key.new.self c.in_ok-reserve_key.ensures.same) long)
 
-pub keep-requires : goal.keep-requires
-keep-requires g c =
+pub keep-fields-requires : goal.keep-fields-requires
+keep-fields-requires g c =
     let told = rw (c.owner_of-uid.ensures, ap (λ (f : NewFacts). f.descriptor) c.new_facts-facts.ensures) at c.has_key_place.ensures in
     let place : has_key_place (lasting_in c.reserve_key.new.self) (owner_of c.args.caller) c.args.key ≡ true =
     ap (λ part. has_key_place part (owner_of c.args.caller) c.args.key) c.in_ok-reserve_key.ensures.same ∙ sym told ∙ c.if-not-has_key_place.false in
@@ -72,4 +72,8 @@ returns-clause-serves g c = λ setup past stands.
     let place = sym (place_is setup past c.args.self.now c.args.caller c.args.key c.args.params c.args.import stands c.requires.caller) ∙ sym told
     ∙ c.if-not-has_key_place.false in
     let long : length c.in-Ok-draw.drawn ≡ c.in-Ok.new.plan.size + 12 = omega (arith, c.in-Ok-draw.ensures.whole, c.in_ok-draws.ensures) in
-    ?
+    let blob = rw (c.nonce_in.ensures, c.split_at.ensures.back, c.material_of-material.ensures, c.split_at.ensures.front, c.as_slice.ensures) at c.in-Ok-seal_key.ensures.blob in
+    rw (c.keep-fields.ensures.fields, ap (λ (f : NewFacts). f.descriptor) facts, blob)
+    (made setup past c.args.self.now c.args.caller c.args.key c.args.params c.args.import stands c.requires.caller (record c.args.self.now { keys = c.reserve_key.new.self }) c.keep-fields.new.keys c.in-Ok.new c.in-Ok-draw.drawn plan place long
+    (same_but_keys c.args.self.now c.reserve_key.new.self c.in_ok-reserve_key.ensures.same)
+    (rw (c.owner_of-uid.ensures, ap (λ (f : NewFacts). f.descriptor) facts, blob) at c.keep-fields.ensures.lasting))
