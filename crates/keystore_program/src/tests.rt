@@ -9,6 +9,7 @@ mod macs;
 mod orders;
 mod script;
 mod sealing;
+mod sharing;
 mod tickets;
 mod vectors;
 
