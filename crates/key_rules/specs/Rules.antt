@@ -143,12 +143,13 @@ has_one_authority list = not (stands tags.NoAuthRequired list && stands tags.Use
 abbrev pub has_some_uses : List Param → Bool
 has_some_uses list = not (has_number tags.UsageCountLimit 0 list)
 
+-- EARLY_BOOT_ONLY: early boot has not ended
+abbrev pub is_early : List Param → Bool → Bool
+is_early list early_ended = implies (stands tags.EarlyBootOnly list) (not early_ended)
+
 -- the tags whose rules are not built yet
 abbrev pub unbuilt : List Tag
-unbuilt =
-    tags.EarlyBootOnly ∷ tags.ActiveDatetime ∷ tags.OriginationExpireDatetime ∷ tags.UsageExpireDatetime ∷
-    tags.MaxUsesPerBoot ∷ tags.UserId ∷ tags.UserSecureId ∷ tags.UserAuthType ∷ tags.AuthTimeout ∷
-    tags.UnlockedDeviceRequired ∷ tags.ApplicationId ∷ tags.ApplicationData ∷ tags.UsageCountLimit ∷ []
+unbuilt = tags.UsageCountLimit ∷ tags.ApplicationId ∷ tags.ApplicationData ∷ []
 
 -- the list has no such tag
 abbrev pub has_no_unbuilt : List Param → Bool

@@ -1,13 +1,13 @@
 -- Table K, a new key: a list of rules in its order, and the answer is the first that does not hold.
-use Rattle.std.specs.Prelude.{ℕ, List, [], ◌∷◌, ◌++◌, Option, Some, length, nat_le, is_ok}
-use Rattle.tags.specs.declared.code.Code.TheVariants.{ImportParameterMismatch, InvalidArgument, InvalidInputLength, InvalidKeyArgument, MissingMinMacLength, PermissionDenied, UnsupportedAlgorithm, UnsupportedBlockMode, UnsupportedDigest, UnsupportedKeyFormat, UnsupportedKeySize, UnsupportedMinMacLength, UnsupportedPaddingMode, UnsupportedPurpose, UnsupportedTag}
+use Rattle.std.specs.Prelude.{ℕ, Bool, List, [], ◌∷◌, ◌++◌, Option, Some, length, nat_le, is_ok}
+use Rattle.tags.specs.declared.code.Code.TheVariants.{EarlyBootEnded, ImportParameterMismatch, InvalidArgument, InvalidInputLength, InvalidKeyArgument, MissingMinMacLength, PermissionDenied, UnsupportedAlgorithm, UnsupportedBlockMode, UnsupportedDigest, UnsupportedKeyFormat, UnsupportedKeySize, UnsupportedMinMacLength, UnsupportedPaddingMode, UnsupportedPurpose, UnsupportedTag}
 use Rattle.tags.specs.declared.param.Param.{Param}
 use Rattle.tags.specs.Table.{Check, check}
 use Rattle.tags.specs.Values.{RAW}
 use Rattle.tag_lists.specs.Reading.{listed}
 use Rattle.key_rules.specs.declared.facts.ImportFacts.{ImportFacts}
 use Rattle.key_rules.specs.declared.facts.NewFacts.{NewFacts}
-use Rattle.key_rules.specs.Rules.{has_allowed_size, has_fit_length, has_known_modes, has_known_paddings, has_least_length, has_no_unbuilt, has_one_authority, has_one_digest, has_own_purposes, has_own_size, has_short_ids, has_some_uses, list_in, may_rebind, names_algorithm, names_new_key, reading_code, takes_format}
+use Rattle.key_rules.specs.Rules.{has_allowed_size, has_fit_length, has_known_modes, has_known_paddings, has_least_length, has_no_unbuilt, has_one_authority, has_one_digest, has_own_purposes, has_own_size, has_short_ids, has_some_uses, is_early, list_in, may_rebind, names_algorithm, names_new_key, reading_code, takes_format}
 
 -- the rule of an encoded list
 abbrev pub bytes_rules : List ℕ → List Check
@@ -31,20 +31,21 @@ cipher_rules import list =
     []
 
 -- the rules behind those of the cipher
-abbrev pub last_rules : List Param → List Check
-last_rules list =
+abbrev pub last_rules : Bool → List Param → List Check
+last_rules early_ended list =
     check 13 InvalidKeyArgument (has_one_authority list) ∷  -- no authentication is not asked for beside one
     check 14 InvalidKeyArgument (has_some_uses list) ∷  -- a use limit allows a use
+    check 15 EarlyBootEnded (is_early list early_ended) ∷  -- a key of early boot alone is made in it
     check 16 UnsupportedTag (has_no_unbuilt list) ∷  -- no tag whose rules are not built yet
     []
 
 -- the rules that read the list
-unfoldable pub list_rules : Option ImportFacts → List Param → List Check
-list_rules import list =
+unfoldable pub list_rules : Option ImportFacts → Bool → List Param → List Check
+list_rules import early_ended list =
     check 5 UnsupportedAlgorithm (names_algorithm list) ∷  -- the algorithm is known
     check 6 UnsupportedKeyFormat (takes_format import) ∷  -- import: the format is RAW
     cipher_rules import list ++
-    last_rules list
+    last_rules early_ended list
 
 -- table K
 abbrev pub rules_of : NewFacts → List Check
@@ -53,7 +54,7 @@ rules_of facts =
     check 2 InvalidArgument (names_new_key facts.descriptor) ∷  -- the descriptor may name a new key
     check 3 PermissionDenied (may_rebind facts.descriptor facts.row) ∷  -- SELINUX: the policy lets the caller put keys there
     bytes_rules facts.params ++
-    list_rules facts.import (list_in facts.params)
+    list_rules facts.import facts.early_ended (list_in facts.params)
 
 -- the rules of a key that was made: the algorithm's and the cipher's, as an import of a material of so many bytes
 unfoldable pub key_rules : ℕ → List Param → List Check

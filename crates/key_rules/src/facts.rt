@@ -24,6 +24,8 @@ pub struct NewFacts {
     pub params: Bytes,
     /// the import, or `None` where the key is generated
     pub import: Option<ImportFacts>,
+    /// early boot has ended
+    pub early_ended: bool,
     /// the wall reading, in milliseconds
     pub wall: u64,
 }

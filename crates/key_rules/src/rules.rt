@@ -18,20 +18,10 @@ use tags::values::{
 use tags::{Code, DOMAIN_APP, DOMAIN_SELINUX, Descriptor, Param, Tag};
 
 /// The tags whose rules are not built yet.
-const UNBUILT: [Tag; 13] = [
-    Tag::EarlyBootOnly,
-    Tag::ActiveDatetime,
-    Tag::OriginationExpireDatetime,
-    Tag::UsageExpireDatetime,
-    Tag::MaxUsesPerBoot,
-    Tag::UserId,
-    Tag::UserSecureId,
-    Tag::UserAuthType,
-    Tag::AuthTimeout,
-    Tag::UnlockedDeviceRequired,
+const UNBUILT: [Tag; 3] = [
+    Tag::UsageCountLimit,
     Tag::ApplicationId,
     Tag::ApplicationData,
-    Tag::UsageCountLimit,
 ];
 
 fn is_by_alias(domain: u32) -> bool
@@ -234,6 +224,13 @@ pub(crate) fn has_some_uses(list: &AuthList) -> bool
     ensures { result ≡ spec.has_some_uses list.now }
 {
     !list.has(Tag::UsageCountLimit, 0)
+}
+
+/// EARLY_BOOT_ONLY: whether early boot has not ended.
+pub(crate) fn is_early(list: &AuthList, early_ended: bool) -> bool
+    ensures { result ≡ spec.is_early list.now early_ended }
+{
+    !list.stands(Tag::EarlyBootOnly) || !early_ended
 }
 
 /// Whether one of the tags is there.

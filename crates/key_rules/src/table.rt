@@ -13,7 +13,7 @@ ghost use Rattle.key_rules.specs.Table as spec;
 use crate::rules::{
     has_allowed_size, has_fit_length, has_known_modes, has_known_paddings, has_least_length,
     has_no_unbuilt, has_one_authority, has_one_digest, has_own_purposes, has_own_size,
-    has_short_ids, has_some_uses, list_code, may_rebind, names_algorithm, names_new_key,
+    has_short_ids, has_some_uses, is_early, list_code, may_rebind, names_algorithm, names_new_key,
     takes_format,
 };
 use crate::{ImportFacts, NewFacts, NewFault};
@@ -95,38 +95,39 @@ fn check_cipher(import: Option<ImportFacts>, list: &AuthList) -> Ruling
 }
 
 /// The rules behind those of the cipher, in the table's order.
-fn check_last(list: &AuthList) -> Ruling
-    ensures { result ≡ first_broken K (spec.last_rules list.now) }
+fn check_last(early_ended: bool, list: &AuthList) -> Ruling
+    ensures { result ≡ first_broken K (spec.last_rules early_ended list.now) }
 {
     check(rule(13), Code::InvalidKeyArgument, has_one_authority(list))?;
     check(rule(14), Code::InvalidKeyArgument, has_some_uses(list))?;
+    check(rule(15), Code::EarlyBootEnded, is_early(list, early_ended))?;
     check(rule(16), Code::UnsupportedTag, has_no_unbuilt(list))
 }
 
 /// The rules of the cipher and those behind them.
-fn check_cipher_and_last(import: Option<ImportFacts>, list: &AuthList) -> Ruling
-    ensures first { result ≡ first_broken K (spec.cipher_rules import list.now ++ spec.last_rules list.now) }
+fn check_cipher_and_last(import: Option<ImportFacts>, early_ended: bool, list: &AuthList) -> Ruling
+    ensures first { result ≡ first_broken K (spec.cipher_rules import list.now ++ spec.last_rules early_ended list.now) }
     ensures size { OnOk result (rules.has_allowed_size import list.now ≡ true) }
     ensures digest { OnOk result (rules.has_one_digest list.now ≡ true) }
     ensures short { OnOk result (IfSome import (λ facts. facts.length ≤ 64)) }
 {
     match check_cipher(import, list) {
-        Ok(()) => check_last(list),
+        Ok(()) => check_last(early_ended, list),
         Err(broken) => Err(broken),
     }
 }
 
 /// The rules that read the list, in the table's order.
 #[tactic(auto, unfolding(crate::specs::Table::list_rules))]
-fn check_list(import: Option<ImportFacts>, list: &AuthList) -> Ruling
-    ensures first { result ≡ first_broken K (spec.list_rules import list.now) }
+fn check_list(import: Option<ImportFacts>, early_ended: bool, list: &AuthList) -> Ruling
+    ensures first { result ≡ first_broken K (spec.list_rules import early_ended list.now) }
     ensures size { OnOk result (rules.has_allowed_size import list.now ≡ true) }
     ensures digest { OnOk result (rules.has_one_digest list.now ≡ true) }
     ensures short { OnOk result (IfSome import (λ facts. facts.length ≤ 64)) }
 {
     check(rule(5), Code::UnsupportedAlgorithm, names_algorithm(list))?;
     check(rule(6), Code::UnsupportedKeyFormat, takes_format(import))?;
-    check_cipher_and_last(import, list)
+    check_cipher_and_last(import, early_ended, list)
 }
 
 /// The rules of an encoded list and of what it spells.
@@ -134,8 +135,9 @@ fn check_params(
     alloc: Global,
     params: &[u8],
     import: Option<ImportFacts>,
+    early_ended: bool,
 ) -> Result<AuthList, NewFault>
-    ensures list { Gives (λ list. list) result (where_all_hold (first_broken K (spec.bytes_rules params.now ++ spec.list_rules import (rules.list_in params.now))) (rules.list_in params.now)) }
+    ensures list { Gives (λ list. list) result (where_all_hold (first_broken K (spec.bytes_rules params.now ++ spec.list_rules import early_ended (rules.list_in params.now))) (rules.list_in params.now)) }
     ensures is { IfOk result (λ list. list ≡ rules.list_in params.now) }
     ensures size { IfOk result (λ list. rules.has_allowed_size import list ≡ true) }
     ensures digest { IfOk result (λ list. rules.has_one_digest list ≡ true) }
@@ -145,7 +147,7 @@ fn check_params(
 {
     match read_by_rule(alloc, params) {
         Ok(list) => {
-            check_list(import, &list)?;
+            check_list(import, early_ended, &list)?;
             Ok(list)
         }
         Err(fault) => Err(fault),
@@ -174,7 +176,12 @@ pub(crate) fn check_facts(alloc: Global, facts: &NewFacts) -> Result<AuthList, N
         Code::PermissionDenied,
         may_rebind(&facts.descriptor, facts.row),
     )?;
-    check_params(alloc, facts.params.as_slice(), facts.import)
+    check_params(
+        alloc,
+        facts.params.as_slice(),
+        facts.import,
+        facts.early_ended,
+    )
 }
 
 /// The rules of a key that was made, in the table's order.

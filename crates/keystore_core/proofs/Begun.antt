@@ -1,13 +1,16 @@
 -- The beginning of an operation: its answer, and the tables after it.
 use Rattle.std.proofs.Common.{◌≡◌, ℕ, ◌+◌, ◌<◌, ◌≤◌, ◌==◌, ◌||◌, Bool, true, false, not, if◌then◌else◌, List, [], ◌∷◌, ◌++◌, length, find, filter, Option, Some, None, Result, Err, is_some, unwrap_or, refl, sym, ap, ◌∙◌, subst, arith, inl, inr}
 use Rattle.std.specs.Prelude.{IfNone, IfSome, IsSome}
+use Rattle.std.specs.Prelude.{take, drop}
 use Rattle.std.proofs.lemmas.Bool.{cases_Bool, eqb-true}
+use Rattle.std.proofs.lemmas.List.{length-drop}
+use Rattle.byteorder.specs.Endian.{big_number}
 use Rattle.tags.specs.declared.code.Code.{Code}
 use Rattle.tags.specs.declared.code.Code.TheVariants.{EntropyFault, MemoryAllocationFailed}
 use Rattle.tags.specs.declared.descriptor.Descriptor.{Descriptor}
 use Rattle.tags.specs.declared.rule.Rule.{Rule}
 use Rattle.use_rules.specs.declared.facts.BeginFacts.{BeginFacts}
-use Rattle.use_rules.specs.Plans.{nonce_given}
+use Rattle.use_rules.specs.Plans.{challenge_wanted, is_per_operation, nonce_given}
 use Rattle.use_rules.specs.Table as begin_table
 use Rattle.use_rules.specs.Table.{asked_of, key_of}
 use Rattle.cipher_ops.specs.declared.state.CipherState.{CipherState}
@@ -21,22 +24,24 @@ use Rattle.tags.specs.declared.policy.PolicyRow.{PolicyRow}
 use Rattle.rule_model.specs.declared.event.Act.TheVariants.{CreateOperation}
 use Rattle.rule_model.specs.declared.event.Event.{Event}
 use Rattle.rule_model.specs.declared.facts.Caller.{Caller}
+use Rattle.rule_model.specs.declared.facts.Conditions.{Conditions}
 use Rattle.rule_model.specs.declared.reply.Reply.{Reply}
 use Rattle.rule_model.specs.declared.reply.Reply.TheVariants.{Done, Broken, Stopped}
 use Rattle.rule_model.specs.Acts.{is_begin}
 use Rattle.rule_model.specs.Answer.{answer_by_rules, drawn_nonce}
 use Rattle.rule_model.specs.Replies.{broken_or, no_fields}
 use Rattle.rule_model.specs.BeginFacts.{facts_on}
+use Rattle.rule_model.specs.Boot.{BeginsOn, begins_on, boot_change}
 use Rattle.rule_model.specs.Clients.{caller_of}
 use Rattle.rule_model.specs.Drawn.{size_of, wanted_by_begin, wanted_by_rules}
 use Rattle.rule_model.specs.Entries.{History, count_of}
-use Rattle.rule_model.specs.Access.{access_by, key_in, owner_of}
+use Rattle.rule_model.specs.Access.{access_by, id_of, key_in, owner_of}
 use Rattle.rule_model.specs.Changes.{material_in}
 use Rattle.rule_model.specs.Kept.{access_at, kept, key_found}
 use Rattle.rule_model.specs.Legal.{MayFollow, Answered, WithoutMemory, WithoutEntropy}
-use Rattle.rule_model.specs.Operations.{Open, OperationChange, Opens, SameOperations, as_begun, has_number, facts_of_begin, is_busy, is_limited, nonce_of, open_after, open_of, operation_at, operation_change, operation_on, opens, step_of, without, without_pruned}
+use Rattle.rule_model.specs.Operations.{Open, OperationChange, Opens, SameOperations, as_begun, challenge_of, has_number, facts_of_begin, is_busy, is_limited, nonce_of, nonce_size, open_after, open_of, operation_at, operation_change, operation_on, opens, step_of, without, without_pruned}
 use Rattle.rule_model.specs.Setup.{Setup}
-use Rattle.rule_model.specs.Slots.{begin_facts, facts_of_open, has_free, has_room, open_facts, pruned_for}
+use Rattle.rule_model.specs.Slots.{begin_facts, conditions_on, facts_of_open, has_free, has_room, open_facts, pruned_for}
 use Rattle.rule_model.specs.Jobs.{Stays}
 use Rattle.keystore_core.specs.declared.operations.Operation.{Operation}
 use Rattle.keystore_core.specs.declared.tables.Tables.{Tables}
@@ -47,6 +52,9 @@ use Rattle.pruning.specs.Facts as seen
 use Rattle.pruning.specs.Victim.{OpenFacts, victim}
 use Rattle.rule_model.specs.Answer.{begun_with}
 use Rattle.keystore_core.specs.Alike.{Alike}
+use Rattle.keystore_core.specs.Boot.{conditions_in}
+use Rattle.keystore_core.specs.Device.{early_in, unlocked_in}
+use Rattle.keystore_core.specs.Tokens.{token_key_in, tokens_in}
 use Rattle.keystore_core.specs.Beginning.{IsNewRow, MakesWay, OpensOne}
 use Rattle.key_database.specs.Held.{lasting_in}
 use Rattle.keystore_core.specs.Keys.{SameKeys}
@@ -55,6 +63,7 @@ use Rattle.keystore_core.specs.Operations.{IsRow, has_row, operations_given, row
 use Rattle.keystore_core.specs.Slots.{IsKept, IsSlot}
 use Rattle.keystore_core.specs.Tables.{AnswersAfter, IsCaller, SameTables, TablesStand, event_by}
 use Rattle.keystore_core.proofs.Alike.{alike_filter, alike_images, alike_length, alike_more}
+use Rattle.keystore_core.proofs.Booted.{boot_after, boot_still, conditions_are}
 use Rattle.keystore_core.proofs.KeyTable.{keys_stay, same_keys_twice}
 use Rattle.keystore_core.proofs.Opened.{found_more, is_other, stays_by, stays_same, without_keeps}
 use Rattle.keystore_core.proofs.Standing.{called, clients_stay, denied_tables, rows_after, same_tables, slots_after, still, tickets_stay}
@@ -62,18 +71,33 @@ use Rattle.keystore_core.proofs.Stepped.{idle_there, row_named, slot_found, slot
 
 -- no key is found where none is there
 pub no_key : (facts : BeginFacts) (policy : List PolicyRow) (found : Option KeyRecord) (access : Access) (caller : Caller) (key : Descriptor) (params : List ℕ) (begin : Begin)
-    → (forced room : Bool) → facts ≡ facts_on policy found access caller key params forced room → found ≡ None → MayBegin begin facts → ⊥
-no_key facts policy found access caller key params begin forced room e none may =
+    → (forced : Bool) (conditions : Conditions) → facts ≡ facts_on policy found access caller key params forced conditions → found ≡ None → MayBegin begin facts → ⊥
+no_key facts policy found access caller key params begin forced conditions e none may =
     let there : facts.found ≡ is_some found = ap (λ (f : BeginFacts). f.found) e in
     let no : is_some found ≡ false = rw none refl in
     cc (there, no, may.is_found)
 
 -- the nonce of the operation
-nonce_is : (facts : BeginFacts) (begin : Begin) (drawn : List ℕ) → MayBegin begin facts → nonce_used begin.nonce drawn ≡ nonce_of facts drawn
-nonce_is facts begin drawn may = ap (λ n. nonce_used n drawn) may.nonce_is ∙ by_nonce (nonce_given (asked_of facts) (key_of facts)) where
-  by_nonce : (nonce : Option (List ℕ)) → nonce_used nonce drawn ≡ unwrap_or nonce drawn
-  by_nonce None = refl
-  by_nonce (Some nonce) = refl
+nonce_is : (facts : BeginFacts) (begin : Begin) (drawn : List ℕ) → MayBegin begin facts → nonce_used begin.nonce (take begin.wanted drawn) ≡ nonce_of facts drawn
+nonce_is facts begin drawn may =
+    ap (λ n. nonce_used n (take begin.wanted drawn)) may.nonce_is
+    ∙ ap (λ n. nonce_used (nonce_given (asked_of facts) (key_of facts)) (take n drawn)) may.wanted_is
+    ∙ by_nonce (nonce_given (asked_of facts) (key_of facts)) where
+      by_nonce : (nonce : Option (List ℕ)) → nonce_used nonce (take (nonce_size facts) drawn) ≡ unwrap_or nonce (take (nonce_size facts) drawn)
+      by_nonce None = refl
+      by_nonce (Some nonce) = refl
+
+-- the challenge of the operation, of the bytes behind the nonce
+challenge_by : (per : Bool) (back : List ℕ) → length back ≡ (if per then 8 else 0)
+    → (if length back == 8 then Some (big_number 8 back) else None) ≡ (if per then Some (big_number 8 back) else None)
+challenge_by true back long = ap (λ n. if n == 8 then Some (big_number 8 back) else None) long
+challenge_by false back long = ap (λ n. if n == 8 then Some (big_number 8 back) else None) long
+
+challenge_is : (facts : BeginFacts) (begin : Begin) (drawn : List ℕ) → MayBegin begin facts → length drawn ≡ begin.wanted + challenge_wanted (key_of facts)
+    → (if length (drop begin.wanted drawn) == 8 then Some (big_number 8 (drop begin.wanted drawn)) else None) ≡ challenge_of facts drawn
+challenge_is facts begin drawn may long =
+    challenge_by (is_per_operation (key_of facts)) (drop begin.wanted drawn) (omega (arith, length-drop begin.wanted drawn, long))
+    ∙ ap (λ n. if is_per_operation (key_of facts) then Some (big_number 8 (drop n drawn)) else None) may.wanted_is
 
 -- what may begin over the facts that were gathered may begin over those of the history
 pub may_begin : (begin : Begin) (gathered facts : BeginFacts) → gathered ≡ facts → MayBegin begin gathered → MayBegin begin facts
@@ -110,9 +134,9 @@ is_free false room None f e = cc
 is_free false room (Some op) f e = tt
 
 -- the facts that were gathered say whether there was a slot
-pub gathered_room : (facts : BeginFacts) (policy : List PolicyRow) (found : Option KeyRecord) (access : Access) (caller : Caller) (key : Descriptor) (params : List ℕ) (forced room : Bool)
-    → facts ≡ facts_on policy found access caller key params forced room → facts.room ≡ room
-gathered_room facts policy found access caller key params forced room e = ap (λ (f : BeginFacts). f.room) e
+pub gathered_room : (facts : BeginFacts) (policy : List PolicyRow) (found : Option KeyRecord) (access : Access) (caller : Caller) (key : Descriptor) (params : List ℕ) (forced : Bool) (conditions : Conditions)
+    → facts ≡ facts_on policy found access caller key params forced conditions → facts.room ≡ conditions.room
+gathered_room facts policy found access caller key params forced conditions e = ap (λ (f : BeginFacts). f.room) e
 
 pub idle_pruned : (slots : SlotTable Rattle.cipher_ops.specs.declared.state.CipherState.CipherState) (pruned : Option ℕ) → IfSome pruned (λ op. IsSome (idle_value (held slots op))) → (op : ℕ) → pruned ≡ Some op → is_some (idle_value (held slots op)) ≡ true
 idle_pruned slots None idle op e = cc
@@ -141,14 +165,17 @@ module _ (setup : Setup) (past : History) (tables : Tables) (caller : Caller) (k
   found_key access is = ap (λ part. key_in part access) stands.keys.lasting_is ∙ ap (key_in (kept setup past)) (is ∙ access_is)
 
   -- what the rules read is that of the history
-  pub facts_are : (found : Option KeyRecord) (access : Access) (room : Bool) → access ≡ access_by tables.policy (lasting_in tables.keys) caller key
-      → found ≡ key_in (lasting_in tables.keys) access → room ≡ has_room setup past (owner_of caller) forced
-      → facts_on tables.policy found access caller key params forced room ≡ Facts
-  facts_are found access room at is has =
-      ap (λ policy. facts_on policy found access caller key params forced room) stands.keys.policy_is
-      ∙ ap (λ f. facts_on setup.policy f access caller key params forced room) (is ∙ found_key access at)
-      ∙ ap (λ a. facts_on setup.policy (key_found setup past caller key) a caller key params forced room) (at ∙ access_is)
-      ∙ ap (facts_on setup.policy (key_found setup past caller key) (access_at setup past caller key) caller key params forced) has
+  pub facts_are : (found : Option KeyRecord) (access : Access) (room : Bool) (conditions : Conditions) → access ≡ access_by tables.policy (lasting_in tables.keys) caller key
+      → found ≡ key_in (lasting_in tables.keys) access → room ≡ has_room setup past (owner_of caller) forced → conditions ≡ conditions_in tables.boot caller found room
+      → facts_on tables.policy found access caller key params forced conditions ≡ Facts
+  facts_are found access room conditions at is has told =
+      let met : conditions ≡ conditions_on setup past caller (key_found setup past caller key) (has_room setup past (owner_of caller) forced) =
+      told ∙ conditions_are setup past tables.boot stands.boot caller found room (has_room setup past (owner_of caller) forced) has
+      ∙ ap (λ f. conditions_on setup past caller f (has_room setup past (owner_of caller) forced)) (is ∙ found_key access at) in
+      ap (λ policy. facts_on policy found access caller key params forced conditions) stands.keys.policy_is
+      ∙ ap (λ f. facts_on setup.policy f access caller key params forced conditions) (is ∙ found_key access at)
+      ∙ ap (λ a. facts_on setup.policy (key_found setup past caller key) a caller key params forced conditions) (at ∙ access_is)
+      ∙ ap (facts_on setup.policy (key_found setup past caller key) (access_at setup past caller key) caller key params forced) met
 
   answered : (drawn : List ℕ) (reply : Reply) → length drawn ≡ size_of (wanted_by_begin Answer Facts)
       → reply ≡ answer_by_rules (CreateOperation key params forced) setup past caller drawn → MayFollow setup past Beginning drawn reply
@@ -159,7 +186,7 @@ module _ (setup : Setup) (past : History) (tables : Tables) (caller : Caller) (k
 
   -- the reply of a begin that no rule denies
   abbrev Admitted : List ℕ → Reply
-  Admitted drawn = begun_with (count_of is_begin past + 1) (drawn_nonce Facts drawn) (pruned_for setup past (owner_of caller) forced)
+  Admitted drawn = begun_with (count_of is_begin past + 1) (challenge_of Facts drawn) (drawn_nonce Facts drawn) (pruned_for setup past (owner_of caller) forced)
 
   -- a broken rule
   pub refused : (rule : Rule) (code : Code) → Answer ≡ Err (rule, code)
@@ -178,11 +205,15 @@ module _ (setup : Setup) (past : History) (tables : Tables) (caller : Caller) (k
         either true = refl
         either false = refl
 
-  wanted_is : (begin : Begin) → MayBegin begin Facts → size_of (wanted_by_begin Answer Facts) ≡ begin.wanted
-  wanted_is begin may = ap (λ found. size_of (wanted_by_begin found Facts)) may.answers ∙ omega (arith, may.wanted_is)
+  -- how many bytes are drawn for a begin that may begin
+  abbrev pub Size : Begin → ℕ
+  Size begin = begin.wanted + challenge_wanted (key_of Facts)
+
+  wanted_is : (begin : Begin) → MayBegin begin Facts → size_of (wanted_by_begin Answer Facts) ≡ Size begin
+  wanted_is begin may = ap (λ found. size_of (wanted_by_begin found Facts)) may.answers ∙ ap (λ n. n + challenge_wanted (key_of Facts)) (sym may.wanted_is)
 
   -- a draw that failed
-  pub without_entropy : (new : Tables) (begin : Begin) (drawn : List ℕ) → MayBegin begin Facts → SameTables tables new → length drawn < begin.wanted
+  pub without_entropy : (new : Tables) (begin : Begin) (drawn : List ℕ) → MayBegin begin Facts → SameTables tables new → length drawn < Size begin
       → AnswersAfter setup past new Beginning (record { reply = Stopped EntropyFault; job = None; drawn = drawn })
   without_entropy new begin drawn may still few = record {
     follows = WithoutEntropy (record {
@@ -195,7 +226,7 @@ module _ (setup : Setup) (past : History) (tables : Tables) (caller : Caller) (k
   }
 
   -- want of memory for the cipher's state
-  pub unkept : (new : Tables) (begin : Begin) (drawn : List ℕ) → MayBegin begin Facts → SameTables tables new → length drawn ≡ begin.wanted
+  pub unkept : (new : Tables) (begin : Begin) (drawn : List ℕ) → MayBegin begin Facts → SameTables tables new → length drawn ≡ Size begin
       → AnswersAfter setup past new Beginning (record { reply = Stopped MemoryAllocationFailed; job = None; drawn = drawn })
   unkept new begin drawn may still long = record {
     follows = WithoutMemory (record {
@@ -209,12 +240,17 @@ module _ (setup : Setup) (past : History) (tables : Tables) (caller : Caller) (k
   }
 
   -- the operation that begins
-  opened : (found : KeyRecord) (drawn : List ℕ) (number : ℕ) (nonce : Option (List ℕ)) (pruned : Option ℕ) → key_found setup past caller key ≡ Some found
-      → operation_change setup past Beginning drawn (begun_with number nonce pruned)
+  opened : (found : KeyRecord) (drawn : List ℕ) (number : ℕ) (challenge : Option ℕ) (nonce : Option (List ℕ)) (pruned : Option ℕ) → key_found setup past caller key ≡ Some found
+      → operation_change setup past Beginning drawn (begun_with number challenge nonce pruned)
       ≡ Opens pruned (operation_on found (facts_of_begin setup past caller key params) caller number drawn)
-  opened found drawn number nonce pruned is =
-      sym (ap (λ c. opens (key_found setup past c key) (facts_of_begin setup past c key params) c (record no_fields { op = Some number; nonce = nonce; pruned = pruned }) drawn) same)
-      ∙ ap (λ k. opens k (facts_of_begin setup past caller key params) caller (record no_fields { op = Some number; nonce = nonce; pruned = pruned }) drawn) is
+  opened found drawn number challenge nonce pruned is =
+      sym (ap (λ c. opens (key_found setup past c key) (facts_of_begin setup past c key params) c (record no_fields { op = Some number; challenge = challenge; nonce = nonce; pruned = pruned }) drawn) same)
+      ∙ ap (λ k. opens k (facts_of_begin setup past caller key params) caller (record no_fields { op = Some number; challenge = challenge; nonce = nonce; pruned = pruned }) drawn) is
+
+  -- it counts for the key that was found
+  counted : (found : KeyRecord) (drawn : List ℕ) (number : ℕ) (challenge : Option ℕ) (nonce : Option (List ℕ)) (pruned : Option ℕ) → key_found setup past caller key ≡ Some found
+      → boot_change setup past Beginning (begun_with number challenge nonce pruned) ≡ BeginsOn found.id
+  counted found drawn number challenge nonce pruned is = sym (ap (λ c. begins_on (id_of (key_found setup past c key))) same) ∙ ap (λ k. begins_on (id_of k)) is
 
   -- what the operation that gives way leaves
   pub record Way (pruned : Option ℕ) (middle : Tables) : Type 0 where
@@ -258,26 +294,28 @@ module _ (setup : Setup) (past : History) (tables : Tables) (caller : Caller) (k
             (is_other op n (open_of setup past) x (idle_there (held tables.slots op) (operation_at setup past op) (slot_found setup past tables op stands) (idle op refl)) found busy) found;
       }
 
-  pub begins : (start new : Tables) (found : KeyRecord) (begin : Begin) (row : Operation) (state : CipherState) (drawn : List ℕ) (number step : ℕ) (nonce : Option (List ℕ)) (pruned : Option ℕ)
-      → key_found setup past caller key ≡ Some found → MayBegin begin Facts → SameTables tables start → length drawn ≡ begin.wanted
-      → number ≡ operations_given start.operations + 1 → nonce ≡ (if begin.wanted == 0 then None else Some drawn) → pruned ≡ pruned_for setup past (owner_of caller) forced
+  pub begins : (start new : Tables) (found : KeyRecord) (begin : Begin) (row : Operation) (state : CipherState) (drawn : List ℕ) (number step : ℕ) (challenge : Option ℕ) (nonce : Option (List ℕ)) (pruned : Option ℕ)
+      → key_found setup past caller key ≡ Some found → MayBegin begin Facts → SameTables tables start → length drawn ≡ Size begin
+      → number ≡ operations_given start.operations + 1 → challenge ≡ (if length (drop begin.wanted drawn) == 8 then Some (big_number 8 (drop begin.wanted drawn)) else None)
+      → nonce ≡ (if begin.wanted == 0 then None else Some (take begin.wanted drawn)) → pruned ≡ pruned_for setup past (owner_of caller) forced
       → ((op : ℕ) → pruned ≡ Some op → is_some (idle_value (held tables.slots op)) ≡ true) → step ≡ step_of past
-      → IsNewRow row number caller.client found begin.plan → StandsFor state begin.plan (is_limited found.limit) (material_in found) (nonce_used begin.nonce drawn) [] []
-      → OpensOne pruned step (owner_of caller) row state start new
-      → AnswersAfter setup past new Beginning (record { reply = begun_with number nonce pruned; job = None; drawn = drawn })
-  begins start new found begin row state drawn number step nonce pruned is may still_same long next nonce_told pruned_told idle is_step row_is standing one =
+      → IsNewRow row number caller.client found begin.plan (key_of Facts) challenge → StandsFor state begin.plan (is_limited found.limit) (material_in found) (nonce_used begin.nonce (take begin.wanted drawn)) [] []
+      → OpensOne pruned step (owner_of caller) found.id row state start new
+      → AnswersAfter setup past new Beginning (record { reply = begun_with number challenge nonce pruned; job = None; drawn = drawn })
+  begins start new found begin row state drawn number step challenge nonce pruned is may still_same long next challenge_told nonce_told pruned_told idle is_step row_is standing one =
       let o : Rattle.rule_model.specs.Operations.Operation = operation_on found (facts_of_begin setup past caller key params) caller number drawn in
-      let reply : Reply = begun_with number nonce pruned in
+      let reply : Reply = begun_with number challenge nonce pruned in
       let way : Way pruned one.middle = makes_way start pruned one.middle still_same idle one.way in
       let first : number ≡ count_of is_begin past + 1 = next ∙ ap (λ n. n + 1) (still_same.operations.given ∙ stands.operations.given) in
-      let told : nonce ≡ drawn_nonce Facts drawn = nonce_told ∙ ap (λ w. if w == 0 then None else Some drawn) may.wanted_is in
-      let change : operation_change setup past Beginning drawn reply ≡ Opens pruned o = opened found drawn number nonce pruned is in
+      let told : nonce ≡ drawn_nonce Facts drawn = nonce_told ∙ ap (λ w. if w == 0 then None else Some (take w drawn)) may.wanted_is in
+      let challenged : challenge ≡ challenge_of Facts drawn = challenge_told ∙ challenge_is Facts begin drawn may long in
+      let change : operation_change setup past Beginning drawn reply ≡ Opens pruned o = opened found drawn number challenge nonce pruned is in
       let plan : begin.plan ≡ o.plan = may.plan_is in
-      let same_nonce : nonce_used begin.nonce drawn ≡ o.nonce = nonce_is Facts begin drawn may in
+      let same_nonce : nonce_used begin.nonce (take begin.wanted drawn) ≡ o.nonce = nonce_is Facts begin drawn may in
       let stays : Stays setup past (Acted Beginning drawn reply ∷ past) = stays_by setup past Beginning drawn reply (Opens pruned o) change stands.tickets.busy
       (λ ticket entered x after named busy there. found_more entered.op (without_pruned pruned (open_of setup past)) (as_begun (step_of past) o ∷ []) x (way.keeps entered.op x busy there)) in
       record {
-        follows = answered drawn reply (long ∙ sym (wanted_is begin may)) (rw (first, told, pruned_told)
+        follows = answered drawn reply (long ∙ sym (wanted_is begin may)) (rw (first, challenged, told, pruned_told)
             (sym (ap (λ found. broken_or found (Admitted drawn)) may.answers)));
         stands = record {
           clients = clients_stay setup past Beginning drawn reply tables.clients new.clients stands.clients
@@ -293,6 +331,9 @@ module _ (setup : Setup) (past : History) (tables : Tables) (caller : Caller) (k
                 aad_is = row_is.aad_is;
                 text_is = row_is.text_is;
                 busy_is = row_is.busy_is;
+                challenge_is = row_is.challenge_is ∙ challenged;
+                shown_is = row_is.shown_is;
+                list_is = row_is.list_is;
               })))
               (one.rows.given ∙ ap (λ n. n + 1) (way.given ∙ stands.operations.given));
           slots = slots_after setup past Beginning drawn reply (Opens pruned o) tables.slots new.slots stands.slots change
@@ -307,6 +348,11 @@ module _ (setup : Setup) (past : History) (tables : Tables) (caller : Caller) (k
               (λ next l. one.later next (way.later next (stands.slots.later next (omega (arith, l)))) (omega (arith, l, is_step)));
           tickets = tickets_stay setup past Beginning drawn reply tables.tickets new.tickets stands.tickets
               (record { outs = λ ticket. one.tickets.outs ticket ∙ way.tickets.outs ticket; given = one.tickets.given ∙ way.tickets.given }) refl refl stays;
+          boot = boot_after setup past Beginning drawn reply (BeginsOn found.id) start.boot new.boot (boot_still setup past tables.boot start.boot stands.boot still_same.boot)
+              (counted found drawn number challenge nonce pruned is)
+              (record { users = λ user. ap (λ device. unlocked_in device user) one.device; early = ap early_in one.device })
+              (record { tokens = ap tokens_in one.tokens; key = ap token_key_in one.tokens })
+              one.begins;
         };
         has_job = refl;
         stays = stays;

@@ -31,6 +31,7 @@ use Rattle.std.specs.Prelude.{IfErr}
 use Rattle.cipher_ops.specs.Jobs.{is_refusal}
 use Rattle.rule_model.specs.Drawn.{is_entropy_fault}
 use Rattle.rule_model.specs.Entries.{History, admits, count_of}
+use Rattle.rule_model.specs.Boot.{SameBoot as NoBoot, boot_change}
 use Rattle.rule_model.specs.Jobs.{HasJob, IsDoneOn, IsDoneOut, Stays}
 use Rattle.rule_model.specs.Legal.{MayFollow, Answered}
 use Rattle.rule_model.specs.Operations.{Closes, ClosesOf, Open, OperationChange, Returns, SameOperations, as_returned, has_busy, has_number, is_busy, is_limited, is_of, open_after, open_of, operation_at, operation_change, output_of, returns, step_of}
@@ -51,6 +52,7 @@ use Rattle.keystore_core.specs.Slots.{IsKept, IsSlot, IsStateOf}
 use Rattle.keystore_core.specs.Stepping.{TakesBack, added_by, reply_of}
 use Rattle.keystore_core.specs.Tables.{AnswersAfter, IsCaller, TablesStand, event_by}
 use Rattle.keystore_core.specs.Tickets.{BusyWith, IsBusyWith, IsOut, SameOut, out_in}
+use Rattle.keystore_core.proofs.Booted.{boot_stays, same_boot}
 use Rattle.keystore_core.proofs.Alike.{alike_any, alike_at, alike_filter, alike_found, alike_images}
 use Rattle.keystore_core.proofs.KeyTable.{keys_stay}
 use Rattle.keystore_core.proofs.Opened.{found_apart, stays_by, stays_same, without_client, without_keeps}
@@ -84,6 +86,9 @@ row_back step aad text row o r within = record {
   aad_is = grows row.aad (length aad) (length (o.aad ++ aad)) (omega (arith, r.aad_is, within)) (omega (arith, r.aad_is, length-append o.aad aad));
   text_is = grows row.text (length text) (length (o.text ++ text)) (omega (arith, r.text_is, within)) (omega (arith, r.text_is, length-append o.text text));
   busy_is = refl;
+  challenge_is = r.challenge_is;
+  shown_is = r.shown_is;
+  list_is = r.list_is;
 }
 
 slot_back : (step : ℕ) (aad text : List ℕ) (state : CipherState) (slot : Slot CipherState) (o : Open) → IsSlot slot o → IsStateOf state (as_returned step aad text o)
@@ -112,6 +117,10 @@ leave_ticket caller ticket work (Err code) = refl
 leave_client : (caller : Caller) (ticket : ℕ) (work : Work) (result : Result (List ℕ) Code) → client_change (event_by caller (Leave ticket)) (given_or work result) ≡ NoClients
 leave_client caller ticket work (Ok bytes) = refl
 leave_client caller ticket work (Err code) = refl
+
+leave_boot : (setup : Setup) (past : History) (caller : Caller) (ticket : ℕ) (work : Work) (result : Result (List ℕ) Code) → boot_change setup past (event_by caller (Leave ticket)) (given_or work result) ≡ NoBoot
+leave_boot setup past caller ticket work (Ok bytes) = refl
+leave_boot setup past caller ticket work (Err code) = refl
 
 leave_job : (setup : Setup) (later : History) (work : Work) (result : Result (List ℕ) Code) → HasJob setup later (given_or work result) None
 leave_job setup later work (Ok bytes) = refl
@@ -155,6 +164,7 @@ module _ (setup : Setup) (past : History) (old : Tables) (caller : Caller) (tick
             given = stands.tickets.given;
             busy = λ t entered after. busy_after setup past (event_by caller (Leave ticket)) [] (Stopped NoTicket) stays stands.tickets.busy t entered (sym (gone none t) ∙ after) after;
           };
+          boot = boot_stays setup past (event_by caller (Leave ticket)) [] (Stopped NoTicket) old.boot old.boot stands.boot (same_boot old.boot) refl;
         };
         has_job = refl;
         stays = stays;
@@ -225,6 +235,7 @@ module _ (setup : Setup) (past : History) (old : Tables) (caller : Caller) (tick
                   let before = (not_back (ticket_at past t) (ticket == t) e (sym (ap (λ c. ticket_after c t (ticket_at past t)) ticket_is) ∙ after)).1 in
                   busy_after setup past event [] Reply_of stays stands.tickets.busy t e before after;
             };
+            boot = boot_stays setup past event [] Reply_of old.boot new.boot stands.boot taken.boot (leave_boot setup past caller ticket entered.work back.result);
           };
           has_job = leave_job setup (Left Reply_of) entered.work back.result;
           stays = stays;
@@ -412,6 +423,7 @@ module _ (setup : Setup) (past : History) (old : Tables) (caller : Caller) (stan
               (rw ended.slots.operations (alike_filter IsSlot (λ slot. not (table.is_client caller.client slot)) (λ o. not (is_of caller.client o)) (λ slot o r. ap (λ c. not (c == caller.client)) r.client) (operations_of old.slots) (open_of setup past) stands.slots.slots_are))
               ended.slots.capacity (λ number l. ended.fresh number (stands.slots.fresh number l)) (λ next l. ended.later next (stands.slots.later next (omega (arith, l))));
           tickets = tickets_stay setup past event [] reply old.tickets new.tickets stands.tickets ended.tickets refl refl stays;
+          boot = boot_stays setup past event [] reply old.boot new.boot stands.boot ended.boot refl;
         };
         has_job = refl;
         stays = stays;

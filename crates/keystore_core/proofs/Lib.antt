@@ -4,6 +4,7 @@ pub mod Drawn
 pub mod RowTable
 pub mod Alike
 pub mod Opened
+pub mod Booted
 pub mod Standing
 pub mod Reading
 pub mod Making

@@ -35,6 +35,7 @@ use Rattle.rule_model.specs.Acts.{is_begin, is_connect, is_enter}
 use Rattle.rule_model.specs.Answer.{answer_by_rules, made_in}
 use Rattle.rule_model.specs.Replies.{broken_or, no_fields}
 use Rattle.rule_model.specs.Changes.{after_change, alias_of, change_of, kept_as, owner_for}
+use Rattle.rule_model.specs.Boot.{has_early_ended}
 use Rattle.rule_model.specs.Clients.{caller_of}
 use Rattle.rule_model.specs.Drawn.{size_of, wanted_by_key, wanted_by_rules}
 use Rattle.rule_model.specs.Entries.{History, is_done}
@@ -46,6 +47,7 @@ use Rattle.rule_model.specs.Operations.{SameOperations, operation_change}
 use Rattle.rule_model.specs.Places.{has_key_place}
 use Rattle.rule_model.specs.Setup.{Setup}
 use Rattle.rule_model.specs.Tickets.{SameTickets as NoTickets, ticket_change}
+use Rattle.rule_model.proofs.Boot.{moves_boot, same_boot as same_boot_after}
 use Rattle.rule_model.proofs.Clients.{moves_clients, same_clients}
 use Rattle.rule_model.proofs.Operations.{moves_operations, same_operations}
 use Rattle.rule_model.proofs.Tickets.{moves_tickets, same_tickets}
@@ -53,19 +55,21 @@ use Rattle.keystore_core.specs.declared.creating.Import.{Import}
 use Rattle.keystore_core.specs.declared.tables.Tables.{Tables}
 use Rattle.keystore_core.specs.Creating.{creates, facts_of_import, making, material_of}
 use Rattle.keystore_core.specs.Tables.{AnswersAfter, IsCaller, SameTables, TablesStand, event_by}
+use Rattle.keystore_core.specs.Device.{early_in}
+use Rattle.keystore_core.proofs.Booted.{boot_stays}
 use Rattle.keystore_core.proofs.Opened.{stays_same}
 use Rattle.keystore_core.proofs.Standing.{called, clients_stay, denied_tables, operations_stay, quiet, same_tables, slots_stay, tickets_stay}
 
-abbrev facts_of : List PolicyRow → Caller → Descriptor → List ℕ → Option Import → NewFacts
-facts_of policy caller key params import = new_facts policy caller key params (option_map facts_of_import import)
+abbrev facts_of : List PolicyRow → Caller → Descriptor → List ℕ → Option Import → Bool → NewFacts
+facts_of policy caller key params import early_ended = new_facts policy caller key params (option_map facts_of_import import) early_ended
 
 making_answer : (setup : Setup) (past : History) (caller : Caller) (key : Descriptor) (params : List ℕ) (import : Option Import) (drawn : List ℕ)
-    → answer_by_rules (making key params import) setup past caller drawn ≡ broken_or (new_key (facts_of setup.policy caller key params import)) (made_in (kept setup past) caller key)
+    → answer_by_rules (making key params import) setup past caller drawn ≡ broken_or (new_key (facts_of setup.policy caller key params import (has_early_ended setup past))) (made_in (kept setup past) caller key)
 making_answer setup past caller key params None drawn = refl
 making_answer setup past caller key params (Some import) drawn = refl
 
 making_wanted : (setup : Setup) (past : History) (caller : Caller) (key : Descriptor) (params : List ℕ) (import : Option Import)
-    → wanted_by_rules (making key params import) setup past caller ≡ wanted_by_key (new_key (facts_of setup.policy caller key params import)) (has_key_place (kept setup past) (owner_of caller) key)
+    → wanted_by_rules (making key params import) setup past caller ≡ wanted_by_key (new_key (facts_of setup.policy caller key params import (has_early_ended setup past))) (has_key_place (kept setup past) (owner_of caller) key)
 making_wanted setup past caller key params None = refl
 making_wanted setup past caller key params (Some import) = refl
 
@@ -84,6 +88,10 @@ begins_none key params (Some import) = refl
 enters_none : (key : Descriptor) (params : List ℕ) (import : Option Import) → is_enter (making key params import) ≡ false
 enters_none key params None = refl
 enters_none key params (Some import) = refl
+
+no_boot : (key : Descriptor) (params : List ℕ) (import : Option Import) → moves_boot (making key params import) ≡ false
+no_boot key params None = refl
+no_boot key params (Some import) = refl
 
 no_tickets : (key : Descriptor) (params : List ℕ) (import : Option Import) → moves_tickets (making key params import) ≡ false
 no_tickets key params None = refl
@@ -144,15 +152,14 @@ blob_few None size drawn short few long =
 blob_few (Some import) size drawn short few long = omega (arith, length-append (drop size drawn) import.material, length-drop size drawn, long, few, short)
 
 -- what is made may be made: its need is met, and there is room for it
-pub may_make : (policy : List PolicyRow) (caller : Caller) (key : Descriptor) (params : List ℕ) (import : Option Import) (held : Held) (plan : NewKey) (drawn : List ℕ) → HasRoomForKey held → has_key_place (lasting_in held) (owner_of caller) key ≡ true → owner_of caller < 2 ^ 32
-    → IsFit (facts_of policy caller key params import) plan.size (length plan.list) → length drawn ≡ plan.size + 12 → CanMake held (creates (lasting_in held).next_key (owner_of caller) key plan import drawn)
-may_make policy caller key params import held plan drawn room place small fit long =
+pub may_make : (policy : List PolicyRow) (caller : Caller) (key : Descriptor) (params : List ℕ) (import : Option Import) (early_ended : Bool) (held : Held) (plan : NewKey) (drawn : List ℕ) → HasRoomForKey held → has_key_place (lasting_in held) (owner_of caller) key ≡ true → owner_of caller < 2 ^ 32
+    → IsFit (facts_of policy caller key params import early_ended) plan.size (length plan.list) → length drawn ≡ plan.size + 12 → CanMake held (creates (lasting_in held).next_key (owner_of caller) key plan import drawn)
+may_make policy caller key params import early_ended held plan drawn room place small fit long =
     let part : Lasting = lasting_in held in
     let owner : ℕ × ℕ = owner_for (owner_of caller) key.domain key.nspace in
     let blob : List ℕ = kept_as (drop plan.size drawn) (material_of import (take plan.size drawn)) in
     let placed = and_parts (is_number_left part.next_key) (has_place_for owner.0 owner.1 (alias_of key) part) place in
-    let few : length blob ≤ 6327 = omega (arith, blob_few import plan.size drawn fit.short fit.drawn long) in
-    (
+    let few : length blob ≤ 6327 = omega (arith, blob_few import plan.size drawn fit.short fit.drawn long) in (
       rw (
         eq-eqb part.next_key part.next_key refl,
         placed.0,
@@ -167,7 +174,7 @@ may_make policy caller key params import held plan drawn room place small fit lo
 
 module _ (setup : Setup) (past : History) (tables : Tables) (caller : Caller) (key : Descriptor) (params : List ℕ) (import : Option Import) (stands : TablesStand setup tables past) (is_caller : IsCaller tables caller) where
   abbrev Facts : NewFacts
-  Facts = facts_of setup.policy caller key params import
+  Facts = facts_of setup.policy caller key params import (has_early_ended setup past)
 
   abbrev Making : Event
   Making = event_by caller (making key params import)
@@ -185,8 +192,10 @@ module _ (setup : Setup) (past : History) (tables : Tables) (caller : Caller) (k
   unticketed reply = same_tickets Making reply (no_tickets key params import)
 
   -- what the tables read is that of the history
-  pub planned_as : (result : Result NewKey (Rule × Code)) → planned (facts_of tables.policy caller key params import) ≡ result → planned Facts ≡ result
-  planned_as result e = ap (λ policy. planned (facts_of policy caller key params import)) (sym stands.keys.policy_is) ∙ e
+  pub planned_as : (result : Result NewKey (Rule × Code)) → planned (facts_of tables.policy caller key params import (early_in tables.boot.device)) ≡ result → planned Facts ≡ result
+  planned_as result e =
+      ap (λ early. planned (facts_of setup.policy caller key params import early)) (sym stands.boot.device.early)
+      ∙ ap (λ policy. planned (facts_of policy caller key params import (early_in tables.boot.device))) (sym stands.keys.policy_is) ∙ e
 
   pub place_is : has_key_place (lasting_in tables.keys) (owner_of caller) key ≡ HasPlace
   place_is = ap (λ part. has_key_place part (owner_of caller) key) stands.keys.lasting_is
@@ -255,7 +264,7 @@ module _ (setup : Setup) (past : History) (tables : Tables) (caller : Caller) (k
       (undrawn_is import drawn (subst (λ c. length drawn < size_of (wanted_by_rules (making key params import) setup past c)) same (subst (λ n. length drawn < n) (sym (planned_wanted plan is place)) few))) refl
 
   -- the change of an entry that makes a key
-  made_change : (i : Option Import) (plan : NewKey) (part : Lasting) (drawn : List ℕ) → IsPlanned (facts_of setup.policy caller key params i) plan
+  made_change : (i : Option Import) (plan : NewKey) (part : Lasting) (drawn : List ℕ) → IsPlanned (facts_of setup.policy caller key params i (has_early_ended setup past)) plan
       → change_of (making key params i) setup.policy part caller drawn ≡ Some (creates part.next_key (owner_of caller) key plan i drawn)
   made_change None plan part drawn is = rw is.plan_is refl
   made_change (Some i) plan part drawn is = rw is.plan_is refl
@@ -287,6 +296,7 @@ module _ (setup : Setup) (past : History) (tables : Tables) (caller : Caller) (k
           operations = operations_stay setup past Making drawn reply tables.operations middle.operations stands.operations still.operations (none drawn reply) (begins_none key params import);
           slots = slots_stay setup past Making drawn reply tables.slots middle.slots stands.slots still.slots (none drawn reply);
           tickets = tickets_stay setup past Making drawn reply tables.tickets middle.tickets stands.tickets still.tickets (unticketed reply) (quiet is_enter past Making drawn reply (enters_none key params import)) (stays_same setup past Making drawn reply (none drawn reply));
+          boot = boot_stays setup past Making drawn reply tables.boot middle.boot stands.boot still.boot (same_boot_after setup past Making reply (no_boot key params import));
         };
         has_job = refl;
         stays = stays_same setup past Making drawn reply (none drawn reply);

@@ -4,12 +4,13 @@ use Rattle.std.specs.List.{list_any}
 use Rattle.std.specs.Option.{option_or}
 use Rattle.std.proofs.lemmas.List.Folds.{find-append}
 use Rattle.std.proofs.lemmas.Bool.{cases_Bool, eqb-true, eq-eqb}
+use Rattle.auth_tokens.specs.declared.token.AuthToken.{AuthToken}
 use Rattle.rule_model.specs.declared.entry.Entry.TheVariants.{Acted}
 use Rattle.rule_model.specs.declared.event.Event.{Event}
 use Rattle.rule_model.specs.declared.reply.Reply.{Reply}
 use Rattle.rule_model.specs.Entries.{History}
-use Rattle.rule_model.specs.Jobs.{Stays}
-use Rattle.rule_model.specs.Operations.{Open, OperationChange, SameOperations, has_number, is_busy, is_of, open_after, open_of, operation_at, operation_change, step_of, with_change, without}
+use Rattle.rule_model.specs.Jobs.{Stays, but_shown}
+use Rattle.rule_model.specs.Operations.{Open, OperationChange, SameOperations, Shows, as_shown, has_number, is_busy, is_for, is_of, open_after, open_of, operation_at, operation_change, step_of, with_change, without}
 use Rattle.rule_model.specs.Setup.{Setup}
 use Rattle.rule_model.specs.Tickets.{Entered, ticket_at}
 use Rattle.keystore_core.specs.Tickets.{BusyWith}
@@ -56,6 +57,26 @@ found_changed op g same (x ∷ os) o e = elim (cases_Bool (has_number op x)) [
       let later : has_number op (g x) ≡ true = ap (λ m. m == op) (same x) ∙ a in
       rw (a, later) (ap (λ y. Some (g y)) is))
   | inr a ↦ rw (a, a) (found_changed op g same os o (rw a at e))
+]
+
+-- what is found among those to which a token is shown, but for that
+shown_one : (token : AuthToken) (o : Open) → but_shown (Some (if is_for token o then as_shown o else o)) ≡ but_shown (Some o)
+shown_one token o = either (is_for token o) where
+  either : (b : Bool) → but_shown (Some (if b then as_shown o else o)) ≡ but_shown (Some o)
+  either true = refl
+  either false = refl
+
+shown_number : (token : AuthToken) (n : ℕ) (o : Open) → has_number n (if is_for token o then as_shown o else o) ≡ has_number n o
+shown_number token n o = either (is_for token o) where
+  either : (b : Bool) → has_number n (if b then as_shown o else o) ≡ has_number n o
+  either true = refl
+  either false = refl
+
+pub found_shown : (token : AuthToken) (n : ℕ) (os : List Open) → but_shown (find (has_number n) (map (λ o. if is_for token o then as_shown o else o) os)) ≡ but_shown (find (has_number n) os)
+found_shown token n [] = refl
+found_shown token n (x ∷ os) = elim (cases_Bool (has_number n x)) [
+  | inl a ↦ rw (shown_number token n x, a) (shown_one token x)
+  | inr a ↦ rw (shown_number token n x, a) (found_shown token n os)
 ]
 
 -- where none passes a test, what is found does not
@@ -126,8 +147,13 @@ module _ (setup : Setup) (past : History) (event : Event) (drawn : List ℕ) (re
       → Stays setup past Later
   stays_by change is busy keeps ticket entered before after =
       let there = is_there ticket entered.work (operation_at setup past entered.op) (busy ticket entered before) in
-      ap (λ c. find (has_number entered.op) (open_after (step_of past) c (open_of setup past))) is
-      ∙ keeps ticket entered there.0 after there.3 there.2 there.1 ∙ sym there.1
+      ap but_shown (ap (λ c. find (has_number entered.op) (open_after (step_of past) c (open_of setup past))) is
+      ∙ keeps ticket entered there.0 after there.3 there.2 there.1 ∙ sym there.1)
 
   pub stays_same : operation_change setup past event drawn reply ≡ SameOperations → Stays setup past Later
-  stays_same is ticket entered before after = ap (λ c. find (has_number entered.op) (open_after (step_of past) c (open_of setup past))) is
+  stays_same is ticket entered before after = ap (λ c. but_shown (find (has_number entered.op) (open_after (step_of past) c (open_of setup past)))) is
+
+  -- an entry that shows a token
+  pub stays_shown : (token : AuthToken) → operation_change setup past event drawn reply ≡ Shows token → Stays setup past Later
+  stays_shown token is ticket entered before after =
+      ap (λ c. but_shown (find (has_number entered.op) (open_after (step_of past) c (open_of setup past)))) is ∙ found_shown token entered.op (open_of setup past)

@@ -20,6 +20,7 @@ use Rattle.rule_model.specs.Jobs.{HasJob}
 use Rattle.rule_model.specs.Kept.{kept}
 use Rattle.rule_model.specs.Legal.{Answered}
 use Rattle.rule_model.specs.Setup.{Setup}
+use Rattle.rule_model.proofs.Boot.{moves_boot, same_boot as same_boot_after}
 use Rattle.rule_model.proofs.Clients.{moves_clients, none_connects, same_clients}
 use Rattle.rule_model.proofs.Kept.{changes_kept, denied_kept, same_kept}
 use Rattle.rule_model.proofs.Operations.{moves_operations, none_begins, same_operations}
@@ -27,6 +28,7 @@ use Rattle.rule_model.proofs.Tickets.{moves_tickets, none_enters, same_tickets}
 use Rattle.keystore_core.specs.declared.tables.Tables.{Tables}
 use Rattle.keystore_core.specs.Keys.{KeysStand}
 use Rattle.keystore_core.specs.Tables.{AnswersAfter, IsCaller, TablesStand, event_by}
+use Rattle.keystore_core.proofs.Booted.{boot_stays, same_boot}
 use Rattle.keystore_core.proofs.KeyTable.{keys_stay, same_keys}
 use Rattle.keystore_core.proofs.Opened.{stays_same}
 use Rattle.keystore_core.proofs.Standing.{called, clients_stay, operations_stay, quiet, same_tables, slots_stay, tickets_stay}
@@ -38,6 +40,7 @@ pub record IsCall (act : Act) : Type 0 where
   pub clients : moves_clients act ≡ false
   pub operations : moves_operations act ≡ false
   pub tickets : moves_tickets act ≡ false
+  pub boot : moves_boot act ≡ false
 
 drawn_none : (built draws : Bool) (setup : Setup) (past : History) (act : Act) (caller : Caller) → draws ≡ false
     → 0 ≡ size_of (if built && draws then wanted_by_rules act setup past caller else no_pieces)
@@ -66,6 +69,7 @@ module _ (setup : Setup) (past : History) (tables : Tables) (caller : Caller) (a
         slots = slots_stay setup past Calling [] reply tables.slots tables.slots stands.slots refl none;
         tickets = tickets_stay setup past Calling [] reply tables.tickets tables.tickets stands.tickets (same_tables tables).tickets (same_tickets Calling reply call.tickets)
             (quiet is_enter past Calling [] reply (none_enters act call.tickets)) (stays_same setup past Calling [] reply none);
+        boot = boot_stays setup past Calling [] reply tables.boot tables.boot stands.boot (same_boot tables.boot) (same_boot_after setup past Calling reply call.boot);
       }
 
   answers_call : (new : Held) (reply : Reply) → KeysStand setup (record tables { keys = new }) (Acted Calling [] reply ∷ past) → reply ≡ answer_by_rules act setup past caller []

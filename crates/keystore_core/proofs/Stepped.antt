@@ -38,6 +38,7 @@ use Rattle.rule_model.specs.Drawn.{size_of, wanted}
 use Rattle.rule_model.specs.Entries.{History, admits, count_of}
 use Rattle.rule_model.specs.Jobs.{HasJob, IsJobOn, IsJobOut, Stays}
 use Rattle.rule_model.specs.Kept.{is_live}
+use Rattle.rule_model.specs.Boot.{SameBoot as NoBoot, boot_change}
 use Rattle.rule_model.specs.Legal.{MayFollow, Answered}
 use Rattle.rule_model.specs.Operations.{Closes, Enters as EntersOne, Open, OperationChange, SameOperations, as_entered, closes, has_number, is_busy, is_limited, open_after, open_of, operation_at, operation_change, operation_of, step_of}
 use Rattle.rule_model.specs.Setup.{Setup}
@@ -56,6 +57,7 @@ use Rattle.keystore_core.specs.Stepping.{CanWork, Denies, DeniesBy, IsRoomAt, Ma
 use Rattle.keystore_core.specs.Tables.{AnswersAfter, IsCaller, SameTables, TablesStand, event_by, row_at, state_at}
 use Rattle.keystore_core.specs.Tickets.{BusyWith, SameOut, tickets_given}
 use Rattle.keystore_core.proofs.Alike.{alike_change, alike_filter, alike_found}
+use Rattle.keystore_core.proofs.Booted.{boot_stays}
 use Rattle.keystore_core.proofs.KeyTable.{keys_stay}
 use Rattle.keystore_core.proofs.Opened.{found_apart, found_changed, is_other, stays_by, stays_same, without_keeps}
 use Rattle.keystore_core.proofs.Standing.{busy_after, called, clients_stay, count_grows, denied_tables, quiet, rows_after, same_tables, slots_after, tickets_stay, uncounted}
@@ -107,7 +109,7 @@ ended_same live other same None = refl
 ended_same live other same (Some id) = ap not (same id)
 
 pub some_facts : (live other : ℕ → Bool) → ((id : ℕ) → live id ≡ other id) → (row : Row) (o : Option Open) (found : Option Row) (caller : Caller) (brought : Brought) → BothFound IsRow found o → found ≡ Some row
-    → record { kind = brought.kind; own = row.client == caller.client; busy = row.busy; input = brought.input; signature = brought.signature; ended = has_ended live row.key; plan = row.plan; aad = row.aad; text = row.text }
+    → record { kind = brought.kind; own = row.client == caller.client; busy = row.busy; input = brought.input; signature = brought.signature; ended = has_ended live row.key; waiting = is_some row.challenge && not row.shown; plan = row.plan; aad = row.aad; text = row.text }
     ≡ facts_of o other caller brought
 some_facts live other same row None None caller brought both e = cc
 some_facts live other same row (Some o) None caller brought both e = cc
@@ -115,10 +117,10 @@ some_facts live other same row None (Some r) caller brought both e = absurd both
 some_facts live other same row (Some o) (Some r) caller brought both e =
     let is : r ≡ row = cc in
     let row_is : IsRow row o = subst (λ x. IsRow x o) is both in
-    rw (row_is.client, row_is.busy_is, row_is.plan, row_is.aad_is, row_is.text_is, ended_same live other same row.key, row_is.key) refl
+    rw (row_is.client, row_is.busy_is, row_is.plan, row_is.aad_is, row_is.text_is, row_is.challenge_is, row_is.shown_is, ended_same live other same row.key, row_is.key) refl
 
 pub none_facts : (other : ℕ → Bool) (o : Option Open) (found : Option Row) (caller : Caller) (brought : Brought) → BothFound IsRow found o → found ≡ None
-    → record { kind = brought.kind; own = false; busy = false; input = brought.input; signature = brought.signature; ended = false; plan = Rattle.tags.specs.declared.plan.Plan.TheVariants.Ctr; aad = 0; text = 0 }
+    → record { kind = brought.kind; own = false; busy = false; input = brought.input; signature = brought.signature; ended = false; waiting = false; plan = Rattle.tags.specs.declared.plan.Plan.TheVariants.Ctr; aad = 0; text = 0 }
     ≡ facts_of o other caller brought
 none_facts other None None caller brought both e = refl
 none_facts other (Some o) None caller brought both e = absurd both
@@ -266,6 +268,13 @@ enter_keys op (Aad input) = refl
 enter_keys op (Text input) = refl
 enter_keys op (Last input signature) = refl
 
+enter_boot : (setup : Setup) (past : History) (caller : Caller) (op : ℕ) (work : Work) (reply : Reply) → boot_change setup past (event_by caller (entering op work)) reply ≡ NoBoot
+enter_boot setup past caller op (Aad input) (Done fields) = refl
+enter_boot setup past caller op (Text input) (Done fields) = refl
+enter_boot setup past caller op (Last input signature) (Done fields) = refl
+enter_boot setup past caller op work (Broken rule code) = refl
+enter_boot setup past caller op work (Rattle.rule_model.specs.declared.reply.Reply.TheVariants.Stopped code) = refl
+
 -- nothing is found under a number where nothing was, and under that of the one that is gone
 pub none_without : (op : ℕ) (old new : SlotTable CipherState) → FindsWithout old new op → (number : ℕ) → held old number ≡ None → held new number ≡ None
 none_without op old new finds number none = finds number ∙ either (number == op) where
@@ -277,9 +286,9 @@ module _ (setup : Setup) (past : History) (event : Event) (drawn : List ℕ) (re
   -- an entry that closes one operation, and touches nothing else
   pub closed_tables : (op : ℕ) (old new : Tables) → TablesStand setup old past → ClosesOne op old new → operation_change setup past event drawn reply ≡ Closes op
       → client_change event reply ≡ NoClients → ticket_change event reply ≡ NoTickets → admits is_connect (Acted event drawn reply) ≡ false → admits is_begin (Acted event drawn reply) ≡ false
-      → admits is_enter (Acted event drawn reply) ≡ false → changes_kept event.act ≡ false → ((x : Open) → operation_at setup past op ≡ Some x → is_busy x ≡ false)
+      → admits is_enter (Acted event drawn reply) ≡ false → changes_kept event.act ≡ false → boot_change setup past event reply ≡ NoBoot → ((x : Open) → operation_at setup past op ≡ Some x → is_busy x ≡ false)
       → TablesStand setup new (Acted event drawn reply ∷ past) × Stays setup past (Acted event drawn reply ∷ past)
-  closed_tables op old new stands closed is no_client no_ticket no_connect no_begin no_enter no_key idle =
+  closed_tables op old new stands closed is no_client no_ticket no_connect no_begin no_enter no_key no_boot idle =
       let stays : Stays setup past (Acted event drawn reply ∷ past) = stays_by setup past event drawn reply (Closes op) is stands.tickets.busy
       (λ ticket entered o after named busy found. without_keeps op (open_of setup past) entered.op o (is_other op entered.op (open_of setup past) o idle found busy) found) in (
         record {
@@ -294,6 +303,7 @@ module _ (setup : Setup) (past : History) (event : Event) (drawn : List ℕ) (re
               (λ number l. closed.fresh number (stands.slots.fresh number (let grows = count_grows is_begin past event drawn reply in omega (arith, l, grows))))
               (λ next l. closed.later next (stands.slots.later next (omega (arith, l))));
           tickets = tickets_stay setup past event drawn reply old.tickets new.tickets stands.tickets closed.tickets no_ticket no_enter stays;
+          boot = boot_stays setup past event drawn reply old.boot new.boot stands.boot closed.boot no_boot;
         },
         stays,
       )
@@ -308,7 +318,7 @@ module _ (setup : Setup) (past : History) (tables : Tables) (caller : Caller) (o
         → TablesStand setup new (Acted (event_by caller act) [] (Broken rule code) ∷ past) × Stays setup past (Acted (event_by caller act) [] (Broken rule code) ∷ past)
     by_rule true e closed =
         closed_tables setup past (event_by caller act) [] (Broken rule code) op tables new stands closed
-        (ap (λ b. if b then closes (operation_of act) else SameOperations) e ∙ ap closes names) no_client refl refl refl refl no_key (idle e)
+        (ap (λ b. if b then closes (operation_of act) else SameOperations) e ∙ ap closes names) no_client refl refl refl refl no_key refl (idle e)
     by_rule false e same =
         let none : operation_change setup past (event_by caller act) [] (Broken rule code) ≡ SameOperations = ap (λ b. if b then closes (operation_of act) else SameOperations) e in (
           subst (λ t. TablesStand setup t (Acted (event_by caller act) [] (Broken rule code) ∷ past)) (sym same)
@@ -354,7 +364,7 @@ module _ (setup : Setup) (past : History) (tables : Tables) (caller : Caller) (o
   pub aborted : (new : Tables) → step_table.answer (step_facts setup past caller op brought_by_abort) ≡ Ok tt → (step_facts setup past caller op brought_by_abort).busy ≡ false
       → ClosesOne op tables new → AnswersAfter setup past new (event_by caller (Abort op)) (record { reply = Done no_fields; job = None; drawn = [] })
   aborted new e idle closed =
-      let tables_after = closed_tables setup past (event_by caller (Abort op)) [] (Done no_fields) op tables new stands closed refl refl refl refl refl refl refl
+      let tables_after = closed_tables setup past (event_by caller (Abort op)) [] (Done no_fields) op tables new stands closed refl refl refl refl refl refl refl refl
       (is_idle (is_live setup past) caller (operation_at setup past op) brought_by_abort idle) in
       record {
         follows = Answered (record {
@@ -470,7 +480,7 @@ module _ (setup : Setup) (past : History) (tables : Tables) (caller : Caller) (o
           keys = keys_stay setup past later start new now.keys sent.keys (same_kept setup past Entering [] reply (enter_keys op work));
           operations = rows_after setup past Entering [] reply (EntersOne op ticket) new.operations is
               (rw sent.rows.rows (alike_change IsRow (has_row op) (has_number op) (changed RowEnters) (as_entered (step_of past) ticket) (row_named op)
-              (λ row x r named. record { number = r.number; client = r.client; key = r.key; plan = r.plan; limited = r.limited; aad_is = r.aad_is; text_is = r.text_is; busy_is = refl })
+              (λ row x r named. record { number = r.number; client = r.client; key = r.key; plan = r.plan; limited = r.limited; aad_is = r.aad_is; text_is = r.text_is; busy_is = refl; challenge_is = r.challenge_is; shown_is = r.shown_is; list_is = r.list_is })
               (rows_in start.operations) (open_of setup past) now.operations.rows))
               (sent.rows.given ∙ now.operations.given ∙ sym (uncounted is_begin past Entering [] reply no_begin));
           slots = slots_after setup past Entering [] reply (EntersOne op ticket) start.slots new.slots now.slots is
@@ -491,6 +501,7 @@ module _ (setup : Setup) (past : History) (tables : Tables) (caller : Caller) (o
                 (λ b. subst (λ n. BusyWith n work (operation_at setup later op)) (eqb-true ticket t b) busy_here)
                 (λ before. busy_after setup past Entering [] reply stays stands.tickets.busy t entered before after);
           };
+          boot = boot_stays setup past Entering [] reply start.boot new.boot now.boot sent.boot (enter_boot setup past caller op work reply);
         };
         has_job = (sent.number ∙ number, subst (λ x. Rattle.rule_model.specs.Jobs.IsJobOut setup later x job) (sym ticket_here) (subst (λ x. IsJobOn x work job) (sym here) on_o));
         stays = stays;

@@ -2,6 +2,7 @@
 use Rattle.std.specs.Prelude.{◌≡◌, ℕ, List, length, Option}
 use Rattle.rule_model.specs.Entries.{History}
 use Rattle.tags.specs.declared.policy.PolicyRow.{PolicyRow}
+use Rattle.tags.specs.declared.secrets.DeviceSecrets.{DeviceSecrets}
 use Rattle.journal_records.specs.LastingPart.{empty_lasting}
 use Rattle.rule_model.specs.Setup.{Setup}
 use Rattle.keystore_core.specs.declared.engine.Engine.{Engine}
@@ -11,9 +12,10 @@ use Rattle.cipher_ops.specs.declared.job.Done.{Done}
 use Rattle.rule_model.specs.declared.event.Act.{Act}
 use Rattle.rule_model.specs.Jobs.{HasDone}
 
--- what is fixed for a fresh store under a policy with so many slots
-pub record IsFresh (setup : Setup) (policy : List PolicyRow) (slots : ℕ) : Type 0 where
+-- what is fixed for a fresh store on a device under a policy with so many slots
+pub record IsFresh (setup : Setup) (device : DeviceSecrets) (policy : List PolicyRow) (slots : ℕ) : Type 0 where
   pub start : setup.start ≡ empty_lasting
+  pub device_is : setup.device ≡ device
   pub policy_is : setup.policy ≡ policy
   pub slots_are : setup.slots ≡ slots
 

@@ -3,6 +3,7 @@ use Rattle.std.specs.Prelude.{◌≡◌, ℕ}
 use Rattle.operation_slots.specs.Table.{FindsNoMore, KeepsLater, TakesOut, TakesOutOf}
 use Rattle.rule_model.specs.Clients.{Goes}
 use Rattle.keystore_core.specs.declared.tables.Tables.{Tables}
+use Rattle.keystore_core.specs.Boot.{SameBoot}
 use Rattle.keystore_core.specs.Clients.{ChangesClients, SameClients, clients_given}
 use Rattle.keystore_core.specs.Keys.{SameKeys}
 use Rattle.keystore_core.specs.Operations.{DropsRow, DropsRowsOf}
@@ -18,6 +19,7 @@ pub record EndsClient (client : ℕ) (old new : Tables) : Type 0 where
   pub fresh : FindsNoMore old.slots new.slots
   pub later : KeepsLater old.slots new.slots
   pub tickets : SameTickets old.tickets new.tickets
+  pub boot : SameBoot old.boot new.boot
 
 -- one operation is closed
 pub record ClosesOne (op : ℕ) (old new : Tables) : Type 0 where
@@ -28,3 +30,4 @@ pub record ClosesOne (op : ℕ) (old new : Tables) : Type 0 where
   pub fresh : FindsNoMore old.slots new.slots
   pub later : KeepsLater old.slots new.slots
   pub tickets : SameTickets old.tickets new.tickets
+  pub boot : SameBoot old.boot new.boot

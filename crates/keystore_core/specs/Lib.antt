@@ -1,4 +1,8 @@
 pub mod Clients
+pub mod Device
+pub mod Tokens
+pub mod Begins
+pub mod Boot
 pub mod Keys
 pub mod Alike
 pub mod Operations
@@ -9,6 +13,7 @@ pub mod Drawn
 pub mod Creating
 pub mod Tables
 pub mod Leaving
+pub mod TokenCalls
 pub mod Beginning
 pub mod Stepping
 pub mod Engine

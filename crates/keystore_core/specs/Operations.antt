@@ -1,8 +1,10 @@
 -- The table of the open operations, with what the rules read of each: what a look-up finds in it, and what a change of it is.
 use Rattle.std.specs.Prelude.{◌≡◌, ℕ, ◌+◌, ◌-◌, ◌^◌, ◌<◌, Bool, true, false, ◌&&◌, not, ◌==◌, min, List, [], ◌∷◌, ◌++◌, length, map, filter, find, Option, if◌then◌else◌, vec_len, vec_capacity}
 use Rattle.std.specs.List.{list_any}
+use Rattle.auth_tokens.specs.declared.token.AuthToken.{AuthToken}
+use Rattle.token_store.specs.Fitting.{fits}
 use Rattle.rule_model.specs.Acts.{is_begin}
-use Rattle.rule_model.specs.Entries.{History, count_of}
+use Rattle.rule_model.specs.Entries.{History, count_of, gives}
 use Rattle.rule_model.specs.Operations.{Open, is_busy, is_limited, open_of}
 use Rattle.rule_model.specs.Setup.{Setup}
 use Rattle.keystore_core.specs.declared.operations.Operation.{Operation}
@@ -49,6 +51,21 @@ changed (Returns added) row = record row { aad = grown row.aad added.aad; text =
 abbrev pub with_row : ℕ → (Operation → Operation) → List Operation → List Operation
 with_row number change = map (λ row. if has_row number row then change row else row)
 
+-- a token is for the operation of a row where it names its challenge and fits its list
+abbrev pub is_for_row : AuthToken → Operation → Bool
+is_for_row token row = gives row.challenge token.challenge && fits row.list token
+
+abbrev pub shown : Operation → Operation
+shown row = record row { shown = true }
+
+abbrev pub with_shown : AuthToken → List Operation → List Operation
+with_shown token = map (λ row. if is_for_row token row then shown row else row)
+
+-- a token is shown to those operations that it is for
+pub record ShowsRows (token : AuthToken) (old new : Operations) : Type 0 where
+  pub rows : rows_in new ≡ with_shown token (rows_in old)
+  pub given : operations_given new ≡ operations_given old
+
 -- the row of one number changes, and the others are as they were
 pub record ChangesRow (op : ℕ) (change : RowChange) (old new : Operations) : Type 0 where
   pub rows : rows_in new ≡ with_row op (changed change) (rows_in old)
@@ -83,6 +100,9 @@ pub record IsRow (row : Operation) (o : Open) : Type 0 where
   pub aad_is : row.aad ≡ length o.aad
   pub text_is : row.text ≡ length o.text
   pub busy_is : row.busy ≡ is_busy o
+  pub challenge_is : row.challenge ≡ o.operation.challenge
+  pub shown_is : row.shown ≡ o.shown
+  pub list_is : row.list ≡ o.operation.list
 
 -- the table stands for a history
 pub record OperationsStand (setup : Setup) (operations : Operations) (past : History) : Type 0 where

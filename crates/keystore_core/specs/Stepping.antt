@@ -27,6 +27,7 @@ use Rattle.keystore_core.specs.declared.operations.Operation.{Operation}
 use Rattle.keystore_core.specs.declared.operations.RowChange.TheVariants.{Enters, Returns}
 use Rattle.keystore_core.specs.declared.tables.Tables.{Tables}
 use Rattle.keystore_core.specs.declared.tickets.Out.{Out}
+use Rattle.keystore_core.specs.Boot.{SameBoot}
 use Rattle.keystore_core.specs.Clients.{SameClients}
 use Rattle.keystore_core.specs.Keys.{SameKeys}
 use Rattle.keystore_core.specs.Leaving.{ClosesOne}
@@ -85,6 +86,7 @@ pub record SendsJob (out : Out) (room : JobRoom) (old new : Tables) (job : Job) 
   pub found : FindsChanged old.slots new.slots out.op made_busy
   pub later : KeepsLater old.slots new.slots
   pub tickets : GivesTicket out old.tickets new.tickets
+  pub boot : SameBoot old.boot new.boot
   pub number : ticket_of job ≡ tickets_given old.tickets + 1
   pub job_is : (plan : Plan) (limited : Bool) (key nonce aad text : List ℕ) (work : Work) → GoesOn (state_at old out.op) plan limited key nonce aad text
       → IsRoom room plan limited (length text) work → MayCome plan text work → JobFor job plan limited key nonce aad text work
@@ -101,4 +103,5 @@ pub record TakesBack (ticket : ℕ) (out : Out) (step : ℕ) (state : Option Cip
   pub clients : SameClients old.clients new.clients
   pub keys : SameKeys old new
   pub tickets : TakesTicket ticket old.tickets new.tickets
+  pub boot : SameBoot old.boot new.boot
   pub back_as : BackAs state out step old new

@@ -16,6 +16,7 @@ use Rattle.rule_model.specs.Setup.{Setup}
 use Rattle.keystore_core.specs.declared.answered.Answered.{Answered}
 use Rattle.keystore_core.specs.declared.operations.Operation.{Operation}
 use Rattle.keystore_core.specs.declared.tables.Tables.{Tables}
+use Rattle.keystore_core.specs.Boot.{BootStands, SameBoot}
 use Rattle.keystore_core.specs.Clients.{ClientsStand, SameClients, uid_in}
 use Rattle.keystore_core.specs.Keys.{KeysStand, SameKeys}
 use Rattle.keystore_core.specs.Operations.{OperationsStand, SameRows, operation_in}
@@ -29,6 +30,7 @@ pub record TablesStand (setup : Setup) (tables : Tables) (past : History) : Type
   pub operations : OperationsStand setup tables.operations past
   pub slots : SlotsStand setup tables.slots past
   pub tickets : TicketsStand setup tables.tickets past
+  pub boot : BootStands setup tables.boot past
 
 -- the tables answer as others do
 pub record SameTables (old new : Tables) : Type 0 where
@@ -37,6 +39,7 @@ pub record SameTables (old new : Tables) : Type 0 where
   pub operations : SameRows old.operations new.operations
   pub slots : new.slots ≡ old.slots
   pub tickets : SameTickets old.tickets new.tickets
+  pub boot : SameBoot old.boot new.boot
 
 -- the row of an operation, and its state where it is idle
 abbrev pub row_at : Tables → ℕ → Option Operation

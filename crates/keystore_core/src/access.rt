@@ -5,9 +5,9 @@ ghost use Rattle.std.specs.Option.{option_copied};
 ghost use Rattle.key_database.specs.Held.{lasting_in};
 ghost use Rattle.rule_model.specs.Access as model;
 
+use journal_records::KeyRecord;
 use key_database::LastingTable;
 use key_domains::{Access, Permissions, find_key};
-use journal_records::KeyRecord;
 use rule_model::Caller;
 use tags::{Descriptor, Policy};
 

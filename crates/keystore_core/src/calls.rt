@@ -56,7 +56,7 @@ fn key_call_facts(
 }
 
 /// What the rules read of a call that the system alone may make.
-fn system_facts(caller: Caller) -> SystemCallFacts
+pub fn system_facts(caller: Caller) -> SystemCallFacts
     ensures { result ≡ model.system_facts caller }
 {
     let system = match caller.uid {
@@ -229,13 +229,7 @@ impl Tables {
     }
 
     /// A client takes a grant back.
-    pub fn ungrant(
-        &mut self,
-        alloc: Global,
-        caller: Caller,
-        key: &Descriptor,
-        uid: u32,
-    ) -> Answered
+    pub fn ungrant(&mut self, alloc: Global, caller: Caller, key: &Descriptor, uid: u32) -> Answered
         requires { IsCaller self.old caller }
         ensures serves { ServesAfter self.old self.new (event_by caller (acts.Ungrant key.now uid)) (Ok result) }
         ensures job { result.job ≡ None }

@@ -16,10 +16,10 @@ use crate::descriptors::{alias_bytes, into_alias, owner_for};
 use crate::draw_room::DrawRoom;
 use crate::room::Room;
 use crate::tables::Tables;
+use journal_records::Change;
 use key_rules::{ImportFacts, NewFacts, NewFault};
 use keymint_ops::{NewKey, plan_key};
 use ks_outside::Entropy;
-use journal_records::Change;
 use rule_model::{Caller, Fields, NO_FIELDS, Pieces, Reply};
 use std::alloc::Global;
 use tags::{Bytes, Code, Descriptor, NoMemory, Policy};
@@ -56,8 +56,9 @@ fn new_facts(
     key: Descriptor,
     params: Bytes,
     import: &Option<Import>,
+    early_ended: bool,
 ) -> NewFacts
-    ensures { result ≡ model.new_facts policy.now caller key params (option_map spec.facts_of_import import.now) }
+    ensures { result ≡ model.new_facts policy.now caller key params (option_map spec.facts_of_import import.now) early_ended }
 {
     let row = row_for(policy, caller, key.nspace);
     NewFacts {
@@ -66,6 +67,7 @@ fn new_facts(
         row,
         params,
         import: import_facts(import),
+        early_ended,
         wall: caller.reading.wall,
     }
 }
@@ -149,7 +151,8 @@ impl Tables {
         ensures job { IfOk result (λ answered. answered.job ≡ None) }
         ensures drew { DrewForResult N.Entropy entropy.old entropy.new result }
     {
-        let facts = new_facts(&self.policy, caller, key, params, &import);
+        let early_ended = self.boot.device.has_early_ended();
+        let facts = new_facts(&self.policy, caller, key, params, &import, early_ended);
         let plan = match plan_key(alloc, &facts) {
             Ok(plan) => plan,
             Err(NewFault::Broken(rule, code)) => return Ok(Answered::refused(alloc, rule, code)),

@@ -41,23 +41,23 @@ fn copied(alloc: Global, policy: &Policy) -> Result<Policy, NoMemory>
 impl Engine {
     ghost use Rattle.keystore_core.specs.Engine.{IsFresh, MayTake, Stands, StandsForSome, entries_of, tickets_of};
 
-    /// An engine under a policy without keys, clients and operations, with 1 to 64 slots: it stands for the empty history
-    /// over the empty lasting part.
+    /// An engine of a device that starts, under a policy without keys, clients and operations, with 1 to 64 slots: it stands
+    /// for the empty history over the empty lasting part. It takes the room of the slots, of 256 tokens and of all users.
     pub fn fresh(
         alloc: Global,
-        _device: &DeviceSecrets,
+        device: &DeviceSecrets,
         policy: &Policy,
         slots: usize,
     ) -> Result<Engine, NoMemory>
         requires some { 0 < slots }
         requires few { slots ≤ 64 }
-        ensures stands { IfOk result (λ engine. (setup : Setup) → IsFresh setup policy.now slots → Stands setup engine []) }
+        ensures stands { IfOk result (λ engine. (setup : Setup) → IsFresh setup device.now policy.now slots → Stands setup engine []) }
         ensures entries { IfOk result (λ engine. entries_of engine ≡ 0) }
     {
         Ok(Engine {
             alloc,
             entries: 0,
-            tables: Tables::new(alloc, copied(alloc, policy)?, slots)?,
+            tables: Tables::new(alloc, device, copied(alloc, policy)?, slots)?,
         })
     }
 

@@ -7,11 +7,15 @@
 mod access;
 mod answered;
 mod beginning;
+mod begins;
+mod boot;
 mod calls;
 mod clients;
 mod connecting;
 mod creating;
 mod descriptors;
+mod device;
+mod device_state;
 mod draw_room;
 mod draws;
 mod engine;
@@ -22,6 +26,8 @@ mod room;
 mod stepping;
 mod tables;
 mod tickets;
+mod token_calls;
+mod tokens;
 mod victims;
 
 pub use engine::Engine;

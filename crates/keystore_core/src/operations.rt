@@ -1,15 +1,19 @@
 //! The open operations, with what the rules read of each.
 
-ghost use Rattle.std.specs.Prelude.{◌≡◌, ◌+◌, ◌^◌, ◌<◌, ◌≤◌, ◌==◌, [], not, filter, if◌then◌else◌, OnOk, vec_capacity, vec_len};
+ghost use Rattle.std.specs.Prelude.{◌≡◌, ◌+◌, ◌^◌, ◌<◌, ◌≤◌, ◌==◌, [], not, filter, map, if◌then◌else◌, OnOk, vec_capacity, vec_len};
 ghost use Rattle.std.specs.Option.{option_copied};
+ghost use Rattle.rule_model.specs.Entries.{gives};
 ghost use Rattle.keystore_core.specs.Operations as spec;
-ghost use Rattle.keystore_core.specs.Operations.{AddsRow, ChangesRow, DropsRow, DropsRowsOf, HasRoomForOperation, SameRows, has_busy_row, operation_in, operations_given, rows_in, with_row};
+ghost use Rattle.keystore_core.specs.Operations.{AddsRow, ChangesRow, DropsRow, DropsRowsOf, HasRoomForOperation, SameRows, ShowsRows, has_busy_row, operation_in, operations_given, rows_in, with_row, with_shown};
 
+use auth_tokens::AuthToken;
 use std::alloc::Global;
+use tag_lists::AuthList;
 use tags::{NoMemory, Plan};
+use token_store::fits;
 
 /// What the rules read of an open operation. Lengths are in bytes.
-#[derive(Clone, Copy, Debug, PartialEq, Eq)]
+#[derive(Debug, Drop)]
 pub struct Operation {
     pub number: u64,
     pub client: u64,
@@ -24,6 +28,12 @@ pub struct Operation {
     pub text: u64,
     /// whether a work on it is out
     pub busy: bool,
+    /// what a token for it has to name, where one has to be shown to it
+    pub challenge: Option<u64>,
+    /// whether one was shown to it
+    pub shown: bool,
+    /// the key's list, as the begin read it
+    pub list: AuthList,
 }
 
 /// How many bytes a work adds to an operation.
@@ -49,21 +59,55 @@ pub struct Operations {
     given: u64,
 }
 
-/// A row after the change of the row of a number.
-fn changed(row: Operation, number: u64, change: RowChange) -> Operation
-    ensures { result ≡ (if spec.has_row number row then spec.changed change row else row) }
+/// Changes a row, where it is that of a number.
+fn change_one(row: &mut Operation, number: u64, change: RowChange)
+    ensures { row.new ≡ (if spec.has_row number row.old then spec.changed change row.old else row.old) }
 {
     if row.number != number {
-        return row;
+        return;
     }
     match change {
-        RowChange::Enters => Operation { busy: true, ..row },
-        RowChange::Returns(added) => Operation {
-            aad: row.aad.saturating_add(added.aad),
-            text: row.text.saturating_add(added.text),
-            busy: false,
-            ..row
-        },
+        RowChange::Enters => row.busy = true,
+        RowChange::Returns(added) => {
+            row.aad = row.aad.saturating_add(added.aad);
+            row.text = row.text.saturating_add(added.text);
+            row.busy = false;
+        }
+    }
+}
+
+/// Whether a token names the challenge of an operation.
+fn names(token: &AuthToken, challenge: Option<u64>) -> bool
+    ensures { result ≡ gives challenge token.now.challenge }
+{
+    match challenge {
+        Some(own) => own == token.challenge,
+        None => false,
+    }
+}
+
+/// Whether a token is for the operation of a row.
+fn is_for(token: &AuthToken, row: &Operation) -> bool
+    ensures { result ≡ spec.is_for_row token.now row.now }
+{
+    names(token, row.challenge) && fits(token, &row.list)
+}
+
+/// Shows a token to the operation of a row, where it is for it.
+fn show_one(row: &mut Operation, token: &AuthToken)
+    ensures { row.new ≡ (if spec.is_for_row token.now row.old then spec.shown row.old else row.old) }
+{
+    if is_for(token, row) {
+        row.shown = true;
+    }
+}
+
+/// Shows a token to the operations that it is for.
+fn show_rows(rows: &mut [Operation], token: &AuthToken)
+    ensures { rows.new ≡ with_shown token.now rows.old }
+{
+    for row in rows.iter_mut() {
+        show_one(row, token);
     }
 }
 
@@ -72,7 +116,7 @@ fn change_row(rows: &mut [Operation], number: u64, change: RowChange)
     ensures { rows.new ≡ with_row number (spec.changed change) rows.old }
 {
     for row in rows.iter_mut() {
-        *row = changed(*row, number, change);
+        change_one(row, number, change);
     }
 }
 
@@ -103,18 +147,11 @@ impl Operations {
         }
     }
 
-    /// The row of a number.
-    fn row(&self, number: u64) -> Option<&Operation>
+    /// The open operation of a number.
+    pub fn get(&self, number: u64) -> Option<&Operation>
         ensures { option_copied result ≡ operation_in self.now number }
     {
         self.rows.iter().find(|row| row.number == number)
-    }
-
-    /// The open operation of a number.
-    pub fn get(&self, number: u64) -> Option<Operation>
-        ensures { result ≡ operation_in self.now number }
-    {
-        self.row(number).copied()
     }
 
     /// Whether a work on an operation of a client is out.
@@ -158,6 +195,13 @@ impl Operations {
         ensures { ChangesRow number change self.old self.new }
     {
         change_row(&mut self.rows, number, change);
+    }
+
+    /// Shows a token to each open operation that it is for, a busy one too.
+    pub fn show(&mut self, token: &AuthToken)
+        ensures { ShowsRows token.now self.old self.new }
+    {
+        show_rows(&mut self.rows, token);
     }
 
     /// Closes an operation, where it is open.

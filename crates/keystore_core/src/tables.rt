@@ -10,20 +10,22 @@ ghost use Rattle.keystore_core.specs.Tables.{AnswersAt, IsAt, IsCaller, ServesAt
 ghost use Rattle.keystore_core.specs.Engine.{IsFresh};
 
 use crate::answered::Answered;
+use crate::boot::Boot;
 use crate::clients::Clients;
 use crate::creating::Import;
 use crate::operations::Operations;
 use crate::tickets::Tickets;
+use auth_tokens::AuthToken;
 use cipher_ops::{CipherState, Done, Work};
 use key_database::LastingTable;
 use ks_outside::Entropy;
 use operation_slots::Slots;
 use rule_model::{Act, Caller, Event, Reading};
 use std::alloc::Global;
-use tags::{Bytes, Code, NoMemory, Policy, Rule, RuleTable};
+use tags::{Bytes, Code, DeviceSecrets, NoMemory, Policy, Rule, RuleTable};
 
 /// What the engine knows: the policy, the connected clients, the keys and grants, the open operations with what the rules
-/// read of them, the slots with their cipher states, and the works that are out.
+/// read of them, the slots with their cipher states, the works that are out, and what lasts until the next restart.
 #[derive(Drop)]
 pub struct Tables {
     pub(crate) policy: Policy,
@@ -32,6 +34,7 @@ pub struct Tables {
     pub(crate) operations: Operations,
     pub(crate) slots: Slots<CipherState>,
     pub(crate) tickets: Tickets,
+    pub(crate) boot: Boot,
 }
 
 /// The answer to a line that is no event.
@@ -43,11 +46,16 @@ const MALFORMED: Rule = Rule {
 impl Tables {
     ghost use Rattle.std.specs.Prelude.{[], ◌<◌};
 
-    /// Tables under a policy without clients, keys and operations, with so many slots.
-    pub fn new(alloc: Global, policy: Policy, slots: usize) -> Result<Tables, NoMemory>
+    /// Tables of a device that starts, under a policy without clients, keys and operations, with so many slots.
+    pub fn new(
+        alloc: Global,
+        device: &DeviceSecrets,
+        policy: Policy,
+        slots: usize,
+    ) -> Result<Tables, NoMemory>
         requires some { 0 < slots }
         requires few { slots ≤ 64 }
-        ensures { IfOk result (λ tables. (setup : Setup) → IsFresh setup policy slots → TablesStand setup tables []) }
+        ensures { IfOk result (λ tables. (setup : Setup) → IsFresh setup device.now policy slots → TablesStand setup tables []) }
     {
         Ok(Tables {
             policy,
@@ -56,6 +64,7 @@ impl Tables {
             operations: Operations::new(alloc),
             slots: Slots::with_capacity(alloc, slots)?,
             tickets: Tickets::new(alloc),
+            boot: Boot::new(alloc, device.token)?,
         })
     }
 
@@ -135,6 +144,27 @@ impl Tables {
                 Ok(self.clear_namespace(alloc, caller, domain, nspace))
             }
             Act::UserRemoved { user } => Ok(self.user_removed(alloc, caller, user)),
+            Act::AddAuthToken {
+                challenge,
+                user,
+                authenticator,
+                kind,
+                time,
+                mac,
+            } => {
+                let token = AuthToken {
+                    challenge,
+                    user,
+                    authenticator,
+                    kind,
+                    time,
+                    mac,
+                };
+                Ok(self.add_auth_token(alloc, caller, token))
+            }
+            Act::DeviceLocked { user } => Ok(self.device_locked(alloc, caller, user)),
+            Act::DeviceUnlocked { user } => Ok(self.device_unlocked(alloc, caller, user)),
+            Act::EarlyBootEnded => Ok(self.early_boot_ended(alloc, caller)),
             Act::Leave { ticket } => Ok(self.leave(alloc, caller, step, ticket, done)),
             _ => unreachable!(),
         }

@@ -19,7 +19,7 @@ use Rattle.rule_model.specs.Acts.{fixed_for, is_restart}
 use Rattle.rule_model.specs.Answer.{answer, given_or, leaving}
 use Rattle.rule_model.specs.Drawn.{size_of, wanted}
 use Rattle.rule_model.specs.Entries.{History, after_step}
-use Rattle.rule_model.specs.Jobs.{GoesWith, HasDone, HasJob, IsDoneOn, IsDoneOut, IsJobOn, IsJobOut, Stays}
+use Rattle.rule_model.specs.Jobs.{GoesWith, HasDone, HasJob, IsDoneOn, IsDoneOut, IsJobOn, IsJobOut, Stays, but_shown}
 use Rattle.rule_model.specs.Legal.{MayFollow, MayStep, Answered, WithoutMemory, WithoutEntropy}
 use Rattle.rule_model.specs.Operations.{Open, operation_at}
 use Rattle.rule_model.specs.Setup.{Setup}
@@ -70,13 +70,24 @@ leave_change setup past ticket event drawn reply e (WithoutEntropy is) = absurd 
     let none : size_of (wanted setup past event) ≡ 0 = ap (λ act. size_of (wanted setup past (record event { act = act }))) e in
     omega (arith, is.drew, none))
 
+-- a job on an operation is so whether or not a token was shown to it
+job_shown : (found : Option Open) (work : Work) (job : Job) → IsJobOn found work job → IsJobOn (but_shown found) work job
+job_shown None work job on = absurd on
+job_shown (Some o) work job on = on
+
+shown_job : (found : Option Open) (work : Work) (job : Job) → IsJobOn (but_shown found) work job → IsJobOn found work job
+shown_job None work job on = absurd on
+shown_job (Some o) work job on = on
+
 module _ (setup : Setup) (past later : History) (stays : Stays setup past later) where
   -- a job that is held stays right
   pub still_held : (ticket : ℕ) (entered : Option Entered) (job : Option Job) → ticket_at past ticket ≡ entered → ticket_at later ticket ≡ entered → IsHeld setup past entered job → IsHeld setup later entered job
   still_held ticket None None before after held = tt
   still_held ticket None (Some job) before after held = absurd held
   still_held ticket (Some entered) None before after held = absurd held
-  still_held ticket (Some entered) (Some job) before after held = subst (λ o. IsJobOn o entered.work job) (sym (stays ticket entered before after)) held
+  still_held ticket (Some entered) (Some job) before after held =
+      shown_job (operation_at setup later entered.op) entered.work job
+      (subst (λ o. IsJobOn o entered.work job) (sym (stays ticket entered before after)) (job_shown (operation_at setup past entered.op) entered.work job held))
 
   keep : (ticket : ℕ) (job : Option Job) → ticket_at later ticket ≡ ticket_at past ticket → IsHeld setup past (ticket_at past ticket) job → IsHeld setup later (ticket_at later ticket) job
   keep ticket job same held = subst (λ e. IsHeld setup later e job) (sym same) (still_held ticket (ticket_at past ticket) job refl same held)

@@ -11,6 +11,7 @@ mod script;
 mod sealing;
 mod sharing;
 mod tickets;
+mod tokens;
 mod vectors;
 
 use crate::run::run_words;

@@ -39,6 +39,12 @@ fn facts_of(
         asked,
         opened: Some(key),
         fits,
+        wall: 1000,
+        user: 0,
+        early_ended: false,
+        unlocked: false,
+        timely: false,
+        begins: 0,
         room: true,
     })
 }

@@ -80,7 +80,7 @@ static KEYS: [Key; 7] = [
             ((7, 0, 1, 5), 4_294_967_295_006, true, false),
         ],
     },
-    // a key that asks for no user, for no kind, or for a token of each operation
+    // a key that asks for no user, takes every kind or none, or asks for a token of each operation
     Key {
         users: [0, 0],
         kinds: Some(1),
@@ -94,7 +94,12 @@ static KEYS: [Key; 7] = [
         users: [7, 0],
         kinds: None,
         seconds: Some(10),
-        rows: &[((7, 0, 1, 9), 9, false, false)],
+        rows: &[
+            ((7, 0, 1, 9), 9, true, true),
+            ((7, 0, 0x8000_0000, 9), 9, true, true),
+            ((7, 0, 0, 9), 9, false, false),
+            ((8, 9, 1, 9), 9, false, false),
+        ],
     },
     Key {
         users: [7, 0],

@@ -28,6 +28,7 @@ fn asked(
         row: None,
         params: Bytes::of(encoded(alloc, list, &[], None)?),
         import,
+        early_ended: false,
         wall,
     })
 }

@@ -59,6 +59,8 @@ const TOO_LONG: Broken = Some((3, Code::TooMuchData));
 
 const ENDED: Broken = Some((4, Code::InvalidKeyBlob));
 
+const NO_TOKEN: Broken = Some((5, Code::KeyUserNotAuthenticated));
+
 const NO_AAD: Broken = Some((6, Code::InvalidTag));
 
 const TOO_MUCH: Broken = Some((7, Code::InvalidInputLength));
@@ -194,6 +196,27 @@ static ROWS: [Row; 50] = [
     (StepKind::Last, IDLE, VERIFY, [0, 0, 5, 0], None),
 ];
 
+/// Whether the step breaks this rule first.
+fn breaks(facts: &StepFacts, want: Broken) -> bool {
+    match (check_step(facts), want) {
+        (Ok(()), None) => true,
+        (Err((rule, code)), Some((number, expected))) => {
+            rule.table == RuleTable::S && rule.number == number && code == expected
+        }
+        _ => false,
+    }
+}
+
+/// What a step breaks where no token was shown, by what it breaks besides: an abort asks for none, and the rules up to the
+/// fourth come before.
+fn where_it_waits(kind: StepKind, want: Broken) -> Broken {
+    match want {
+        Some((number, _)) if number <= 4 => want,
+        _ if kind == StepKind::Abort => want,
+        _ => NO_TOKEN,
+    }
+}
+
 #[test]
 fn each_rule_breaks_alone_and_before_a_later_one(rt: HostRuntime) -> Result<(), Fail> {
     for (row, (kind, state, plan, lengths, want)) in ROWS.iter().enumerate() {
@@ -204,18 +227,20 @@ fn each_rule_breaks_alone_and_before_a_later_one(rt: HostRuntime) -> Result<(), 
             input: lengths[2],
             signature: lengths[3],
             ended: state.2,
+            waiting: false,
             plan: *plan,
             aad: lengths[0],
             text: lengths[1],
         };
-        let right = match (check_step(&facts), *want) {
-            (Ok(()), None) => true,
-            (Err((rule, code)), Some((number, expected))) => {
-                rule.table == RuleTable::S && rule.number == number && code == expected
-            }
-            _ => false,
+        assert!(rt; breaks(&facts, *want), "in row {row}");
+        let waiting = StepFacts {
+            waiting: true,
+            ..facts
         };
-        assert!(rt; right, "in row {row}");
+        assert!(rt;
+            breaks(&waiting, where_it_waits(*kind, *want)),
+            "of a token in row {row}"
+        );
     }
     Ok(())
 }

@@ -1,3 +1,4 @@
+pub mod Boot
 pub mod Clients
 pub mod Counting
 pub mod Kept

@@ -2,7 +2,7 @@
 use Rattle.std.proofs.Common.{◌≡◌, ℕ, Bool, true, false, if◌then◌else◌, List, None, refl, ap}
 use Rattle.step_rules.specs.Table.{ends_operation}
 use Rattle.rule_model.specs.declared.event.Act.{Act}
-use Rattle.rule_model.specs.declared.event.Act.TheVariants.{Disconnect, CreateOperation, EnterAad, EnterUpdate, EnterFinish, Abort, Leave, Restart}
+use Rattle.rule_model.specs.declared.event.Act.TheVariants.{AddAuthToken, Disconnect, CreateOperation, EnterAad, EnterUpdate, EnterFinish, Abort, Leave, Restart}
 use Rattle.rule_model.specs.declared.event.Event.{Event}
 use Rattle.rule_model.specs.declared.reply.Fields.{Fields}
 use Rattle.rule_model.specs.declared.reply.Reply.{Reply}
@@ -20,6 +20,7 @@ moves_operations (EnterUpdate op input) = true
 moves_operations (EnterFinish op input signature) = true
 moves_operations (Abort op) = true
 moves_operations (Leave ticket) = true
+moves_operations (AddAuthToken challenge user authenticator kind time mac) = true
 moves_operations Disconnect = true
 moves_operations (Restart root) = true
 moves_operations _ = false
@@ -32,6 +33,7 @@ none_moves (EnterUpdate op input) setup past event drawn fields e = cc
 none_moves (EnterFinish op input signature) setup past event drawn fields e = cc
 none_moves (Abort op) setup past event drawn fields e = cc
 none_moves (Leave ticket) setup past event drawn fields e = cc
+none_moves (AddAuthToken challenge user authenticator kind time mac) setup past event drawn fields e = cc
 none_moves Disconnect setup past event drawn fields e = cc
 none_moves (Restart root) setup past event drawn fields e = cc
 none_moves _ setup past event drawn fields e = refl

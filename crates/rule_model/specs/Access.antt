@@ -1,5 +1,5 @@
 -- What a caller's descriptor finds among the keys and grants that last, and what the caller may do with it.
-use Rattle.std.specs.Prelude.{ℕ, List, Option, Some, None, unwrap_or}
+use Rattle.std.specs.Prelude.{ℕ, ◌/◌, List, Option, Some, None, unwrap_or}
 use Rattle.std.specs.Option.{option_and_then, option_map}
 use Rattle.tags.specs.declared.descriptor.Descriptor.{Descriptor}
 use Rattle.tags.specs.declared.policy.PolicyRow.{PolicyRow}
@@ -16,6 +16,10 @@ use Rattle.rule_model.specs.declared.facts.Caller.{Caller}
 -- the uid of a caller; the rules let none through that has none
 abbrev pub owner_of : Caller → ℕ
 owner_of caller = unwrap_or caller.uid 0
+
+-- the user of a caller: each has 100,000 uids
+abbrev pub user_of : Caller → ℕ
+user_of caller = owner_of caller / 100000
 
 -- what a uid's descriptor finds
 abbrev pub access_of : List PolicyRow → Lasting → ℕ → Descriptor → Access

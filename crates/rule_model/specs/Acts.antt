@@ -29,10 +29,10 @@ row_of kinds.Grant = record (call 12) { is_built = true }
 row_of kinds.Ungrant = record (call 13) { is_built = true }
 row_of kinds.GetNumberOfEntries = record (call 14) { is_built = true }
 row_of kinds.ListEntriesBatched = record (call 15) { is_built = true }
-row_of kinds.AddAuthToken = record (call 16) { takes_memory = false }
-row_of kinds.DeviceLocked = record (call 17) { takes_memory = false }
-row_of kinds.DeviceUnlocked = record (call 18) { takes_memory = false }
-row_of kinds.EarlyBootEnded = record (call 19) { takes_memory = false }
+row_of kinds.AddAuthToken = record (call 16) { takes_memory = false; is_built = true }
+row_of kinds.DeviceLocked = record (call 17) { takes_memory = false; is_built = true }
+row_of kinds.DeviceUnlocked = record (call 18) { takes_memory = false; is_built = true }
+row_of kinds.EarlyBootEnded = record (call 19) { takes_memory = false; is_built = true }
 row_of kinds.ClearNamespace = record (call 20) { is_built = true }
 row_of kinds.UserRemoved = record (call 21) { is_built = true }
 row_of kinds.Leave = record (call 22) { has_client = false; takes_memory = false; settles = false; is_built = true }

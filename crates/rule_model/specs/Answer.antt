@@ -1,5 +1,5 @@
 -- The answer to an event over a history.
-use Rattle.std.specs.Prelude.{ℕ, ◌+◌, ◌==◌, List, Option, Some, None, Result, Ok, Err, if◌then◌else◌}
+use Rattle.std.specs.Prelude.{ℕ, ◌+◌, ◌==◌, List, Option, Some, None, Result, Ok, Err, if◌then◌else◌, take}
 use Rattle.tags.specs.declared.code.Code.{Code}
 use Rattle.tags.specs.declared.code.Code.TheVariants.{InvalidArgument, NoTicket, StoreFull}
 use Rattle.tags.specs.declared.rule.Rule.{Rule}
@@ -8,21 +8,20 @@ use Rattle.tags.specs.declared.descriptor.Descriptor.{Descriptor}
 use Rattle.journal_records.specs.LastingPart.{Lasting}
 use Rattle.key_rules.specs.Creation.{new_key}
 use Rattle.use_rules.specs.declared.facts.BeginFacts.{BeginFacts}
-use Rattle.use_rules.specs.Plans.{nonce_wanted}
 use Rattle.use_rules.specs.Table as begin_table
-use Rattle.use_rules.specs.Table.{asked_of, key_of}
 use Rattle.step_rules.specs.Table as step_table
 use Rattle.cipher_ops.specs.declared.room.Work.{Work}
 use Rattle.cipher_ops.specs.declared.room.Work.TheVariants.{Aad, Text, Last}
 use Rattle.rule_model.specs.declared.event.Event.{Event}
 use Rattle.rule_model.specs.declared.event.Act.{Act}
-use Rattle.rule_model.specs.declared.event.Act.TheVariants.{Connect, Disconnect, GenerateKey, ImportKey, CreateOperation, EnterAad, EnterUpdate, EnterFinish, Abort, GetKeyEntry, DeleteKey, Grant, Ungrant, GetNumberOfEntries, ListEntriesBatched, ClearNamespace, UserRemoved, Leave}
+use Rattle.rule_model.specs.declared.event.Act.TheVariants.{Connect, Disconnect, GenerateKey, ImportKey, CreateOperation, EnterAad, EnterUpdate, EnterFinish, Abort, GetKeyEntry, DeleteKey, Grant, Ungrant, GetNumberOfEntries, ListEntriesBatched, AddAuthToken, DeviceLocked, DeviceUnlocked, EarlyBootEnded, ClearNamespace, UserRemoved, Leave}
 use Rattle.rule_model.specs.declared.facts.Caller.{Caller}
 use Rattle.rule_model.specs.declared.reply.Fields.{Fields}
 use Rattle.rule_model.specs.declared.reply.Reply.{Reply}
 use Rattle.rule_model.specs.declared.reply.Reply.TheVariants.{Done, Broken, Stopped}
 use Rattle.rule_model.specs.Acts.{is_begin, is_built, is_connect}
-use Rattle.rule_model.specs.Calls.{clear_namespace_ruling, counted_in, delete_key_ruling, disconnect_ruling, get_key_entry_ruling, grant_ruling, granted_in, key_entry, listed_in, listing_ruling, ungrant_ruling, user_removed_ruling}
+use Rattle.rule_model.specs.Boot.{has_early_ended, last_tokens, token_of}
+use Rattle.rule_model.specs.Calls.{accepted_in, add_auth_token_ruling, clear_namespace_ruling, counted_in, delete_key_ruling, disconnect_ruling, early_boot_ended_ruling, get_key_entry_ruling, grant_ruling, granted_in, key_entry, listed_in, listing_ruling, ungrant_ruling, user_call_ruling}
 use Rattle.rule_model.specs.Changes.{owner_for}
 use Rattle.rule_model.specs.Clients.{caller_of}
 use Rattle.rule_model.specs.Entries.{History, count_of}
@@ -30,7 +29,7 @@ use Rattle.rule_model.specs.Access.{id_by, owner_of}
 use Rattle.rule_model.specs.Kept.{kept, key_found}
 use Rattle.rule_model.specs.Places.{has_key_place}
 use Rattle.rule_model.specs.NewFacts.{import_of, new_facts}
-use Rattle.rule_model.specs.Operations.{has_busy, operation_at, output_of}
+use Rattle.rule_model.specs.Operations.{challenge_of, has_busy, nonce_size, operation_at, output_of}
 use Rattle.rule_model.specs.Replies.{broken_or, no_fields}
 use Rattle.rule_model.specs.Setup.{Setup}
 use Rattle.rule_model.specs.Slots.{begin_facts, pruned_for}
@@ -39,7 +38,7 @@ use Rattle.rule_model.specs.Tickets.{Entered, next_ticket, ticket_at}
 
 -- the nonce that a begin drew
 abbrev pub drawn_nonce : BeginFacts → List ℕ → Option (List ℕ)
-drawn_nonce facts drawn = if nonce_wanted (asked_of facts) (key_of facts) == 0 then None else Some drawn
+drawn_nonce facts drawn = if nonce_size facts == 0 then None else Some (take (nonce_size facts) drawn)
 
 -- what a work puts out stands in its reply; additional data puts out nothing
 abbrev pub out_of : Work → List ℕ → Option (List ℕ)
@@ -62,8 +61,8 @@ leaving setup past None = Stopped NoTicket
 leaving setup past (Some entered) = given_or entered.work (output_of (operation_at setup past entered.op) entered.work)
 
 -- the reply of a begin that is admitted
-abbrev pub begun_with : ℕ → Option (List ℕ) → Option ℕ → Reply
-begun_with op nonce pruned = Done (record no_fields { op = Some op; nonce = nonce; pruned = pruned })
+abbrev pub begun_with : ℕ → Option ℕ → Option (List ℕ) → Option ℕ → Reply
+begun_with op challenge nonce pruned = Done (record no_fields { op = Some op; challenge = challenge; nonce = nonce; pruned = pruned })
 
 -- a new key takes the next number, where there is a place for it
 abbrev pub made_in : Lasting → Caller → Descriptor → Reply
@@ -78,12 +77,13 @@ malformed = Broken (record { table = L; number = 1 }) InvalidArgument
 abbrev pub answer_by_rules : Act → Setup → History → Caller → List ℕ → Reply
 answer_by_rules (Connect uid) setup past caller drawn = Done (record no_fields { client = Some (count_of is_connect past + 1) })
 answer_by_rules (GenerateKey key params) setup past caller drawn =
-    broken_or (new_key (new_facts setup.policy caller key params None)) (made_in (kept setup past) caller key)
+    broken_or (new_key (new_facts setup.policy caller key params None (has_early_ended setup past))) (made_in (kept setup past) caller key)
 answer_by_rules (ImportKey key params format material) setup past caller drawn =
-    broken_or (new_key (new_facts setup.policy caller key params (import_of format material))) (made_in (kept setup past) caller key)
+    broken_or (new_key (new_facts setup.policy caller key params (import_of format material) (has_early_ended setup past))) (made_in (kept setup past) caller key)
 answer_by_rules (CreateOperation key params forced) setup past caller drawn =
     broken_or (begin_table.answer (begin_facts setup past caller key params forced))
-    (begun_with (count_of is_begin past + 1) (drawn_nonce (begin_facts setup past caller key params forced) drawn) (pruned_for setup past (owner_of caller) forced))
+    (begun_with (count_of is_begin past + 1) (challenge_of (begin_facts setup past caller key params forced) drawn)
+    (drawn_nonce (begin_facts setup past caller key params forced) drawn) (pruned_for setup past (owner_of caller) forced))
 answer_by_rules (EnterAad op input) setup past caller drawn = entering setup past caller op (Aad input)
 answer_by_rules (EnterUpdate op input) setup past caller drawn = entering setup past caller op (Text input)
 answer_by_rules (EnterFinish op input signature) setup past caller drawn = entering setup past caller op (Last input signature)
@@ -101,7 +101,13 @@ answer_by_rules (GetNumberOfEntries domain nspace) setup past caller drawn =
 answer_by_rules (ListEntriesBatched domain nspace behind) setup past caller drawn =
     broken_or (listing_ruling setup.policy caller domain nspace) (listed_in (kept setup past) (owner_for (owner_of caller) domain nspace) behind)
 answer_by_rules (ClearNamespace domain nspace) setup past caller drawn = broken_or (clear_namespace_ruling caller domain nspace) (Done no_fields)
-answer_by_rules (UserRemoved user) setup past caller drawn = broken_or (user_removed_ruling caller user) (Done no_fields)
+answer_by_rules (UserRemoved user) setup past caller drawn = broken_or (user_call_ruling caller user) (Done no_fields)
+answer_by_rules (AddAuthToken challenge user authenticator kind time mac) setup past caller drawn =
+    broken_or (add_auth_token_ruling setup.device.token caller (token_of challenge user authenticator kind time mac))
+    (accepted_in (last_tokens setup past) (token_of challenge user authenticator kind time mac))
+answer_by_rules (DeviceLocked user) setup past caller drawn = broken_or (user_call_ruling caller user) (Done no_fields)
+answer_by_rules (DeviceUnlocked user) setup past caller drawn = broken_or (user_call_ruling caller user) (Done no_fields)
+answer_by_rules EarlyBootEnded setup past caller drawn = broken_or (early_boot_ended_ruling caller) (Done no_fields)
 answer_by_rules (Leave ticket) setup past caller drawn = leaving setup past (ticket_at past ticket)
 answer_by_rules _ setup past caller drawn = malformed
 

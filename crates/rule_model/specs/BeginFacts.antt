@@ -14,7 +14,8 @@ use Rattle.key_rules.specs.Asked.{asked}
 use Rattle.key_rules.specs.Table.{key_rules}
 use Rattle.use_rules.specs.declared.facts.BeginFacts.{BeginFacts}
 use Rattle.rule_model.specs.declared.facts.Caller.{Caller}
-use Rattle.rule_model.specs.Access.{bits_in, row_for}
+use Rattle.rule_model.specs.declared.facts.Conditions.{Conditions}
+use Rattle.rule_model.specs.Access.{bits_in, row_for, user_of}
 use Rattle.rule_model.specs.Changes.{material_in}
 
 -- the list that is kept with a key
@@ -25,9 +26,9 @@ list_of key = result_ok (listed key.list)
 abbrev pub is_usable : List ℕ → List Param → Bool
 is_usable material list = is_ok (first_broken K (key_rules (length material) list))
 
--- the facts of a caller's call, by the key that is found with the caller's bits, and whether there is a slot
-abbrev pub facts_on : List PolicyRow → Option KeyRecord → Access → Caller → Descriptor → List ℕ → Bool → Bool → BeginFacts
-facts_on policy found access caller key params forced room = record {
+-- the facts of a caller's call, by the key that is found with the caller's bits, and the conditions
+abbrev pub facts_on : List PolicyRow → Option KeyRecord → Access → Caller → Descriptor → List ℕ → Bool → Conditions → BeginFacts
+facts_on policy found access caller key params forced conditions = record {
   connected = is_some caller.uid;
   descriptor = key;
   row = row_for policy caller key.nspace;
@@ -37,5 +38,11 @@ facts_on policy found access caller key params forced room = record {
   asked = asked params;
   opened = option_and_then list_of found;
   fits = option_map_or (λ key. option_map_or (is_usable (material_in key)) (list_of key) false) found false;
-  room = room;
+  wall = caller.reading.wall;
+  user = user_of caller;
+  early_ended = conditions.early_ended;
+  unlocked = conditions.unlocked;
+  timely = conditions.timely;
+  begins = conditions.begins;
+  room = conditions.room;
 }

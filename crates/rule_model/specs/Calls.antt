@@ -1,14 +1,17 @@
 -- The calls that have no table of their own: what their rules read, and what they answer where none is broken.
-use Rattle.std.specs.Prelude.{ℕ, Bool, false, ◌==◌, List, Option, Some, None, if◌then◌else◌, is_some}
+use Rattle.std.specs.Prelude.{ℕ, Bool, false, ◌==◌, List, Option, Some, None, if◌then◌else◌, is_some, length}
 use Rattle.std.specs.Option.{option_map_or}
-use Rattle.tags.specs.declared.code.Code.TheVariants.{StoreFull}
+use Rattle.std.specs.Str.{bytes_eq}
+use Rattle.tags.specs.declared.code.Code.TheVariants.{StoreFull, TokensFull}
 use Rattle.tags.specs.declared.descriptor.Descriptor.{Descriptor}
 use Rattle.tags.specs.declared.policy.PolicyRow.{PolicyRow}
 use Rattle.tags.specs.declared.rule.RuleTable.TheVariants.{A}
 use Rattle.tags.specs.Table.{Check, Ruling, first_broken}
 use Rattle.call_rules.specs.declared.facts.KeyCallFacts.{KeyCallFacts}
 use Rattle.call_rules.specs.declared.facts.SystemCallFacts.{SystemCallFacts}
-use Rattle.call_rules.specs.Table.{clear_namespace_rules, delete_key_rules, disconnect_rules, get_key_entry_rules, grant_rules, listing_rules, ungrant_rules, user_call_rules}
+use Rattle.call_rules.specs.Table.{clear_namespace_rules, delete_key_rules, disconnect_rules, get_key_entry_rules, grant_rules, listing_rules, system_call_rules, token_rules, ungrant_rules, user_call_rules}
+use Rattle.auth_tokens.specs.declared.token.AuthToken.{AuthToken}
+use Rattle.auth_tokens.specs.Mac.{token_mac}
 use Rattle.key_domains.specs.declared.access.Access.{Access}
 use Rattle.journal_records.specs.declared.record.KeyRecord.{KeyRecord}
 use Rattle.journal_records.specs.LastingPart.{Lasting}
@@ -17,6 +20,7 @@ use Rattle.rule_model.specs.declared.facts.Caller.{Caller}
 use Rattle.rule_model.specs.declared.reply.Fields.{Fields}
 use Rattle.rule_model.specs.declared.reply.Reply.{Reply}
 use Rattle.rule_model.specs.declared.reply.Reply.TheVariants.{Done, Stopped}
+use Rattle.rule_model.specs.Boot.{other_triples}
 use Rattle.rule_model.specs.Access.{access_by, bits_in, id_by, key_in, row_for}
 use Rattle.rule_model.specs.Changes.{grant_number, grant_of}
 use Rattle.rule_model.specs.Listing.{listing}
@@ -70,8 +74,19 @@ listing_ruling policy caller domain nspace = first_broken A (listing_rules (is_s
 abbrev pub clear_namespace_ruling : Caller → ℕ → ℕ → Ruling
 clear_namespace_ruling caller domain nspace = first_broken A (clear_namespace_rules domain nspace (system_facts caller))
 
-abbrev pub user_removed_ruling : Caller → ℕ → Ruling
-user_removed_ruling caller user = first_broken A (user_call_rules user (system_facts caller))
+abbrev pub early_boot_ended_ruling : Caller → Ruling
+early_boot_ended_ruling caller = first_broken A (system_call_rules (system_facts caller))
+
+-- the token's mac is that of its fields under the key that the device shares with the authenticators
+abbrev pub has_right_mac : List ℕ → AuthToken → Bool
+has_right_mac key token = bytes_eq token.mac (token_mac key token)
+
+abbrev pub add_auth_token_ruling : List ℕ → Caller → AuthToken → Ruling
+add_auth_token_ruling key caller token = first_broken A (token_rules (has_right_mac key token) (system_facts caller))
+
+-- of deviceLocked, deviceUnlocked and userRemoved
+abbrev pub user_call_ruling : Caller → ℕ → Ruling
+user_call_ruling caller user = first_broken A (user_call_rules user (system_facts caller))
 
 -- ---- what each call answers where none is broken
 
@@ -99,6 +114,10 @@ abbrev pub granted_in : Lasting → Option ℕ → ℕ → Reply
 granted_in part None uid = Done no_fields
 granted_in part (Some key) uid =
     if has_grant_place part key uid then Done (record no_fields { grant = Some (grant_number part key uid) }) else Stopped StoreFull
+
+-- a token is accepted where at most 255 other triples have one
+abbrev pub accepted_in : List AuthToken → AuthToken → Reply
+accepted_in tokens token = if length (other_triples token tokens) == 256 then Stopped TokensFull else Done no_fields
 
 -- how many keys an owner has
 abbrev pub counted_in : Lasting → ℕ × ℕ → Reply

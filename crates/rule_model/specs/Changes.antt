@@ -1,5 +1,5 @@
 -- The change that a counting entry makes of the lasting part.
-use Rattle.std.specs.Prelude.{ℕ, ◌==◌, ◌++◌, List, [], Option, Some, None, if◌then◌else◌, unwrap_or, take, drop, find}
+use Rattle.std.specs.Prelude.{ℕ, false, ◌==◌, ◌++◌, List, [], Option, Some, None, if◌then◌else◌, unwrap_or, take, drop, find}
 use Rattle.std.specs.Option.{option_and_then, option_map, option_map_or}
 use Rattle.tags.specs.declared.descriptor.Descriptor.{Descriptor}
 use Rattle.tags.specs.declared.policy.PolicyRow.{PolicyRow}
@@ -12,6 +12,7 @@ use Rattle.journal_records.specs.declared.change.Change.TheVariants as changes
 use Rattle.journal_records.specs.declared.record.KeyRecord.{KeyRecord}
 use Rattle.journal_records.specs.Effects.{after}
 use Rattle.journal_records.specs.LastingPart.{Lasting}
+use Rattle.key_rules.specs.declared.facts.ImportFacts.{ImportFacts}
 use Rattle.key_rules.specs.declared.plan.KeyPlan.{KeyPlan}
 use Rattle.key_rules.specs.Creation.{plan_of}
 use Rattle.rule_model.specs.declared.event.Act.{Act}
@@ -60,13 +61,17 @@ grant_of part key uid = option_and_then (λ id. option_map (λ (held : GrantRow)
 abbrev pub granting : Lasting → ℕ → ℕ → ℕ → Change
 granting part uid bits key = changes.Grant (record { grant = grant_number part key uid; key = key; uid = uid; bits = bits })
 
+-- the plan of a new key, which is the same whether or not early boot has ended
+abbrev pub planned : List PolicyRow → Caller → Descriptor → List ℕ → Option ImportFacts → KeyPlan
+planned policy caller key params import = plan_of (new_facts policy caller key params import false)
+
 -- A key is made by generateKey and importKey and ends by deleteKey; a grant is made by grant, and ends by ungrant. Many keys end
 -- by clearNamespace and userRemoved. No other act changes what lasts.
 abbrev pub change_of : Act → List PolicyRow → Lasting → Caller → List ℕ → Option Change
 change_of (GenerateKey key params) policy part caller drawn =
-    Some (creating part (owner_of caller) key (plan_of (new_facts policy caller key params None)) None drawn)
+    Some (creating part (owner_of caller) key (planned policy caller key params None) None drawn)
 change_of (ImportKey key params format material) policy part caller drawn =
-    Some (creating part (owner_of caller) key (plan_of (new_facts policy caller key params (import_of format material))) (Some material) drawn)
+    Some (creating part (owner_of caller) key (planned policy caller key params (import_of format material)) (Some material) drawn)
 change_of (DeleteKey key) policy part caller drawn = option_map changes.Delete (id_by policy part caller key)
 change_of (Grant key uid bits) policy part caller drawn = option_map (granting part uid bits) (id_by policy part caller key)
 change_of (Ungrant key uid) policy part caller drawn = option_map changes.Ungrant (grant_of part (id_by policy part caller key) uid)

@@ -7,7 +7,7 @@ use Rattle.tags.specs.declared.rule.Rule.{Rule}
 use Rattle.key_rules.specs.declared.plan.KeyPlan.{KeyPlan}
 use Rattle.key_rules.specs.Creation.{new_key}
 use Rattle.use_rules.specs.declared.facts.BeginFacts.{BeginFacts}
-use Rattle.use_rules.specs.Plans.{nonce_wanted}
+use Rattle.use_rules.specs.Plans.{challenge_wanted, nonce_wanted}
 use Rattle.use_rules.specs.Table as begin_table
 use Rattle.use_rules.specs.Table.{asked_of, key_of}
 use Rattle.rule_model.specs.declared.entry.Entry.{Entry}
@@ -21,6 +21,7 @@ use Rattle.rule_model.specs.declared.reply.Reply.{Reply}
 use Rattle.rule_model.specs.declared.reply.Reply.TheVariants.{Done, Broken, Stopped}
 use Rattle.rule_model.specs.Access.{owner_of}
 use Rattle.rule_model.specs.Acts.{fixed_for, is_built}
+use Rattle.rule_model.specs.Boot.{has_early_ended}
 use Rattle.rule_model.specs.Clients.{caller_of}
 use Rattle.rule_model.specs.Entries.{History}
 use Rattle.rule_model.specs.Kept.{kept}
@@ -42,16 +43,16 @@ wanted_by_key (Err broken) place = no_pieces
 wanted_by_key (Ok plan) false = no_pieces
 wanted_by_key (Ok plan) true = record { first = plan.size; second = 12 }
 
--- what a begin draws: the nonce, where one is wanted
+-- what a begin draws: the nonce, where one is wanted, and then the challenge, where one is
 abbrev pub wanted_by_begin : Result Plan (Rule × Code) → BeginFacts → Pieces
 wanted_by_begin (Err broken) facts = no_pieces
-wanted_by_begin (Ok plan) facts = record { first = nonce_wanted (asked_of facts) (key_of facts); second = 0 }
+wanted_by_begin (Ok plan) facts = record { first = nonce_wanted (asked_of facts) (key_of facts); second = challenge_wanted (key_of facts) }
 
 abbrev pub wanted_by_rules : Act → Setup → History → Caller → Pieces
 wanted_by_rules (GenerateKey key params) setup past caller =
-    wanted_by_key (new_key (new_facts setup.policy caller key params None)) (has_key_place (kept setup past) (owner_of caller) key)
+    wanted_by_key (new_key (new_facts setup.policy caller key params None (has_early_ended setup past))) (has_key_place (kept setup past) (owner_of caller) key)
 wanted_by_rules (ImportKey key params format material) setup past caller =
-    wanted_by_key (new_key (new_facts setup.policy caller key params (import_of format material))) (has_key_place (kept setup past) (owner_of caller) key)
+    wanted_by_key (new_key (new_facts setup.policy caller key params (import_of format material) (has_early_ended setup past))) (has_key_place (kept setup past) (owner_of caller) key)
 wanted_by_rules (CreateOperation key params forced) setup past caller =
     wanted_by_begin (begin_table.answer (begin_facts setup past caller key params forced)) (begin_facts setup past caller key params forced)
 wanted_by_rules _ setup past caller = no_pieces

@@ -1,5 +1,6 @@
 -- The jobs of the works that are out: what they stand for, and what comes back.
-use Rattle.std.specs.Prelude.{◌≡◌, ℕ, true, Option, Some, None, IfErr}
+use Rattle.std.specs.Prelude.{◌≡◌, ℕ, true, false, Option, Some, None, IfErr}
+use Rattle.std.specs.Option.{option_map}
 use Rattle.cipher_ops.specs.declared.job.Done.{Done as JobDone}
 use Rattle.cipher_ops.specs.declared.job.Job.{Job}
 use Rattle.cipher_ops.specs.declared.room.Work.{Work}
@@ -56,7 +57,12 @@ HasJob setup past (Done fields) job = GoesWith setup past fields.ticket job
 HasJob setup past (Broken rule code) job = job ≡ None
 HasJob setup past (Stopped code) job = job ≡ None
 
--- the operation of a work that was out and is out still is as it was: so its job stays right, whatever came between
+-- an operation but for whether a token was shown to it
+abbrev pub but_shown : Option Open → Option Open
+but_shown found = option_map (λ (o : Open). record o { shown = false }) found
+
+-- The operation of a work that was out and is out still is as it was, but for a token that was shown to it: so its job stays
+-- right, whatever came between.
 abbrev pub Stays : Setup → History → History → Type 0
 Stays setup past later = (ticket : ℕ) (entered : Entered) → ticket_at past ticket ≡ Some entered → ticket_at later ticket ≡ Some entered
-    → operation_at setup later entered.op ≡ operation_at setup past entered.op
+    → but_shown (operation_at setup later entered.op) ≡ but_shown (operation_at setup past entered.op)

@@ -11,6 +11,7 @@ pub mod Places
 pub mod Replies
 pub mod Listing
 pub mod BeginFacts
+pub mod Boot
 pub mod Tickets
 pub mod Operations
 pub mod Slots

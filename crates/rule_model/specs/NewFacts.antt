@@ -1,5 +1,5 @@
 -- What the rules of a new key read.
-use Rattle.std.specs.Prelude.{ℕ, List, Option, Some, is_some, length}
+use Rattle.std.specs.Prelude.{ℕ, Bool, List, Option, Some, is_some, length}
 use Rattle.tags.specs.declared.descriptor.Descriptor.{Descriptor}
 use Rattle.tags.specs.declared.policy.PolicyRow.{PolicyRow}
 use Rattle.key_rules.specs.declared.facts.ImportFacts.{ImportFacts}
@@ -11,13 +11,14 @@ use Rattle.rule_model.specs.Access.{row_for}
 abbrev pub import_of : ℕ → List ℕ → Option ImportFacts
 import_of format material = Some (record { format = format; length = length material })
 
--- the facts of a caller's call
-abbrev pub new_facts : List PolicyRow → Caller → Descriptor → List ℕ → Option ImportFacts → NewFacts
-new_facts policy caller key params import = record {
+-- the facts of a caller's call, by whether early boot has ended
+abbrev pub new_facts : List PolicyRow → Caller → Descriptor → List ℕ → Option ImportFacts → Bool → NewFacts
+new_facts policy caller key params import early_ended = record {
   connected = is_some caller.uid;
   descriptor = key;
   row = row_for policy caller key.nspace;
   params = params;
   import = import;
+  early_ended = early_ended;
   wall = caller.reading.wall;
 }

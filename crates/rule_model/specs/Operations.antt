@@ -1,14 +1,17 @@
 -- The operations of a history: what began them, what they have taken, which work is out, and what they put out.
-use Rattle.std.specs.Prelude.{ℕ, ◌+◌, Bool, true, false, ◌&&◌, not, ◌==◌, List, [], ◌∷◌, ◌++◌, Option, Some, None, Result, Ok, if◌then◌else◌, unwrap_or, is_some, length, map, filter, find}
+use Rattle.std.specs.Prelude.{ℕ, ◌+◌, Bool, true, false, ◌&&◌, not, ◌==◌, List, [], ◌∷◌, ◌++◌, Option, Some, None, Result, Ok, if◌then◌else◌, unwrap_or, is_some, length, map, filter, find, take, drop}
 use Rattle.std.specs.List.{list_any}
+use Rattle.byteorder.specs.Endian.{big_number}
 use Rattle.tags.specs.declared.code.Code.{Code}
 use Rattle.tags.specs.declared.descriptor.Descriptor.{Descriptor}
 use Rattle.tags.specs.declared.param.Param.{Param}
 use Rattle.tags.specs.declared.plan.Plan.{Plan}
 use Rattle.use_rules.specs.declared.facts.BeginFacts.{BeginFacts}
-use Rattle.use_rules.specs.Plans.{nonce_given, plan_of}
+use Rattle.use_rules.specs.Plans.{is_per_operation, nonce_given, nonce_wanted, plan_of}
 use Rattle.use_rules.specs.Table.{asked_of, key_of}
 use Rattle.step_rules.specs.Table.{ends_operation}
+use Rattle.auth_tokens.specs.declared.token.AuthToken.{AuthToken}
+use Rattle.token_store.specs.Fitting.{fits}
 use Rattle.cipher_ops.specs.declared.room.Work.{Work}
 use Rattle.cipher_ops.specs.declared.room.Work.TheVariants.{Aad, Text, Last}
 use Rattle.cipher_ops.specs.Output.{update_output, finish_output}
@@ -16,14 +19,16 @@ use Rattle.rule_model.specs.declared.entry.Entry.TheVariants.{Acted, Settling}
 use Rattle.journal_records.specs.declared.record.KeyRecord.{KeyRecord}
 use Rattle.rule_model.specs.declared.event.Event.{Event}
 use Rattle.rule_model.specs.declared.event.Act.{Act}
-use Rattle.rule_model.specs.declared.event.Act.TheVariants.{Disconnect, CreateOperation, EnterAad, EnterUpdate, EnterFinish, Abort, Leave, Restart}
+use Rattle.rule_model.specs.declared.event.Act.TheVariants.{AddAuthToken, Disconnect, CreateOperation, EnterAad, EnterUpdate, EnterFinish, Abort, Leave, Restart}
 use Rattle.rule_model.specs.declared.facts.Caller.{Caller}
+use Rattle.rule_model.specs.declared.facts.Conditions.{Conditions}
 use Rattle.rule_model.specs.declared.reply.Fields.{Fields}
 use Rattle.rule_model.specs.declared.reply.Reply.{Reply}
 use Rattle.rule_model.specs.declared.reply.Reply.TheVariants.{Done, Broken, Stopped}
 use Rattle.rule_model.specs.BeginFacts.{facts_on}
 use Rattle.rule_model.specs.Clients.{caller_of}
-use Rattle.rule_model.specs.Entries.{History}
+use Rattle.rule_model.specs.Boot.{token_of}
+use Rattle.rule_model.specs.Entries.{History, gives}
 use Rattle.rule_model.specs.Access.{owner_of}
 use Rattle.rule_model.specs.Changes.{material_in}
 use Rattle.rule_model.specs.Kept.{access_at, key_found}
@@ -31,7 +36,8 @@ use Rattle.rule_model.specs.Setup.{Setup}
 use Rattle.rule_model.specs.Tickets.{Entered, ticket_at}
 
 -- An operation: its number, its client with the uid, the key's number where it has one, the key's material, list and limit as
--- its begin read them, what its work is, and from which nonce.
+-- its begin read them, what its work is, from which nonce, and the challenge that a token for it has to name, where one has to
+-- be shown to it.
 pub record Operation : Type 0 where
   pub number : ℕ
   pub client : ℕ
@@ -42,14 +48,23 @@ pub record Operation : Type 0 where
   pub limit : ℕ
   pub plan : Plan
   pub nonce : List ℕ
+  pub challenge : Option ℕ
 
 -- a key with a use limit gives all output at the finish
 abbrev pub is_limited : ℕ → Bool
 is_limited limit = not (limit == 0)
 
+-- how many of a begin's drawn bytes are its nonce
+abbrev pub nonce_size : BeginFacts → ℕ
+nonce_size facts = nonce_wanted (asked_of facts) (key_of facts)
+
 -- the nonce of an operation: the one that the caller gave, or the one that was drawn
 abbrev pub nonce_of : BeginFacts → List ℕ → List ℕ
-nonce_of facts drawn = unwrap_or (nonce_given (asked_of facts) (key_of facts)) drawn
+nonce_of facts drawn = unwrap_or (nonce_given (asked_of facts) (key_of facts)) (take (nonce_size facts) drawn)
+
+-- the challenge of an operation: the eight bytes drawn behind the nonce, the highest first, where a token has to be shown to it
+abbrev pub challenge_of : BeginFacts → List ℕ → Option ℕ
+challenge_of facts drawn = if is_per_operation (key_of facts) then Some (big_number 8 (drop (nonce_size facts) drawn)) else None
 
 -- the operation of a begin on a stored key
 abbrev pub operation_on : KeyRecord → BeginFacts → Caller → ℕ → List ℕ → Operation
@@ -63,16 +78,18 @@ operation_on key facts caller number drawn = record {
   limit = key.limit;
   plan = plan_of (asked_of facts) (key_of facts);
   nonce = nonce_of facts drawn;
+  challenge = challenge_of facts drawn;
 }
 
 -- An open operation: what began it, the joined additional data and text of the works that came back, the step that last
--- touched it, and the ticket of the work that is out.
+-- touched it, the ticket of the work that is out, and whether a token was shown to it.
 pub record Open : Type 0 where
   pub operation : Operation
   pub aad : List ℕ
   pub text : List ℕ
   pub touched : ℕ
   pub ticket : Option ℕ
+  pub shown : Bool
 
 abbrev pub has_number : ℕ → Open → Bool
 has_number number o = o.operation.number == number
@@ -84,21 +101,33 @@ is_of client o = o.operation.client == client
 abbrev pub is_busy : Open → Bool
 is_busy o = is_some o.ticket
 
+-- an operation that is to be shown a token waits until one was
+abbrev pub is_waiting : Open → Bool
+is_waiting o = is_some o.operation.challenge && not o.shown
+
+-- a token is for an operation where it names its challenge and fits the key by the list that the begin read
+abbrev pub is_for : AuthToken → Open → Bool
+is_for token o = gives o.operation.challenge token.challenge && fits o.operation.list token
+
 -- What an entry makes of the operations: one opens, in the place of one that gives way; one is entered; one goes on with
--- what it took; one closes, all of a client close, or all close.
+-- what it took; a token is shown to those that it is for; one closes, all of a client close, or all close.
 pub data OperationChange : Type 0 where
   SameOperations : OperationChange
   Opens : Option ℕ → Operation → OperationChange
   Enters : ℕ → ℕ → OperationChange
   Returns : ℕ → List ℕ → List ℕ → OperationChange
+  Shows : AuthToken → OperationChange
   Closes : ℕ → OperationChange
   ClosesOf : ℕ → OperationChange
   ClosesAll : OperationChange
 
--- what a begin on a key reads, whether or not it forces and there is a slot
+-- what a begin on a key reads of the key and of the call, whatever else it meets
+abbrev pub no_conditions : Conditions
+no_conditions = record { early_ended = false; unlocked = false; timely = false; begins = 0; room = true }
+
 abbrev pub facts_of_begin : Setup → History → Caller → Descriptor → List ℕ → BeginFacts
 facts_of_begin setup past caller key params =
-    facts_on setup.policy (key_found setup past caller key) (access_at setup past caller key) caller key params false true
+    facts_on setup.policy (key_found setup past caller key) (access_at setup past caller key) caller key params false no_conditions
 
 abbrev pub opens : Option KeyRecord → BeginFacts → Caller → Fields → List ℕ → OperationChange
 opens (Some key) facts caller fields drawn = opens_as fields.op where
@@ -125,7 +154,7 @@ returns (Some entered) = by_work entered.work where
   by_work (Last input signature) = Closes entered.op
 
 -- A begin opens the operation whose number its reply gives. An updateAad, an update and a finish enter, and their leave goes
--- on. An abort, the client's disconnect and a restart close.
+-- on. A token is shown. An abort, the client's disconnect and a restart close.
 abbrev pub admitted_operation : Act → Setup → History → Event → List ℕ → Fields → OperationChange
 admitted_operation (CreateOperation key params forced) setup past event drawn fields =
     opens (key_found setup past (caller_of past event) key) (facts_of_begin setup past (caller_of past event) key params) (caller_of past event) fields drawn
@@ -134,6 +163,8 @@ admitted_operation (EnterUpdate op input) setup past event drawn fields = enters
 admitted_operation (EnterFinish op input signature) setup past event drawn fields = enters op fields.ticket
 admitted_operation (Abort op) setup past event drawn fields = Closes op
 admitted_operation (Leave ticket) setup past event drawn fields = returns (ticket_at past ticket)
+admitted_operation (AddAuthToken challenge user authenticator kind time mac) setup past event drawn fields =
+    Shows (token_of challenge user authenticator kind time mac)
 admitted_operation Disconnect setup past event drawn fields = ClosesOf event.client
 admitted_operation (Restart root) setup past event drawn fields = ClosesAll
 admitted_operation _ setup past event drawn fields = SameOperations
@@ -163,13 +194,16 @@ step_of past = length past + 1
 
 -- an operation that begins at a step has taken nothing
 abbrev pub as_begun : ℕ → Operation → Open
-as_begun step operation = record { operation = operation; aad = []; text = []; touched = step; ticket = None }
+as_begun step operation = record { operation = operation; aad = []; text = []; touched = step; ticket = None; shown = false }
 
 abbrev pub as_entered : ℕ → ℕ → Open → Open
 as_entered step ticket o = record o { touched = step; ticket = Some ticket }
 
 abbrev pub as_returned : ℕ → List ℕ → List ℕ → Open → Open
 as_returned step aad text o = record o { aad = o.aad ++ aad; text = o.text ++ text; touched = step; ticket = None }
+
+abbrev pub as_shown : Open → Open
+as_shown o = record o { shown = true }
 
 -- the operations with this change of the one of this number
 abbrev pub with_change : ℕ → (Open → Open) → List Open → List Open
@@ -188,6 +222,7 @@ open_after step SameOperations opened = opened
 open_after step (Opens pruned o) opened = without_pruned pruned opened ++ as_begun step o ∷ []
 open_after step (Enters op ticket) opened = with_change op (as_entered step ticket) opened
 open_after step (Returns op aad text) opened = with_change op (as_returned step aad text) opened
+open_after step (Shows token) opened = map (λ o. if is_for token o then as_shown o else o) opened
 open_after step (Closes op) opened = without op opened
 open_after step (ClosesOf client) opened = filter (λ o. not (is_of client o)) opened
 open_after step ClosesAll opened = []

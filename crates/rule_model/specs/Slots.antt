@@ -1,12 +1,16 @@
 -- The slots of the operations, and what a begin reads of them.
-use Rattle.std.specs.Prelude.{ℕ, Bool, ◌||◌, List, Option, Some, None, if◌then◌else◌, is_some, length, map, nat_lt}
+use Rattle.std.specs.Prelude.{ℕ, Bool, false, ◌||◌, List, Option, Some, None, if◌then◌else◌, is_some, length, map, nat_lt}
+use Rattle.std.specs.Option.{option_and_then, option_map_or}
 use Rattle.tags.specs.declared.descriptor.Descriptor.{Descriptor}
 use Rattle.use_rules.specs.declared.facts.BeginFacts.{BeginFacts}
 use Rattle.pruning.specs.Victim.{OpenFacts, victim}
+use Rattle.journal_records.specs.declared.record.KeyRecord.{KeyRecord}
 use Rattle.rule_model.specs.declared.facts.Caller.{Caller}
-use Rattle.rule_model.specs.BeginFacts.{facts_on}
+use Rattle.rule_model.specs.declared.facts.Conditions.{Conditions}
+use Rattle.rule_model.specs.BeginFacts.{facts_on, list_of}
+use Rattle.rule_model.specs.Boot.{begins_of, has_early_ended, is_timely, is_unlocked}
 use Rattle.rule_model.specs.Entries.{History}
-use Rattle.rule_model.specs.Access.{owner_of}
+use Rattle.rule_model.specs.Access.{owner_of, user_of}
 use Rattle.rule_model.specs.Kept.{access_at, key_found}
 use Rattle.rule_model.specs.Operations.{Open, is_busy, open_of, step_of}
 use Rattle.rule_model.specs.Setup.{Setup}
@@ -34,8 +38,18 @@ pruned_for setup past uid forced = if has_free setup past then None else victim 
 abbrev pub has_room : Setup → History → ℕ → Bool → Bool
 has_room setup past uid forced = has_free setup past || is_some (pruned_for setup past uid forced)
 
+-- the conditions of a caller's begin on the key that is found: without a key no token is timely and no begin was admitted
+abbrev pub conditions_on : Setup → History → Caller → Option KeyRecord → Bool → Conditions
+conditions_on setup past caller found room = record {
+  early_ended = has_early_ended setup past;
+  unlocked = is_unlocked setup past (user_of caller);
+  timely = option_map_or (λ list. is_timely setup past list caller.reading.boot) (option_and_then list_of found) false;
+  begins = option_map_or (λ (key : KeyRecord). begins_of setup past key.id) found 0;
+  room = room;
+}
+
 -- what the rules read of a caller's begin
 abbrev pub begin_facts : Setup → History → Caller → Descriptor → List ℕ → Bool → BeginFacts
 begin_facts setup past caller key params forced =
     facts_on setup.policy (key_found setup past caller key) (access_at setup past caller key) caller key params forced
-    (has_room setup past (owner_of caller) forced)
+    (conditions_on setup past caller (key_found setup past caller key) (has_room setup past (owner_of caller) forced))

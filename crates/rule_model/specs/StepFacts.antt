@@ -10,7 +10,7 @@ use Rattle.rule_model.specs.declared.facts.Brought.{Brought}
 use Rattle.rule_model.specs.declared.facts.Caller.{Caller}
 use Rattle.rule_model.specs.Entries.{History}
 use Rattle.rule_model.specs.Kept.{is_live}
-use Rattle.rule_model.specs.Operations.{Open, is_busy, operation_at}
+use Rattle.rule_model.specs.Operations.{Open, is_busy, is_waiting, operation_at}
 use Rattle.rule_model.specs.Setup.{Setup}
 
 abbrev pub step_kind : Work → StepKind
@@ -49,6 +49,7 @@ facts_of None live caller brought = record {
   input = brought.input;
   signature = brought.signature;
   ended = false;
+  waiting = false;
   plan = Ctr;
   aad = 0;
   text = 0;
@@ -60,6 +61,7 @@ facts_of (Some o) live caller brought = record {
   input = brought.input;
   signature = brought.signature;
   ended = has_ended live o.operation.key;
+  waiting = is_waiting o;
   plan = o.operation.plan;
   aad = length o.aad;
   text = length o.text;

@@ -23,6 +23,21 @@ pub struct Brought {
     pub signature: u64,
 }
 
+/// What the rules of a begin read of the device, of the last tokens, of the begins on the key and of the slots.
+#[derive(Clone, Copy, Debug, PartialEq, Eq)]
+pub struct Conditions {
+    /// early boot has ended
+    pub early_ended: bool,
+    /// the caller's user is unlocked
+    pub unlocked: bool,
+    /// one of the last tokens opens the key
+    pub timely: bool,
+    /// how many begins on the key were admitted since the last restart
+    pub begins: u64,
+    /// a slot is free, or an operation gives way
+    pub room: bool,
+}
+
 /// How many bytes an event draws: two pieces, each by one draw. A piece of no bytes is not drawn.
 #[derive(Clone, Copy, Debug, PartialEq, Eq)]
 pub struct Pieces {

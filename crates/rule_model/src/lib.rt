@@ -14,5 +14,5 @@ mod reply;
 pub use act_kind::{ActKind, ActRow};
 pub use entry::{Entry, Stepped};
 pub use event::{Act, Event, Line, Reading};
-pub use facts::{Brought, Caller, NO_PIECES, Pieces};
+pub use facts::{Brought, Caller, Conditions, NO_PIECES, Pieces};
 pub use reply::{Entries, Fields, NO_FIELDS, Reply};

@@ -1,6 +1,6 @@
 -- Table S, a step of an operation: a list of rules in its order, and the answer is the first that does not hold.
 use Rattle.std.specs.Prelude.{◌≡◌, Bool, true, false, ◌&&◌, ◌||◌, not, ◌==◌, List, [], ◌∷◌, ◌++◌, if◌then◌else◌}
-use Rattle.tags.specs.declared.code.Code.TheVariants.{InvalidOperationHandle, OperationBusy, TooMuchData, InvalidKeyBlob, InvalidTag, InvalidInputLength}
+use Rattle.tags.specs.declared.code.Code.TheVariants.{InvalidOperationHandle, OperationBusy, TooMuchData, InvalidKeyBlob, KeyUserNotAuthenticated, InvalidTag, InvalidInputLength}
 use Rattle.tags.specs.declared.rule.Rule.{Rule}
 use Rattle.tags.specs.declared.rule.RuleTable.{RuleTable}
 use Rattle.tags.specs.declared.rule.RuleTable.TheVariants.{S}
@@ -20,6 +20,7 @@ abbrev pub enter_rules : StepFacts → List Check
 enter_rules facts =
     check 3 TooMuchData (are_pieces_short facts) ∷  -- input and signature are not too long
     check 4 InvalidKeyBlob (not facts.ended) ∷  -- its key has not ended
+    check 5 KeyUserNotAuthenticated (not facts.waiting) ∷  -- it was shown a token, where it is to be shown one
     check 6 InvalidTag (may_take_aad facts) ∷  -- additional data comes for GCM, before any text
     check 7 InvalidInputLength (is_total_within facts) ∷  -- all input is not too long
     check 8 InvalidInputLength (has_whole_text facts) ∷  -- the whole text's length is one that the plan takes

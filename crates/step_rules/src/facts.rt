@@ -29,6 +29,8 @@ pub struct StepFacts {
     pub signature: u64,
     /// the operation's key has ended
     pub ended: bool,
+    /// the operation was to be shown a token, and none was shown
+    pub waiting: bool,
     pub plan: Plan,
     /// the length in bytes of the additional data that was admitted so far
     pub aad: u64,

@@ -36,6 +36,7 @@ fn check_enter(facts: &StepFacts) -> Ruling
 {
     check(rule(3), Code::TooMuchData, are_pieces_short(facts))?;
     check(rule(4), Code::InvalidKeyBlob, !facts.ended)?;
+    check(rule(5), Code::KeyUserNotAuthenticated, !facts.waiting)?;
     check(rule(6), Code::InvalidTag, may_take_aad(facts))?;
     check(rule(7), Code::InvalidInputLength, is_total_within(facts))?;
     check(rule(8), Code::InvalidInputLength, has_whole_text(facts))?;

@@ -1,5 +1,5 @@
 -- When an authentication token opens a key (the tags of Android's KeyMint of these names).
-use Rattle.std.specs.Prelude.{ℕ, ◌-◌, ◌*◌, ◌==◌, Bool, not, ◌&&◌, ◌||◌, nat_le, bit_and, List}
+use Rattle.std.specs.Prelude.{ℕ, ◌-◌, ◌*◌, ◌==◌, Bool, not, ◌&&◌, ◌||◌, nat_le, bit_and, unwrap_or, List}
 use Rattle.tags.specs.declared.tag.Tag.TheVariants.{UserSecureId, UserAuthType, AuthTimeout}
 use Rattle.tags.specs.declared.param.Param.{Param}
 use Rattle.tags.specs.Values.{passes}
@@ -10,9 +10,17 @@ use Rattle.auth_tokens.specs.declared.token.AuthToken.{AuthToken}
 abbrev pub is_of_user : List Param → AuthToken → Bool
 is_of_user key token = has_number UserSecureId token.user key || has_number UserSecureId token.authenticator key
 
+-- each kind of authenticator
+abbrev pub every_kind : ℕ
+every_kind = 4294967295
+
+-- the kinds that the key takes: every one where USER_AUTH_TYPE is not there
+abbrev pub kinds_of : List Param → ℕ
+kinds_of key = unwrap_or (number_of UserAuthType key) every_kind
+
 -- the token's kind has a bit in common with the kinds that the key takes
 abbrev pub is_of_kind : List Param → AuthToken → Bool
-is_of_kind key token = passes (λ kinds. not (bit_and kinds token.kind == 0)) (number_of UserAuthType key)
+is_of_kind key token = not (bit_and (kinds_of key) token.kind == 0)
 
 -- the token fits the key, whether it is shown to an operation or one of the last tokens
 abbrev pub fits : List Param → AuthToken → Bool

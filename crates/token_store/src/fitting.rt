@@ -14,18 +14,26 @@ fn is_of_user(token: &AuthToken, list: &AuthList) -> bool
     list.has(Tag::UserSecureId, token.user) || list.has(Tag::UserSecureId, token.authenticator)
 }
 
-/// Whether the token's kind has a bit in common with the key's USER_AUTH_TYPE.
+/// Each kind of authenticator.
+const EVERY_KIND: u64 = 4_294_967_295;
+
+/// The kinds that the key takes: every one where USER_AUTH_TYPE is not there.
+fn kinds_of(list: &AuthList) -> u64
+    ensures { result ≡ spec.kinds_of list.now }
+{
+    list.number(Tag::UserAuthType).unwrap_or(EVERY_KIND)
+}
+
+/// Whether the token's kind has a bit in common with the kinds that the key takes.
 fn is_of_kind(token: &AuthToken, list: &AuthList) -> bool
     ensures { result ≡ spec.is_of_kind list.now token.now }
 {
-    match list.number(Tag::UserAuthType) {
-        Some(kinds) => kinds & u64::from(token.kind) != 0,
-        None => false,
-    }
+    kinds_of(list) & u64::from(token.kind) != 0
 }
 
 /// Whether a token fits the key of this list: its user or its authenticator is among the key's USER_SECURE_IDs, and its
-/// kind has a bit in common with the key's USER_AUTH_TYPE. A key that lacks either fits no token. It takes no memory.
+/// kind has a bit in common with the key's USER_AUTH_TYPE, which is all kinds where the key does not have it. A token fits no
+/// key that lacks USER_SECURE_ID. It takes no memory.
 pub fn fits(token: &AuthToken, list: &AuthList) -> bool
     ensures { result ≡ spec.fits list.now token.now }
 {

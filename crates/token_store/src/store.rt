@@ -117,7 +117,7 @@ impl TokenStore {
 
     /// Whether one of the last tokens fits the key of this list and is recent enough for it at the reading `boot`, in
     /// milliseconds since the device started: it is no later than the reading, and at most the key's AUTH_TIMEOUT old,
-    /// which is in seconds. It never holds of a key that lacks USER_SECURE_ID, USER_AUTH_TYPE or AUTH_TIMEOUT.
+    /// which is in seconds. It never holds of a key that lacks USER_SECURE_ID or AUTH_TIMEOUT.
     pub fn timely(&self, list: &AuthList, boot: u64) -> bool
         ensures last { IsTrue result ↔ IsTimely self.now list.now boot }
         ensures exact { result ≡ is_timely self.now list.now boot }

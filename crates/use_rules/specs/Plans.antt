@@ -1,12 +1,12 @@
 -- What the work of an operation is, by the operation's list and the key's.
-use Rattle.std.specs.Prelude.{ℕ, ◌≡◌, ◌/◌, ◌&&◌, not, nat_le, List, Option, None, if◌then◌else◌, unwrap_or, length, MatchOption}
+use Rattle.std.specs.Prelude.{ℕ, ◌≡◌, ◌/◌, Bool, ◌&&◌, not, nat_le, List, Option, None, if◌then◌else◌, unwrap_or, length, MatchOption}
 use Rattle.tags.specs.declared.param.Param.{Param}
 use Rattle.tags.specs.declared.plan.Plan.{Plan}
 use Rattle.tags.specs.declared.plan.Plan.TheVariants.{Ecb, Cbc, Ctr, Gcm, HmacSign, HmacVerify}
-use Rattle.tags.specs.declared.tag.Tag.TheVariants.{Purpose, BlockMode, Padding, Nonce, MacLength}
+use Rattle.tags.specs.declared.tag.Tag.TheVariants.{Purpose, BlockMode, Padding, UserSecureId, AuthTimeout, Nonce, MacLength}
 use Rattle.tags.specs.Plan.{nonce_bytes}
 use Rattle.tags.specs.Values.{CBC, CTR, ECB, ENCRYPT, PKCS7}
-use Rattle.tag_lists.specs.Lookups.{bytes_of, is_aes, is_only, number_of}
+use Rattle.tag_lists.specs.Lookups.{bytes_of, is_aes, is_only, number_of, stands}
 use Rattle.use_rules.specs.Rules.{is_sign, digest_of, least_bits, takes_nonce, gives_nonce, nonce_size}
 
 -- A number of a plan has one byte; a list that the rules let through has no greater one.
@@ -48,3 +48,11 @@ abbrev pub NonceFits : List Param → List Param → Plan → Type 0
 NonceFits asked key plan =
     MatchOption (nonce_given asked key) (nonce_wanted asked key ≡ nonce_bytes plan)
     (λ nonce. (length nonce ≡ nonce_bytes plan) × (nonce_wanted asked key ≡ 0))
+
+-- USER_SECURE_ID is there and AUTH_TIMEOUT is not: each operation is to be shown a token of its own
+abbrev pub is_per_operation : List Param → Bool
+is_per_operation key = stands UserSecureId key && not (stands AuthTimeout key)
+
+-- how many bytes of challenge are drawn, which a token for the operation has to name
+abbrev pub challenge_wanted : List Param → ℕ
+challenge_wanted key = if is_per_operation key then 8 else 0

@@ -1,6 +1,6 @@
 -- The rules of a begin: each part says whether it holds over the facts, over the operation's list (`asked`) and over the
 -- key's list (`key`). Where a part names AES or HMAC, it holds for the other.
-use Rattle.std.specs.Prelude.{ℕ, Bool, true, ◌&&◌, ◌||◌, ◌==◌, nat_le, List, Option, Some, None, if◌then◌else◌, is_some, unwrap_or, length}
+use Rattle.std.specs.Prelude.{ℕ, Bool, true, not, ◌&&◌, ◌||◌, ◌==◌, nat_le, nat_lt, List, Option, Some, None, if◌then◌else◌, is_some, unwrap_or, length}
 use Rattle.std.specs.Option.{option_or}
 use Rattle.key_domains.specs.declared.permission.Permission.TheVariants.{ReqForcedOp, Use}
 use Rattle.key_domains.specs.Bits.{has}
@@ -8,7 +8,7 @@ use Rattle.key_domains.specs.Domains.{domain_app, domain_grant, domain_key_id, d
 use Rattle.tags.specs.declared.descriptor.Descriptor.{Descriptor}
 use Rattle.tags.specs.declared.param.Param.{Param}
 use Rattle.tags.specs.declared.tag.Tag.{Tag}
-use Rattle.tags.specs.declared.tag.Tag.TheVariants.{Purpose, BlockMode, Digest, Padding, CallerNonce, MinMacLength, Nonce, MacLength}
+use Rattle.tags.specs.declared.tag.Tag.TheVariants.{Purpose, BlockMode, Digest, Padding, CallerNonce, MinMacLength, EarlyBootOnly, ActiveDatetime, OriginationExpireDatetime, UsageExpireDatetime, MaxUsesPerBoot, UserId, UserSecureId, AuthTimeout, UnlockedDeviceRequired, Nonce, MacLength}
 use Rattle.tags.specs.Descriptor.{has_alias}
 use Rattle.tags.specs.Values.{AES_PURPOSES, CBC, CTR, DECRYPT, DIGESTS, ENCRYPT, GCM, HMAC_PURPOSES, MODES, PADDINGS, SIGN, UNPADDED, digest_bits, implies, is_whole_bytes, one_in, passes}
 use Rattle.tag_lists.specs.Lookups.{bytes_of, has_number, is_aes, is_hmac, is_only, number_of, only_number, stands}
@@ -47,6 +47,47 @@ names_purpose asked key = passes (serves key) (only_number Purpose asked)
 -- the key has it
 abbrev pub key_has_purpose : List Param → List Param → Bool
 key_has_purpose asked key = key_has Purpose asked key
+
+-- there is no number, or it passes the test
+abbrev pub passes_if_any : (ℕ → Bool) → Option ℕ → Bool
+passes_if_any test None = true
+passes_if_any test (Some n) = test n
+
+-- ACTIVE_DATETIME, where it is there, is at most the wall reading
+abbrev pub is_active : List Param → ℕ → Bool
+is_active key wall = passes_if_any (λ date. nat_le date wall) (number_of ActiveDatetime key)
+
+-- ENCRYPT and SIGN are bounded by ORIGINATION_EXPIRE_DATETIME, DECRYPT and VERIFY by USAGE_EXPIRE_DATETIME
+abbrev pub expiry_of : List Param → Tag
+expiry_of asked = if is_only Purpose ENCRYPT asked || is_only Purpose SIGN asked then OriginationExpireDatetime else UsageExpireDatetime
+
+-- that date, where it is there, is at least the wall reading
+abbrev pub is_unexpired : List Param → List Param → ℕ → Bool
+is_unexpired asked key wall = passes_if_any (λ date. nat_le wall date) (number_of (expiry_of asked) key)
+
+-- USER_ID, where it is there, is the caller's user
+abbrev pub is_of_user : List Param → ℕ → Bool
+is_of_user key user = passes_if_any (λ own. own == user) (number_of UserId key)
+
+-- EARLY_BOOT_ONLY: early boot has not ended
+abbrev pub is_early : List Param → Bool → Bool
+is_early key early_ended = implies (stands EarlyBootOnly key) (not early_ended)
+
+-- UNLOCKED_DEVICE_REQUIRED: the caller's user is unlocked
+abbrev pub is_unlocked : List Param → Bool → Bool
+is_unlocked key unlocked = implies (stands UnlockedDeviceRequired key) unlocked
+
+-- USER_SECURE_ID and AUTH_TIMEOUT are there
+abbrev pub is_for_a_time : List Param → Bool
+is_for_a_time key = stands UserSecureId key && stands AuthTimeout key
+
+-- USER_SECURE_ID and AUTH_TIMEOUT: a token opens the key now
+abbrev pub is_authenticated : List Param → Bool → Bool
+is_authenticated key timely = implies (is_for_a_time key) timely
+
+-- MAX_USES_PER_BOOT, where it is there, is greater than the begins since the last restart
+abbrev pub has_begins_left : List Param → ℕ → Bool
+has_begins_left key begins = passes_if_any (λ most. nat_lt begins most) (number_of MaxUsesPerBoot key)
 
 -- there is exactly one BLOCK_MODE, of ECB, CBC, CTR and GCM
 abbrev pub names_known_mode : List Param → Bool

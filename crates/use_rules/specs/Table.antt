@@ -1,14 +1,14 @@
 -- Table B, the beginning of an operation: a list of rules in its order, and the answer is the first that does not hold.
 use Rattle.std.specs.Prelude.{◌≡◌, Bool, true, List, [], ◌∷◌, ◌++◌, Result, Ok, Err, is_some, is_ok, unwrap_or}
 use Rattle.tags.specs.declared.code.Code.{Code}
-use Rattle.tags.specs.declared.code.Code.TheVariants.{InvalidArgument, KeyNotFound, PermissionDenied, InvalidTag, InvalidKeyBlob, UnsupportedPurpose, IncompatiblePurpose, UnsupportedBlockMode, IncompatibleBlockMode, UnsupportedPaddingMode, IncompatiblePaddingMode, UnsupportedDigest, IncompatibleDigest, MissingMacLength, UnsupportedMacLength, InvalidMacLength, CallerNonceProhibited, MissingNonce, InvalidNonce, BackendBusy}
+use Rattle.tags.specs.declared.code.Code.TheVariants.{InvalidArgument, KeyNotFound, PermissionDenied, InvalidTag, InvalidKeyBlob, UnsupportedPurpose, IncompatiblePurpose, KeyNotYetValid, KeyExpired, InvalidUserId, EarlyBootEnded, DeviceLocked, KeyUserNotAuthenticated, KeyMaxOpsExceeded, UnsupportedBlockMode, IncompatibleBlockMode, UnsupportedPaddingMode, IncompatiblePaddingMode, UnsupportedDigest, IncompatibleDigest, MissingMacLength, UnsupportedMacLength, InvalidMacLength, CallerNonceProhibited, MissingNonce, InvalidNonce, BackendBusy}
 use Rattle.tags.specs.declared.param.Param.{Param}
 use Rattle.tags.specs.declared.plan.Plan.{Plan}
 use Rattle.tags.specs.declared.rule.Rule.{Rule}
 use Rattle.tags.specs.declared.rule.RuleTable.TheVariants.{B}
 use Rattle.tags.specs.Table.{Check, check, first_broken, where_all_hold}
 use Rattle.use_rules.specs.declared.facts.BeginFacts.{BeginFacts}
-use Rattle.use_rules.specs.Rules.{names_key, is_in_policy, may_begin, names_purpose, key_has_purpose, names_mode, key_has_mode, names_padding, takes_padding, names_digest, key_has_digest, gives_length, takes_length, reaches_least, may_give_nonce, has_nonce, fits_nonce}
+use Rattle.use_rules.specs.Rules.{names_key, is_in_policy, may_begin, names_purpose, key_has_purpose, is_active, is_unexpired, is_of_user, is_early, is_unlocked, is_authenticated, has_begins_left, names_mode, key_has_mode, names_padding, takes_padding, names_digest, key_has_digest, gives_length, takes_length, reaches_least, may_give_nonce, has_nonce, fits_nonce}
 use Rattle.use_rules.specs.Plans.{plan_of}
 
 -- the operation's list, where it was read
@@ -41,11 +41,23 @@ call_rules facts =
     check 8 InvalidKeyBlob facts.fits ∷  -- to a list and a material that are usable
     []
 
--- the rules of the operation's list and the key's, and of the slot that the operation takes
-unfoldable pub list_rules : List Param → List Param → Bool → List Check
-list_rules asked key room =
+-- the rules of what the key is for, when, and for whom
+unfoldable pub key_rules : BeginFacts → List Param → List Param → List Check
+key_rules facts asked key =
     check 9 UnsupportedPurpose (names_purpose asked key) ∷  -- one purpose, of the key's algorithm
     check 9 IncompatiblePurpose (key_has_purpose asked key) ∷  -- which the key has
+    check 10 KeyNotYetValid (is_active key facts.wall) ∷  -- the key is active
+    check 11 KeyExpired (is_unexpired asked key facts.wall) ∷  -- and has not expired for the purpose
+    check 12 InvalidUserId (is_of_user key facts.user) ∷  -- it is the caller's user's
+    check 13 EarlyBootEnded (is_early key facts.early_ended) ∷  -- a key of early boot alone works in it
+    check 14 DeviceLocked (is_unlocked key facts.unlocked) ∷  -- a key of the unlocked device works there
+    check 15 KeyUserNotAuthenticated (is_authenticated key facts.timely) ∷  -- a key that a token opens for some time is open
+    check 16 KeyMaxOpsExceeded (has_begins_left key facts.begins) ∷  -- the key has begins left since the last restart
+    []
+
+-- the rules of what the operation's list asks of the key, and of the slot that the operation takes
+unfoldable pub list_rules : List Param → List Param → Bool → List Check
+list_rules asked key room =
     check 17 UnsupportedBlockMode (names_mode asked key) ∷  -- AES: one mode
     check 17 IncompatibleBlockMode (key_has_mode asked key) ∷  -- which the key has
     check 18 UnsupportedPaddingMode (names_padding asked key) ∷  -- AES: one padding
@@ -80,7 +92,7 @@ pub record Agree (asked key : List Param) : Type 0 where
 
 -- table B
 abbrev pub rules_of : BeginFacts → List Check
-rules_of facts = call_rules facts ++ list_rules (asked_of facts) (key_of facts) facts.room
+rules_of facts = call_rules facts ++ key_rules facts (asked_of facts) (key_of facts) ++ list_rules (asked_of facts) (key_of facts) facts.room
 
 -- the first rule that does not hold, with its code, or else the plan
 unfoldable pub answer : BeginFacts → Result Plan (Rule × Code)

@@ -24,6 +24,18 @@ pub struct BeginFacts {
     pub opened: Option<AuthList>,
     /// the key's list and its material are usable
     pub fits: bool,
+    /// the wall reading, in milliseconds since 1970
+    pub wall: u64,
+    /// the caller's user: its uid divided by 100,000
+    pub user: u32,
+    /// early boot has ended
+    pub early_ended: bool,
+    /// the caller's user is unlocked
+    pub unlocked: bool,
+    /// one of the last tokens fits the key and is no older than its AUTH_TIMEOUT
+    pub timely: bool,
+    /// how many begins on the key were admitted since the last restart
+    pub begins: u64,
     /// a slot is free, or an operation gives way
     pub room: bool,
 }

@@ -12,5 +12,5 @@ mod rules;
 mod table;
 
 pub use facts::BeginFacts;
-pub use plans::{nonce_given, nonce_wanted};
+pub use plans::{challenge_wanted, nonce_given, nonce_wanted};
 pub use table::check_begin;

@@ -117,3 +117,21 @@ pub fn nonce_wanted(facts: &BeginFacts) -> usize
         _ => 0,
     }
 }
+
+/// Whether each operation of the key is to be shown a token of its own.
+fn is_per_operation(key: &AuthList) -> bool
+    ensures { result ≡ spec.is_per_operation key.now }
+{
+    key.stands(Tag::UserSecureId) && !key.stands(Tag::AuthTimeout)
+}
+
+/// How many bytes of challenge are drawn behind the nonce: 8 where each operation of the key is to be shown a token that
+/// names its challenge, and else none. It takes no memory.
+pub fn challenge_wanted(facts: &BeginFacts) -> usize
+    ensures { result ≡ spec.challenge_wanted (key_of facts.now) }
+{
+    match &facts.opened {
+        Some(key) if is_per_operation(key) => 8,
+        _ => 0,
+    }
+}

@@ -80,6 +80,85 @@ pub fn key_has_purpose(asked: &AuthList, key: &AuthList) -> bool
     key_has(Tag::Purpose, asked, key)
 }
 
+/// Whether the key is active at the wall reading.
+pub fn is_active(key: &AuthList, wall: u64) -> bool
+    ensures { result ≡ spec.is_active key.now wall }
+{
+    match key.number(Tag::ActiveDatetime) {
+        Some(date) => date <= wall,
+        None => true,
+    }
+}
+
+/// The date behind which the key has no such operation: it makes no more cipher texts and macs, or reads none.
+fn expiry_of(asked: &AuthList) -> Tag
+    ensures { result ≡ spec.expiry_of asked.now }
+{
+    if asked.is_only(Tag::Purpose, ENCRYPT) || asked.is_only(Tag::Purpose, SIGN) {
+        Tag::OriginationExpireDatetime
+    } else {
+        Tag::UsageExpireDatetime
+    }
+}
+
+/// Whether the key has not expired for the operation's purpose at the wall reading.
+pub fn is_unexpired(asked: &AuthList, key: &AuthList, wall: u64) -> bool
+    ensures { result ≡ spec.is_unexpired asked.now key.now wall }
+{
+    match key.number(expiry_of(asked)) {
+        Some(date) => wall <= date,
+        None => true,
+    }
+}
+
+/// Whether the key is for the user, or for every user.
+pub fn is_of_user(key: &AuthList, user: u32) -> bool
+    ensures { result ≡ spec.is_of_user key.now user }
+{
+    match key.number(Tag::UserId) {
+        Some(own) => own == user as u64,
+        None => true,
+    }
+}
+
+/// EARLY_BOOT_ONLY: whether early boot has not ended.
+pub fn is_early(key: &AuthList, early_ended: bool) -> bool
+    ensures { result ≡ spec.is_early key.now early_ended }
+{
+    !key.stands(Tag::EarlyBootOnly) || !early_ended
+}
+
+/// UNLOCKED_DEVICE_REQUIRED: whether the caller's user is unlocked.
+pub fn is_unlocked(key: &AuthList, unlocked: bool) -> bool
+    ensures { result ≡ spec.is_unlocked key.now unlocked }
+{
+    !key.stands(Tag::UnlockedDeviceRequired) || unlocked
+}
+
+/// Whether a token opens the key for some time.
+fn is_for_a_time(key: &AuthList) -> bool
+    ensures { result ≡ spec.is_for_a_time key.now }
+{
+    key.stands(Tag::UserSecureId) && key.stands(Tag::AuthTimeout)
+}
+
+/// A key that a token opens for some time: whether one opens it now.
+pub fn is_authenticated(key: &AuthList, timely: bool) -> bool
+    ensures { result ≡ spec.is_authenticated key.now timely }
+{
+    !is_for_a_time(key) || timely
+}
+
+/// Whether the key has begins left since the last restart.
+pub fn has_begins_left(key: &AuthList, begins: u64) -> bool
+    ensures { result ≡ spec.has_begins_left key.now begins }
+{
+    match key.number(Tag::MaxUsesPerBoot) {
+        Some(most) => begins < most,
+        None => true,
+    }
+}
+
 fn names_known_mode(asked: &AuthList) -> bool
     ensures { result ≡ spec.names_known_mode asked.now }
 {

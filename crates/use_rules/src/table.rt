@@ -1,17 +1,19 @@
 //! Table B, walked in its order.
 
-ghost use Rattle.std.specs.Prelude.{◌≡◌, ℕ, IfOk, OnOk, is_ok, is_some, true};
+ghost use Rattle.std.specs.Prelude.{◌≡◌, ◌++◌, ℕ, List, Err, IfErr, IfOk, OnOk, is_ok, is_some, true};
 ghost use Rattle.tags.specs.declared.rule.RuleTable.TheVariants.{B};
 ghost use Rattle.tags.specs.Plan.{IsWorkable, takes_key};
-ghost use Rattle.tags.specs.Table.{first_broken, rule_of, where_all_hold};
+ghost use Rattle.tags.specs.Table.{Check, first_broken, rule_of, where_all_hold};
 ghost use Rattle.tag_lists.specs.Lookups.{IsKey};
 ghost use Rattle.use_rules.specs.Plans.{NonceFits, plan_of as plan_by};
+ghost use Rattle.use_rules.specs.Rules.{key_has_purpose as has_purpose, names_purpose as names_purpose_of};
 ghost use Rattle.use_rules.specs.Table as spec;
 
 use crate::BeginFacts;
 use crate::plans::plan_of;
 use crate::rules::{
-    fits_nonce, gives_length, has_nonce, is_in_policy, key_has_digest, key_has_mode,
+    fits_nonce, gives_length, has_begins_left, has_nonce, is_active, is_authenticated, is_early,
+    is_in_policy, is_of_user, is_unexpired, is_unlocked, key_has_digest, key_has_mode,
     key_has_purpose, may_begin, may_give_nonce, names_digest, names_key, names_mode, names_padding,
     names_purpose, reaches_least, takes_length, takes_padding,
 };
@@ -25,12 +27,13 @@ fn rule(number: u8) -> Rule
     RuleTable::B.rule(number)
 }
 
-/// The rules of the operation's list and the key's, and of the slot that the operation takes.
-#[tactic(auto, unfolding(crate::specs::Table::list_rules))]
-fn check_lists(asked: &AuthList, key: &AuthList, room: bool) -> Ruling
-    ensures first { result ≡ first_broken B (spec.list_rules asked.now key.now room) }
-    ensures agree { OnOk result (spec.Agree asked.now key.now) }
-    ensures room { OnOk result (room ≡ true) }
+/// The rules of what the key is for, when, and for whom.
+#[tactic(auto, unfolding(crate::specs::Table::key_rules))]
+fn check_conditions(facts: &BeginFacts, asked: &AuthList, key: &AuthList) -> Ruling
+    ensures stops { IfErr result (λ broken. (later : List Check) → first_broken B (spec.key_rules facts.now asked.now key.now ++ later) ≡ Err broken) }
+    ensures goes_on { OnOk result ((later : List Check) → first_broken B (spec.key_rules facts.now asked.now key.now ++ later) ≡ first_broken B later) }
+    ensures purpose { OnOk result (names_purpose_of asked.now key.now ≡ true) }
+    ensures own_purpose { OnOk result (has_purpose asked.now key.now ≡ true) }
 {
     check(rule(9), Code::UnsupportedPurpose, names_purpose(asked, key))?;
     check(
@@ -38,6 +41,43 @@ fn check_lists(asked: &AuthList, key: &AuthList, room: bool) -> Ruling
         Code::IncompatiblePurpose,
         key_has_purpose(asked, key),
     )?;
+    check(rule(10), Code::KeyNotYetValid, is_active(key, facts.wall))?;
+    check(
+        rule(11),
+        Code::KeyExpired,
+        is_unexpired(asked, key, facts.wall),
+    )?;
+    check(rule(12), Code::InvalidUserId, is_of_user(key, facts.user))?;
+    check(
+        rule(13),
+        Code::EarlyBootEnded,
+        is_early(key, facts.early_ended),
+    )?;
+    check(
+        rule(14),
+        Code::DeviceLocked,
+        is_unlocked(key, facts.unlocked),
+    )?;
+    check(
+        rule(15),
+        Code::KeyUserNotAuthenticated,
+        is_authenticated(key, facts.timely),
+    )?;
+    check(
+        rule(16),
+        Code::KeyMaxOpsExceeded,
+        has_begins_left(key, facts.begins),
+    )?;
+    Ok(())
+}
+
+/// The rules of what the operation's list asks of the key, and of the slot that the operation takes.
+#[tactic(auto, unfolding(crate::specs::Table::list_rules))]
+fn check_lists(asked: &AuthList, key: &AuthList, room: bool) -> Ruling
+    ensures first { result ≡ first_broken B (spec.list_rules asked.now key.now room) }
+    ensures agree { OnOk result (names_purpose_of asked.now key.now ≡ true → has_purpose asked.now key.now ≡ true → spec.Agree asked.now key.now) }
+    ensures room { OnOk result (room ≡ true) }
+{
     check(rule(17), Code::UnsupportedBlockMode, names_mode(asked, key))?;
     check(
         rule(17),
@@ -80,16 +120,17 @@ fn check_lists(asked: &AuthList, key: &AuthList, room: bool) -> Ruling
 
 /// The plan, where no rule of the lists and of the slot is broken.
 #[tactic(auto, using(crate::proofs::Begun::workable, crate::proofs::Begun::takes, crate::proofs::Begun::nonce_fits))]
-fn begun(asked: &AuthList, key: &AuthList, room: bool) -> Result<Plan, (Rule, Code)>
-    ensures first { result ≡ where_all_hold (first_broken B (spec.list_rules asked.now key.now room)) (plan_by asked.now key.now) }
-    ensures room { OnOk result (room ≡ true) }
+fn begun(facts: &BeginFacts, asked: &AuthList, key: &AuthList) -> Result<Plan, (Rule, Code)>
+    ensures first { result ≡ where_all_hold (first_broken B (spec.key_rules facts.now asked.now key.now ++ spec.list_rules asked.now key.now facts.now.room)) (plan_by asked.now key.now) }
+    ensures room { OnOk result (facts.now.room ≡ true) }
     ensures plan { IfOk result (λ plan. plan ≡ plan_by asked.now key.now) }
     ensures agree { OnOk result (spec.Agree asked.now key.now) }
     ensures workable { IfOk result (λ plan. (size : ℕ) → IsKey key.now size → IsWorkable plan) }
     ensures takes { IfOk result (λ plan. (size : ℕ) → IsKey key.now size → takes_key plan size ≡ true) }
     ensures nonce { IfOk result (λ plan. NonceFits asked.now key.now plan) }
 {
-    check_lists(asked, key, room)?;
+    check_conditions(facts, asked, key)?;
+    check_lists(asked, key, facts.room)?;
     Ok(plan_of(asked, key))
 }
 
@@ -132,5 +173,5 @@ pub fn check_begin(facts: &BeginFacts) -> Result<Plan, (Rule, Code)>
         return Err((rule(7), Code::InvalidKeyBlob));
     };
     check(rule(8), Code::InvalidKeyBlob, facts.fits)?;
-    begun(asked, key, facts.room)
+    begun(facts, asked, key)
 }

@@ -7,8 +7,8 @@ use Rattle.key_rules.proofs.table.check_cipher_and_last.Goals as goal
 
 pub returns-in-Err-clause-first : goal.returns-in-Err-clause-first
 returns-in-Err-clause-first c =
-    sym (stops K (cipher_rules c.args.import c.args.list.now) (last_rules c.args.list.now) _ (sym c.in-Err.ensures.first))
+    sym (stops K (cipher_rules c.args.import c.args.list.now) (last_rules c.args.early_ended c.args.list.now) _ (sym c.in-Err.ensures.first))
 
 pub returns-in-Ok-clause-first : goal.returns-in-Ok-clause-first
 returns-in-Ok-clause-first c =
-    c.check_last.ensures ∙ sym (goes_on K (cipher_rules c.args.import c.args.list.now) (last_rules c.args.list.now) (sym c.in-Ok.ensures.first))
+    c.check_last.ensures ∙ sym (goes_on K (cipher_rules c.args.import c.args.list.now) (last_rules c.args.early_ended c.args.list.now) (sym c.in-Ok.ensures.first))

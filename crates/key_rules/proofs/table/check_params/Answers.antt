@@ -17,4 +17,4 @@ returns-in-Err-clause-list c =
     let params = c.args.params.now in
     told_first (nat_le (length params) 4096) (is_ok (listed params)) (has_short_ids (list_in params))
     (rule_of K 4, InvalidInputLength) (rule_of K 4, reading_code (listed params)) (rule_of K 4, InvalidInputLength)
-    (first_broken K (list_rules c.args.import (list_in params))) (list_in params) c.in-Err.fault c.in-Err.ensures.list
+    (first_broken K (list_rules c.args.import c.args.early_ended (list_in params))) (list_in params) c.in-Err.fault c.in-Err.ensures.list

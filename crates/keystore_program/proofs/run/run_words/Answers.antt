@@ -14,24 +14,24 @@ pub returns-clause-ends : goal.returns-clause-ends
 returns-clause-ends g c = λ slots form.
     let setup = fresh_setup c.args.device.now c.args.policy.now slots in
     let same : slots ≡ c.in-Some.slots = cc in
-    c.serve_script.ensures.ends setup (c.new-session.ensures.stands setup (c.in-Ok.ensures.stands setup (record { start = refl; policy_is = refl; slots_are = same })))
+    c.serve_script.ensures.ends setup (c.new-session.ensures.stands setup (c.in-Ok.ensures.stands setup (record { start = refl; device_is = refl; policy_is = refl; slots_are = same })))
 
 pub new-session-requires : goal.new-session-requires
 new-session-requires g c = ∣ record {
   setup = fresh_setup c.args.device.now c.args.policy.now c.in-Some.slots;
   past = [];
-  stands = c.in-Ok.ensures.stands (fresh_setup c.args.device.now c.args.policy.now c.in-Some.slots) (record { start = refl; policy_is = refl; slots_are = refl });
+  stands = c.in-Ok.ensures.stands (fresh_setup c.args.device.now c.args.policy.now c.in-Some.slots) (record { start = refl; device_is = refl; policy_is = refl; slots_are = refl });
   none = λ ticket. refl;
 } ∣₁
 
 pub returns-clause-usage : goal.returns-clause-usage
 returns-clause-usage g c =
     let setup = fresh_setup c.args.device.now c.args.policy.now c.in-Some.slots in
-    let ends = c.serve_script.ensures.ends setup (c.new-session.ensures.stands setup (c.in-Ok.ensures.stands setup (record { start = refl; policy_is = refl; slots_are = refl }))) in
+    let ends = c.serve_script.ensures.ends setup (c.new-session.ensures.stands setup (c.in-Ok.ensures.stands setup (record { start = refl; device_is = refl; policy_is = refl; slots_are = refl }))) in
     (λ e. absurd (not_usage _ _ _ setup _ _ _ ends e), λ e. cc)
 
 pub returns-clause-untouched : goal.returns-clause-untouched
 returns-clause-untouched g c = λ e.
     let setup = fresh_setup c.args.device.now c.args.policy.now c.in-Some.slots in
-    let ends = c.serve_script.ensures.ends setup (c.new-session.ensures.stands setup (c.in-Ok.ensures.stands setup (record { start = refl; policy_is = refl; slots_are = refl }))) in
+    let ends = c.serve_script.ensures.ends setup (c.new-session.ensures.stands setup (c.in-Ok.ensures.stands setup (record { start = refl; device_is = refl; policy_is = refl; slots_are = refl }))) in
     absurd (not_usage _ _ _ setup _ _ _ ends e)

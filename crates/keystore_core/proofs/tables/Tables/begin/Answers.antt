@@ -3,13 +3,15 @@ use mathlib.Core.Logic.{∥∥₁_elim}
 use denote.Struct.Props.{≡_prop}
 use Rattle.std.specs.Coded.{coded_bool}
 use Rattle.std.specs.Option.{option_copied}
-use Rattle.use_rules.specs.Table.{answer}
+use Rattle.use_rules.specs.Plans.{challenge_wanted}
+use Rattle.use_rules.specs.Table.{answer, key_of}
 use Rattle.operation_slots.specs.Table.{held}
+use Rattle.rule_model.specs.declared.facts.Conditions.{Conditions}
 use Rattle.rule_model.specs.Access.{owner_of}
 use Rattle.rule_model.specs.Kept.{key_found}
 use Rattle.rule_model.specs.Slots.{pruned_for}
-use Rattle.keystore_core.proofs.Begun.{begins, facts_are, found_key, gathered_room, idle_pruned, is_free, may_begin, no_key, pruned_is, refused, room_is, unkept, without_entropy}
-use Rattle.keystore_core.proofs.Standing.{at_few, at_later, few_operations, same_but_operations}
+use Rattle.keystore_core.proofs.Begun.{Size, begins, facts_are, found_key, gathered_room, idle_pruned, is_free, may_begin, no_key, pruned_is, refused, room_is, unkept, without_entropy}
+use Rattle.keystore_core.proofs.Standing.{at_few, at_later, few_begins, few_operations, same_but_begun}
 use Rattle.keystore_core.proofs.tables.Tables.begin.Goals as goal
 
 pub pruned_for-pruned-requires : goal.pruned_for-pruned-requires
@@ -21,13 +23,13 @@ returns-in-Err-Broken-clause-serves g c = λ setup past at.
     let pruned : c.pruned_for-pruned.result ≡ pruned_for setup past (owner_of c.args.caller) c.args.forced =
     rw c.owner_of-uid.ensures at c.pruned_for-pruned.ensures.pruned ∙ pruned_is setup past c.args.self.now (owner_of c.args.caller) c.args.step c.args.forced stands at.step_is in
     let room = c.has_slot-room.ensures ∙ room_is setup past c.args.self.now (owner_of c.args.caller) c.args.forced c.pruned_for-pruned.result stands pruned in
-    let facts = rw c.as_slice.ensures at c.in_ok-facts.ensures.facts ∙ facts_are setup past c.args.self.now c.args.caller c.args.key c.args.params c.args.forced stands c.requires.caller _ _ _ c.access_by-access.ensures c.key_in-found.ensures room in
+    let facts = rw c.as_slice.ensures at c.in_ok-facts.ensures.facts ∙ facts_are setup past c.args.self.now c.args.caller c.args.key c.args.params c.args.forced stands c.requires.caller _ _ c.has_slot-room.result _ c.access_by-access.ensures c.key_in-found.ensures room c.conditions-conditions.ensures in
     rw (c.refused.ensures.reply, c.refused.ensures.job, c.refused.ensures.drawn, c.in-Err-Broken.rule-is, c.in-Err-Broken.code-is)
     (refused setup past c.args.self.now c.args.caller c.args.key c.args.params c.args.forced stands c.requires.caller _ _ (sym (ap answer facts) ∙ rw c.in-Err-Broken.field-0-is at c.in-Err-Broken.ensures.gives))
 
 pub unreachable-requires : goal.unreachable-requires
 unreachable-requires g c =
-    no_key c.in_ok-facts.facts c.args.self.now.policy (option_copied c.key_in-found.result) c.access_by-access.result c.args.caller c.args.key c.as_slice.result.now c.in-Ok.begin c.args.forced c.has_slot-room.result c.in_ok-facts.ensures.facts (ap option_copied c.in_default.is) c.in-Ok.ensures.gives
+    no_key c.in_ok-facts.facts c.args.self.now.policy (option_copied c.key_in-found.result) c.access_by-access.result c.args.caller c.args.key c.as_slice.result.now c.in-Ok.begin c.args.forced c.conditions-conditions.result c.in_ok-facts.ensures.facts (ap option_copied c.in_default.is) c.in-Ok.ensures.gives
 
 pub next-op-requires : goal.next-op-requires
 next-op-requires g c = few_operations c.args.self.now (at_few c.args.self.now c.args.step _ _ c.requires.few c.requires.at)
@@ -38,12 +40,13 @@ returns-in-Err-clause-serves g c = λ setup past at.
     let pruned : c.pruned_for-pruned.result ≡ pruned_for setup past (owner_of c.args.caller) c.args.forced =
     rw c.owner_of-uid.ensures at c.pruned_for-pruned.ensures.pruned ∙ pruned_is setup past c.args.self.now (owner_of c.args.caller) c.args.step c.args.forced stands at.step_is in
     let room = c.has_slot-room.ensures ∙ room_is setup past c.args.self.now (owner_of c.args.caller) c.args.forced c.pruned_for-pruned.result stands pruned in
-    let facts = rw c.as_slice.ensures at c.in_ok-facts.ensures.facts ∙ facts_are setup past c.args.self.now c.args.caller c.args.key c.args.params c.args.forced stands c.requires.caller _ _ _ c.access_by-access.ensures c.key_in-found.ensures room in
+    let facts = rw c.as_slice.ensures at c.in_ok-facts.ensures.facts ∙ facts_are setup past c.args.self.now c.args.caller c.args.key c.args.params c.args.forced stands c.requires.caller _ _ c.has_slot-room.result _ c.access_by-access.ensures c.key_in-found.ensures room c.conditions-conditions.ensures in
     let may = may_begin c.in-Ok.begin _ _ facts c.in-Ok.ensures.gives in
-    let few : length c.in-Err.drawn < c.in-Ok.begin.wanted = omega (arith, c.in-Err.ensures.part, c.in_ok-draws.ensures) in
+    let wanted : c.challenge_wanted.result ≡ _ = c.challenge_wanted.ensures ∙ ap (λ f. challenge_wanted (key_of f)) facts in
+    let few : length c.in-Err.drawn < Size setup past c.args.self.now c.args.caller c.args.key c.args.params c.args.forced stands c.requires.caller c.in-Ok.begin = omega (arith, c.in-Err.ensures.part, c.in_ok-draws.ensures, wanted) in
     rw (c.without_entropy.ensures.reply, c.without_entropy.ensures.job, c.without_entropy.ensures.drawn)
     (without_entropy setup past c.args.self.now c.args.caller c.args.key c.args.params c.args.forced stands c.requires.caller _ c.in-Ok.begin c.in-Err.drawn may
-    (same_but_operations c.args.self.now c.reserve.new.self c.in_ok-reserve.ensures.same) few)
+    (same_but_begun c.args.self.now c.reserve.new.self c.reserve-2.new.self c.in_ok-reserve.ensures.same c.in_ok-reserve-2.ensures.same) few)
 
 pub returns-in_default-new_cipher-clause-serves : goal.returns-in_default-new_cipher-clause-serves
 returns-in_default-new_cipher-clause-serves g c = λ setup past at.
@@ -51,12 +54,13 @@ returns-in_default-new_cipher-clause-serves g c = λ setup past at.
     let pruned : c.pruned_for-pruned.result ≡ pruned_for setup past (owner_of c.args.caller) c.args.forced =
     rw c.owner_of-uid.ensures at c.pruned_for-pruned.ensures.pruned ∙ pruned_is setup past c.args.self.now (owner_of c.args.caller) c.args.step c.args.forced stands at.step_is in
     let room = c.has_slot-room.ensures ∙ room_is setup past c.args.self.now (owner_of c.args.caller) c.args.forced c.pruned_for-pruned.result stands pruned in
-    let facts = rw c.as_slice.ensures at c.in_ok-facts.ensures.facts ∙ facts_are setup past c.args.self.now c.args.caller c.args.key c.args.params c.args.forced stands c.requires.caller _ _ _ c.access_by-access.ensures c.key_in-found.ensures room in
+    let facts = rw c.as_slice.ensures at c.in_ok-facts.ensures.facts ∙ facts_are setup past c.args.self.now c.args.caller c.args.key c.args.params c.args.forced stands c.requires.caller _ _ c.has_slot-room.result _ c.access_by-access.ensures c.key_in-found.ensures room c.conditions-conditions.ensures in
     let may = may_begin c.in-Ok.begin _ _ facts c.in-Ok.ensures.gives in
-    let long : length c.in-Ok-draw.drawn ≡ c.in-Ok.begin.wanted = omega (arith, c.in-Ok-draw.ensures.whole, c.in_ok-draws.ensures) in
+    let wanted : c.challenge_wanted.result ≡ _ = c.challenge_wanted.ensures ∙ ap (λ f. challenge_wanted (key_of f)) facts in
+    let long : length c.in-Ok-draw.drawn ≡ Size setup past c.args.self.now c.args.caller c.args.key c.args.params c.args.forced stands c.requires.caller c.in-Ok.begin = omega (arith, c.in-Ok-draw.ensures.whole, c.in_ok-draws.ensures, wanted) in
     rw (c.without_memory.ensures.reply, c.without_memory.ensures.job, c.without_memory.ensures.drawn)
     (unkept setup past c.args.self.now c.args.caller c.args.key c.args.params c.args.forced stands c.requires.caller _ c.in-Ok.begin c.in-Ok-draw.drawn may
-    (same_but_operations c.args.self.now c.reserve.new.self c.in_ok-reserve.ensures.same) long)
+    (same_but_begun c.args.self.now c.reserve.new.self c.reserve-2.new.self c.in_ok-reserve.ensures.same c.in_ok-reserve-2.ensures.same) long)
 
 pub open-requires-clause-idle : goal.open-requires-clause-idle
 open-requires-clause-idle g c = c.pruned_for-pruned.ensures.idle
@@ -64,7 +68,7 @@ open-requires-clause-idle g c = c.pruned_for-pruned.ensures.idle
 pub open-requires-clause-free : goal.open-requires-clause-free
 open-requires-clause-free g c =
     is_free _ c.has_slot-room.result c.pruned_for-pruned.result c.has_slot-room.ensures
-    (sym (gathered_room c.in_ok-facts.facts c.args.self.now.policy (option_copied c.key_in-found.result) c.access_by-access.result c.args.caller c.args.key c.as_slice.result.now c.args.forced c.has_slot-room.result c.in_ok-facts.ensures.facts) ∙ c.in-Ok.ensures.gives.has_room)
+    (sym (gathered_room c.in_ok-facts.facts c.args.self.now.policy (option_copied c.key_in-found.result) c.access_by-access.result c.args.caller c.args.key c.as_slice.result.now c.args.forced c.conditions-conditions.result c.in_ok-facts.ensures.facts ∙ ap (λ (k : Conditions). k.room) c.conditions-conditions.ensures) ∙ c.in-Ok.ensures.gives.has_room)
 
 pub open-requires-clause-fresh : goal.open-requires-clause-fresh
 open-requires-clause-fresh g c = rw c.new_operation-row.ensures.number_is (∥∥₁_elim c.requires.at (≡_prop coded_bool _ _) (λ t.
@@ -82,15 +86,16 @@ returns-clause-serves g c = λ setup past at.
     let pruned : c.pruned_for-pruned.result ≡ pruned_for setup past (owner_of c.args.caller) c.args.forced =
     rw c.owner_of-uid.ensures at c.pruned_for-pruned.ensures.pruned ∙ pruned_is setup past c.args.self.now (owner_of c.args.caller) c.args.step c.args.forced stands at.step_is in
     let room = c.has_slot-room.ensures ∙ room_is setup past c.args.self.now (owner_of c.args.caller) c.args.forced c.pruned_for-pruned.result stands pruned in
-    let facts = rw c.as_slice.ensures at c.in_ok-facts.ensures.facts ∙ facts_are setup past c.args.self.now c.args.caller c.args.key c.args.params c.args.forced stands c.requires.caller _ _ _ c.access_by-access.ensures c.key_in-found.ensures room in
+    let facts = rw c.as_slice.ensures at c.in_ok-facts.ensures.facts ∙ facts_are setup past c.args.self.now c.args.caller c.args.key c.args.params c.args.forced stands c.requires.caller _ _ c.has_slot-room.result _ c.access_by-access.ensures c.key_in-found.ensures room c.conditions-conditions.ensures in
     let may = may_begin c.in-Ok.begin _ _ facts c.in-Ok.ensures.gives in
-    let long : length c.in-Ok-draw.drawn ≡ c.in-Ok.begin.wanted = omega (arith, c.in-Ok-draw.ensures.whole, c.in_ok-draws.ensures) in
+    let wanted : c.challenge_wanted.result ≡ _ = c.challenge_wanted.ensures ∙ ap (λ f. challenge_wanted (key_of f)) facts in
+    let long : length c.in-Ok-draw.drawn ≡ Size setup past c.args.self.now c.args.caller c.args.key c.args.params c.args.forced stands c.requires.caller c.in-Ok.begin = omega (arith, c.in-Ok-draw.ensures.whole, c.in_ok-draws.ensures, wanted) in
     let found : key_found setup past c.args.caller c.args.key ≡ Some c.in-Some.found.now =
     sym (found_key setup past c.args.self.now c.args.caller c.args.key c.args.params c.args.forced stands c.requires.caller _ c.access_by-access.ensures) ∙ sym c.key_in-found.ensures ∙ ap option_copied c.in-Some.is in
     let number : c.next-op.result ≡ _ + 1 = c.next-op.ensures ∙ ap (λ n. n + 1) (sym c.in_ok-reserve.ensures.same.given) in
     begins setup past c.args.self.now c.args.caller c.args.key c.args.params c.args.forced stands c.requires.caller
-    (record c.args.self.now { operations = c.reserve.new.self }) c.open.new.self c.in-Some.found.now c.in-Ok.begin c.new_operation-row.result c.in-Ok-new_cipher.state
-    c.in-Ok-draw.drawn c.next-op.result c.args.step c.drawn_nonce.result c.pruned_for-pruned.result found may
-    (same_but_operations c.args.self.now c.reserve.new.self c.in_ok-reserve.ensures.same) long number
-    (rw c.as_slice-3.ensures at c.drawn_nonce.ensures) pruned (idle_pruned c.args.self.now.slots c.pruned_for-pruned.result c.pruned_for-pruned.ensures.idle) at.step_is
+    (record c.args.self.now { operations = c.reserve.new.self; boot = record c.args.self.now.boot { begins = c.reserve-2.new.self } }) c.open.new.self c.in-Some.found.now c.in-Ok.begin c.new_operation-row.result c.in-Ok-new_cipher.state
+    c.in-Ok-draw.drawn c.next-op.result c.args.step c.challenge_in-challenge.result c.drawn_nonce-nonce.result c.pruned_for-pruned.result found may
+    (same_but_begun c.args.self.now c.reserve.new.self c.reserve-2.new.self c.in_ok-reserve.ensures.same c.in_ok-reserve-2.ensures.same) long number
+    c.challenge_in-challenge.ensures c.drawn_nonce-nonce.ensures pruned (idle_pruned c.args.self.now.slots c.pruned_for-pruned.result c.pruned_for-pruned.ensures.idle) at.step_is
     c.new_operation-row.ensures (rw c.as_slice-2.ensures at c.in-Ok-new_cipher.ensures) (rw c.owner_of-uid.ensures at c.open.ensures)

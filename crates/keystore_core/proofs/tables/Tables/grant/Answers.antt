@@ -10,9 +10,8 @@ make-requires c =
     let same = c.in_ok-reserve_grant.ensures.same in
     let live : some_has_id c.in-Some.key (lasting_in c.args.self.now.keys).keys ≡ true =
     found_live c.args.self.now.policy (lasting_in c.args.self.now.keys) c.args.caller c.args.key.now c.in-Some.key (sym c.key_call-id.ensures.id ∙ c.in-Some.is) in
-    let place : has_grant_place (lasting_in c.args.self.now.keys) c.in-Some.key c.args.uid ≡ true = sym c.has_grant_place.ensures ∙ c.if-not-has_grant_place.false in
-    (
+    let place : has_grant_place (lasting_in c.args.self.now.keys) c.in-Some.key c.args.uid ≡ true = sym c.has_grant_place.ensures ∙ c.if-not-has_grant_place.false in (
       may_grant (lasting_in c.reserve_grant.new.self) c.in-Some.key c.args.uid c.of_bits-bits.result c.grant_number-grant.result
-      (ap (λ (part : Lasting). some_has_id c.in-Some.key part.keys) same ∙ live) (ap (λ part. has_grant_place part c.in-Some.key c.args.uid) same ∙ place) c.grant_number-grant.ensures,
+          (ap (λ (part : Lasting). some_has_id c.in-Some.key part.keys) same ∙ live) (ap (λ part. has_grant_place part c.in-Some.key c.args.uid) same ∙ place) c.grant_number-grant.ensures,
       (λ e. cc, λ e. c.in_ok-reserve_grant.ensures.room),
     )

@@ -10,18 +10,18 @@ use Rattle.keystore_core.proofs.tables.Tables.make_key.Goals as goal
 
 pub returns-in-Err-Broken-clause-serves : goal.returns-in-Err-Broken-clause-serves
 returns-in-Err-Broken-clause-serves g c = λ setup past stands.
-    let facts = c.new_facts-facts.ensures in
+    let facts = rw c.has_early_ended-early_ended.ensures at c.new_facts-facts.ensures in
     let broken = planned_as setup past c.args.self.now c.args.caller c.args.key c.args.params c.args.import stands c.requires.caller _
-        (sym (ap planned facts) ∙ rw c.in-Err-Broken.field-0-is at c.in-Err-Broken.ensures.key) in
+    (sym (ap planned facts) ∙ rw c.in-Err-Broken.field-0-is at c.in-Err-Broken.ensures.key) in
     rw (c.refused.ensures.reply, c.refused.ensures.job, c.refused.ensures.drawn, c.in-Err-Broken.rule-is, c.in-Err-Broken.code-is)
     (refused setup past c.args.self.now c.args.caller c.args.key c.args.params c.args.import stands c.requires.caller _ _ broken)
 
 pub returns-then-not-has_key_place-clause-serves : goal.returns-then-not-has_key_place-clause-serves
 returns-then-not-has_key_place-clause-serves g c = λ setup past stands.
-    let facts = c.new_facts-facts.ensures in
+    let facts = rw c.has_early_ended-early_ended.ensures at c.new_facts-facts.ensures in
     let told = rw (c.owner_of-uid.ensures, ap (λ (f : NewFacts). f.descriptor) facts) at c.has_key_place.ensures in
     let plan = planned_as setup past c.args.self.now c.args.caller c.args.key c.args.params c.args.import stands c.requires.caller _
-        (sym (ap planned facts) ∙ c.in-Ok.ensures.key) in
+    (sym (ap planned facts) ∙ c.in-Ok.ensures.key) in
     rw (c.stopped.ensures.reply, c.stopped.ensures.job, c.stopped.ensures.drawn)
     (full setup past c.args.self.now c.args.caller c.args.key c.args.params c.args.import stands c.requires.caller c.in-Ok.plan plan
     (sym (place_is setup past c.args.self.now c.args.caller c.args.key c.args.params c.args.import stands c.requires.caller) ∙ sym told
@@ -29,12 +29,12 @@ returns-then-not-has_key_place-clause-serves g c = λ setup past stands.
 
 pub returns-in-Err-clause-serves : goal.returns-in-Err-clause-serves
 returns-in-Err-clause-serves g c = λ setup past stands.
-    let facts = c.new_facts-facts.ensures in
+    let facts = rw c.has_early_ended-early_ended.ensures at c.new_facts-facts.ensures in
     let told = rw (c.owner_of-uid.ensures, ap (λ (f : NewFacts). f.descriptor) facts) at c.has_key_place.ensures in
     let plan = planned_as setup past c.args.self.now c.args.caller c.args.key c.args.params c.args.import stands c.requires.caller _
-        (sym (ap planned facts) ∙ c.in-Ok.ensures.key) in
+    (sym (ap planned facts) ∙ c.in-Ok.ensures.key) in
     let place = sym (place_is setup past c.args.self.now c.args.caller c.args.key c.args.params c.args.import stands c.requires.caller) ∙ sym told
-        ∙ c.if-not-has_key_place.false in
+    ∙ c.if-not-has_key_place.false in
     let few : length c.in-Err.drawn < c.in-Ok.plan.size + 12 = omega (arith, c.in-Err.ensures.part, c.in_ok-draws.ensures) in
     rw (c.without_entropy.ensures.reply, c.without_entropy.ensures.job, c.without_entropy.ensures.drawn)
     (without_entropy setup past c.args.self.now c.args.caller c.args.key c.args.params c.args.import stands c.requires.caller _ c.in-Ok.plan c.in-Err.drawn plan place
@@ -54,17 +54,17 @@ make-requires g c =
       ap (λ (n : ℕ × ℕ). n.0) c.next_numbers-id.ensures,
     ) at c.new_key-change.ensures in
     rw changed
-    (may_make c.args.self.now.policy c.args.caller c.args.key c.args.params c.args.import c.reserve_key.new.self c.in-Ok.plan c.in-Ok-draw.drawn c.in_ok-reserve_key.ensures.room place small
+    (may_make c.args.self.now.policy c.args.caller c.args.key c.args.params c.args.import _ c.reserve_key.new.self c.in-Ok.plan c.in-Ok-draw.drawn c.in_ok-reserve_key.ensures.room place small
     (rw c.new_facts-facts.ensures at c.in-Ok.ensures.fit) long)
 
 pub returns-clause-serves : goal.returns-clause-serves
 returns-clause-serves g c = λ setup past stands.
-    let facts = c.new_facts-facts.ensures in
+    let facts = rw c.has_early_ended-early_ended.ensures at c.new_facts-facts.ensures in
     let told = rw (c.owner_of-uid.ensures, ap (λ (f : NewFacts). f.descriptor) facts) at c.has_key_place.ensures in
     let plan = planned_as setup past c.args.self.now c.args.caller c.args.key c.args.params c.args.import stands c.requires.caller _
-        (sym (ap planned facts) ∙ c.in-Ok.ensures.key) in
+    (sym (ap planned facts) ∙ c.in-Ok.ensures.key) in
     let place = sym (place_is setup past c.args.self.now c.args.caller c.args.key c.args.params c.args.import stands c.requires.caller) ∙ sym told
-        ∙ c.if-not-has_key_place.false in
+    ∙ c.if-not-has_key_place.false in
     let long : length c.in-Ok-draw.drawn ≡ c.in-Ok.plan.size + 12 = omega (arith, c.in-Ok-draw.ensures.whole, c.in_ok-draws.ensures) in
     let number : c.next_numbers-id.result.0 ≡ (lasting_in c.reserve_key.new.self).next_key = ap (λ (n : ℕ × ℕ). n.0) c.next_numbers-id.ensures in
     let changed = rw (c.owner_of-uid.ensures, ap (λ (f : NewFacts). f.descriptor) facts, c.as_slice.ensures, number) at c.new_key-change.ensures in
