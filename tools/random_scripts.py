@@ -21,7 +21,7 @@ import tempfile
 import threading
 from pathlib import Path
 
-from authenticator import replies_of
+from dialog import replies_of
 from script_maker import Maker, without_challenge
 
 PROGRAM = Path(__file__).resolve().parent.parent / "crates/keystore_program/out/keystore_program"

@@ -4,7 +4,7 @@ import json
 import re
 from dataclasses import replace
 
-from authenticator import filled, note
+from dialog import filled, note
 from make_token import DEMO_KEY, mac_of
 from model_outputs import gcm_sealed, raw_output, whole_output
 from model_values import (

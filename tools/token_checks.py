@@ -2,7 +2,7 @@
 """Writes the scripts of checks/ on tokens, each with its expected replies beside it.
 
 The replies stand here as the rules of docs/RULES.md give them, each at its line. A token whose challenge is "op N" is filled in when
-the script is run (`tools/authenticator.py`).
+the script is run (`tools/dialog.py`).
 """
 from check_lines import (
     GRANT, MAC_LIST, OK, PARAMS, SELINUX, Rows, at, begin, broken, call, made, named, numbered, write,

@@ -1,12 +1,12 @@
 #!/usr/bin/env python3
-"""Runs the program over the script on standard input and plays the authenticator of the demo device, whose tokens need challenges
-that are drawn.
+"""Runs the program over the script on standard input as a dialog: a line may need what an earlier reply told.
 
-    python3 tools/authenticator.py [WORDS OF THE PROGRAM ..] < SCRIPT
+    python3 tools/dialog.py [WORDS OF THE PROGRAM ..] < SCRIPT
 
 The words are `run --fresh` where none are given. A line addAuthToken of such a script may have "op N" as its challenge and no mac:
-it gets the challenge that the reply to the begin of operation N told, and the right mac; with a member `flip` that bit of the mac is
-turned. So a line is sent once the reply to the one before is there. The replies are printed as they come.
+it gets the challenge that the reply to the begin of operation N told, and the mac that an authenticator of the demo device makes;
+with a member `flip` that bit of the mac is turned. So a line is sent once the reply to the one before is there. The replies are
+printed as they come.
 """
 import json
 import re
