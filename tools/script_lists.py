@@ -36,8 +36,8 @@ RESTRICTIONS = {
     "ACTIVE_DATETIME": DATES,
     "ORIGINATION_EXPIRE_DATETIME": DATES,
     "USAGE_EXPIRE_DATETIME": DATES,
-    "MAX_USES_PER_BOOT": [0, 1, 2, 2, 3],
-    "USER_ID": [0, 0, 1, 42949],
+    "MAX_USES_PER_BOOT": [0, 1, 1, 2, 2, 3],
+    "USER_ID": [0, 0, 0, 1, 42949],
     "EARLY_BOOT_ONLY": [True],
     "UNLOCKED_DEVICE_REQUIRED": [True],
 }
@@ -106,9 +106,9 @@ class ListMaker:
 
     def restricted(self, params):
         """A list with a restriction, or with some of them, or as it is."""
-        if self.chance(0.3):
+        if self.chance(0.35):
             params = self.authenticated(params)
-        while self.chance(0.3):
+        while self.chance(0.4):
             name = self.random.choice(list(RESTRICTIONS))
             params = params + [[name, self.random.choice(RESTRICTIONS[name])]]
         return params

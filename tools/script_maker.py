@@ -109,7 +109,7 @@ class Maker(ListMaker):
             self.put(self.line())
             if self.service.operations and self.chance(0.0005):
                 self.fill(self.random.choice(list(self.service.operations)))
-            if self.chance(0.0005):
+            if self.chance(0.001):
                 self.fill_tokens()
 
     def descriptor(self):
@@ -171,12 +171,18 @@ class Maker(ListMaker):
             params = [pair for pair in params if pair[0] != "PURPOSE"] + [["KEY_SIZE", 8 * size]]
             members["params"] = self.spelled(params)
 
+    def own_name(self, client):
+        """The name of a key of the client's app, where it has one."""
+        uid = self.service.uid_of(client)
+        aliases = [alias for domain, nspace, alias in self.service.store.live if (domain, nspace) == (APP, uid)]
+        return {"domain": APP, "alias": self.random.choice(aliases).decode() if aliases else "a"}
+
     def begin(self, members):
         """Begins an operation, mostly under a key that is there."""
         descriptor = self.descriptor()
         key = self.found(members["c"], descriptor)
-        if key is None and self.chance(0.6):
-            descriptor = {"domain": APP, "alias": "a"}
+        if key is None and self.chance(0.8):
+            descriptor = self.own_name(members["c"])
             key = self.found(members["c"], descriptor)
         members["do"] = "createOperation"
         members["key"] = descriptor
