@@ -5,7 +5,7 @@ The replies stand here as the rules of docs/RULES.md give them, each at its line
 in a file .words.
 """
 from check_lines import (
-    APP, ASKED, BLOB, GRANT, KEY_ID, OK, PARAMS, SELINUX, begin, broken, call, clients, connect, made, named, numbered, write,
+    APP, BLOB, GRANT, KEY_ID, OK, SELINUX, begin, broken, call, clients, connect, made, named, numbered, write,
 )
 
 # What is kept of PARAMS: a count, and each tag with its value, by the tags' numbers.
