@@ -8,6 +8,7 @@ import itertools
 from check_lines import (
     ASKED, GRANT, KEY_ID, MAC_LIST, OK, PARAMS, SELINUX, Rows, at, begin, broken, call, made, named, numbered, write,
 )
+from script_events import encoded_list, read_list, write_list
 
 MAC, AES = "mac", "aes"
 AES_LIST = [
@@ -287,7 +288,32 @@ def one_slot():
     return rows.rows
 
 
+# What is kept of each restriction: the list of the key's entry has it in its place.
+
+KEPT_LISTS = [
+    [["EARLY_BOOT_ONLY", True]], [["ACTIVE_DATETIME", 0]], [["ORIGINATION_EXPIRE_DATETIME", LAST]], [["USAGE_EXPIRE_DATETIME", 1]],
+    [["MAX_USES_PER_BOOT", 0]], [["USER_ID", 4294967295]], [["USER_SECURE_ID", 7]], [["USER_AUTH_TYPE", 3]], [["AUTH_TIMEOUT", 0]],
+    [["UNLOCKED_DEVICE_REQUIRED", True]], [["CREATION_DATETIME", 5]],
+    [["USER_SECURE_ID", LAST], ["USER_SECURE_ID", 0], ["USER_SECURE_ID", 7], ["USER_SECURE_ID", 7], ["USER_SECURE_ID", 256]],
+    [["AUTH_TIMEOUT", 10], ["USER_AUTH_TYPE", 2], ["USER_SECURE_ID", 9], ["MAX_USES_PER_BOOT", 3], ["ACTIVE_DATETIME", 1]],
+]
+
+
+def kept_lists():
+    rows = Rows([10001])
+    for restrictions in KEPT_LISTS:
+        free = [] if any(name == "USER_SECURE_ID" for name, _ in restrictions) else [FREE]
+        rows.key(1, "k", [*restrictions, *free, *reversed(MAC_LIST)])
+        kept = [*MAC_LIST, *free, *restrictions, ["KEY_SIZE", 160], ["ORIGIN", 2]]
+        kept += [] if any(name == "CREATION_DATETIME" for name, _ in restrictions) else [["CREATION_DATETIME", 1000]]
+        encoded = write_list(read_list(encoded_list(kept))).hex()
+        entry = {"code": 0, "key": rows.keys, "domain": 0, "nspace": 10001, "alias": "k", "list": encoded}
+        rows.put(call(1, "getKeyEntry", key=named("k")), entry)
+    return rows.rows
+
+
 if __name__ == "__main__":
+    write("kept-lists", kept_lists())
     write("dates", dates())
     write("restriction-order", order())
     write("device-locks", locks())
