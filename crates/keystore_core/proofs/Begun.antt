@@ -52,7 +52,7 @@ use Rattle.pruning.specs.Facts as seen
 use Rattle.pruning.specs.Victim.{OpenFacts, victim}
 use Rattle.rule_model.specs.Answer.{begun_with}
 use Rattle.keystore_core.specs.Alike.{Alike}
-use Rattle.keystore_core.specs.Boot.{conditions_in}
+use Rattle.keystore_core.specs.Boot.{SameBoot, conditions_in}
 use Rattle.keystore_core.specs.Device.{early_in, unlocked_in}
 use Rattle.keystore_core.specs.Tokens.{token_key_in, tokens_in}
 use Rattle.keystore_core.specs.Beginning.{IsNewRow, MakesWay, OpensOne}
@@ -63,7 +63,7 @@ use Rattle.keystore_core.specs.Operations.{IsRow, has_row, operations_given, row
 use Rattle.keystore_core.specs.Slots.{IsKept, IsSlot}
 use Rattle.keystore_core.specs.Tables.{AnswersAfter, IsCaller, SameTables, TablesStand, event_by}
 use Rattle.keystore_core.proofs.Alike.{alike_filter, alike_images, alike_length, alike_more}
-use Rattle.keystore_core.proofs.Booted.{boot_after, boot_still, conditions_are}
+use Rattle.keystore_core.proofs.Booted.{boot_after, boot_still, conditions_are, same_boot_twice}
 use Rattle.keystore_core.proofs.KeyTable.{keys_stay, same_keys_twice}
 use Rattle.keystore_core.proofs.Opened.{found_more, is_other, stays_by, stays_same, without_keeps}
 use Rattle.keystore_core.proofs.Standing.{called, clients_stay, denied_tables, rows_after, same_tables, slots_after, still, tickets_stay}
@@ -248,9 +248,9 @@ module _ (setup : Setup) (past : History) (tables : Tables) (caller : Caller) (k
       ∙ ap (λ k. opens k (facts_of_begin setup past caller key params) caller (record no_fields { op = Some number; challenge = challenge; nonce = nonce; pruned = pruned }) drawn) is
 
   -- it counts for the key that was found
-  counted : (found : KeyRecord) (drawn : List ℕ) (number : ℕ) (challenge : Option ℕ) (nonce : Option (List ℕ)) (pruned : Option ℕ) → key_found setup past caller key ≡ Some found
-      → boot_change setup past Beginning (begun_with number challenge nonce pruned) ≡ BeginsOn found.id
-  counted found drawn number challenge nonce pruned is = sym (ap (λ c. begins_on (id_of (key_found setup past c key))) same) ∙ ap (λ k. begins_on (id_of k)) is
+  counted : (found : KeyRecord) (drawn : List ℕ) (number : ℕ) (challenge : Option ℕ) (own : Option (List ℕ)) (pruned : Option ℕ) → key_found setup past caller key ≡ Some found
+      → boot_change setup past Beginning (begun_with number challenge own pruned) ≡ BeginsOn found.id
+  counted found drawn number challenge own pruned is = sym (ap (λ c. begins_on (id_of (key_found setup past c key))) same) ∙ ap (λ k. begins_on (id_of k)) is
 
   -- what the operation that gives way leaves
   pub record Way (pruned : Option ℕ) (middle : Tables) : Type 0 where
@@ -263,6 +263,7 @@ module _ (setup : Setup) (past : History) (tables : Tables) (caller : Caller) (k
     pub fresh : (number : ℕ) → held tables.slots number ≡ None → held middle.slots number ≡ None
     pub later : (next : ℕ) → IsLater tables.slots next → IsLater middle.slots next
     pub tickets : Rattle.keystore_core.specs.Tickets.SameTickets tables.tickets middle.tickets
+    pub boot : SameBoot tables.boot middle.boot
     pub keeps : (n : ℕ) (x : Open) → is_busy x ≡ true → find (has_number n) (open_of setup past) ≡ Some x → find (has_number n) (without_pruned pruned (open_of setup past)) ≡ Some x
 
   makes_way : (start : Tables) (pruned : Option ℕ) (middle : Tables) → SameTables tables start → ((op : ℕ) → pruned ≡ Some op → is_some (idle_value (held tables.slots op)) ≡ true) → MakesWay pruned start middle → Way pruned middle
@@ -276,6 +277,7 @@ module _ (setup : Setup) (past : History) (tables : Tables) (caller : Caller) (k
     fresh = λ number none. rw (way, still.slots) none;
     later = λ next l. rw (way, still.slots) l;
     tickets = rw way still.tickets;
+    boot = rw way still.boot;
     keeps = λ n x busy found. found;
   }
   makes_way start (Some op) middle still idle way =
@@ -290,6 +292,7 @@ module _ (setup : Setup) (past : History) (tables : Tables) (caller : Caller) (k
         fresh = λ number none. way.fresh number (rw still.slots none);
         later = λ next l. way.later next (rw still.slots l);
         tickets = record { outs = λ ticket. way.tickets.outs ticket ∙ still.tickets.outs ticket; given = way.tickets.given ∙ still.tickets.given };
+        boot = same_boot_twice tables.boot start.boot middle.boot still.boot way.boot;
         keeps = λ n x busy found. without_keeps op (open_of setup past) n x
             (is_other op n (open_of setup past) x (idle_there (held tables.slots op) (operation_at setup past op) (slot_found setup past tables op stands) (idle op refl)) found busy) found;
       }
@@ -348,7 +351,7 @@ module _ (setup : Setup) (past : History) (tables : Tables) (caller : Caller) (k
               (λ next l. one.later next (way.later next (stands.slots.later next (omega (arith, l)))) (omega (arith, l, is_step)));
           tickets = tickets_stay setup past Beginning drawn reply tables.tickets new.tickets stands.tickets
               (record { outs = λ ticket. one.tickets.outs ticket ∙ way.tickets.outs ticket; given = one.tickets.given ∙ way.tickets.given }) refl refl stays;
-          boot = boot_after setup past Beginning drawn reply (BeginsOn found.id) start.boot new.boot (boot_still setup past tables.boot start.boot stands.boot still_same.boot)
+          boot = boot_after setup past Beginning drawn reply (BeginsOn found.id) one.middle.boot new.boot (boot_still setup past tables.boot one.middle.boot stands.boot way.boot)
               (counted found drawn number challenge nonce pruned is)
               (record { users = λ user. ap (λ device. unlocked_in device user) one.device; early = ap early_in one.device })
               (record { tokens = ap tokens_in one.tokens; key = ap token_key_in one.tokens })

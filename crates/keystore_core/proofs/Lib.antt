@@ -11,3 +11,5 @@ pub mod Making
 pub mod Begun
 pub mod Stepped
 pub mod Left
+pub mod Shown
+pub mod Users

@@ -59,6 +59,6 @@ pub record OpensOne (pruned : Option ℕ) (step uid key : ℕ) (row : Operation)
   pub found : FindsNew middle.slots new.slots (idle_operation row.number uid row.client step state)
   pub later : KeepsLaterThan middle.slots new.slots step
   pub tickets : SameTickets middle.tickets new.tickets
-  pub device : new.boot.device ≡ old.boot.device
-  pub tokens : new.boot.tokens ≡ old.boot.tokens
-  pub begins : ChangesBegins (BeginsOn key) old.boot.begins new.boot.begins
+  pub device : new.boot.device ≡ middle.boot.device
+  pub tokens : new.boot.tokens ≡ middle.boot.tokens
+  pub begins : ChangesBegins (BeginsOn key) middle.boot.begins new.boot.begins

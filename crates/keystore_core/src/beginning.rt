@@ -267,6 +267,7 @@ impl Tables {
         requires idle { IfSome pruned (λ op. IsSome (state_at self.old op)) }
         requires free { IfNone pruned (is_free self.old.slots ≡ true) }
         ensures way { spec.MakesWay pruned self.old self.new }
+        ensures boot { self.new.boot ≡ self.old.boot }
         ensures free { is_free self.new.slots ≡ true }
         ensures room { HasRoomForOperation self.old.operations → HasRoomForOperation self.new.operations }
     {
@@ -295,10 +296,10 @@ impl Tables {
         requires less { begins_in self.old.boot.begins key < 2 ^ 62 }
         ensures { spec.OpensOne pruned step uid key row state self.old self.new }
     {
-        self.boot.begins.count(key);
         self.make_way(pruned);
         self.slots.begin(row.number, uid, row.client, step, state);
         self.operations.open(row);
+        self.boot.begins.count(key);
     }
 
     /// A client begins an operation on a key that its descriptor finds.

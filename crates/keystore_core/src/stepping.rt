@@ -1,6 +1,6 @@
 //! The enters of an open operation with additional data, text and the last text, and the abort.
 
-ghost use Rattle.std.specs.Prelude.{◌≡◌, ℕ, ◌+◌, ◌-◌, ◌^◌, ◌<◌, [], true, None, Ok, IfOk, IfSome, IsSome};
+ghost use Rattle.std.specs.Prelude.{◌≡◌, ℕ, ◌+◌, ◌-◌, ◌^◌, ◌<◌, ◌&&◌, not, is_some, [], true, None, Ok, IfOk, IfSome, IsSome};
 ghost use Rattle.cipher_ops.specs.Jobs.{ticket_of};
 ghost use Rattle.step_rules.specs.Table.{ends_operation as ends};
 ghost use Rattle.operation_slots.specs.Table.{has_room as is_free};
@@ -18,7 +18,7 @@ ghost use Rattle.keystore_core.specs.Tables.{IsCaller, IsTables, ServesAfter, Ta
 ghost use Rattle.keystore_core.specs.Tickets.{HasRoomForTicket, tickets_given};
 
 use crate::answered::Answered;
-use crate::operations::RowChange;
+use crate::operations::{Operation, RowChange};
 use crate::tables::Tables;
 use crate::tickets::Out;
 use cipher_ops::{Job, JobRoom, Work};
@@ -60,6 +60,13 @@ fn brought_by(work: &Work) -> Brought
     }
 }
 
+/// Whether an operation waits for a token.
+fn is_waiting(operation: &Operation) -> bool
+    ensures { result ≡ (is_some operation.now.challenge && not operation.now.shown) }
+{
+    operation.challenge.is_some() && !operation.shown
+}
+
 impl Tables {
     /// Whether the key of an operation has ended; an operation on no stored key has none that could.
     fn has_ended(&self, key: Option<u64>) -> bool
@@ -88,7 +95,7 @@ impl Tables {
                 input,
                 signature,
                 ended: self.has_ended(operation.key),
-                waiting: operation.challenge.is_some() && !operation.shown,
+                waiting: is_waiting(operation),
                 plan: operation.plan,
                 aad: operation.aad,
                 text: operation.text,
@@ -112,6 +119,7 @@ impl Tables {
     pub fn close(&mut self, op: u64)
         requires { IsSome (state_at self.old op) }
         ensures closes { ClosesOne op self.old self.new }
+        ensures boot { self.new.boot ≡ self.old.boot }
         ensures free { is_free self.new.slots ≡ true }
         ensures room { HasRoomForOperation self.old.operations → HasRoomForOperation self.new.operations }
     {

@@ -1,8 +1,10 @@
+use Rattle.std.proofs.lemmas.Result.{err_from_is_err_and}
 use Rattle.std.proofs.Common.{◌≡◌, false, None, ◌+◌, ◌<◌, length, Some, is_some, ap, sym, ◌∙◌, arith}
 use mathlib.Core.Logic.{∥∥₁_elim}
 use denote.Struct.Props.{≡_prop}
 use Rattle.std.specs.Coded.{coded_bool}
 use Rattle.std.specs.Option.{option_copied}
+use Rattle.ks_outside.proofs.Shown.{drew_none}
 use Rattle.use_rules.specs.Plans.{challenge_wanted}
 use Rattle.use_rules.specs.Table.{answer, key_of}
 use Rattle.operation_slots.specs.Table.{held}
@@ -97,5 +99,16 @@ returns-clause-serves g c = λ setup past at.
     (record c.args.self.now { operations = c.reserve.new.self; boot = record c.args.self.now.boot { begins = c.reserve-2.new.self } }) c.open.new.self c.in-Some.found.now c.in-Ok.begin c.new_operation-row.result c.in-Ok-new_cipher.state
     c.in-Ok-draw.drawn c.next-op.result c.args.step c.challenge_in-challenge.result c.drawn_nonce-nonce.result c.pruned_for-pruned.result found may
     (same_but_begun c.args.self.now c.reserve.new.self c.reserve-2.new.self c.in_ok-reserve.ensures.same c.in_ok-reserve-2.ensures.same) long number
-    c.challenge_in-challenge.ensures c.drawn_nonce-nonce.ensures pruned (idle_pruned c.args.self.now.slots c.pruned_for-pruned.result c.pruned_for-pruned.ensures.idle) at.step_is
-    c.new_operation-row.ensures (rw c.as_slice-2.ensures at c.in-Ok-new_cipher.ensures) (rw c.owner_of-uid.ensures at c.open.ensures)
+    (rw (c.split_at.ensures.back, c.as_slice-2.ensures) at c.challenge_in-challenge.ensures) (rw (c.split_at.ensures.front, c.as_slice-2.ensures) at c.drawn_nonce-nonce.ensures) pruned (idle_pruned c.args.self.now.slots c.pruned_for-pruned.result c.pruned_for-pruned.ensures.idle) at.step_is
+    (rw (c.unwrap_or-list.ensures, c.empty.ensures, facts) at c.new_operation-row.ensures) (rw (c.split_at.ensures.front, c.as_slice-2.ensures) at c.in-Ok-new_cipher.ensures) (rw c.owner_of-uid.ensures at c.open.ensures)
+
+pub returns-in_err-reserve-2-clause-drew : goal.returns-in_err-reserve-2-clause-drew
+returns-in_err-reserve-2-clause-drew g c =
+    rw (err_from_is_err_and c.from_residual-in_err-reserve-2.result c.from_residual-in_err-reserve-2.ensures.1).1 (drew_none _ _)
+
+pub open-requires-clause-less : goal.open-requires-clause-less
+open-requires-clause-less g c = omega (
+  arith,
+  c.in_ok-reserve-2.ensures.same c.in-Some.found.now.id,
+  few_begins c.args.self.now c.in-Some.found.now.id (at_few c.args.self.now c.args.step _ _ c.requires.few c.requires.at),
+)

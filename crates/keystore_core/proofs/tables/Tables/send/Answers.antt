@@ -7,6 +7,7 @@ pub returns : goal.returns
 returns c = record {
   clients = (same_tables c.args.self.now).clients;
   keys = record { policy_is = refl; lasting_is = refl };
+  boot = (same_tables c.args.self.now).boot;
   rows = c.change.ensures;
   slots = c.in-Found.ensures.takes;
   found = c.in-Found.ensures.found;

@@ -7,6 +7,7 @@ pub returns-in-None : goal.returns-in-None
 returns-in-None c = record {
   clients = (same_tables c.args.self.now).clients;
   keys = record { policy_is = refl; lasting_is = refl };
+  boot = (same_tables c.args.self.now).boot;
   tickets = c.take.ensures;
   back_as = rw c.in-None.is (c.close.ensures.closes, c.end.ensures.takes_out, none_without c.args.out.op c.args.self.now.slots c.end.new.self c.end.ensures.found, c.end.ensures.later);
 }
