@@ -3,11 +3,10 @@
 //! `checks/new-key-lists.jsonl`.
 
 use crate::spelled::{AES_KEY, GCM_KEY, MAC_KEY, Pairs, app_key, encoded};
-use key_rules::{ImportFacts, NewFacts, NewFault, check_new, material_size, read_asked, usable};
+use key_rules::{ImportFacts, NewFacts, NewFault, check_new, read_asked, usable};
 use keymint_ops::plan_key;
 use std::alloc::{AllocError, Global};
 use std::test::Fail;
-use tag_lists::AuthList;
 use tags::{Bytes, Code, Rule, RuleTable, Tag};
 
 /// What a call of making a key is asked: the alias, the list, the length of an imported material, and the wall reading.
@@ -113,7 +112,7 @@ fn is_kept(alloc: Global, facts: &NewFacts, list: &[u8], size: usize) -> Result<
     let drawn = if facts.import.is_some() { 0 } else { size };
     Ok(
         plan.limit == 0
-            && material_size(&plan.list) == size
+            && plan.size == drawn
             && written.as_slice() == list
             && key.list.as_slice() == list
             && key.limit == 0
@@ -128,7 +127,6 @@ fn the_kept_list_has_what_is_set_and_not_what_is_dropped(rt: HostRuntime) -> Res
         let facts = asked(alloc, b"k", list, *length, *wall)?;
         assert!(rt; is_kept(alloc, &facts, expected, *size)?, "in row {row}");
     }
-    assert!(rt; material_size(&AuthList::empty(alloc)) == 0);
     Ok(())
 }
 
