@@ -1,17 +1,24 @@
 #!/usr/bin/env python3
 """Runs the program over each script of examples/ and checks/ and compares its replies with those expected beside it.
 
-A `?` in an expected reply stands for a digit that is drawn: two runs must differ there, so that a program whose random
-bytes are none is seen. A script's further words, as `--slots 1`, stand in a file .words beside it. Where the Python package `cryptography` is there, the replies of the second model are compared too. It
-says nothing where all is well, and ends with status 1 at the first script that is answered otherwise.
+A `?` in an expected reply stands for a digit that is drawn, and one that is a member's value by itself for a drawn number: two runs
+must differ there, so that a program whose random bytes are none is seen. A script's further words, as `--slots 1`, stand in a file
+.words beside it. A script whose tokens have open challenges is answered line by line, as `tools/dialog.py` says. Where the
+Python package `cryptography` is there, the replies of the second model are compared too. It says nothing where all is well, and ends
+with status 1 at the first script that is answered otherwise.
 """
 import importlib.util
 import pathlib
+import re
 import subprocess
 import sys
 
+from dialog import replies_of
+
 TOP = pathlib.Path(__file__).resolve().parent.parent
 HAS_MODEL = importlib.util.find_spec("cryptography") is not None
+PROGRAM = [TOP / "keystore2", "run", "--fresh"]
+MODEL = [sys.executable, TOP / "tools/second_model.py"]
 
 
 def words_of(script):
@@ -19,32 +26,35 @@ def words_of(script):
     return words.read_text(encoding="utf-8").split() if words.exists() else []
 
 
-def replies_of(script):
-    words = [TOP / "keystore2", "run", "--fresh", *words_of(script)]
-    with open(script, "rb") as lines:
-        ended = subprocess.run(words, stdin=lines, capture_output=True, text=True, check=False)
-    return ended.stdout if ended.returncode == 0 else f"status {ended.returncode}: {ended.stderr}"
+def output_of(process, text):
+    """What a process writes over a script, and what it writes of a fault."""
+    if b'"challenge":"op ' not in text:
+        return process.communicate(text)
+    replies = b"".join(replies_of(process, text.splitlines()))
+    rest, fault = process.communicate()
+    return replies + rest, fault
 
 
-def model_replies_of(script):
-    with open(script, "rb") as lines:
-        words = [sys.executable, TOP / "tools/second_model.py", *words_of(script)]
-        ended = subprocess.run(words, stdin=lines, capture_output=True, text=True, check=False)
-    return ended.stdout
+def answers_to(script, program):
+    pipes = {"stdin": subprocess.PIPE, "stdout": subprocess.PIPE, "stderr": subprocess.PIPE}
+    with subprocess.Popen([*program, *words_of(script)], **pipes) as process:
+        output, fault = output_of(process, script.read_bytes())
+    return output.decode() if process.returncode == 0 else f"status {process.returncode}: {fault.decode()}"
 
 
 def fits(given, wanted):
-    return len(given) == len(wanted) and all(want in (own, "?") for own, want in zip(given, wanted))
+    pattern = re.escape(wanted).replace(r":\?", ":[0-9]+").replace(r"\?", ".")
+    return re.fullmatch(pattern, given) is not None
 
 
 def fault_of(script):
     wanted = script.with_suffix(".expected").read_text(encoding="utf-8")
-    given = replies_of(script)
+    given = answers_to(script, PROGRAM)
     if not fits(given, wanted):
         return f"{script.name} gave\n{given}and not\n{wanted}"
-    if "?" in wanted and given == replies_of(script):
+    if "?" in wanted and given == answers_to(script, PROGRAM):
         return f"{script.name} drew the same bytes twice"
-    if HAS_MODEL and not fits(model_replies_of(script), wanted):
+    if HAS_MODEL and not fits(answers_to(script, MODEL), wanted):
         return f"{script.name} is answered otherwise by the second model"
     return None
 

@@ -4,55 +4,17 @@
 The replies stand here as the rules of docs/RULES.md give them, each at its line. A script's words beside `run --fresh` stand
 in a file .words.
 """
-import json
-import pathlib
+from check_lines import (
+    APP, BLOB, GRANT, KEY_ID, OK, SELINUX, begin, broken, call, clients, connect, made, named, numbered, write,
+)
 
-FOLDER = pathlib.Path(__file__).resolve().parent.parent / "checks"
-APP, GRANT, SELINUX, BLOB, KEY_ID = range(5)
-PARAMS = [["PURPOSE", 2], ["PURPOSE", 3], ["ALGORITHM", 128], ["DIGEST", 4], ["MIN_MAC_LENGTH", 64], ["NO_AUTH_REQUIRED", True]]
-ASKED = [["PURPOSE", 2], ["MAC_LENGTH", 256]]
 # What is kept of PARAMS: a count, and each tag with its value, by the tags' numbers.
 KEPT = "0009" + "2000000100000002" + "2000000100000003" + "1000000200000080" + "30000003000000a0" + "2000000500000004"
 KEPT += "3000000800000040" + "700001f701" + "600002bd00000000000003e8" + "100002be00000002"
-OK = {"code": 0}
-
-
-def named(alias, domain=APP, nspace=None):
-    key = {"domain": domain} if nspace is None else {"domain": domain, "nspace": nspace}
-    return key if alias is None else {**key, "alias": alias}
-
-
-def numbered(domain, number):
-    return {"domain": domain, "nspace": number}
-
-
-def call(client, name, **fields):
-    return {"t": [0, 1000], "c": client, "do": name, **fields}
-
-
-def connect(uid):
-    return {"t": [0, 1000], "do": "connect", "uid": uid}
-
-
-def made(client, key, params=PARAMS):
-    return call(client, "importKey", key=key, params=params, format=3, material="0b" * 20)
-
-
-def begin(client, key, params=ASKED, **fields):
-    return call(client, "createOperation", key=key, params=params, **fields)
-
-
-def broken(code, rule):
-    return {"code": code, "rule": rule}
 
 
 def entry(number, domain, nspace, alias):
     return {"code": 0, "key": number, "domain": domain, "nspace": nspace, "alias": alias, "list": KEPT}
-
-
-def clients(uids):
-    for number, uid in enumerate(uids, 1):
-        yield connect(uid), {"code": 0, "client": number}
 
 
 # Rules: client 9 is not connected, 1 and 2 are apps, 3 is the system, and 4 is an app of user 1. Key 1 is m of client 1, key 2
@@ -294,15 +256,6 @@ def listing():
     behind = [key for key in keys if key[0].encode() > b"a\x7f"]
     yield call(1, "listEntriesBatched", domain=APP, past="a\x7f"), {"code": 0, "entries": behind[:256]}
     yield call(2, "listEntriesBatched", domain=APP), {"code": 0, "entries": [["a", 601]]}
-
-
-def write(name, rows, words=None):
-    rows = list(rows)
-    for suffix, place, order in [(".jsonl", 0, False), (".expected", 1, True)]:
-        lines = (json.dumps(row[place], ensure_ascii=False, separators=(",", ":"), sort_keys=order) + "\n" for row in rows)
-        (FOLDER / (name + suffix)).write_text("".join(lines), encoding="utf-8")
-    if words is not None:
-        (FOLDER / (name + ".words")).write_text(words + "\n", encoding="utf-8")
 
 
 if __name__ == "__main__":

@@ -21,6 +21,12 @@ def mac_input(challenge, user, authenticator, kind, time):
     return b"\x00" + struct.pack("<QQQ", challenge, user, authenticator) + struct.pack(">IQ", kind, time)
 
 
+def mac_of(key, token):
+    """The mac of a token, which is its numbers by name."""
+    text = mac_input(token["challenge"], token["user"], token["authenticator"], token["kind"], token["time"])
+    return hmac.digest(key, text, hashlib.sha256)
+
+
 def number(bits):
     """A reader of numbers of at most so many bits, in decimal or with 0x."""
 
@@ -52,7 +58,6 @@ def main():
     words.add_argument("--at", type=number(64), nargs=2, metavar=("BOOT", "WALL"), help="the line's readings; TIME and 0")
     words.add_argument("--key", type=key, default=DEMO_KEY, help="another device's key, 32 bytes in hex")
     asked = words.parse_args()
-    text = mac_input(asked.challenge, asked.user, asked.authenticator, asked.kind, asked.time)
     line = {
         "t": asked.at or [asked.time, 0],
         "c": asked.client,
@@ -62,9 +67,8 @@ def main():
         "authenticator": asked.authenticator,
         "kind": asked.kind,
         "time": asked.time,
-        "mac": hmac.new(asked.key, text, hashlib.sha256).hexdigest(),
     }
-    print(json.dumps(line, separators=(",", ":")))
+    print(json.dumps({**line, "mac": mac_of(asked.key, line).hex()}, separators=(",", ":")))
 
 
 if __name__ == "__main__":

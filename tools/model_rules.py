@@ -1,4 +1,4 @@
-"""The rules of second_model.py that read lists and lengths: K4 to K16, B6 to B21 and S4 to S8."""
+"""The rules of second_model.py that read lists, lengths and the device's state: K4 to K16, B6 to B21 and S4 to S8."""
 from model_values import (
     AES, CBC, CTR, DIGEST_BITS, ECB, ENCRYPT, GCM, HMAC, LATER_TAGS, MOST_ID_BYTES, MOST_LIST_BYTES, MOST_OPERATION_BYTES,
     NO_PADDING, NONCE_BYTES, PKCS7, PURPOSES, RAW, SIGN, Denied, Plan, one,
@@ -66,17 +66,19 @@ def check_least_mac(algorithm, params):
         raise Denied(-59, "K12")
 
 
-def check_restrictions(params):
+def check_restrictions(params, is_early_over):
     """K13 to K16."""
     if "NO_AUTH_REQUIRED" in params and "USER_SECURE_ID" in params:
         raise Denied(-38, "K13")
     if one(params, "USAGE_COUNT_LIMIT") == 0:
         raise Denied(-38, "K14")
+    if "EARLY_BOOT_ONLY" in params and is_early_over:
+        raise Denied(-73, "K15")
     if any(name in params for name in LATER_TAGS):
         raise Denied(-39, "K16")
 
 
-def check_new(event, params, material):
+def check_new(event, params, material, is_early_over):
     """K5 to K16; the material is None for a key that is to be generated."""
     algorithm = one(params, "ALGORITHM")
     if algorithm not in (AES, HMAC):
@@ -86,7 +88,7 @@ def check_new(event, params, material):
     check_size(algorithm, params, material)
     check_uses(algorithm, params)
     check_least_mac(algorithm, params)
-    check_restrictions(params)
+    check_restrictions(params, is_early_over)
 
 
 # Table B.
@@ -98,6 +100,42 @@ def check_purpose(asked, kept):
         raise Denied(-2, "B9")
     if purpose not in kept.get("PURPOSE", []):
         raise Denied(-3, "B9")
+
+
+def check_dates(asked, kept, wall):
+    """B10 and B11."""
+    start = one(kept, "ACTIVE_DATETIME")
+    if start is not None and wall < start:
+        raise Denied(-24, "B10")
+    is_origination = one(asked, "PURPOSE") in (ENCRYPT, SIGN)
+    end = one(kept, "ORIGINATION_EXPIRE_DATETIME" if is_origination else "USAGE_EXPIRE_DATETIME")
+    if end is not None and wall > end:
+        raise Denied(-25, "B11")
+
+
+def is_timed(kept):
+    """Whether a key wants a token that is no older than its timeout."""
+    return "USER_SECURE_ID" in kept and "AUTH_TIMEOUT" in kept
+
+
+def is_authenticated_each(kept):
+    """Whether each operation of a key wants a token of its own."""
+    return "USER_SECURE_ID" in kept and "AUTH_TIMEOUT" not in kept
+
+
+def check_device(facts):
+    """B12 to B16."""
+    kept = facts.kept
+    if "USER_ID" in kept and one(kept, "USER_ID") != facts.user:
+        raise Denied(-15, "B12")
+    if "EARLY_BOOT_ONLY" in kept and facts.is_early_over:
+        raise Denied(-73, "B13")
+    if "UNLOCKED_DEVICE_REQUIRED" in kept and not facts.is_unlocked:
+        raise Denied(-72, "B14")
+    if is_timed(kept) and not facts.is_timely:
+        raise Denied(-26, "B15")
+    if "MAX_USES_PER_BOOT" in kept and facts.begins >= one(kept, "MAX_USES_PER_BOOT"):
+        raise Denied(-56, "B16")
 
 
 def check_mode(asked, kept):
@@ -151,9 +189,12 @@ def check_nonce(asked, kept):
         raise Denied(-52, "B21")
 
 
-def check_begin(asked, kept):
-    """B9 to B21, for the list of the operation and that of its key."""
+def check_begin(asked, facts):
+    """B9 to B21, for the list of the operation."""
+    kept = facts.kept
     check_purpose(asked, kept)
+    check_dates(asked, kept, facts.wall)
+    check_device(facts)
     is_aes = one(kept, "ALGORITHM") == AES
     mode = one(asked, "BLOCK_MODE") if is_aes else None
     if is_aes:
@@ -181,6 +222,10 @@ def plan_of(asked, kept):
 
 # Table S.
 
+# The rules whose break ends the operation.
+ENDING = ("S4", "S6", "S7", "S8")
+
+
 def check_length(plan, length):
     """S8, for the length of the whole text."""
     if plan.mode in (ECB, CBC):
@@ -194,9 +239,11 @@ def check_length(plan, length):
 
 
 def check_step(operation, event):
-    """S4 to S8, which end the operation that breaks them."""
+    """S4 to S8."""
     if not operation.key.is_live:
         raise Denied(-33, "S4")
+    if operation.challenge is not None and not operation.is_shown:
+        raise Denied(-26, "S5")
     if event["act"] == "updateAad" and (operation.plan.mode != GCM or operation.text):
         raise Denied(-40, "S6")
     if len(operation.additional) + len(operation.text) + len(event["input"]) > MOST_OPERATION_BYTES:

@@ -2,11 +2,7 @@
 from dataclasses import dataclass
 
 # The tags whose rules are not built yet.
-LATER_TAGS = [
-    "EARLY_BOOT_ONLY", "ACTIVE_DATETIME", "ORIGINATION_EXPIRE_DATETIME", "USAGE_EXPIRE_DATETIME", "MAX_USES_PER_BOOT",
-    "USER_ID", "USER_SECURE_ID", "USER_AUTH_TYPE", "AUTH_TIMEOUT", "UNLOCKED_DEVICE_REQUIRED", "APPLICATION_ID",
-    "APPLICATION_DATA", "USAGE_COUNT_LIMIT",
-]
+LATER_TAGS = ["APPLICATION_ID", "APPLICATION_DATA", "USAGE_COUNT_LIMIT"]
 
 AES, HMAC = 32, 128
 ENCRYPT, DECRYPT, SIGN, VERIFY = range(4)
@@ -32,6 +28,11 @@ MOST_UID = 4294967295
 MOST_USER = MOST_UID // UIDS_OF_A_USER
 MOST_KEYS = MOST_GRANTS = 65536
 MOST_LISTED = 256
+# The last tokens that are kept, of as many triples of a user, an authenticator and a kind; and the bytes of a challenge.
+MOST_TRIPLES = 256
+CHALLENGE_BYTES = 8
+# The key that the authenticators of the demo device share with the service.
+DEMO_TOKEN_KEY = b"\2" * 32
 # The policy of the program: the bits of a uid in a namespace.
 DEMO_POLICY = {(1000, 100): 509, (1000, 0): REQ_FORCED_OP}
 
@@ -43,7 +44,6 @@ class Denied(Exception):
         super().__init__(code, rule)
         self.code = code
         self.rule = rule
-
 
 
 def one(params, name):
@@ -88,16 +88,35 @@ class Plan:
 
 
 @dataclass
+class BeginFacts:
+    """What B9 to B21 read beside the operation's list: the key's list, the wall clock, the caller's user and the device."""
+
+    kept: dict
+    wall: int
+    user: int
+    is_early_over: bool
+    is_unlocked: bool
+    is_timely: bool
+    begins: int
+
+
+@dataclass
 class Operation:
-    """An open operation; `work` is the event that entered it while that is out, and `touched` the step that last did."""
+    """An open operation; `work` is the event that entered it while that is out, and `touched` the step that last did.
+
+    `kept` is the key's list as the begin read it. The challenge is there where each operation is authenticated by itself.
+    """
 
     number: int
     client: int
     uid: int
     key: Key
+    kept: dict
     plan: Plan
     nonce: bytes | None
+    challenge: int | None
     touched: int
+    is_shown: bool = False
     additional: bytes = b""
     text: bytes = b""
     work: dict | None = None

@@ -6,7 +6,8 @@ the second, and so on. Each line is sent when the one before it is answered, and
 
 A growth that is refused may end the run with status 1 after a front of the replies, or give one -41, at an act that takes
 memory; then nothing is changed by it, so the other replies are those of the script's `.expected` file (`?` there stands for
-any digit). Without SCRIPT it takes those of examples/ and checks/ that are short.
+any digit, or for a number). Without SCRIPT it takes those of examples/ and checks/ that are short. A line may need what an
+earlier reply told, as `tools/dialog.py` says.
 
 Then it refuses each growth of a line that enters an operation, one of two that fill the slots, and goes on with a begin. Where the
 line is answered -41, the operation is idle with the stamp of its begin: so the begin prunes it, and else the other one.
@@ -15,18 +16,20 @@ It needs a C compiler, `cc`, for the library that refuses. The exit status is 1 
 import argparse
 import json
 import os
-import re
 import subprocess
 import sys
 import tempfile
 from pathlib import Path
+
+from check_scripts import fits
+from dialog import filled, note
 
 TOP = Path(__file__).resolve().parent.parent
 PROGRAM = TOP / "crates/keystore_program/out/keystore_program"
 MOST_LINES = 60
 WANT = '{"code":-41}\n'
 # Acts that are never given up for want of memory.
-WITHOUT_MEMORY = {"abort", "disconnect", "leave"}
+WITHOUT_MEMORY = {"abort", "disconnect", "leave", "addAuthToken", "deviceLocked", "deviceUnlocked", "earlyBootEnded"}
 # A line that enters behind these stands at their end, and a begin behind it.
 AT = '{"t":[0,1000],'
 BEGIN = AT + '"c":1,"do":"createOperation","key":{"domain":0,"alias":"m"},"params":[["PURPOSE",2],["MAC_LENGTH",256]]}\n'
@@ -72,7 +75,7 @@ ENOUGH = 99
 def reply_to(run, line):
     """The reply to a line, or None where the run has ended."""
     try:
-        run.stdin.write(line.encode())
+        run.stdin.write(line)
     except BrokenPipeError:
         return None
     return run.stdout.readline().decode() or None
@@ -82,26 +85,24 @@ def replies_of(program, lines, library, refused, words=(), once=None):
     """The replies of a run in which one growth is refused, without its -41s; the acts that got one; and its status. The line at
     the place `once` is not sent again, and keeps its -41."""
     environment = {**os.environ, "LD_PRELOAD": str(library), "REFUSED_GROWTH": str(refused)}
-    replies, given_up = [], []
+    replies, given_up, challenges = [], [], {}
     pipes = {"stdin": subprocess.PIPE, "stdout": subprocess.PIPE, "stderr": subprocess.DEVNULL, "bufsize": 0}
     with subprocess.Popen([program, "run", "--fresh", *words], env=environment, **pipes) as run:
         for place, line in enumerate(lines):
-            while (reply := reply_to(run, line)) == WANT and place != once:
+            spoken = filled(line.removesuffix("\n").encode(), challenges) + b"\n"
+            while (reply := reply_to(run, spoken)) == WANT and place != once:
                 given_up.append(json.loads(line)["do"])
             if reply is None:
                 break
+            note(reply.encode(), challenges)
             replies.append(reply)
         run.stdin.close()
         return replies, given_up, run.wait()
 
 
-def is_expected(reply, expected):
-    return re.fullmatch(re.escape(expected.rstrip("\n")).replace(r"\?", "."), reply.rstrip("\n")) is not None
-
-
 def fault_of(replies, given_up, status, expected):
     """What is wrong with a run, or None."""
-    if any(not is_expected(*pair) for pair in zip(replies, expected)):
+    if any(not fits(reply.rstrip("\n"), wanted.rstrip("\n")) for reply, wanted in zip(replies, expected)):
         return "another reply than expected"
     if any(act in WITHOUT_MEMORY for act in given_up):
         return "-41 at an act that takes no memory"

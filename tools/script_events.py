@@ -1,6 +1,6 @@
 """What a script's lines and its encoded lists spell, by docs/FORMATS.md: the part of second_model.py that reads.
 
-A line becomes an event, which is its act, the wall clock's reading, its client and its fields by name. An encoded list
+A line becomes an event, which is its act, the clocks' readings, its client and its fields by name. An encoded list
 becomes the values of each tag by the tag's name, equal ones once, and a list is spelled in its one order.
 """
 import json
@@ -118,6 +118,9 @@ def write_list(values):
 
 STRING_OR_BRACKET = re.compile(r'"[^"\\]*(?:\\.[^"\\]*)*"|[\[\]{}]')
 MOST_LEVELS = 127
+# The numbers of a token, with their bits.
+TOKEN_NUMBERS = {"challenge": 64, "user": 64, "authenticator": 64, "kind": 32, "time": 64}
+MAC_BYTES = 32
 NO_WHOLE_NUMBER = object()
 
 
@@ -318,6 +321,18 @@ def user_fields(members):
     return {"user": number_of(needed(members, "user"), 32)}
 
 
+def mac_of(members):
+    mac = bytes_of(needed(members, "mac"))
+    if len(mac) != MAC_BYTES:
+        raise Malformed()
+    return mac
+
+
+def token_fields(members):
+    token = {name: number_of(needed(members, name), bits) for name, bits in TOKEN_NUMBERS.items()}
+    return {"token": {**token, "mac": mac_of(members)}}
+
+
 def operation_fields(members):
     return {"op": number_of(needed(members, "op"), 64)}
 
@@ -359,17 +374,21 @@ FIELDS = {
     "listEntriesBatched": listing_fields,
     "clearNamespace": owner_fields,
     "userRemoved": user_fields,
+    "addAuthToken": token_fields,
+    "deviceLocked": user_fields,
+    "deviceUnlocked": user_fields,
+    "earlyBootEnded": no_fields,
 }
 
 
 def event_of(line):
-    """The event that a line spells, without its LF: the act, the wall clock, its client and its fields by name."""
+    """The event that a line spells, without its LF: the act, the clocks, its client and its fields by name."""
     members = members_of(line)
-    _, wall = reading_of(members)
+    boot, wall = reading_of(members)
     act = needed(members, "do")
     if type(act) is not str or act not in FIELDS:
         raise Malformed()
-    event = {"act": act, "wall": wall, **FIELDS[act](members)}
+    event = {"act": act, "boot": boot, "wall": wall, **FIELDS[act](members)}
     if act not in ("connect", "leave"):
         event["client"] = number_of(needed(members, "c"), 64)
     return event

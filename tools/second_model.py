@@ -7,18 +7,21 @@ It is written from docs/RULES.md's rules, apart from the proved code, so that th
 counts 00, 01 .. ff, 00 ..; the draws whose numbers --fail gives, counted from 1, fail. AES, its modes and GCM are those
 of the Python package `cryptography`, the macs those of the standard library. Memory is never wanting here, and the
 limits of a line and of a script, which end the program's run, are not looked at. script_events.py reads the lines,
-model_rules.py has the rules of lists and lengths, model_keys.py the keys and grants, and model_outputs.py the outputs.
+model_rules.py has the rules of lists and lengths, model_keys.py the keys and grants, model_tokens.py the tokens, and
+model_outputs.py the outputs. Each reply is written before the next line is read.
 """
 import argparse
+import collections
 import json
 import sys
 
 from model_keys import KeyStore, kept_list, owner_of
 from model_outputs import front, raw_output, whole_output
-from model_rules import check_begin, check_new, check_step, plan_of, read_params
+from model_rules import ENDING, check_begin, check_new, check_step, is_authenticated_each, plan_of, read_params
+from model_tokens import Tokens, fits
 from model_values import (
-    APP, DELETE, GET_INFO, GRANT, KEY_ID, MAY_GRANT, MOST_STEP_BYTES, MOST_UID, MOST_USER, NONCE_BYTES, REBIND, REQ_FORCED_OP, SELINUX,
-    SYSTEM_UID, USE, Denied, Operation, one,
+    APP, CHALLENGE_BYTES, DELETE, GET_INFO, GRANT, KEY_ID, MAY_GRANT, MOST_STEP_BYTES, MOST_UID, MOST_USER, NONCE_BYTES, REBIND,
+    REQ_FORCED_OP, SELINUX, SYSTEM_UID, UIDS_OF_A_USER, USE, BeginFacts, Denied, Operation, one,
 )
 from script_events import Malformed, event_of, write_list
 
@@ -68,6 +71,10 @@ class Service:
         self.out = {}
         self.tickets = 0
         self.step = 0
+        self.tokens = Tokens()
+        self.is_early_over = False
+        self.unlocked = set()
+        self.begins = collections.Counter()
 
     def uid_of(self, client):
         """The uid of a client that is connected, or None."""
@@ -106,6 +113,10 @@ class Service:
             "listEntriesBatched": self.list_entries_batched,
             "clearNamespace": self.clear_namespace,
             "userRemoved": self.user_removed,
+            "addAuthToken": self.add_auth_token,
+            "deviceLocked": self.device_locked,
+            "deviceUnlocked": self.device_unlocked,
+            "earlyBootEnded": self.early_boot_ended,
         }
         self.step += 1
         try:
@@ -143,7 +154,7 @@ class Service:
             raise Denied(6, "K3")
         params = read_params(event["params"], "K4")
         imported = event.get("material")
-        check_new(event, params, imported)
+        check_new(event, params, imported, self.is_early_over)
         owner = owner_of(uid, descriptor["domain"], descriptor["nspace"])
         self.store.check_place(owner, descriptor["alias"])
         material = self.entropy.draw(one(params, "KEY_SIZE") // 8) if imported is None else imported
@@ -254,28 +265,78 @@ class Service:
         self.store.remove_user(event["user"])
         return {}
 
+    # The device, its users and their tokens.
+
+    def add_auth_token(self, event):
+        token = event["token"]
+        self.check_system(event, has_form=True)
+        if not self.tokens.is_right(token):
+            raise Denied(-30, "A7")
+        self.tokens.add(token)
+        for operation in self.operations.values():
+            if operation.challenge == token["challenge"] and fits(token, operation.kept):
+                operation.is_shown = True
+        return {}
+
+    def device_locked(self, event):
+        self.check_system(event, event["user"] <= MOST_USER)
+        self.unlocked.discard(event["user"])
+        return {}
+
+    def device_unlocked(self, event):
+        self.check_system(event, event["user"] <= MOST_USER)
+        self.unlocked.add(event["user"])
+        return {}
+
+    def early_boot_ended(self, event):
+        self.check_system(event, has_form=True)
+        self.is_early_over = True
+        return {}
+
     # Operations.
+
+    def begin_facts(self, event, uid, key):
+        """What B10 to B16 read, of a begin on a key."""
+        user = uid // UIDS_OF_A_USER
+        return BeginFacts(
+            kept=key.params,
+            wall=event["wall"],
+            user=user,
+            is_early_over=self.is_early_over,
+            is_unlocked=user in self.unlocked,
+            is_timely=self.tokens.is_timely(key.params, event["boot"]),
+            begins=self.begins[key.number],
+        )
+
+    def place_of(self, uid, is_forced):
+        """The operation that gives its place to a begin, or None where there is a free one, by B22."""
+        if len(self.operations) < self.slots:
+            return None
+        pruned = self.victim(uid, is_forced)
+        if pruned is None:
+            raise Denied(18, "B22")
+        return pruned
 
     def create_operation(self, event):
         key = self.key_to_use(event)
         uid = self.uid_of(event["client"])
         asked = read_params(event["params"], "B6")
-        check_begin(asked, key.params)
+        check_begin(asked, self.begin_facts(event, uid, key))
         plan = plan_of(asked, key.params)
+        pruned = self.place_of(uid, event["forced"])
         nonce = one(asked, "NONCE") if plan.mode in NONCE_BYTES else None
-        told = {}
-        pruned = None
-        if len(self.operations) == self.slots:
-            pruned = self.victim(uid, event["forced"])
-            if pruned is None:
-                raise Denied(18, "B22")
-            told["pruned"] = pruned
+        told = {} if pruned is None else {"pruned": pruned}
         if plan.mode in NONCE_BYTES and nonce is None:
             nonce = self.entropy.draw(NONCE_BYTES[plan.mode])
             told["nonce"] = nonce.hex()
+        challenge = None
+        if is_authenticated_each(key.params):
+            challenge = told["challenge"] = int.from_bytes(self.entropy.draw(CHALLENGE_BYTES), "big")
         self.operations.pop(pruned, None)
         self.begun += 1
-        self.operations[self.begun] = Operation(self.begun, event["client"], uid, key, plan, nonce, self.step)
+        self.begins[key.number] += 1
+        begun = Operation(self.begun, event["client"], uid, key, key.params, plan, nonce, challenge, self.step)
+        self.operations[self.begun] = begun
         return {"op": self.begun, **told}
 
     def own_operation(self, event):
@@ -294,8 +355,9 @@ class Service:
             raise Denied(21, "S3")
         try:
             check_step(operation, event)
-        except Denied:
-            del self.operations[operation.number]
+        except Denied as denied:
+            if denied.rule in ENDING:
+                del self.operations[operation.number]
             raise
         self.tickets += 1
         self.out[self.tickets] = operation
@@ -364,6 +426,7 @@ def main():
     service = Service(words.fail, words.slots)
     for line in sys.stdin.buffer:
         sys.stdout.buffer.write(reply_line(service, line.removesuffix(b"\n")) + b"\n")
+        sys.stdout.buffer.flush()
 
 
 if __name__ == "__main__":

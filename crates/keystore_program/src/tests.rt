@@ -10,6 +10,7 @@ mod macs;
 mod orders;
 mod script;
 mod sealing;
+mod sharing;
 mod tickets;
 mod tokens;
 mod vectors;

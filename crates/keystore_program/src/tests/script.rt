@@ -91,18 +91,40 @@ impl Script {
 
     /// What the lines get where the draws with these numbers fail.
     pub fn run(&self, rt: &impl Abort, alloc: Global, failing: &[u64]) -> Result<String, Fail> {
+        self.run_by(rt, alloc, "run --fresh", failing)
+    }
+
+    /// What they get by these words.
+    fn run_by(
+        &self,
+        rt: &impl Abort,
+        alloc: Global,
+        words: &str,
+        failing: &[u64],
+    ) -> Result<String, Fail> {
         let mut source = MemorySource::new(self.asked.as_bytes(), &[]);
         let room = self.asked.len();
         let mut sink = MemorySink::with_room(alloc, room, room, &[])?;
         let mut entropy = MemoryEntropy::failing(failing);
-        let ended = run_over(alloc, "run --fresh", &mut source, &mut sink, &mut entropy)?;
+        let ended = run_over(alloc, words, &mut source, &mut sink, &mut entropy)?;
         assert_eq!(rt; ended, Status::Ok);
         Ok(String::from_utf8_lossy(alloc, sink.written())?)
     }
 
     /// Runs the lines, and compares what each gets.
     pub fn check(&self, rt: &impl Abort, alloc: Global, failing: &[u64]) -> Result<(), Fail> {
-        let given = self.run(rt, alloc, failing)?;
+        self.check_by(rt, alloc, "run --fresh", failing)
+    }
+
+    /// The same by these words.
+    pub fn check_by(
+        &self,
+        rt: &impl Abort,
+        alloc: Global,
+        words: &str,
+        failing: &[u64],
+    ) -> Result<(), Fail> {
+        let given = self.run_by(rt, alloc, words, failing)?;
         let mut replies = given.as_str().split('\n');
         let mut wanted = self.wanted.as_str().split('\n');
         for line in self.asked.as_str().split('\n') {

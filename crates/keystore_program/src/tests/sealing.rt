@@ -130,7 +130,32 @@ fn want_pieces(script: &mut Script, alloc: Global, text: &str, ends: &[usize]) -
     Ok(())
 }
 
-/// A key and a nonce that are drawn; a text of 8,192, 8,192 and 4,096 bytes; its opening, which keeps 16 bytes back.
+/// The key is listed, ends, and is listed no more.
+static LISTED: [Row; 5] = [
+    (
+        Call::Line(r#"{"t":[0,1000],"c":1,"do":"listEntriesBatched","domain":0}"#),
+        r#"{"code":0,"entries":[["k",1]]}"#,
+    ),
+    (
+        Call::Line(r#"{"t":[0,1000],"c":1,"do":"deleteKey","key":{"domain":0,"alias":"k"}}"#),
+        r#"{"code":0}"#,
+    ),
+    (
+        Call::Line(r#"{"t":[0,1000],"c":1,"do":"listEntriesBatched","domain":0}"#),
+        r#"{"code":0,"entries":[]}"#,
+    ),
+    (
+        Call::Line(r#"{"t":[0,1000],"c":1,"do":"getNumberOfEntries","domain":0}"#),
+        r#"{"code":0,"count":0}"#,
+    ),
+    (
+        Call::Line(r#"{"t":[0,1000],"c":1,"do":"getKeyEntry","key":{"domain":0,"alias":"k"}}"#),
+        r#"{"code":7,"rule":"A5"}"#,
+    ),
+];
+
+/// A key and a nonce that are drawn; a text of 8,192, 8,192 and 4,096 bytes; its opening, which keeps 16 bytes back; then
+/// the key's end.
 #[test]
 fn a_file_is_sealed_in_pieces_and_opened_again(rt: HostRuntime) -> Result<(), Fail> {
     let alloc = rt.alloc();
@@ -182,5 +207,6 @@ fn a_file_is_sealed_in_pieces_and_opened_again(rt: HostRuntime) -> Result<(), Fa
         text.as_str(),
         &[16352, 32736, 40960, 40960],
     )?;
+    script.add(alloc, &LISTED)?;
     script.check(&rt, alloc, &[])
 }

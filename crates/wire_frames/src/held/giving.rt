@@ -144,14 +144,14 @@ fn read_both(alloc: Global, held: &mut Held, more: &[u8]) -> Result<Outcome, NoM
     ensures same { OnErr result (bytes_in held.new ≡ bytes_in held.old) }
 {
     let used = held.len();
+    // all that can fail comes before the input is given away, and the act last, which is large to let go
+    let mut outcome = read_on(alloc, more)?;
+    outcome.requests.reserve(1)?;
     let kept = match held.kept(alloc) {
         Ok(kept) => kept,
         Err(BodyFault::Bad) => return Ok(Outcome::bad(alloc)),
         Err(BodyFault::Memory) => return Err(NoMemory),
     };
-    // all that can fail comes before the input is given away
-    let mut outcome = read_on(alloc, more)?;
-    outcome.requests.reserve(1)?;
     let Some(request) = Request::of(held.give(alloc, kept)) else {
         unreachable!()
     };

@@ -1,0 +1,34 @@
+#!/usr/bin/env python3
+"""Lists what took longest in the last whole check of a crate: `slow_functions.py [CRATE ..] [--most N]`; all crates without a name.
+
+A check writes a file of what it checked for each module, one after the other; what lies between two of them is the later one's
+time. So it speaks of a check from nothing by one job; what a second job did beside it is counted too. `Lts` is the code of a
+function with every way out of it, `Proof` its contract's proof, `decls` a file of specs/ or proofs/."""
+import argparse
+import sys
+from pathlib import Path
+
+TOP = Path(__file__).resolve().parent.parent
+
+
+def times(crate):
+    """Seconds and name of each module, from the times at which the check wrote them."""
+    written = sorted((file.stat().st_mtime, file.name) for file in (TOP / "crates" / crate / "out/incremental").rglob("*.oantt"))
+    return [(later - sooner, name.removesuffix(".oantt")) for (sooner, _), (later, name) in zip(written, written[1:])]
+
+
+def main():
+    parser = argparse.ArgumentParser(description=__doc__.split("\n", maxsplit=1)[0])
+    parser.add_argument("crates", nargs="*")
+    parser.add_argument("--most", type=int, default=20)
+    given = parser.parse_args()
+    crates = given.crates or sorted(folder.name for folder in (TOP / "crates").iterdir() if (folder / "out/incremental").is_dir())
+    rows = sorted((row for crate in crates for row in times(crate)), reverse=True)
+    if not rows:
+        sys.exit("slow_functions.py: no check has left its work in out/")
+    for seconds, name in rows[:given.most]:
+        print(f"{seconds:7.1f}  {name}")
+
+
+if __name__ == "__main__":
+    main()
