@@ -8,10 +8,12 @@ Python package `cryptography` is there, the replies of the second model are comp
 with status 1 at the first script that is answered otherwise.
 """
 import importlib.util
+import os
 import pathlib
 import re
 import subprocess
 import sys
+import tempfile
 
 from dialog import OPEN, replies_of
 
@@ -60,11 +62,14 @@ def fault_of(script):
 
 
 def main():
-    for script in sorted([*TOP.glob("examples/*.jsonl"), *TOP.glob("checks/*.jsonl")]):
-        fault = fault_of(script)
-        if fault:
-            print(fault, file=sys.stderr)
-            return 1
+    with tempfile.TemporaryDirectory() as folder:
+        # where no device.key and no policy.json stand
+        os.chdir(folder)
+        for script in sorted([*TOP.glob("examples/*.jsonl"), *TOP.glob("checks/*.jsonl")]):
+            fault = fault_of(script)
+            if fault:
+                print(fault, file=sys.stderr)
+                return 1
     return 0
 
 

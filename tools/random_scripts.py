@@ -33,8 +33,8 @@ MOST_SHOWN = 400
 def replies_to(program, lines, slots):
     """The lines that the program writes over a script, and how the run ended where that is not with status 0."""
     words = [program, "run", "--fresh", "--slots", str(slots)]
-    with tempfile.TemporaryFile() as faults:
-        process = subprocess.Popen(words, stdin=subprocess.PIPE, stdout=subprocess.PIPE, stderr=faults)
+    with tempfile.TemporaryDirectory() as folder, tempfile.TemporaryFile() as faults:
+        process = subprocess.Popen(words, stdin=subprocess.PIPE, stdout=subprocess.PIPE, stderr=faults, cwd=folder)
         timer = threading.Timer(MOST_SECONDS, process.kill)
         timer.start()
         with process:
