@@ -56,6 +56,11 @@ NONCES = {
 }
 
 
+def with_value(params, name, value):
+    """A list in which a tag has one value."""
+    return [pair for pair in params if pair[0] != name] + [[name, value]]
+
+
 class ListMaker:
     """Makes lists, from a seed."""
 
@@ -129,9 +134,11 @@ class ListMaker:
     def new_list(self, is_aes):
         """The list of a key of AES or of HMAC, mostly one that can be made."""
         params = self.edited(self.restricted(AES_LIST if is_aes else HMAC_LIST), 0.25)
-        if is_aes or self.chance(0.5):
-            return params
-        return [pair for pair in params if pair[0] != "DIGEST"] + [["DIGEST", self.random.choice([3, 4, 5, 6])]]
+        if self.chance(0.02):
+            params = params + [["USAGE_COUNT_LIMIT", self.random.choice([0, 1])]]
+        if self.chance(0.1):
+            params = with_value(params, "MIN_MAC_LENGTH", 112)
+        return params if is_aes or self.chance(0.5) else with_value(params, "DIGEST", self.random.choice([3, 4, 5, 6]))
 
     def size(self, is_aes):
         """How many bytes a material has, mostly such as may be."""
