@@ -36,6 +36,11 @@ def made(client, key, params=PARAMS, material="0b" * 20):
     return call(client, "importKey", key=key, params=params, format=3, material=material)
 
 
+def sealed(blob, nspace=100):
+    """The key of a blob."""
+    return {"domain": BLOB, "nspace": nspace, "blob": blob}
+
+
 def begin(client, key, params=ASKED, **fields):
     return call(client, "createOperation", key=key, params=params, **fields)
 

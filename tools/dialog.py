@@ -4,9 +4,9 @@
     python3 tools/dialog.py [WORDS OF THE PROGRAM ..] < SCRIPT
 
 The words are `run --fresh` where none are given. A line addAuthToken of such a script may have "op N" as its challenge and no mac:
-it gets the challenge that the reply to the begin of operation N told, and the mac that an authenticator of the demo device makes;
-with a member `flip` that bit of the mac is turned. So a line is sent once the reply to the one before is there. The replies are
-printed as they come.
+it gets the challenge that the reply to the begin of operation N told, and the mac that an authenticator of the demo device makes. A
+line may have "line N" as the blob of its key: it gets the one that the reply to line N told. With a member `flip` that bit of the mac,
+or of the blob, is turned. So a line is sent once the reply to the one before is there. The replies are printed as they come.
 """
 import json
 import re
@@ -17,43 +17,62 @@ from pathlib import Path
 from make_token import DEMO_KEY, mac_of
 
 TOP = Path(__file__).resolve().parent.parent
-OPEN = re.compile("op ([0-9]+)")
+OPEN = re.compile(rb'"(?:challenge":"op|blob":"line) ([0-9]+)"')
 
 
-def filled(line, challenges):
-    """A line with the challenge of the operation that it names, and with the mac."""
-    if b'"challenge":"op ' not in line:
-        return line
-    members = json.loads(line)
-    number = int(OPEN.fullmatch(members["challenge"]).group(1))
-    members["challenge"] = challenges.get(number, 0)
-    mac = bytearray(mac_of(DEMO_KEY, members))
-    if "flip" in members:
-        mac[members["flip"] // 8] ^= 1 << members["flip"] % 8
-    members["mac"] = mac.hex()
-    return json.dumps(members, separators=(",", ":")).encode()
+def turned(data, members):
+    """Bytes with the bit turned that a line names."""
+    data = bytearray(data)
+    if "flip" in members and data:
+        place = members["flip"] % (8 * len(data))
+        data[place // 8] ^= 1 << place % 8
+    return data.hex()
 
 
-def note(reply, challenges):
-    """Keeps the challenge that a reply tells, by the operation."""
-    if b'"challenge":' in reply:
-        members = json.loads(reply)
-        challenges[members["op"]] = members["challenge"]
+class Told:
+    """What the replies told by now: the challenge of each operation, and the blobs by their lines."""
+
+    def __init__(self):
+        self.challenges = {}
+        self.blobs = {}
+        self.lines = 0
+
+    def filled(self, line):
+        """A line with what it asks for; what no reply told is 0, or no bytes."""
+        found = OPEN.search(line)
+        if found is None:
+            return line
+        number, members = int(found.group(1)), json.loads(line)
+        if members["do"] == "addAuthToken":
+            members["challenge"] = self.challenges.get(number, 0)
+            members["mac"] = turned(mac_of(DEMO_KEY, members), members)
+        else:
+            members["key"]["blob"] = turned(self.blobs.get(number, b""), members)
+        return json.dumps(members, ensure_ascii=False, separators=(",", ":")).encode()
+
+    def note(self, reply):
+        """Keeps what the reply to the next line tells."""
+        self.lines += 1
+        if b'"challenge":' in reply:
+            members = json.loads(reply)
+            self.challenges[members["op"]] = members["challenge"]
+        if b'"blob":' in reply:
+            self.blobs[self.lines] = bytes.fromhex(json.loads(reply)["blob"])
 
 
 def replies_of(process, lines):
     """The replies of a program to lines, each of which it gets once the one before is answered."""
-    challenges = {}
+    told = Told()
     for line in lines:
         try:
-            process.stdin.write(filled(line, challenges) + b"\n")
+            process.stdin.write(told.filled(line) + b"\n")
             process.stdin.flush()
         except BrokenPipeError:
             return
         reply = process.stdout.readline()
         if reply == b"":
             return
-        note(reply, challenges)
+        told.note(reply)
         yield reply
 
 

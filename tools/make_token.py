@@ -1,5 +1,5 @@
 #!/usr/bin/env python3
-"""Makes an authentication token as an authenticator of the demo device would, and prints its line of a script.
+"""Makes an authentication token as an authenticator of the demo device, or of another one, would, and prints its line of a script.
 
 The mac is HMAC-SHA256 (FIPS 198-1) over the 37 bytes of docs/FORMATS.md, under the key that the device's authenticators
 share with the service. It is no part of the program: a person tries with it a key that needs its user's token.
@@ -47,6 +47,15 @@ def key(text):
     return value
 
 
+def device_key(path):
+    """The second of the three keys of a file device.key."""
+    with open(path, "rb") as file:
+        data = file.read()
+    if len(data) != 96:
+        raise argparse.ArgumentTypeError(f"{path} has not 96 bytes")
+    return data[32:64]
+
+
 def main():
     words = argparse.ArgumentParser(description=__doc__, formatter_class=argparse.RawDescriptionHelpFormatter)
     words.add_argument("user", type=number(64), help="the secure id of the user, as in USER_SECURE_ID")
@@ -57,6 +66,7 @@ def main():
     words.add_argument("--client", type=number(64), default=1, help="the client that brings it, of uid 1000")
     words.add_argument("--at", type=number(64), nargs=2, metavar=("BOOT", "WALL"), help="the line's readings; TIME and 0")
     words.add_argument("--key", type=key, default=DEMO_KEY, help="another device's key, 32 bytes in hex")
+    words.add_argument("--device", type=device_key, dest="key", metavar="FILE", help="another device's file device.key")
     asked = words.parse_args()
     line = {
         "t": asked.at or [asked.time, 0],

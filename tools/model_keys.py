@@ -1,6 +1,6 @@
 """The keys and grants of second_model.py: which key a descriptor finds, what a caller may do with it, and what ends it."""
 from model_values import (
-    APP, APP_BITS, DEMO_POLICY, GRANT, KEY_ID, MOST_GRANTS, MOST_KEYS, MOST_LISTED, REQ_FORCED_OP, SELINUX, UIDS_OF_A_USER, Denied,
+    APP, APP_BITS, BLOB, DEMO_POLICY, GRANT, KEY_ID, MOST_GRANTS, MOST_KEYS, MOST_LISTED, REQ_FORCED_OP, SELINUX, UIDS_OF_A_USER, Denied,
     Grant, Key,
 )
 
@@ -65,7 +65,7 @@ class KeyStore:
         return bits if grant is None else bits | grant.bits
 
     def access(self, uid, descriptor):
-        """The key that a uid's descriptor finds, or None, and what the uid may do with it."""
+        """The stored key that a uid's descriptor finds, or None, and what the uid may do with it, or with a blob."""
         domain, nspace, alias = descriptor["domain"], descriptor["nspace"], descriptor["alias"]
         if domain == APP:
             return self.live.get((APP, uid, alias)), self.app_bits(uid)
@@ -74,6 +74,8 @@ class KeyStore:
         if domain == GRANT:
             grant = self.grants.get(nspace)
             return (None, 0) if grant is None or grant.uid != uid else (grant.key, grant.bits)
+        if domain == BLOB:
+            return None, self.row(uid, nspace) or 0
         key = self.numbered(nspace) if domain == KEY_ID else None
         return (None, 0) if key is None else (key, self.bits_by_number(key, uid))
 
@@ -91,12 +93,12 @@ class KeyStore:
         if (*owner, alias) not in self.live and len(self.live) >= MOST_KEYS:
             raise Denied(1002)
 
-    def put(self, owner, alias, params, material):
+    def put(self, owner, alias, params, blob):
         """Makes a key in place of the one under its name, and gives its number."""
         old_key = self.live.get((*owner, alias))
         if old_key is not None:
             self.end([old_key])
-        key = Key(len(self.made) + 1, *owner, alias, params, material)
+        key = Key(len(self.made) + 1, *owner, alias, params, blob)
         self.made.append(key)
         self.live[*owner, alias] = key
         return key.number

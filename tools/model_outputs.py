@@ -20,7 +20,7 @@ def unpadded(text):
 
 def gcm_sealed(operation, text):
     """The ciphertext of a text, and the whole tag."""
-    worker = Cipher(algorithms.AES(operation.key.material), modes.GCM(operation.nonce)).encryptor()
+    worker = Cipher(algorithms.AES(operation.material), modes.GCM(operation.nonce)).encryptor()
     worker.authenticate_additional_data(operation.additional)
     return worker.update(text) + worker.finalize(), worker.tag
 
@@ -40,7 +40,7 @@ def raw_output(operation, text):
         mode = modes.CTR(operation.nonce)
     if plan.mode != CTR:
         text = text[:len(text) // 16 * 16]
-    cipher = Cipher(algorithms.AES(operation.key.material), mode)
+    cipher = Cipher(algorithms.AES(operation.material), mode)
     worker = cipher.encryptor() if plan.is_forward else cipher.decryptor()
     return worker.update(text) + worker.finalize()
 
@@ -48,7 +48,7 @@ def raw_output(operation, text):
 def mac_output(operation, text, signature):
     """The mac of a signing, or nothing for a verification whose signature is a front of the mac and long enough."""
     plan = operation.plan
-    mac = hmac.new(operation.key.material, text, DIGEST_NAMES[plan.digest]).digest()
+    mac = hmac.new(operation.material, text, DIGEST_NAMES[plan.digest]).digest()
     if plan.is_forward:
         return mac[:plan.mac_bytes]
     if signature is None or len(signature) < plan.least_mac_bytes or mac[:len(signature)] != signature:
@@ -84,7 +84,7 @@ def whole_output(operation, text, signature):
 
 def front(plan, length):
     """How much of the output is out after so many bytes of text."""
-    if plan.mode is None:
+    if plan.mode is None or plan.is_limited:
         return 0
     if plan.mode == CTR:
         return length

@@ -1,7 +1,7 @@
 """The rules of second_model.py that read lists, lengths and the device's state: K4 to K16, B6 to B21 and S4 to S8."""
 from model_values import (
-    AES, CBC, CTR, DIGEST_BITS, ECB, ENCRYPT, GCM, HMAC, LATER_TAGS, MOST_ID_BYTES, MOST_LIST_BYTES, MOST_OPERATION_BYTES,
-    NO_PADDING, NONCE_BYTES, PKCS7, PURPOSES, RAW, SIGN, Denied, Plan, one,
+    AES, BLOB, CBC, CTR, DIGEST_BITS, ECB, ENCRYPT, GCM, HMAC, LATER_TAGS, MOST_ID_BYTES, MOST_LIST_BYTES, MOST_OPERATION_BYTES,
+    NO_PADDING, NONCE_BYTES, PKCS7, PURPOSES, RAW, SIGN, TAGS_OF_STORED_KEYS, Denied, Plan, one,
 )
 from script_events import ListFault, read_list
 
@@ -66,32 +66,56 @@ def check_least_mac(algorithm, params):
         raise Denied(-59, "K12")
 
 
-def check_restrictions(params, is_early_over):
+def check_restrictions(params, is_blob, is_early_over):
     """K13 to K16."""
     if "NO_AUTH_REQUIRED" in params and "USER_SECURE_ID" in params:
         raise Denied(-38, "K13")
     if one(params, "USAGE_COUNT_LIMIT") == 0:
         raise Denied(-38, "K14")
+    if is_blob and any(name in params for name in TAGS_OF_STORED_KEYS):
+        raise Denied(-39, "K14")
     if "EARLY_BOOT_ONLY" in params and is_early_over:
         raise Denied(-73, "K15")
     if any(name in params for name in LATER_TAGS):
         raise Denied(-39, "K16")
 
 
-def check_new(event, params, material, is_early_over):
-    """K5 to K16; the material is None for a key that is to be generated."""
-    algorithm = one(params, "ALGORITHM")
-    if algorithm not in (AES, HMAC):
+def check_algorithm(params):
+    """K5."""
+    if one(params, "ALGORITHM") not in (AES, HMAC):
         raise Denied(-4, "K5")
-    if material is not None and event["format"] != RAW:
-        raise Denied(-17, "K6")
+
+
+def check_key(params, material):
+    """K7 to K12; the material is None for a key that is to be generated."""
+    algorithm = one(params, "ALGORITHM")
     check_size(algorithm, params, material)
     check_uses(algorithm, params)
     check_least_mac(algorithm, params)
-    check_restrictions(params, is_early_over)
+
+
+def check_new(event, params, material, is_early_over):
+    """K5 to K16; the material is None for a key that is to be generated."""
+    check_algorithm(params)
+    if material is not None and event["format"] != RAW:
+        raise Denied(-17, "K6")
+    check_key(params, material)
+    check_restrictions(params, event["key"]["domain"] == BLOB, is_early_over)
 
 
 # Table B.
+
+def check_opened(asked, opened, root):
+    """B8, for what stands in an opened blob."""
+    ids = [one(asked, "APPLICATION_ID"), one(asked, "APPLICATION_DATA")]
+    if opened.root != root or [opened.app_id, opened.app_data] != ids:
+        raise Denied(-33, "B8")
+    try:
+        check_algorithm(opened.params)
+        check_key(opened.params, opened.material)
+    except Denied:
+        raise Denied(-33, "B8")
+
 
 def check_purpose(asked, kept):
     """B9."""
@@ -217,6 +241,7 @@ def plan_of(asked, kept):
         digest=one(kept, "DIGEST"),
         mac_bytes=(one(asked, "MAC_LENGTH") or 0) // 8,
         least_mac_bytes=(one(kept, "MIN_MAC_LENGTH") or 0) // 8,
+        is_limited="USAGE_COUNT_LIMIT" in kept,
     )
 
 
@@ -240,7 +265,7 @@ def check_length(plan, length):
 
 def check_step(operation, event):
     """S4 to S8."""
-    if not operation.key.is_live:
+    if operation.key is not None and not operation.key.is_live:
         raise Denied(-33, "S4")
     if operation.challenge is not None and not operation.is_shown:
         raise Denied(-26, "S5")

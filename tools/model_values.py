@@ -2,7 +2,9 @@
 from dataclasses import dataclass
 
 # The tags whose rules are not built yet.
-LATER_TAGS = ["APPLICATION_ID", "APPLICATION_DATA", "USAGE_COUNT_LIMIT"]
+LATER_TAGS = ["USAGE_COUNT_LIMIT"]
+# What a key that is kept in a blob alone cannot have.
+TAGS_OF_STORED_KEYS = ["USAGE_COUNT_LIMIT", "MAX_USES_PER_BOOT"]
 
 AES, HMAC = 32, 128
 ENCRYPT, DECRYPT, SIGN, VERIFY = range(4)
@@ -31,8 +33,8 @@ MOST_LISTED = 256
 # The last tokens that are kept, of as many triples of a user, an authenticator and a kind; and the bytes of a challenge.
 MOST_TRIPLES = 256
 CHALLENGE_BYTES = 8
-# The key that the authenticators of the demo device share with the service.
-DEMO_TOKEN_KEY = b"\2" * 32
+# The demo device: the key of its blobs, the one that its authenticators share with the service, and its root of trust.
+DEMO_SEAL_KEY, DEMO_TOKEN_KEY, DEMO_ROOT = b"\1" * 32, b"\2" * 32, b"\3" * 32
 # The policy of the program: the bits of a uid in a namespace.
 DEMO_POLICY = {(1000, 100): 509, (1000, 0): REQ_FORCED_OP}
 
@@ -54,14 +56,14 @@ def one(params, name):
 
 @dataclass
 class Key:
-    """A key that was made: whose it is, the list that is kept with it, and its material."""
+    """A key that was made: whose it is, the list that is kept with it, and the blob that seals its material."""
 
     number: int
     domain: int
     nspace: int
     alias: bytes
     params: dict
-    material: bytes
+    blob: bytes
     is_live: bool = True
 
 
@@ -85,6 +87,7 @@ class Plan:
     digest: int | None
     mac_bytes: int
     least_mac_bytes: int
+    is_limited: bool
 
 
 @dataclass
@@ -104,14 +107,16 @@ class BeginFacts:
 class Operation:
     """An open operation; `work` is the event that entered it while that is out, and `touched` the step that last did.
 
-    `kept` is the key's list as the begin read it. The challenge is there where each operation is authenticated by itself.
+    `kept` and `material` are the key's as the begin read them in its blob; a blob that was handed in is of no key. The challenge is there
+    where each operation is authenticated by itself.
     """
 
     number: int
     client: int
     uid: int
-    key: Key
+    key: Key | None
     kept: dict
+    material: bytes
     plan: Plan
     nonce: bytes | None
     challenge: int | None

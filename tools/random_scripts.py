@@ -3,12 +3,12 @@
 
     python3 tools/random_scripts.py SEED COUNT [--program PATH]
 
-The same seed makes the same scripts. Of what is drawn only a challenge can be seen in them: a line whose reply would
-tell drawn bytes of another kind, or that would make a usable key of them, is left out. So the randomness of the device
-does not matter. A token may have the challenge of an operation; it is filled in as the program told it, so the program
-gets each line once the one before is answered. For each script that differs the first line that differs is printed,
-with the reply that the program gave and the one that the model wants; then how often each code was wanted, and how many
-scripts differ. The exit status is 1 where one differs.
+The same seed makes the same scripts. Of what is drawn only challenges and blobs can be seen in them: a line whose reply
+would tell drawn bytes of another kind, or that would make a usable key of them, is left out. So the randomness of the
+device does not matter. A token may have the challenge of an operation, and a key the blob of another line; these are
+filled in as the program told them, so the program gets each line once the one before is answered. For each script that
+differs the first line that differs is printed, with the reply that the program gave and the one that the model wants;
+then how often each code was wanted, and how many scripts differ. The exit status is 1 where one differs.
 """
 import argparse
 import collections
@@ -22,7 +22,7 @@ import threading
 from pathlib import Path
 
 from dialog import replies_of
-from script_maker import Maker, without_challenge
+from script_maker import Maker, without_drawn
 
 PROGRAM = Path(__file__).resolve().parent.parent / "crates/keystore_program/out/keystore_program"
 # How many seconds a run may take, and how many characters of a line are printed.
@@ -33,12 +33,12 @@ MOST_SHOWN = 400
 def replies_to(program, lines, slots):
     """The lines that the program writes over a script, and how the run ended where that is not with status 0."""
     words = [program, "run", "--fresh", "--slots", str(slots)]
-    with tempfile.TemporaryFile() as faults:
-        process = subprocess.Popen(words, stdin=subprocess.PIPE, stdout=subprocess.PIPE, stderr=faults)
+    with tempfile.TemporaryDirectory() as folder, tempfile.TemporaryFile() as faults:
+        process = subprocess.Popen(words, stdin=subprocess.PIPE, stdout=subprocess.PIPE, stderr=faults, cwd=folder)
         timer = threading.Timer(MOST_SECONDS, process.kill)
         timer.start()
         with process:
-            replies = [without_challenge(reply.removesuffix(b"\n")) for reply in replies_of(process, lines)]
+            replies = [without_drawn(reply.removesuffix(b"\n")) for reply in replies_of(process, lines)]
             replies += process.communicate()[0].splitlines()
         timer.cancel()
         faults.seek(0)

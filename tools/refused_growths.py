@@ -22,7 +22,7 @@ import tempfile
 from pathlib import Path
 
 from check_scripts import fits
-from dialog import filled, note
+from dialog import Told
 
 TOP = Path(__file__).resolve().parent.parent
 PROGRAM = TOP / "crates/keystore_program/out/keystore_program"
@@ -85,16 +85,16 @@ def replies_of(program, lines, library, refused, words=(), once=None):
     """The replies of a run in which one growth is refused, without its -41s; the acts that got one; and its status. The line at
     the place `once` is not sent again, and keeps its -41."""
     environment = {**os.environ, "LD_PRELOAD": str(library), "REFUSED_GROWTH": str(refused)}
-    replies, given_up, challenges = [], [], {}
+    replies, given_up, told = [], [], Told()
     pipes = {"stdin": subprocess.PIPE, "stdout": subprocess.PIPE, "stderr": subprocess.DEVNULL, "bufsize": 0}
     with subprocess.Popen([program, "run", "--fresh", *words], env=environment, **pipes) as run:
         for place, line in enumerate(lines):
-            spoken = filled(line.removesuffix("\n").encode(), challenges) + b"\n"
+            spoken = told.filled(line.removesuffix("\n").encode()) + b"\n"
             while (reply := reply_to(run, spoken)) == WANT and place != once:
                 given_up.append(json.loads(line)["do"])
             if reply is None:
                 break
-            note(reply.encode(), challenges)
+            told.note(reply.encode())
             replies.append(reply)
         run.stdin.close()
         return replies, given_up, run.wait()

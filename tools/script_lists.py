@@ -45,6 +45,8 @@ RESTRICTIONS = {
 SECURE_IDS = [7, 7, 8, 0]
 KINDS = [1, 1, 2, 3, 0, 2147483648]
 TIMEOUTS = [0, 1, 10, 4294967295]
+# Application ids and application data.
+IDS = ["", "6162", "6163"]
 
 # Few nonces and short inputs, so that what one operation gave often suits another one.
 NONCES = {
@@ -52,6 +54,11 @@ NONCES = {
     CTR: ["00" * 15 + "01", "ff" * 16],
     GCM: ["00" * 12, "0102030405060708090a0b0c"],
 }
+
+
+def with_value(params, name, value):
+    """A list in which a tag has one value."""
+    return [pair for pair in params if pair[0] != name] + [[name, value]]
 
 
 class ListMaker:
@@ -78,6 +85,17 @@ class ListMaker:
         if tag_type == BYTES:
             return [name, self.random.randbytes(self.random.choice([0, 1, 12, 16, 1025, 4096])).hex()]
         return [name, self.random.choice([0, 1, 7])]
+
+    def ids(self):
+        """Mostly no application id and no application data; else such that two lists often have the same."""
+        return [[name, self.random.choice(IDS)] for name in ("APPLICATION_ID", "APPLICATION_DATA") if self.chance(0.05)]
+
+    def ids_of(self, opened):
+        """The ids that an opened key is for, mostly; else others."""
+        if opened is None or self.chance(0.1):
+            return self.ids()
+        ids = {"APPLICATION_ID": opened.app_id, "APPLICATION_DATA": opened.app_data}
+        return [[name, value.hex()] for name, value in ids.items() if value is not None]
 
     def edit(self, params):
         """Takes a parameter out, puts one in or changes one."""
@@ -111,7 +129,22 @@ class ListMaker:
         while self.chance(0.4):
             name = self.random.choice(list(RESTRICTIONS))
             params = params + [[name, self.random.choice(RESTRICTIONS[name])]]
-        return params
+        return params + self.ids()
+
+    def new_list(self, is_aes):
+        """The list of a key of AES or of HMAC, mostly one that can be made."""
+        params = self.edited(self.restricted(AES_LIST if is_aes else HMAC_LIST), 0.25)
+        if self.chance(0.02):
+            params = params + [["USAGE_COUNT_LIMIT", self.random.choice([0, 1])]]
+        if self.chance(0.1):
+            params = with_value(params, "MIN_MAC_LENGTH", 112)
+        return params if is_aes or self.chance(0.5) else with_value(params, "DIGEST", self.random.choice([3, 4, 5, 6]))
+
+    def size(self, is_aes):
+        """How many bytes a material has, mostly such as may be."""
+        if self.chance(0.05):
+            return self.random.choice([0, 7, 15, 17, 65])
+        return self.random.choice([16, 24, 32] if is_aes else [8, 20, 64])
 
     def edited(self, params, share):
         """A copy of a list, with an edit in that share of the calls, and another one in that share of these."""
@@ -145,11 +178,11 @@ class ListMaker:
             params.append(["NONCE", self.random.choice(NONCES[mode])])
         return params
 
-    def mac_list(self, key):
+    def mac_list(self, opened):
         """What a signing or a verification asks for, mostly so that it suits the key's digest."""
         purpose = self.random.choice([2, 3])
         params = [["PURPOSE", purpose]]
-        digest = one(key.params, "DIGEST") if key is not None else None
+        digest = one(opened.params, "DIGEST") if opened is not None else None
         suits = digest in DIGEST_BITS and self.chance(0.8)
         if purpose == SIGN or self.chance(0.1):
             most = DIGEST_BITS[digest] if suits else 512
@@ -159,9 +192,10 @@ class ListMaker:
             params.append(["DIGEST", self.random.choice([3, 4, 5, 6])])
         return params
 
-    def asked_list(self, key):
-        """The list of a begin, mostly so that it suits the key's algorithm."""
-        algorithm = one(key.params, "ALGORITHM") if key is not None else None
+    def asked_list(self, opened):
+        """The list of a begin, mostly so that it suits the key's algorithm and its ids."""
+        algorithm = one(opened.params, "ALGORITHM") if opened is not None else None
         if algorithm is None or self.chance(0.05):
             algorithm = self.random.choice([AES, HMAC])
-        return self.cipher_list() if algorithm == AES else self.mac_list(key)
+        asked = self.cipher_list() if algorithm == AES else self.mac_list(opened)
+        return asked + self.ids_of(opened)

@@ -4,13 +4,15 @@ import json
 import re
 from dataclasses import replace
 
-from dialog import filled, note
+from blobs import DEMO_DEVICE, list_of, seal, text_of as sealed_text
+from dialog import OPEN, Told
 from make_token import DEMO_KEY, mac_of
+from model_blobs import opened_blob
 from model_outputs import gcm_sealed, raw_output, whole_output
 from model_values import (
-    APP, BLOB, DIGEST_BITS, GCM, GRANT, KEY_ID, MOST_OPERATION_BYTES, MOST_STEP_BYTES, SELINUX,
+    APP, BLOB, DEMO_ROOT, DEMO_SEAL_KEY, DIGEST_BITS, GCM, GRANT, KEY_ID, MOST_OPERATION_BYTES, MOST_STEP_BYTES, SELINUX, Denied,
 )
-from script_events import Malformed, event_of
+from script_events import Malformed, encoded_list, event_of, read_list
 from script_lists import AES_LIST, HMAC_LIST, KINDS, SECURE_IDS, TIMEOUTS, WAITING_LIST, ListMaker
 from second_model import Service, reply_line
 
@@ -62,14 +64,22 @@ def shows_drawn_bytes(service, line):
         return False
     if event["act"] not in ("generateKey", "createOperation"):
         return False
-    trial = copy.deepcopy(service)
-    reply = trial.reply(event)
-    return "nonce" in reply or "key" in reply and "PURPOSE" in trial.store.made[-1].params
+    reply = copy.deepcopy(service).reply(event)
+    return "nonce" in reply or event["act"] == "generateKey" and reply["code"] == 0 and "PURPOSE" in read_list(event["params"])
 
 
-def without_challenge(reply):
-    """A reply in which a challenge, which is drawn, is a question mark."""
-    return re.sub(rb'"challenge":[0-9]+', b'"challenge":?', reply)
+def without_drawn(reply):
+    """A reply in which a drawn challenge is a question mark, and so is each digit of a blob behind its start."""
+    reply = re.sub(rb'"challenge":[0-9]+', b'"challenge":?', reply)
+    return re.sub(rb'("blob":"4b534231)([0-9a-f]*)', lambda found: found[1] + b"?" * len(found[2]), reply)
+
+
+def opened_or_none(blob):
+    """What a blob opens to on the demo device, whoever asks."""
+    try:
+        return opened_blob(DEMO_SEAL_KEY, blob)
+    except Denied:
+        return None
 
 
 class Maker(ListMaker):
@@ -80,19 +90,19 @@ class Maker(ListMaker):
         self.slots = self.random.choice([1, 2, 3, 5, 16, 16])
         self.service = Service(slots=self.slots)
         self.outputs = []
-        self.challenges = {}
+        self.told = Told()
         self.lines = []
         self.replies = []
 
     def put(self, line):
         """Puts a line into the script, unless drawn bytes could be seen."""
-        spoken = filled(line, self.challenges)
+        spoken = self.told.filled(line)
         if shows_drawn_bytes(self.service, spoken):
             return
         reply = reply_line(self.service, spoken)
-        note(reply, self.challenges)
+        self.told.note(reply)
         self.lines.append(line)
-        self.replies.append(without_challenge(reply))
+        self.replies.append(without_drawn(reply))
         output = json.loads(reply).get("out", "")
         if 0 < len(output) <= 2 * max(INPUT_SIZES):
             self.outputs = [*self.outputs, output][-MOST_REMEMBERED:]
@@ -152,15 +162,13 @@ class Maker(ListMaker):
     def new_key(self, members):
         """Imports a key, or generates one that has no purpose."""
         is_aes = self.chance(0.6)
-        params = self.edited(self.restricted(AES_LIST if is_aes else HMAC_LIST), 0.25)
-        if not is_aes and self.chance(0.5):
-            params = [pair for pair in params if pair[0] != "DIGEST"] + [["DIGEST", self.random.choice([3, 4, 5, 6])]]
-        size = self.random.choice([16, 24, 32] if is_aes else [8, 20, 64])
-        if self.chance(0.05):
-            size = self.random.choice([0, 7, 15, 17, 65])
+        params, size = self.new_list(is_aes), self.size(is_aes)
         members["key"] = self.descriptor()
         if members["key"]["domain"] not in (APP, SELINUX) and self.chance(0.8):
             members["key"] = {"domain": APP, "alias": "a"}
+        if self.chance(0.15):
+            self.as_system(members)
+            members["key"] = self.place_of_blobs()
         if self.chance(0.85):
             members["do"] = "importKey"
             members["params"] = self.spelled(params)
@@ -171,22 +179,61 @@ class Maker(ListMaker):
             params = [pair for pair in params if pair[0] != "PURPOSE"] + [["KEY_SIZE", 8 * size]]
             members["params"] = self.spelled(params)
 
+    def place_of_blobs(self):
+        """A descriptor of domain BLOB, mostly in the namespace whose blobs the system may manage."""
+        key = {"domain": BLOB, "nspace": self.random.choice([100] * 9 + [0, 101])}
+        return {**key, "alias": "a"} if self.chance(0.1) else key
+
+    def foreign_blob(self):
+        """A blob that was made elsewhere, often with a fault."""
+        is_aes = self.chance(0.6)
+        params = self.new_list(is_aes) + ([["USAGE_COUNT_LIMIT", self.random.randrange(3)]] if self.chance(0.2) else [])
+        ids = dict(self.ids())
+        app_id, app_data = (bytes.fromhex(ids[name]) if name in ids else None for name in ("APPLICATION_ID", "APPLICATION_DATA"))
+        root = self.one_bit_off(DEMO_ROOT) if self.chance(0.05) else DEMO_ROOT
+        encoded = encoded_list(params) if self.chance(0.03) else list_of(params)
+        material = bytes([self.random.choice([0, 7])]) * self.size(is_aes)
+        text = sealed_text(root, app_id, app_data, encoded, material)
+        if self.chance(0.05):
+            text = self.random.choice([text[:self.random.randrange(len(text))], text + b"\0", self.one_bit_off(text)])
+        blob = seal(DEMO_DEVICE if self.chance(0.97) else DEMO_DEVICE[32:] + DEMO_ROOT, self.random.randbytes(12), text)
+        return self.one_bit_off(blob) if self.chance(0.05) else blob
+
+    def begin_on_blob(self, members):
+        """Begins an operation on a blob that the service made, or on one that was made elsewhere."""
+        self.as_system(members)
+        key = members["key"] = self.place_of_blobs()
+        lines = list(self.told.blobs)
+        if lines and self.chance(0.6):
+            line = self.random.choice(lines)
+            key["blob"], blob = f"line {line}", self.told.blobs[line]
+            if self.chance(0.1):
+                members["flip"] = self.random.randrange(8 * len(blob))
+        else:
+            blob = self.foreign_blob()
+            key["blob"] = blob.hex()
+        return opened_or_none(blob)
+
     def own_name(self, client):
         """The name of a key of the client's app, where it has one."""
         uid = self.service.uid_of(client)
         aliases = [alias for domain, nspace, alias in self.service.store.live if (domain, nspace) == (APP, uid)]
         return {"domain": APP, "alias": self.random.choice(aliases).decode() if aliases else "a"}
 
+    def begin_on_stored(self, members):
+        """Begins an operation on a stored key; what its blob opens to, where it is there."""
+        members["key"] = self.descriptor()
+        key = self.found(members["c"], members["key"])
+        if key is None and self.chance(0.8):
+            members["key"] = self.own_name(members["c"])
+            key = self.found(members["c"], members["key"])
+        return None if key is None else opened_or_none(key.blob)
+
     def begin(self, members):
         """Begins an operation, mostly under a key that is there."""
-        descriptor = self.descriptor()
-        key = self.found(members["c"], descriptor)
-        if key is None and self.chance(0.8):
-            descriptor = self.own_name(members["c"])
-            key = self.found(members["c"], descriptor)
         members["do"] = "createOperation"
-        members["key"] = descriptor
-        members["params"] = self.spelled(self.edited(self.asked_list(key), 0.2))
+        opened = self.begin_on_blob(members) if self.chance(0.15) else self.begin_on_stored(members)
+        members["params"] = self.spelled(self.edited(self.asked_list(opened), 0.2))
         if self.chance(0.12):
             members["forced"] = self.chance(0.9)
 
@@ -236,7 +283,7 @@ class Maker(ListMaker):
         members["user"] = self.random.choice([*SECURE_IDS, 9])
         members["authenticator"] = self.random.choice([0, 1, 1, 7, 8])
         members["kind"] = self.random.choice(KINDS)
-        known = [number for number in self.challenges if number in self.service.operations or self.chance(0.1)]
+        known = [number for number in self.told.challenges if number in self.service.operations or self.chance(0.1)]
         if known and self.chance(0.7):
             members["challenge"] = f"op {self.random.choice(known)}"
             if self.chance(0.1):
@@ -388,5 +435,5 @@ class Maker(ListMaker):
             self.leave(members)
         else:
             self.step(members)
-        is_spoiled = self.chance(0.02) and "op " not in str(members.get("challenge"))
-        return self.spoiled(members) if is_spoiled else text_of(members)
+        line = text_of(members)
+        return self.spoiled(members) if self.chance(0.02) and OPEN.search(line) is None else line

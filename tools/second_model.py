@@ -7,21 +7,22 @@ It is written from docs/RULES.md's rules, apart from the proved code, so that th
 counts 00, 01 .. ff, 00 ..; the draws whose numbers --fail gives, counted from 1, fail. AES, its modes and GCM are those
 of the Python package `cryptography`, the macs those of the standard library. Memory is never wanting here, and the
 limits of a line and of a script, which end the program's run, are not looked at. script_events.py reads the lines,
-model_rules.py has the rules of lists and lengths, model_keys.py the keys and grants, model_tokens.py the tokens, and
-model_outputs.py the outputs. Each reply is written before the next line is read.
+model_rules.py has the rules of lists and lengths, model_keys.py the keys and grants, model_blobs.py their blobs,
+model_tokens.py the tokens, and model_outputs.py the outputs. Each reply is written before the next line is read.
 """
 import argparse
 import collections
 import json
 import sys
 
+from model_blobs import NONCE_BYTES as BLOB_NONCE_BYTES, Sealed, opened_blob, sealed_blob
 from model_keys import KeyStore, kept_list, owner_of
 from model_outputs import front, raw_output, whole_output
-from model_rules import ENDING, check_begin, check_new, check_step, is_authenticated_each, plan_of, read_params
+from model_rules import ENDING, check_begin, check_new, check_opened, check_step, is_authenticated_each, plan_of, read_params
 from model_tokens import Tokens, fits
 from model_values import (
-    APP, CHALLENGE_BYTES, DELETE, GET_INFO, GRANT, KEY_ID, MAY_GRANT, MOST_STEP_BYTES, MOST_UID, MOST_USER, NONCE_BYTES, REBIND,
-    REQ_FORCED_OP, SELINUX, SYSTEM_UID, UIDS_OF_A_USER, USE, BeginFacts, Denied, Operation, one,
+    APP, BLOB, CHALLENGE_BYTES, DELETE, DEMO_ROOT, DEMO_SEAL_KEY, GET_INFO, GRANT, KEY_ID, MANAGE_BLOB, MAY_GRANT, MOST_STEP_BYTES,
+    MOST_UID, MOST_USER, NONCE_BYTES, REBIND, REQ_FORCED_OP, SELINUX, SYSTEM_UID, UIDS_OF_A_USER, USE, BeginFacts, Denied, Operation, one,
 )
 from script_events import Malformed, event_of, write_list
 
@@ -34,6 +35,11 @@ def has_alias(descriptor):
 def is_stored(descriptor):
     """Whether a descriptor names a stored key, by its alias or by a number."""
     return has_alias(descriptor) or descriptor["domain"] in (GRANT, KEY_ID)
+
+
+def is_blob(descriptor):
+    """Whether a descriptor has the key itself, sealed."""
+    return descriptor["domain"] == BLOB and descriptor["blob"] is not None
 
 
 def is_shared(descriptor):
@@ -75,6 +81,8 @@ class Service:
         self.is_early_over = False
         self.unlocked = set()
         self.begins = collections.Counter()
+        self.seal_key = DEMO_SEAL_KEY
+        self.root = DEMO_ROOT
 
     def uid_of(self, client):
         """The uid of a client that is connected, or None."""
@@ -148,35 +156,43 @@ class Service:
         descriptor = event["key"]
         if uid is None:
             raise Denied(20, "K1")
-        if not has_alias(descriptor) or descriptor["blob"] is not None:
+        if not has_alias(descriptor) and descriptor["domain"] != BLOB or descriptor["blob"] is not None:
             raise Denied(20, "K2")
-        if descriptor["domain"] == SELINUX and not (self.store.row(uid, descriptor["nspace"]) or 0) & REBIND:
+        wanted = {SELINUX: REBIND, BLOB: MANAGE_BLOB}.get(descriptor["domain"], 0)
+        if wanted and not (self.store.row(uid, descriptor["nspace"]) or 0) & wanted:
             raise Denied(6, "K3")
         params = read_params(event["params"], "K4")
         imported = event.get("material")
         check_new(event, params, imported, self.is_early_over)
         owner = owner_of(uid, descriptor["domain"], descriptor["nspace"])
-        self.store.check_place(owner, descriptor["alias"])
+        if descriptor["domain"] != BLOB:
+            self.store.check_place(owner, descriptor["alias"])
         material = self.entropy.draw(one(params, "KEY_SIZE") // 8) if imported is None else imported
-        self.entropy.draw(12)
-        return {"key": self.store.put(owner, descriptor["alias"], kept_list(params, imported, event["wall"]), material)}
+        kept = kept_list(params, imported, event["wall"])
+        sealed = Sealed(self.root, one(params, "APPLICATION_ID"), one(params, "APPLICATION_DATA"), kept, material)
+        blob = sealed_blob(self.seal_key, self.entropy.draw(BLOB_NONCE_BYTES), sealed)
+        if descriptor["domain"] == BLOB:
+            return {"blob": blob.hex()}
+        return {"key": self.store.put(owner, descriptor["alias"], kept, blob)}
 
     def check_row(self, uid, domain, nspace, rule):
-        """B3 and A4."""
+        """B3 and A4 for namespaces."""
         if domain == SELINUX and self.store.row(uid, nspace) is None:
             raise Denied(6, rule)
 
     def key_to_use(self, event):
-        """The key of a begin, by B1 to B5."""
+        """The key of a begin, or None for a blob, by B1 to B5."""
         uid = self.uid_of(event["client"])
         descriptor = event["key"]
         if uid is None:
             raise Denied(20, "B1")
-        if not is_stored(descriptor):
+        if not is_stored(descriptor) and not is_blob(descriptor):
             raise Denied(20, "B2")
         self.check_row(uid, descriptor["domain"], descriptor["nspace"], "B3")
         key, bits = self.store.access(uid, descriptor)
-        if key is None:
+        if descriptor["domain"] == BLOB and not bits & MANAGE_BLOB:
+            raise Denied(6, "B3")
+        if key is None and descriptor["domain"] != BLOB:
             raise Denied(7, "B4")
         if not bits & USE or event["forced"] and not bits & REQ_FORCED_OP:
             raise Denied(6, "B5")
@@ -295,17 +311,17 @@ class Service:
 
     # Operations.
 
-    def begin_facts(self, event, uid, key):
-        """What B10 to B16 read, of a begin on a key."""
+    def begin_facts(self, event, uid, key, kept):
+        """What B10 to B16 read, of a begin on a key, or on a blob, which has no begins before."""
         user = uid // UIDS_OF_A_USER
         return BeginFacts(
-            kept=key.params,
+            kept=kept,
             wall=event["wall"],
             user=user,
             is_early_over=self.is_early_over,
             is_unlocked=user in self.unlocked,
-            is_timely=self.tokens.is_timely(key.params, event["boot"]),
-            begins=self.begins[key.number],
+            is_timely=self.tokens.is_timely(kept, event["boot"]),
+            begins=0 if key is None else self.begins[key.number],
         )
 
     def place_of(self, uid, is_forced):
@@ -321,8 +337,11 @@ class Service:
         key = self.key_to_use(event)
         uid = self.uid_of(event["client"])
         asked = read_params(event["params"], "B6")
-        check_begin(asked, self.begin_facts(event, uid, key))
-        plan = plan_of(asked, key.params)
+        opened = opened_blob(self.seal_key, event["key"]["blob"] if key is None else key.blob)
+        check_opened(asked, opened, self.root)
+        kept = opened.params
+        check_begin(asked, self.begin_facts(event, uid, key, kept))
+        plan = plan_of(asked, kept)
         pruned = self.place_of(uid, event["forced"])
         nonce = one(asked, "NONCE") if plan.mode in NONCE_BYTES else None
         told = {} if pruned is None else {"pruned": pruned}
@@ -330,12 +349,13 @@ class Service:
             nonce = self.entropy.draw(NONCE_BYTES[plan.mode])
             told["nonce"] = nonce.hex()
         challenge = None
-        if is_authenticated_each(key.params):
+        if is_authenticated_each(kept):
             challenge = told["challenge"] = int.from_bytes(self.entropy.draw(CHALLENGE_BYTES), "big")
         self.operations.pop(pruned, None)
         self.begun += 1
-        self.begins[key.number] += 1
-        begun = Operation(self.begun, event["client"], uid, key, key.params, plan, nonce, challenge, self.step)
+        if key is not None:
+            self.begins[key.number] += 1
+        begun = Operation(self.begun, event["client"], uid, key, kept, opened.material, plan, nonce, challenge, self.step)
         self.operations[self.begun] = begun
         return {"op": self.begun, **told}
 

@@ -1,0 +1,194 @@
+#!/usr/bin/env python3
+"""Runs the program in folders that have a device and a policy of their own, right and wrong ones, and compares what it does.
+
+    python3 tools/check_device.py [--program PATH]
+
+Where the Python package `cryptography` is there, the blobs that the program makes are opened by tools/blobs.py and sealed again to the same
+bytes, and blobs and tokens of other devices are handed in. It says nothing where all is well, and ends with status 1 at the first
+difference.
+"""
+import argparse
+import importlib.util
+import json
+import pathlib
+import subprocess
+import sys
+import tempfile
+
+from check_lines import ASKED, BLOB, MAC_LIST, OK, PARAMS, begin, broken, call, connect, made, named, sealed, text_of
+from make_token import mac_of
+
+PROGRAM = pathlib.Path(__file__).resolve().parent.parent / "keystore2"
+HAS_CIPHERS = importlib.util.find_spec("cryptography") is not None
+RUN = ["run", "--fresh"]
+DEVICE, OTHER_DEVICE = bytes(range(96)), bytes(range(1, 97))
+# What stands in place of a file's content where a folder stands there.
+FOLDER = object()
+NO_DEVICE = ("", 2, "keystore2: bad device file")
+NO_POLICY = ("", 2, "keystore2: bad policy file")
+
+
+class Differs(Exception):
+    """The program does otherwise than it must."""
+
+
+def script_of(lines):
+    return "".join(text_of(line) for line in lines)
+
+
+def ended_run(program, files, words, lines):
+    """What the program writes in a folder with these files, its status and the first line of its fault."""
+    with tempfile.TemporaryDirectory() as name:
+        for file, content in files.items():
+            if content is FOLDER:
+                (pathlib.Path(name) / file).mkdir()
+            else:
+                (pathlib.Path(name) / file).write_bytes(content)
+        ended = subprocess.run([program, *words], input=script_of(lines), cwd=name, capture_output=True, text=True, check=False)
+    return ended.stdout, ended.returncode, ended.stderr.split("\n")[0]
+
+
+def check(name, given, wanted):
+    if given != wanted:
+        raise Differs(f"{name}: gave {given} and not {wanted}")
+
+
+# The two files, right and wrong, whatever the words are.
+
+def policy(*rows):
+    return json.dumps(rows).encode()
+
+
+MANY = [[1000 + number, 7, 16] for number in range(256)]
+WRONG_DEVICES = [DEVICE[:-1], DEVICE + b"\0", b"", FOLDER]
+RIGHT_POLICIES = [
+    policy(), policy(*MANY), policy([4294967295, 18446744073709551615, 4294967295]), b" [ [1,2,3] ,\n [1,2,4]]\n",
+]
+WRONG_POLICIES = [
+    policy(*MANY, [1, 2, 3]), policy([1, 2]), policy([1, 2, 3, 4]), policy([4294967296, 0, 0]), policy([0, 18446744073709551616, 0]),
+    policy([0, 0, 4294967296]), policy([-1, 0, 0]), policy([1.5, 0, 0]), policy(["1", 0, 0]), policy(None), policy({}), b"{}", b"", b"[[1,2,3]",
+    b"[[1,2,3]]x", b"[[1,2,3],]", b"\xff", b"null", FOLDER,
+]
+USAGE = ("", 2, "keystore2: usage")
+
+
+def check_files(program):
+    lines = [connect(1000)]
+    served = ('{"client":1,"code":0}\n', 0, "")
+    for words, right in [(RUN, served), ([], USAGE), (["run"] * 3, USAGE)]:
+        check("no files", ended_run(program, {}, words, lines), right)
+        for rows in RIGHT_POLICIES:
+            files = {"device.key": DEVICE, "policy.json": rows}
+            check(f"policy {rows[:60]}", ended_run(program, files, words, lines), right)
+        for device in WRONG_DEVICES:
+            for rows in [policy(), WRONG_POLICIES[0]]:
+                files = {"device.key": device, "policy.json": rows}
+                check("a wrong device", ended_run(program, files, words, lines), NO_DEVICE)
+        for rows in WRONG_POLICIES:
+            for files in [{"policy.json": rows}, {"device.key": DEVICE, "policy.json": rows}]:
+                check(f"policy {rows if rows is FOLDER else rows[-60:]}", ended_run(program, files, words, lines), NO_POLICY)
+
+
+# What a policy says is what holds: of two rows with one uid and one namespace the first.
+
+def check_rows(program):
+    rows = policy([10001, 5, 16], [10001, 5, 511], [10001, 6, 4], [1000, 5, 0])
+    lines = [connect(10001), connect(1000)]
+    refused = [
+        (made(1, named("k", 2, 5)), broken(6, "K3")), (made(2, {"domain": BLOB, "nspace": 5}), broken(6, "K3")),
+        (made(2, {"domain": BLOB, "nspace": 100}), broken(6, "K3")), (begin(1, sealed("", 5)), broken(6, "B5")),
+        (begin(1, sealed("", 6)), broken(6, "B3")), (begin(2, sealed("", 5)), broken(6, "B3")),
+        (call(1, "getNumberOfEntries", domain=2, nspace=5), broken(6, "A6")),
+        (call(1, "getNumberOfEntries", domain=2, nspace=6), {"code": 0, "count": 0}),
+        (call(2, "getNumberOfEntries", domain=2, nspace=6), broken(6, "A4")),
+        (begin(2, sealed("", 100)), broken(6, "B3")),
+    ]
+    wanted = [{"client": 1, "code": 0}, {"client": 2, "code": 0}, *(reply for _, reply in refused)]
+    wanted = "".join(text_of(reply, order=True) for reply in wanted)
+    check("rows", ended_run(program, {"policy.json": rows}, RUN, lines + [line for line, _ in refused]), (wanted, 0, ""))
+
+
+# Blobs both ways: what the program seals opens here, and what is sealed here opens there, for its device alone.
+
+IDS = [(None, None), ("6162", None), (None, ""), ("", "00" * 1024)]
+
+
+def lines_that_make():
+    yield connect(1000)
+    for app_id, app_data in IDS:
+        ids = [["APPLICATION_ID", app_id]] * (app_id is not None) + [["APPLICATION_DATA", app_data]] * (app_data is not None)
+        yield made(1, {"domain": BLOB, "nspace": 100}, [*PARAMS, *ids])
+        yield call(1, "generateKey", key={"domain": BLOB, "nspace": 100}, params=[*PARAMS, ["KEY_SIZE", 256], *ids])
+
+
+def check_made_blobs(program, device, files):
+    import blobs
+
+    output, status, fault = ended_run(program, files, RUN, lines_that_make())
+    replies = [json.loads(line) for line in output.splitlines()]
+    check("blobs", (len(replies), status, fault), (1 + 2 * len(IDS), 0, ""))
+    nonces, materials = set(), set()
+    for number, reply in enumerate(replies[1:]):
+        ids = [None if it is None else bytes.fromhex(it) for it in IDS[number // 2]]
+        blob = bytes.fromhex(reply["blob"])
+        parts = blobs.parts_of(blobs.unsealed(device, blob))
+        more = [["KEY_SIZE", 160], ["ORIGIN", 2]] if number % 2 == 0 else [["KEY_SIZE", 256], ["ORIGIN", 0]]
+        kept = blobs.list_of([*PARAMS, *more, ["CREATION_DATETIME", 1000]])
+        check("ids", (parts["root"], parts["app_id"], parts["app_data"], parts["encoded"]), (device[64:], *ids, kept))
+        check("its bytes", blobs.blob_of(kept, parts["material"], *ids, nonce=blob[4:16], device=device), blob)
+        nonces.add(blob[4:16])
+        materials.add(parts["material"])
+    check("different nonces", len(nonces), 2 * len(IDS))
+    check("materials", sorted(map(len, materials)), [20] + [32] * len(IDS))
+    check("the imported one", min(materials, key=len), b"\x0b" * 20)
+
+
+def check_foreign_blobs(program, device, files):
+    import blobs
+
+    encoded, material = blobs.list_of(PARAMS), b"\x0b" * 20
+    stranger = device[:32] + OTHER_DEVICE[32:]
+    thief = OTHER_DEVICE[:32] + device[32:]
+    cases = [(device, {"code": 0, "op": 1}), (thief, broken(-33, "B7")), (OTHER_DEVICE, broken(-33, "B7")), (stranger, broken(-33, "B8"))]
+    lines = [begin(1, sealed(blobs.blob_of(encoded, material, device=maker).hex())) for maker, _ in cases]
+    wanted = "".join(text_of(reply, order=True) for reply in [{"client": 1, "code": 0}, *(reply for _, reply in cases)])
+    check("blobs of devices", ended_run(program, files, RUN, [connect(1000), *lines]), (wanted, 0, ""))
+
+
+def check_tokens(program, device, files):
+    """Tokens of this device's authenticators, and of others: those with its key for blobs or its root in place of the key."""
+    token = {"challenge": 1, "user": 7, "authenticator": 0, "kind": 1, "time": 1000}
+    keys = [(device[:32], broken(-30, "A7")), (device[64:], broken(-30, "A7")), (OTHER_DEVICE[32:64], broken(-30, "A7")), (device[32:64], OK)]
+    lines = [connect(1000), made(1, named("k"), [*MAC_LIST, ["USER_SECURE_ID", 7], ["AUTH_TIMEOUT", 10]])]
+    replies = [{"client": 1, "code": 0}, {"code": 0, "key": 1}]
+    for key, reply in keys:
+        lines += [call(1, "addAuthToken", **token, mac=mac_of(key, token).hex()), {**begin(1, named("k"), ASKED), "t": [1000, 0]}]
+        replies += [reply, {"code": 0, "op": 1} if reply == OK else broken(-26, "B15")]
+    wanted = "".join(text_of(reply, order=True) for reply in replies)
+    check("tokens of devices", ended_run(program, files, RUN, lines), (wanted, 0, ""))
+
+
+def check_all(program):
+    check_files(program)
+    check_rows(program)
+    demo = b"\1" * 32 + b"\2" * 32 + b"\3" * 32
+    for device, files in [(DEVICE, {"device.key": DEVICE}), (demo, {})]:
+        check_tokens(program, device, files)
+        if HAS_CIPHERS:
+            check_made_blobs(program, device, files)
+            check_foreign_blobs(program, device, files)
+
+
+def main():
+    parser = argparse.ArgumentParser(description="Runs the program in folders with devices and policies.")
+    parser.add_argument("--program", type=pathlib.Path, default=PROGRAM, metavar="PATH")
+    try:
+        check_all(parser.parse_args().program.resolve())
+    except Differs as difference:
+        print(f"check_device: {difference}", file=sys.stderr)
+        return 1
+    return 0
+
+
+if __name__ == "__main__":
+    sys.exit(main())
