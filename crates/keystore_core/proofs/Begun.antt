@@ -54,6 +54,7 @@ use Rattle.pruning.specs.Facts as seen
 use Rattle.pruning.specs.Victim.{OpenFacts, victim}
 use Rattle.rule_model.specs.Answer.{begun_with}
 use Rattle.keystore_core.specs.Alike.{Alike}
+use Rattle.keystore_core.specs.Begins.{begins_in}
 use Rattle.keystore_core.specs.Boot.{SameBoot, conditions_in}
 use Rattle.keystore_core.specs.Device.{early_in, unlocked_in}
 use Rattle.keystore_core.specs.Tokens.{token_key_in, tokens_in}
@@ -261,7 +262,7 @@ module _ (setup : Setup) (past : History) (tables : Tables) (caller : Caller) (k
   -- it counts for the key, where that is stored
   counted : (drawn : List ℕ) (number : ℕ) (challenge : Option ℕ) (nonce : Option (List ℕ)) (pruned : Option ℕ)
       → boot_change setup past Beginning (begun_with number challenge nonce pruned) ≡ begins_on Key.id
-  counted drawn number challenge nonce pruned = sym (ap (λ c. begins_on (id_of (key_found setup past c key))) same)
+  counted drawn number challenge given pruned = sym (ap (λ c. begins_on (id_of (key_found setup past c key))) same)
 
   -- what the operation that gives way leaves
   pub record Way (pruned : Option ℕ) (middle : Tables) : Type 0 where

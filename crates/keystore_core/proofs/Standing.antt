@@ -1,5 +1,6 @@
 -- The parts of the relation between the tables and a history, each after an entry that leaves it as it is, or makes a change.
 use Rattle.std.proofs.Common.{◌≡◌, ℕ, ◌+◌, ◌<◌, ◌≤◌, ◌-◌, ◌^◌, Bool, true, false, IsTrue, ◌&&◌, if◌then◌else◌, List, ◌∷◌, length, Option, Some, None, Result, Ok, Err, refl, sym, ap, ◌∙◌, subst, arith}
+use Rattle.std.specs.Prelude.{IfSome}
 use Rattle.std.proofs.Math.Bridge.{le_prop}
 use Rattle.std.proofs.Props.{props}
 use mathlib.Core.Logic.{∥∥₁_elim, ∥∥₁_map}
@@ -205,6 +206,11 @@ few_operations tables is = ∥∥₁_elim is le_prop (λ t. omega (arith, t.stan
 
 pub few_begins : (tables : Tables) (key : ℕ) → ∥ IsTables tables (2 ^ 62 - 1) ∥₁ → begins_in tables.boot.begins key < 2 ^ 62
 few_begins tables key is = ∥∥₁_elim is le_prop (λ t. omega (arith, t.stands.boot.begins key, begins_few t.setup t.past key, t.few))
+
+-- a begin on a key, stored or not, is counted in a number
+pub few_counted : (tables : Tables) (new : Begins) (id : Option ℕ) → SameBegins tables.boot.begins new → ∥ IsTables tables (2 ^ 62 - 1) ∥₁ → IfSome id (λ key. begins_in new key < 2 ^ 62)
+few_counted tables new None same is = tt
+few_counted tables new (Some id) same is = omega (arith, same id, few_begins tables id is)
 
 pub few_tickets : (tables : Tables) → ∥ IsTables tables (2 ^ 62 - 1) ∥₁ → tickets_given tables.tickets < 2 ^ 62
 few_tickets tables is = ∥∥₁_elim is le_prop (λ t. omega (arith, t.stands.tickets.given, count_few is_enter t.past, t.few))

@@ -11,7 +11,7 @@ use Rattle.rule_model.specs.declared.facts.Conditions.{Conditions}
 use Rattle.rule_model.specs.Access.{owner_of}
 use Rattle.rule_model.specs.Slots.{pruned_for}
 use Rattle.keystore_core.proofs.Begun.{Size, begins, facts_are, gathered_room, idle_pruned, is_free, key_is, may_begin, pruned_is, refused, room_is, unkept, without_entropy}
-use Rattle.keystore_core.proofs.Standing.{at_few, at_later, few_begins, few_operations, same_but_begun}
+use Rattle.keystore_core.proofs.Standing.{at_few, at_later, few_counted, few_operations, same_but_begun}
 use Rattle.keystore_core.proofs.tables.Tables.begin.Goals as goal
 
 pub pruned_for-pruned-requires : goal.pruned_for-pruned-requires
@@ -48,8 +48,8 @@ returns-in-Err-clause-serves g c = λ setup past at.
     (without_entropy setup past c.args.self.now c.args.caller c.args.key c.args.params c.args.forced stands c.requires.caller _ c.in-Ok.begin c.in-Err.drawn may
     (same_but_begun c.args.self.now c.reserve.new.self c.reserve_begin.new.begins c.in_ok-reserve.ensures.same c.in_ok-reserve_begin.ensures.same) few)
 
-pub returns-in_default-start-clause-serves : goal.returns-in_default-start-clause-serves
-returns-in_default-start-clause-serves g c = λ setup past at.
+pub returns-in_default-clause-serves : goal.returns-in_default-clause-serves
+returns-in_default-clause-serves g c = λ setup past at.
     let stands = at.tables_stand in
     let pruned : c.pruned_for-pruned.result ≡ pruned_for setup past (owner_of c.args.caller) c.args.forced =
     rw c.owner_of-uid.ensures at c.pruned_for-pruned.ensures.pruned ∙ pruned_is setup past c.args.self.now (owner_of c.args.caller) c.args.step c.args.forced stands at.step_is in
@@ -99,16 +99,18 @@ returns-clause-serves g c = λ setup past at.
     (record c.args.self.now { operations = c.reserve.new.self; boot = record c.args.self.now.boot { begins = c.reserve_begin.new.begins } }) c.open.new.self c.in_ok-own.own c.in-Ok.begin c.new_operation-row.result c.in-Ok-start.state
     c.in-Ok-draw.drawn c.next-op.result c.args.step c.challenge_in-challenge.result c.drawn_nonce-nonce.result c.pruned_for-pruned.result own may
     (same_but_begun c.args.self.now c.reserve.new.self c.reserve_begin.new.begins c.in_ok-reserve.ensures.same c.in_ok-reserve_begin.ensures.same) long number
-    (rw (c.split_at.ensures.back, c.as_slice-2.ensures) at c.challenge_in-challenge.ensures) (rw (c.split_at.ensures.front, c.as_slice-2.ensures) at c.drawn_nonce-nonce.ensures) pruned (idle_pruned c.args.self.now.slots c.pruned_for-pruned.result c.pruned_for-pruned.ensures.idle) at.step_is
-    (rw (c.unwrap_or-list.ensures, c.empty.ensures, facts) at c.new_operation-row.ensures) (rw (c.split_at.ensures.front, c.as_slice-2.ensures) at c.in-Ok-start.ensures) (rw c.owner_of-uid.ensures at c.open.ensures)
+    (rw (c.split_at.ensures.back, c.as_slice-3.ensures) at c.challenge_in-challenge.ensures) (rw (c.split_at.ensures.front, c.as_slice-3.ensures) at c.drawn_nonce-nonce.ensures) pruned (idle_pruned c.args.self.now.slots c.pruned_for-pruned.result c.pruned_for-pruned.ensures.idle) at.step_is
+    (rw (c.unwrap_or-list.ensures, c.empty.ensures, facts) at c.new_operation-row.ensures) (rw (c.split_at.ensures.front, c.as_slice-3.ensures, c.as_slice-4.ensures) at c.in-Ok-start.ensures) (rw c.owner_of-uid.ensures at c.open.ensures)
 
 pub returns-in_err-reserve_begin-clause-drew : goal.returns-in_err-reserve_begin-clause-drew
 returns-in_err-reserve_begin-clause-drew g c =
     rw (err_from_is_err_and c.from_residual-in_err-reserve_begin.result c.from_residual-in_err-reserve_begin.ensures.1).1 (drew_none _ _)
 
+pub returns-in_err-reserve-clause-drew : goal.returns-in_err-reserve-clause-drew
+returns-in_err-reserve-clause-drew g c =
+    rw (err_from_is_err_and c.from_residual-in_err-reserve.result c.from_residual-in_err-reserve.ensures.1).1 (drew_none _ _)
+
 pub open-requires-clause-less : goal.open-requires-clause-less
-open-requires-clause-less g c = omega (
-  arith,
-  c.in_ok-reserve_begin.ensures.same c.in-Some.found.now.id,
-  few_begins c.args.self.now c.in-Some.found.now.id (at_few c.args.self.now c.args.step _ _ c.requires.few c.requires.at),
-)
+open-requires-clause-less g c =
+    few_counted c.args.self.now c.reserve_begin.new.begins c.in_ok-own.own.id c.in_ok-reserve_begin.ensures.same
+    (at_few c.args.self.now c.args.step _ _ c.requires.few c.requires.at)

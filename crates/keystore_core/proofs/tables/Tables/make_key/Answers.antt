@@ -60,7 +60,7 @@ keep-fields-requires g c =
     ap (λ part. has_key_place part (owner_of c.args.caller) c.args.key) c.in_ok-reserve_key.ensures.same ∙ sym told ∙ c.if-not-has_key_place.false in
     let small : owner_of c.args.caller < 2 ^ 32 = rw c.owner_of-uid.ensures at c.owner_of-uid.type_inv in
     rw (c.owner_of-uid.ensures, ap (λ (f : NewFacts). f.descriptor) c.new_facts-facts.ensures)
-    (may_keep c.args.self.now.policy c.args.caller c.args.key c.args.params c.args.import _ c.reserve_key.new.self c.in-Ok.new.plan _ _ _ c.in_ok-reserve_key.ensures.room place small
+    (may_keep c.args.self.now.policy c.args.caller c.args.key c.args.params c.args.import _ c.reserve_key.new.self c.in-Ok.new.plan _ _ c.in-Ok.new.plan.limit c.in_ok-reserve_key.ensures.room place small
     (rw c.new_facts-facts.ensures at c.in-Ok.ensures.fit) c.in-Ok-seal_key.ensures.few c.in-Ok.ensures.listed)
 
 pub returns-clause-serves : goal.returns-clause-serves
