@@ -1,5 +1,5 @@
 -- The key of a begin, as the blob that was opened tells it.
-use Rattle.std.proofs.Common.{◌≡◌, ℕ, Bool, List, Option, Some, None, Result, Ok, Err, refl, sym, ap, ◌∙◌}
+use Rattle.std.proofs.Common.{◌≡◌, List, Option, Result, Ok, Err, refl, ap, ◌∙◌}
 use Rattle.tags.specs.declared.code.Code.{Code}
 use Rattle.tags.specs.declared.descriptor.Descriptor.{Descriptor}
 use Rattle.tags.specs.declared.param.Param.{Param}
@@ -12,7 +12,7 @@ use Rattle.key_blobs.specs.declared.sealed.Opened.{Opened}
 use Rattle.keymint_ops.specs.declared.opening.OpenedKey.{OpenedKey}
 use Rattle.keymint_ops.specs.Opening.{opened_key, read_as}
 use Rattle.rule_model.specs.Access.{id_of}
-use Rattle.rule_model.specs.BeginFacts.{BeginKey, begin_key, blob_for, is_found, limited_by}
+use Rattle.rule_model.specs.BeginFacts.{begin_key, blob_for, is_found, limited_by}
 use Rattle.rule_model.specs.Blobs.{fits_key, list_read, material_read, opened_for}
 use Rattle.keystore_core.specs.declared.beginning.BeginKey.{BeginKey as OwnKey}
 use Rattle.keystore_core.specs.Beginning.{IsBeginKey}

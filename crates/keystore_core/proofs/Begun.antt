@@ -1,5 +1,5 @@
 -- The beginning of an operation: its answer, and the tables after it.
-use Rattle.std.proofs.Common.{◌≡◌, ℕ, ◌+◌, ◌<◌, ◌≤◌, ◌==◌, ◌||◌, Bool, true, false, not, if◌then◌else◌, List, [], ◌∷◌, ◌++◌, length, find, filter, Option, Some, None, Result, Err, is_some, unwrap_or, refl, sym, ap, ◌∙◌, subst, arith, inl, inr}
+use Rattle.std.proofs.Common.{◌≡◌, ℕ, ◌+◌, ◌<◌, ◌≤◌, ◌==◌, ◌||◌, Bool, true, false, not, if◌then◌else◌, List, [], ◌∷◌, length, find, Option, Some, None, Result, Err, is_some, unwrap_or, refl, sym, ap, ◌∙◌, subst, arith, inl, inr}
 use Rattle.std.specs.Prelude.{IfNone, IfSome, IsSome}
 use Rattle.std.specs.Prelude.{take, drop}
 use Rattle.std.proofs.lemmas.Bool.{cases_Bool, eqb-true}
@@ -26,7 +26,7 @@ use Rattle.rule_model.specs.declared.event.Event.{Event}
 use Rattle.rule_model.specs.declared.facts.Caller.{Caller}
 use Rattle.rule_model.specs.declared.facts.Conditions.{Conditions}
 use Rattle.rule_model.specs.declared.reply.Reply.{Reply}
-use Rattle.rule_model.specs.declared.reply.Reply.TheVariants.{Done, Broken, Stopped}
+use Rattle.rule_model.specs.declared.reply.Reply.TheVariants.{Broken, Stopped}
 use Rattle.rule_model.specs.Acts.{is_begin}
 use Rattle.rule_model.specs.Answer.{answer_by_rules, drawn_nonce}
 use Rattle.rule_model.specs.Replies.{broken_or, no_fields}
@@ -43,7 +43,7 @@ use Rattle.rule_model.specs.Kept.{access_at, begin_key_at, kept, key_found}
 use Rattle.rule_model.specs.Legal.{MayFollow, Answered, WithoutMemory, WithoutEntropy}
 use Rattle.rule_model.specs.Operations.{Open, OperationChange, Opens, SameOperations, as_begun, challenge_of, has_number, facts_of_begin, is_busy, nonce_of, nonce_size, open_after, open_of, operation_at, operation_change, operation_on, opens, step_of, without, without_pruned}
 use Rattle.rule_model.specs.Setup.{Setup}
-use Rattle.rule_model.specs.Slots.{begin_facts, conditions_on, facts_of_open, has_free, has_room, open_facts, pruned_for}
+use Rattle.rule_model.specs.Slots.{begin_facts, conditions_on, facts_of_open, has_free, has_room, pruned_for}
 use Rattle.rule_model.specs.Jobs.{Stays}
 use Rattle.keystore_core.specs.declared.operations.Operation.{Operation}
 use Rattle.keystore_core.specs.declared.tables.Tables.{Tables}
@@ -62,7 +62,6 @@ use Rattle.keystore_core.specs.Beginning.{IsBeginKey, IsNewRow, MakesWay, OpensO
 use Rattle.keystore_core.specs.declared.beginning.BeginKey.{BeginKey as OwnKey}
 use Rattle.key_database.specs.Held.{lasting_in}
 use Rattle.keystore_core.specs.Keys.{SameKeys}
-use Rattle.keystore_core.specs.Leaving.{ClosesOne}
 use Rattle.keystore_core.specs.Operations.{IsRow, has_row, operations_given, rows_in}
 use Rattle.keystore_core.specs.Slots.{IsKept, IsSlot}
 use Rattle.keystore_core.specs.Tables.{AnswersAfter, IsCaller, SameTables, TablesStand, event_by}

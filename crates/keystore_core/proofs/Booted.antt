@@ -1,7 +1,5 @@
 -- What lasts until the next restart: after an entry that leaves it as it is, or changes it.
-use Rattle.std.proofs.Common.{◌≡◌, ℕ, ◌≤◌, ◌<◌, ◌-◌, ◌^◌, Bool, false, List, ◌∷◌, length, Option, Some, None, refl, sym, ap, ◌∙◌, arith}
-use Rattle.std.proofs.Math.Bridge.{le_prop}
-use mathlib.Core.Logic.{∥∥₁_elim}
+use Rattle.std.proofs.Common.{◌≡◌, ℕ, Bool, false, List, ◌∷◌, Option, Some, None, refl, sym, ap, ◌∙◌}
 use Rattle.std.specs.Option.{option_map_or}
 use Rattle.std.specs.List.{list_any}
 use Rattle.tags.specs.declared.param.Param.{Param}
@@ -17,12 +15,11 @@ use Rattle.rule_model.specs.Boot.{BootChange, SameBoot as NoBoot, begins_after, 
 use Rattle.rule_model.specs.Entries.{History}
 use Rattle.rule_model.specs.Setup.{Setup}
 use Rattle.rule_model.specs.Slots.{conditions_on}
-use Rattle.rule_model.proofs.Boot.{begins_few}
 use Rattle.keystore_core.specs.declared.boot.Boot.{Boot}
-use Rattle.keystore_core.specs.Begins.{ChangesBegins, SameBegins, begins_in}
+use Rattle.keystore_core.specs.Begins.{ChangesBegins, begins_in}
 use Rattle.keystore_core.specs.Boot.{BootStands, SameBoot, conditions_in}
 use Rattle.keystore_core.specs.Device.{ChangesDevice, early_in, unlocked_in}
-use Rattle.keystore_core.specs.Tokens.{ChangesTokens, SameTokens, token_key_in, tokens_in}
+use Rattle.keystore_core.specs.Tokens.{ChangesTokens, tokens_in}
 
 pub same_boot : (boot : Boot) → SameBoot boot boot
 same_boot boot = record { device = refl; tokens = record { tokens = refl; key = refl }; begins = λ key. refl }

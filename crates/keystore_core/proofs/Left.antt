@@ -1,6 +1,5 @@
 -- A work that comes back, and a client that goes: their answers, and the tables after them.
-use Rattle.std.proofs.Common.{◌≡◌, ℕ, ◌+◌, ◌-◌, ◌^◌, ◌<◌, ◌≤◌, Bool, true, false, ◌&&◌, not, ◌==◌, min, if◌then◌else◌, List, [], ◌∷◌, ◌++◌, length, find, map, filter, Option, Some, None, Result, Ok, Err, is_some, option_map, refl, sym, ap, ◌∙◌, subst, arith, inl, inr, length-append, append-nil}
-use Rattle.std.specs.List.{list_any}
+use Rattle.std.proofs.Common.{◌≡◌, ℕ, ◌+◌, ◌-◌, ◌^◌, ◌<◌, ◌≤◌, Bool, true, false, ◌&&◌, not, ◌==◌, min, if◌then◌else◌, List, [], ◌∷◌, ◌++◌, length, find, map, Option, Some, None, Result, Ok, Err, is_some, refl, sym, ap, ◌∙◌, subst, arith, inl, inr, length-append, append-nil}
 use Rattle.std.proofs.lemmas.Bool.{cases_Bool, eqb-true, eq-eqb}
 use Rattle.tags.specs.declared.code.Code.{Code}
 use Rattle.tags.specs.declared.code.Code.TheVariants.{NoTicket}
@@ -30,22 +29,20 @@ use Rattle.rule_model.specs.Clients.{SameClients as NoClients, caller_of, client
 use Rattle.std.specs.Prelude.{IfErr}
 use Rattle.cipher_ops.specs.Jobs.{is_refusal}
 use Rattle.rule_model.specs.Drawn.{is_entropy_fault}
-use Rattle.rule_model.specs.Entries.{History, admits, count_of}
+use Rattle.rule_model.specs.Entries.{History, admits}
 use Rattle.rule_model.specs.Boot.{SameBoot as NoBoot, boot_change}
 use Rattle.rule_model.specs.Jobs.{HasJob, IsDoneOn, IsDoneOut, Stays}
-use Rattle.rule_model.specs.Legal.{MayFollow, Answered}
+use Rattle.rule_model.specs.Legal.{Answered}
 use Rattle.rule_model.specs.Operations.{Closes, ClosesOf, Open, OperationChange, Returns, SameOperations, as_returned, has_busy, has_number, is_busy, is_of, open_after, open_of, operation_at, operation_change, output_of, returns, step_of}
 use Rattle.rule_model.specs.Setup.{Setup}
 use Rattle.rule_model.specs.StepFacts.{brought_by}
 use Rattle.rule_model.specs.Tickets.{ComesBack, Entered, ticket_after, ticket_at, ticket_change}
 use Rattle.rule_model.proofs.Kept.{same_device, same_kept}
-use Rattle.keystore_core.specs.declared.operations.Added.{Added}
 use Rattle.keystore_core.specs.declared.operations.Operation.{Operation as Row}
 use Rattle.keystore_core.specs.declared.operations.RowChange.TheVariants.{Returns as RowReturns}
 use Rattle.keystore_core.specs.declared.tables.Tables.{Tables}
 use Rattle.keystore_core.specs.declared.tickets.Out.{Out}
 use Rattle.keystore_core.specs.Alike.{Alike, BothFound}
-use Rattle.keystore_core.specs.Clients.{uid_in}
 use Rattle.keystore_core.specs.Leaving.{EndsClient}
 use Rattle.keystore_core.specs.Operations.{ChangesRow, IsRow, changed, grown, has_busy_row, has_row, is_row_of, rows_in}
 use Rattle.keystore_core.specs.Slots.{IsKept, IsSlot, IsStateOf}

@@ -1,9 +1,8 @@
 -- A new key: its answer, and the tables after it.
 use Rattle.std.proofs.Common.{◌≡◌, ℕ, ◌+◌, ◌<◌, ◌≤◌, Bool, true, false, ◌&&◌, ◌||◌, List, [], ◌∷◌, length, Option, Some, None, Result, Ok, Err, if◌then◌else◌, ◌==◌, ◌^◌, arith, refl, sym, ap, ◌∙◌, subst}
 use Rattle.std.specs.Option.{option_map}
-use Rattle.std.specs.Prelude.{IfSome, is_none, unwrap_or, take, drop}
+use Rattle.std.specs.Prelude.{is_none, unwrap_or}
 use Rattle.std.proofs.lemmas.Bool.{and_parts, eq-eqb, le-leb, lt-ltb}
-use Rattle.std.proofs.lemmas.List.{length-append, length-drop, length-take-le}
 use Rattle.tags.specs.declared.code.Code.{Code}
 use Rattle.tags.specs.declared.code.Code.TheVariants.{EntropyFault, MemoryAllocationFailed, StoreFull}
 use Rattle.tags.specs.declared.descriptor.Descriptor.{Descriptor}
@@ -16,7 +15,7 @@ use Rattle.tags.specs.declared.rule.Rule.{Rule}
 use Rattle.tags.specs.declared.rule.RuleTable.TheVariants.{K}
 use Rattle.tags.specs.Table.{Ruling, first_broken, where_all_hold}
 use Rattle.journal_records.specs.LastingPart.{Lasting}
-use Rattle.journal_records.specs.Needs.{has_place_for, is_met, is_number_left, is_owner}
+use Rattle.journal_records.specs.Needs.{has_place_for, is_number_left, is_owner}
 use Rattle.key_database.specs.Held.{HasRoomForKey, Held, lasting_in}
 use Rattle.key_rules.specs.declared.facts.NewFacts.{NewFacts}
 use Rattle.key_rules.specs.declared.plan.KeyPlan.{KeyPlan}
@@ -55,7 +54,7 @@ use Rattle.rule_model.proofs.Operations.{moves_operations, same_operations}
 use Rattle.rule_model.proofs.Tickets.{moves_tickets, same_tickets}
 use Rattle.keystore_core.specs.declared.creating.Import.{Import}
 use Rattle.keystore_core.specs.declared.tables.Tables.{Tables}
-use Rattle.keystore_core.specs.Creating.{CanKeep, blob_made, facts_of_import, keeping, kept_fields, making, material_of}
+use Rattle.keystore_core.specs.Creating.{CanKeep, blob_made, facts_of_import, keeping, kept_fields, making}
 use Rattle.keystore_core.specs.Tables.{AnswersAfter, IsCaller, SameTables, TablesStand, event_by}
 use Rattle.keystore_core.specs.Device.{early_in}
 use Rattle.keystore_core.proofs.Booted.{boot_stays}

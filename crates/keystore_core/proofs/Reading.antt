@@ -1,5 +1,5 @@
 -- A call that opens, enters and closes no operation, and moves no client: its answer by the rules, and the tables after it.
-use Rattle.std.proofs.Common.{◌≡◌, ℕ, Bool, true, false, ◌&&◌, if◌then◌else◌, List, [], ◌∷◌, length, None, Some, refl, sym, ap, ◌∙◌}
+use Rattle.std.proofs.Common.{◌≡◌, Bool, true, false, ◌&&◌, if◌then◌else◌, [], ◌∷◌, None, Some, refl, sym, ap, ◌∙◌}
 use Rattle.journal_records.specs.declared.change.Change.{Change}
 use Rattle.journal_records.specs.Effects.{after}
 use Rattle.key_database.specs.Held.{Held, lasting_in}

@@ -1,5 +1,5 @@
 -- A token that the system hands over: its answer, and the tables after it.
-use Rattle.std.proofs.Common.{◌≡◌, ℕ, ◌+◌, ◌<◌, Bool, true, false, ◌==◌, if◌then◌else◌, List, [], ◌∷◌, length, map, Option, Some, None, Ok, Err, refl, sym, ap, ◌∙◌, arith}
+use Rattle.std.proofs.Common.{◌≡◌, ℕ, Bool, true, false, ◌==◌, if◌then◌else◌, List, [], ◌∷◌, length, map, Option, Some, None, Ok, Err, refl, sym, ap, ◌∙◌, arith}
 use Rattle.tags.specs.declared.code.Code.{Code}
 use Rattle.tags.specs.declared.code.Code.TheVariants.{TokensFull}
 use Rattle.tags.specs.declared.rule.Rule.{Rule}
@@ -32,12 +32,12 @@ use Rattle.keystore_core.specs.declared.operations.Operation.{Operation}
 use Rattle.keystore_core.specs.declared.tables.Tables.{Tables}
 use Rattle.keystore_core.specs.Alike.{Alike}
 use Rattle.keystore_core.specs.Begins.{begins_in}
-use Rattle.keystore_core.specs.Clients.{SameClients, clients_given, uid_in}
+use Rattle.keystore_core.specs.Clients.{clients_given, uid_in}
 use Rattle.keystore_core.specs.Device.{early_in, unlocked_in}
 use Rattle.keystore_core.specs.Operations.{IsRow, is_for_row, operations_given, rows_in, shown}
 use Rattle.keystore_core.specs.Slots.{IsKept, IsSlot}
 use Rattle.keystore_core.specs.Tables.{AnswersAfter, IsCaller, SameTables, TablesStand, event_by}
-use Rattle.keystore_core.specs.Tickets.{SameTickets, out_in, tickets_given}
+use Rattle.keystore_core.specs.Tickets.{out_in, tickets_given}
 use Rattle.keystore_core.specs.TokenCalls.{AcceptsToken, RefusesToken, adding}
 use Rattle.keystore_core.specs.Tokens.{token_key_in, tokens_in}
 use Rattle.keystore_core.proofs.Alike.{alike_change}

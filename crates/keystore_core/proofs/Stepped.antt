@@ -1,8 +1,8 @@
 -- A step of an open operation: that its work may go out, its answer, and the tables after it.
-use Rattle.std.proofs.Common.{◌≡◌, ◌&&◌, ℕ, ◌+◌, ◌<◌, ◌≤◌, Bool, true, false, not, ◌==◌, if◌then◌else◌, List, [], ◌∷◌, length, find, map, filter, Option, Some, None, Result, Ok, Err, is_some, refl, sym, ap, ◌∙◌, subst, arith, inl, inr, length-append}
+use Rattle.std.proofs.Common.{◌≡◌, ◌&&◌, ℕ, ◌+◌, ◌≤◌, Bool, true, false, not, ◌==◌, if◌then◌else◌, List, [], ◌∷◌, length, find, Option, Some, None, Ok, Err, is_some, refl, sym, ap, ◌∙◌, subst, arith, length-append}
 use Rattle.std.proofs.Math.Bridge.{le_prop}
 use Rattle.std.proofs.Props.{props}
-use Rattle.std.proofs.lemmas.Bool.{cases_Bool, eqb-true, eq-eqb}
+use Rattle.std.proofs.lemmas.Bool.{eqb-true, eq-eqb}
 use mathlib.Core.Logic.{∥∥₁_prop}
 use Rattle.tags.specs.declared.code.Code.{Code}
 use Rattle.tags.specs.declared.plan.Plan.{Plan}
@@ -17,7 +17,7 @@ use Rattle.cipher_ops.specs.declared.room.JobRoom.{JobRoom}
 use Rattle.cipher_ops.specs.declared.room.Work.{Work}
 use Rattle.cipher_ops.specs.declared.room.Work.TheVariants.{Aad, Text, Last}
 use Rattle.cipher_ops.specs.declared.state.CipherState.{CipherState}
-use Rattle.cipher_ops.specs.Jobs.{JobFor, ticket_of}
+use Rattle.cipher_ops.specs.Jobs.{JobFor}
 use Rattle.cipher_ops.specs.Running.{GoesOn, IsRoom, MayCome}
 use Rattle.operation_slots.specs.declared.operation.Operation.{Operation as Slot}
 use Rattle.operation_slots.specs.Table as table
@@ -34,13 +34,12 @@ use Rattle.rule_model.specs.Acts.{is_begin, is_connect, is_enter}
 use Rattle.rule_model.specs.Answer.{answer_by_rules}
 use Rattle.rule_model.specs.Replies.{broken_or, no_fields}
 use Rattle.rule_model.specs.Clients.{SameClients as NoClients, caller_of, client_change}
-use Rattle.rule_model.specs.Drawn.{size_of, wanted}
 use Rattle.rule_model.specs.Entries.{History, admits, count_of}
 use Rattle.rule_model.specs.Jobs.{HasJob, IsJobOn, IsJobOut, Stays}
 use Rattle.rule_model.specs.Kept.{is_live}
 use Rattle.rule_model.specs.Boot.{SameBoot as NoBoot, boot_change}
 use Rattle.rule_model.specs.Legal.{MayFollow, Answered}
-use Rattle.rule_model.specs.Operations.{Closes, Enters as EntersOne, Open, OperationChange, SameOperations, as_entered, closes, has_number, is_busy, open_after, open_of, operation_at, operation_change, operation_of, step_of}
+use Rattle.rule_model.specs.Operations.{Closes, Enters as EntersOne, Open, SameOperations, as_entered, closes, has_number, is_busy, open_after, open_of, operation_at, operation_change, operation_of, step_of}
 use Rattle.rule_model.specs.Setup.{Setup}
 use Rattle.rule_model.specs.StepFacts.{brought_by, brought_by_abort, facts_of, has_ended, step_facts}
 use Rattle.rule_model.specs.Tickets.{Entered, GoesOut, SameTickets as NoTickets, next_ticket, ticket_after, ticket_at, ticket_change}
@@ -49,9 +48,9 @@ use Rattle.keystore_core.specs.declared.operations.Operation.{Operation as Row}
 use Rattle.keystore_core.specs.declared.operations.RowChange.TheVariants.{Enters as RowEnters}
 use Rattle.keystore_core.specs.declared.tables.Tables.{Tables}
 use Rattle.keystore_core.specs.declared.tickets.Out.{Out}
-use Rattle.keystore_core.specs.Alike.{Alike, BothFound}
+use Rattle.keystore_core.specs.Alike.{BothFound}
 use Rattle.keystore_core.specs.Leaving.{ClosesOne}
-use Rattle.keystore_core.specs.Operations.{ChangesRow, IsRow, changed, has_row, operation_in, rows_in}
+use Rattle.keystore_core.specs.Operations.{IsRow, changed, has_row, rows_in}
 use Rattle.keystore_core.specs.Slots.{IsKept, IsSlot, IsStateOf}
 use Rattle.keystore_core.specs.Stepping.{CanWork, Denies, DeniesBy, IsRoomAt, MayGrow, SendsJob, entering}
 use Rattle.keystore_core.specs.Tables.{AnswersAfter, IsCaller, SameTables, TablesStand, event_by, row_at, state_at}

@@ -1,9 +1,9 @@
 -- When the engine's tables stand for a history, and what an act makes of them.
-use Rattle.std.specs.Prelude.{◌≡◌, ℕ, ◌+◌, ◌≤◌, Bool, ◌∷◌, length, Option, Result, Ok, Err}
+use Rattle.std.specs.Prelude.{◌≡◌, ℕ, ◌≤◌, ◌∷◌, length, Option, Result, Ok, Err}
 use Rattle.tags.specs.declared.bytes.NoMemory.{NoMemory}
 use Rattle.cipher_ops.specs.declared.job.Done.{Done}
 use Rattle.cipher_ops.specs.declared.state.CipherState.{CipherState}
-use Rattle.operation_slots.specs.Table.{Same, held, idle_value}
+use Rattle.operation_slots.specs.Table.{held, idle_value}
 use Rattle.rule_model.specs.declared.entry.Entry.TheVariants.{Acted}
 use Rattle.rule_model.specs.declared.event.Event.{Event}
 use Rattle.rule_model.specs.declared.event.Act.{Act}

@@ -3,8 +3,6 @@ use mathlib.Core.Logic.{∥∥₁_elim}
 use denote.Struct.Props.{≡_prop}
 use Rattle.std.specs.Coded.{coded_bool}
 use Rattle.step_rules.specs.Table.{answer}
-use Rattle.rule_model.specs.Kept.{is_live}
-use Rattle.rule_model.specs.Operations.{operation_at}
 use Rattle.rule_model.specs.StepFacts.{brought_by_abort}
 use Rattle.keystore_core.proofs.Stepped.{abort_refused, aborted, ends_idle, idle_facts}
 use Rattle.keystore_core.proofs.tables.Tables.abort.Goals as goal

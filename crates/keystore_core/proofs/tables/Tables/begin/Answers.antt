@@ -1,12 +1,11 @@
 use Rattle.std.proofs.lemmas.Result.{err_from_is_err_and}
-use Rattle.std.proofs.Common.{◌≡◌, false, None, ◌+◌, ◌<◌, length, Some, is_some, ap, sym, ◌∙◌, arith}
+use Rattle.std.proofs.Common.{◌≡◌, ◌+◌, ◌<◌, length, is_some, ap, sym, ◌∙◌, arith}
 use mathlib.Core.Logic.{∥∥₁_elim}
 use denote.Struct.Props.{≡_prop}
 use Rattle.std.specs.Coded.{coded_bool}
 use Rattle.ks_outside.proofs.Shown.{drew_none}
 use Rattle.use_rules.specs.Plans.{challenge_wanted}
 use Rattle.use_rules.specs.Table.{answer, key_of}
-use Rattle.operation_slots.specs.Table.{held}
 use Rattle.rule_model.specs.declared.facts.Conditions.{Conditions}
 use Rattle.rule_model.specs.Access.{owner_of}
 use Rattle.rule_model.specs.Slots.{pruned_for}

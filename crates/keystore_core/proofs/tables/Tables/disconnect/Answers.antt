@@ -1,4 +1,4 @@
-use Rattle.std.proofs.Common.{sym, ap, ◌∙◌}
+use Rattle.std.proofs.Common.{sym, ◌∙◌}
 use Rattle.keystore_core.proofs.Left.{busy_is, disconnected, ruling_is, stays_connected}
 use Rattle.keystore_core.proofs.tables.Tables.disconnect.Goals as goal
 

@@ -6,8 +6,7 @@ use Rattle.step_rules.specs.Table.{answer}
 use Rattle.operation_slots.specs.Table.{held}
 use Rattle.rule_model.specs.Kept.{is_live}
 use Rattle.rule_model.specs.Operations.{operation_at}
-use Rattle.rule_model.specs.StepFacts.{brought_by}
-use Rattle.keystore_core.specs.Tables.{row_at, state_at}
+use Rattle.keystore_core.specs.Tables.{row_at}
 use Rattle.keystore_core.proofs.Standing.{few_tickets, same_but_tickets}
 use Rattle.keystore_core.proofs.Stepped.{CanWork-prop, MayGrow-prop, can_work, ends_idle, entered_after, may_grow, refused, row_found, slot_found, step_enters}
 use Rattle.keystore_core.proofs.tables.Tables.enter.Goals as goal

@@ -1,13 +1,11 @@
-use Rattle.std.proofs.Common.{◌≡◌, true, Some, None, refl, sym, ap, ◌∙◌}
+use Rattle.std.proofs.Common.{◌≡◌, Some, refl, sym, ap, ◌∙◌}
 use Rattle.std.proofs.Props.{props}
 use mathlib.Core.Logic.{∥∥₁_elim}
 use denote.Struct.Props.{≡_prop}
 use Rattle.std.specs.Coded.{coded_bool}
 use Rattle.operation_slots.specs.Table.{held, is_busy}
 use Rattle.rule_model.specs.Answer.{given_or}
-use Rattle.rule_model.specs.Tickets.{ticket_at}
 use Rattle.keystore_core.specs.Stepping.{reply_of}
-use Rattle.keystore_core.specs.Tickets.{out_in}
 use Rattle.keystore_core.proofs.Left.{came_back, is_back, no_fault, none_out, not_out, replied, slot_busy, some_done}
 use Rattle.keystore_core.proofs.Standing.{at_later}
 use Rattle.keystore_core.proofs.Stepped.{slot_found}

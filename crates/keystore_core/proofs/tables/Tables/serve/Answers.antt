@@ -1,4 +1,4 @@
-use Rattle.keystore_core.proofs.Standing.{at_any, at_begin, at_few, begin_at}
+use Rattle.keystore_core.proofs.Standing.{at_begin, at_few, begin_at}
 use Rattle.keystore_core.proofs.tables.Tables.serve.Goals as goal
 
 pub returns-in-CreateOperation-clause-serves : goal.returns-in-CreateOperation-clause-serves
