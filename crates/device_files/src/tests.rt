@@ -77,17 +77,36 @@ fn a_policy_is_an_array_of_at_most_256_rows_of_three_numbers(rt: HostRuntime) ->
     Ok(())
 }
 
+/// The device of so many bytes, which begin with those of the demo device.
+fn device_of(alloc: Global, size: usize) -> Result<Option<DeviceSecrets>, Fail> {
+    let mut bytes = Vec::new(alloc);
+    for place in 0..size {
+        bytes.push(match place {
+            0..=31 => 1,
+            32..=63 => 2,
+            _ => 3,
+        })?;
+    }
+    Ok(device_in(bytes.as_slice()))
+}
+
 #[test]
 fn a_device_file_has_exactly_96_bytes(rt: HostRuntime) -> Result<(), Fail> {
-    let mut bytes = [1; 97];
-    for place in 32..97 {
-        bytes[place] = if place < 64 { 2 } else { 3 };
-    }
-    assert_eq!(rt; device_in(&bytes[..96]), Some(DeviceSecrets::demo()));
+    assert_eq!(rt; device_of(rt.alloc(), 96)?, Some(DeviceSecrets::demo()));
     for size in [0usize, 32, 95, 97] {
-        assert_eq!(rt; device_in(&bytes[..size]), None);
+        assert_eq!(rt; device_of(rt.alloc(), size)?, None);
     }
     Ok(())
+}
+
+/// A device whose three secrets are 32 bytes 07 each.
+fn sevens() -> DeviceSecrets {
+    let secret = [7; 32];
+    DeviceSecrets {
+        seal: secret,
+        token: secret,
+        root: secret,
+    }
 }
 
 #[test]
@@ -98,11 +117,7 @@ fn the_files_are_read_where_they_are_there(rt: HostRuntime) -> Result<(), Fail> 
     assert_eq!(rt; (demo.rows().len(), demo.bits(1000, 100)), (2, Some(509)));
 
     fs::write(&rt, path, [7; 96].as_slice())?;
-    let device = read_device(&rt, path).map_err(|_| "a device file")?;
-    assert_eq!(rt;
-        (device.seal, device.token, device.root),
-        ([7; 32], [7; 32], [7; 32])
-    );
+    assert_eq!(rt; read_device(&rt, path), Ok(sevens()));
     assert_eq!(rt; read_policy(&rt, path).err(), Some(FileFault::Malformed));
 
     fs::write(&rt, path, "[[10001,0,64]]")?;
