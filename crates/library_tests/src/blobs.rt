@@ -71,7 +71,9 @@ fn blob_of(alloc: Global, list: Pairs) -> Result<Bytes, Fail> {
         early_ended: false,
         wall: 1000,
     };
-    let key = plan_key(alloc, &facts).map_err(|_| "a key")?;
+    let Ok(key) = plan_key(alloc, &facts) else {
+        return Err(Fail::from("a key"));
+    };
     let material = Bytes::of(vec![in alloc; 7; 32]?);
     Ok(seal_key(alloc, &DeviceSecrets::demo(), [9; 12], key.plan, material).map_err(|_| "memory")?)
 }
