@@ -1,0 +1,18 @@
+//! A reproducible load: the lines of a script that a seed fixes, and the summary of what they were answered.
+//!
+//! Its contract: `SoakScript` gives the lines of the definition in `specs/Lines.antt`, one after another, and `Summary` is that of
+//! the reply lines that it was given (`specs/Summary.antt`). The load is the service's own; its words are those of
+//! `ChaCha20Rng` (RFC 8439, section 2.3).
+#![tactic(auto)]
+
+mod call;
+mod line;
+mod script;
+mod summary;
+#[cfg(test)]
+mod tests;
+
+pub use call::{Call, Words};
+pub use line::SoakLine;
+pub use script::{MOST_LINES, SoakScript, seed_of};
+pub use summary::Summary;
