@@ -88,7 +88,7 @@ least_is domain nspace past (row ∷ rows) key is = by_name (is_named domain nsp
         first (Some other) at same =
             let there = least_named domain nspace past rows other at in
             let below : is_gt (alias_cmp row.alias other.alias) ≡ false = subst (λ (k : KeyRecord). is_gt (alias_cmp k.alias other.alias) ≡ false) (sym same)
-                (is.smallest other.alias there.0.after (some_more (is_named domain nspace other.alias row) row (find (is_named domain nspace other.alias) rows) there.1)) in
+            (is.smallest other.alias there.0.after (some_more (is_named domain nspace other.alias row) row (find (is_named domain nspace other.alias) rows) there.1)) in
             rw below same
   by_name false named found later =
       let rest : least (filter (is_listed domain nspace past) rows) ≡ Some key = later (record {

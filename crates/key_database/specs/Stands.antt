@@ -86,12 +86,21 @@ FindsStore part (Err faults.Full) = ⊥
 FindsStore part (Err faults.Memory) = ⊤
 
 -- what reading a store again answers where the bytes are told: they stand for what was held
-abbrev pub IsReread : Result Bool StoreFault → Type 0
-IsReread (Ok same) = same ≡ true
-IsReread (Err faults.Device) = ⊤
-IsReread (Err (faults.Corrupted offset)) = ⊥
-IsReread (Err faults.Full) = ⊥
-IsReread (Err faults.Memory) = ⊤
+abbrev pub IsReadAgain : Result Bool StoreFault → Type 0
+IsReadAgain (Ok same) = same ≡ true
+IsReadAgain (Err faults.Device) = ⊤
+IsReadAgain (Err (faults.Corrupted offset)) = ⊥
+IsReadAgain (Err faults.Full) = ⊥
+IsReadAgain (Err faults.Memory) = ⊤
+
+-- what it read of these bytes, by its answer
+abbrev pub Rereads : Lasting → List ℕ → Result Bool StoreFault → Type 0
+Rereads part image (Ok true) = StandsFor part image
+Rereads part image (Ok false) = ⊤
+Rereads part image (Err faults.Device) = ⊤
+Rereads part image (Err (faults.Corrupted offset)) = IsBadStore image offset
+Rereads part image (Err faults.Full) = ⊥
+Rereads part image (Err faults.Memory) = ⊤
 
 -- a change of the list whose need is not met stands at this place, and the needs of those before it are met
 pub record IsUnmetAt (changes : List (ℕ × Change)) (offset : ℕ) : Type 0 where

@@ -21,7 +21,7 @@ use journal_records::{Change, StoreFault};
 use ks_outside::Disk;
 use std::alloc::Global;
 use tags::{NoMemory, Settled};
-use use_journal::Journal;
+use use_journal::{Journal, one_reading};
 
 /// The keys and grants that last, and the journal that they lie in. While a change whose writing failed waits to be
 /// settled, also that change, with the room for it.
@@ -35,7 +35,7 @@ pub struct KeyDatabase {
 }
 
 impl KeyDatabase {
-    ghost use Rattle.key_database.specs.Stands.{lasting, table_of, is_unsettled, store_bytes, change_bytes, bytes_after, Holds, IsReread, SameStore, ReadsStore, FindsStore, ApplyCause};
+    ghost use Rattle.key_database.specs.Stands.{lasting, table_of, is_unsettled, store_bytes, change_bytes, bytes_after, Holds, IsReadAgain, Rereads, SameStore, ReadsStore, FindsStore, ApplyCause};
 
     /// Syncs, reads the store that the disk holds, and tests the need of each change. Corrupted has the place of what
     /// is wrong first: of what is no journal, and where it is one of the first change whose need is not met.
@@ -171,29 +171,34 @@ impl KeyDatabase {
         self.commit(disk, change)
     }
 
-    /// Reads the store again, and takes what was read where that is the same lasting part in as many bytes; else it
-    /// answers false, and stays as it is. Over a disk that tells its bytes it answers neither false nor Corrupted.
-    pub fn reread<D: Disk>(&mut self, alloc: Global, disk: &mut D) -> Result<bool, StoreFault>
-        requires { is_unsettled self.old ≡ false }
-        ensures holds { (held : Holding) → Holds D.Disk self.old disk.old held → Holds D.Disk self.new disk.new held }
-        ensures passes { (held : Holding) → Holds D.Disk self.old disk.old held
+    /// Whether both hold the same lasting part, in as many bytes.
+    fn same_store(&self, other: &KeyDatabase) -> bool
+        ensures yes { result ≡ true → lasting self.now ≡ lasting other.now }
+        ensures no { lasting self.now ≡ lasting other.now → store_bytes self.now ≡ store_bytes other.now → result ≡ true }
+    {
+        self.journal.end() == other.journal.end() && self.table.same(&other.table)
+    }
+
+    /// Reads the store again, and tells whether it is the same lasting part in as many bytes. Over a disk that tells its
+    /// bytes it answers neither false nor Corrupted.
+    pub fn read_again<D: Disk>(&self, alloc: Global, disk: &mut D) -> Result<bool, StoreFault>
+        requires { is_unsettled self.now ≡ false }
+        ensures holds { (held : Holding) → Holds D.Disk self.now disk.old held → Holds D.Disk self.now disk.new held }
+        ensures passes { (held : Holding) → Holds D.Disk self.now disk.old held
             → Passes D.Disk disk.old disk.new (MayBe held) }
-        ensures same { (held : Holding) → Holds D.Disk self.old disk.old held → tells D.Disk disk.old ≡ true
-            → IsReread result }
-        ensures lasting { lasting self.new ≡ lasting self.old }
-        ensures bytes { store_bytes self.new ≡ store_bytes self.old }
-        ensures waiting { is_unsettled self.new ≡ false }
+        ensures same { (held : Holding) → Holds D.Disk self.now disk.old held → tells D.Disk disk.old ≡ true
+            → IsReadAgain result }
+        ensures reads { AllImages D.Disk disk.new (λ image. Rereads (lasting self.now) image result) }
         ensures images { AllImages D.Disk disk.new (D.images disk.old) }
         ensures sure { D.is_sure disk.old → D.is_sure disk.new }
         ensures telling { tells D.Disk disk.new ≡ tells D.Disk disk.old }
         ensures cause { OpenCause (D.fault_count disk.old) (D.fault_count disk.new) result }
     {
-        let read = KeyDatabase::open(alloc, disk)?;
-        if read.journal.end() != self.journal.end() || !read.table.same(&self.table) {
-            return Ok(false);
+        one_reading();
+        match KeyDatabase::open(alloc, disk) {
+            Ok(read) => Ok(self.same_store(&read)),
+            Err(fault) => Err(fault),
         }
-        *self = read;
-        Ok(true)
     }
 
     /// Finds out what became of a change that waits, and makes it here where the disk has it. Device alone is its
