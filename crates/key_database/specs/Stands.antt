@@ -11,7 +11,7 @@ use Rattle.journal_records.specs.Effects.{after, lasting_of}
 use Rattle.journal_records.specs.Holding.{Holding, Sure, Unsure}
 use Rattle.journal_records.specs.Spelling.{closed_of}
 use Rattle.use_journal.specs.Journal.{past_of}
-use Rattle.use_journal.specs.Holding.{is_waiting, end_of, IsSettledOn, IsUnsettledOn}
+use Rattle.use_journal.specs.Holding.{is_waiting, end_after, end_of, IsSettledOn, IsUnsettledOn}
 use Rattle.key_database.specs.declared.database.KeyDatabase.{KeyDatabase}
 use Rattle.key_database.specs.Held.{Held, lasting_in}
 use Rattle.key_database.specs.Store.{StandsFor, IsBadStore}
@@ -19,6 +19,10 @@ use Rattle.key_database.specs.Store.{StandsFor, IsBadStore}
 -- the lasting part that its look-ups tell
 abbrev pub lasting : KeyDatabase → Lasting
 lasting database = lasting_in database.table
+
+-- the table of its keys and grants, with its room
+abbrev pub table_of : KeyDatabase → Held
+table_of database = database.table
 
 -- whether a change waits to be settled
 abbrev pub is_unsettled : KeyDatabase → Bool
@@ -31,6 +35,16 @@ store_bytes database = end_of database.journal
 -- how many bytes of the store a change takes: its record and the byte behind it
 abbrev pub change_bytes : Change → ℕ
 change_bytes change = length (closed_of change)
+
+-- how many bytes they have after a change, by the answer of the call that makes it
+abbrev pub bytes_after : {T : Type 0} → Change → Result T StoreFault → ℕ → ℕ
+bytes_after change result bytes = end_after (change_bytes change) result bytes
+
+-- the same lasting part in the same journal, where the same change waits; the room may be another
+pub record SameStore (old new : KeyDatabase) : Type 0 where
+  pub lasting_is : lasting new ≡ lasting old
+  pub journal_is : new.journal ≡ old.journal
+  pub pending_is : new.pending ≡ old.pending
 
 -- sure of this lasting part: each image is a journal of the same changes, which leave it
 pub record IsSure {D : Type 0} (g : Ghosts D) (database : KeyDatabase) (disk : D) (part : Lasting) : Type 0 where
@@ -70,6 +84,23 @@ FindsStore part (Err faults.Device) = ⊤
 FindsStore part (Err (faults.Corrupted offset)) = ⊥
 FindsStore part (Err faults.Full) = ⊥
 FindsStore part (Err faults.Memory) = ⊤
+
+-- what reading a store again answers where the bytes are told: they stand for what was held
+abbrev pub IsReadAgain : Result Bool StoreFault → Type 0
+IsReadAgain (Ok same) = same ≡ true
+IsReadAgain (Err faults.Device) = ⊤
+IsReadAgain (Err (faults.Corrupted offset)) = ⊥
+IsReadAgain (Err faults.Full) = ⊥
+IsReadAgain (Err faults.Memory) = ⊤
+
+-- what it read of these bytes, by its answer
+abbrev pub Rereads : Lasting → List ℕ → Result Bool StoreFault → Type 0
+Rereads part image (Ok true) = StandsFor part image
+Rereads part image (Ok false) = ⊤
+Rereads part image (Err faults.Device) = ⊤
+Rereads part image (Err (faults.Corrupted offset)) = IsBadStore image offset
+Rereads part image (Err faults.Full) = ⊥
+Rereads part image (Err faults.Memory) = ⊤
 
 -- a change of the list whose need is not met stands at this place, and the needs of those before it are met
 pub record IsUnmetAt (changes : List (ℕ × Change)) (offset : ℕ) : Type 0 where

@@ -33,7 +33,7 @@ pub struct Journal {
 impl Journal {
     ghost use Rattle.use_journal.specs.Journal.{IsJournal, IsBeforeOrAfter, AreChanges, past_of, placed};
     ghost use Rattle.use_journal.specs.Holding.{is_waiting, end_of, IsSettledOn, IsUnsettledOn, Appended, SettlesTo};
-    ghost use Rattle.use_journal.specs.Holding.{Reads, Finds, waits_after, FormatCause, AppendCause, OpenCause};
+    ghost use Rattle.use_journal.specs.Holding.{Reads, Finds, end_after, waits_after, FormatCause, AppendCause, OpenCause};
 
     /// Writes an empty journal, and syncs. Device alone is its refusal. It takes no memory.
     pub fn format<D: Disk>(disk: &mut D) -> Result<(), StoreFault>
@@ -109,6 +109,7 @@ impl Journal {
             → IsChange change → closed.now ≡ closed_of change
             → D.is_sure disk.old → OnErr result (AllImages D.Disk disk.new (IsJournal past)) }
         ensures waiting { is_waiting self.new ≡ waits_after result }
+        ensures end { end_of self.new ≡ end_after (length closed.now) result (end_of self.old) }
         ensures full { IsErrOf result StoreFault.Full ↔ (268435456 < end_of self.old + length closed.now) }
         ensures same { IsErrOf result StoreFault.Full → (disk.new ≡ disk.old) × (self.new ≡ self.old) }
         ensures sure { D.is_sure disk.old → D.is_sure disk.new }
