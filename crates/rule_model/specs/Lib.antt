@@ -7,6 +7,8 @@ pub mod NewFacts
 pub mod Changes
 pub mod Settling
 pub mod Kept
+pub mod Stored
+pub mod Root
 pub mod Places
 pub mod Replies
 pub mod Listing
