@@ -35,6 +35,7 @@ use Rattle.rule_model.specs.Changes.{material_in}
 use Rattle.rule_model.specs.Kept.{access_at, kept, key_found}
 use Rattle.rule_model.specs.Legal.{MayFollow, Answered, WithoutMemory, WithoutEntropy}
 use Rattle.rule_model.specs.Operations.{Open, OperationChange, Opens, SameOperations, as_begun, has_number, facts_of_begin, is_busy, is_limited, nonce_of, open_after, open_of, operation_at, operation_change, operation_on, opens, step_of, without, without_pruned}
+use Rattle.rule_model.proofs.Kept.{quiet_stored}
 use Rattle.rule_model.specs.Setup.{Setup}
 use Rattle.rule_model.specs.Slots.{begin_facts, facts_of_open, has_free, has_room, open_facts, pruned_for}
 use Rattle.rule_model.specs.Jobs.{Stays}
@@ -48,7 +49,7 @@ use Rattle.pruning.specs.Victim.{OpenFacts, victim}
 use Rattle.rule_model.specs.Answer.{begun_with}
 use Rattle.keystore_core.specs.Alike.{Alike}
 use Rattle.keystore_core.specs.Beginning.{IsNewRow, MakesWay, OpensOne}
-use Rattle.key_database.specs.Held.{lasting_in}
+use Rattle.key_database.specs.Stands.{lasting}
 use Rattle.keystore_core.specs.Keys.{SameKeys}
 use Rattle.keystore_core.specs.Leaving.{ClosesOne}
 use Rattle.keystore_core.specs.Operations.{IsRow, has_row, operations_given, rows_in}
@@ -134,15 +135,15 @@ module _ (setup : Setup) (past : History) (tables : Tables) (caller : Caller) (k
   same = called past tables caller (CreateOperation key params forced) stands.clients is_caller
 
   -- what the tables find is what the history says
-  pub access_is : access_by tables.policy (lasting_in tables.keys) caller key ≡ access_at setup past caller key
+  pub access_is : access_by tables.policy (lasting tables.keys) caller key ≡ access_at setup past caller key
   access_is = rw (stands.keys.policy_is, stands.keys.lasting_is) refl
 
-  pub found_key : (access : Access) → access ≡ access_by tables.policy (lasting_in tables.keys) caller key → key_in (lasting_in tables.keys) access ≡ key_found setup past caller key
+  pub found_key : (access : Access) → access ≡ access_by tables.policy (lasting tables.keys) caller key → key_in (lasting tables.keys) access ≡ key_found setup past caller key
   found_key access is = ap (λ part. key_in part access) stands.keys.lasting_is ∙ ap (key_in (kept setup past)) (is ∙ access_is)
 
   -- what the rules read is that of the history
-  pub facts_are : (found : Option KeyRecord) (access : Access) (room : Bool) → access ≡ access_by tables.policy (lasting_in tables.keys) caller key
-      → found ≡ key_in (lasting_in tables.keys) access → room ≡ has_room setup past (owner_of caller) forced
+  pub facts_are : (found : Option KeyRecord) (access : Access) (room : Bool) → access ≡ access_by tables.policy (lasting tables.keys) caller key
+      → found ≡ key_in (lasting tables.keys) access → room ≡ has_room setup past (owner_of caller) forced
       → facts_on tables.policy found access caller key params forced room ≡ Facts
   facts_are found access room at is has =
       ap (λ policy. facts_on policy found access caller key params forced room) stands.keys.policy_is
@@ -170,7 +171,7 @@ module _ (setup : Setup) (past : History) (tables : Tables) (caller : Caller) (k
         follows = answered [] (Broken rule code)
             (sym (ap (λ found. size_of (wanted_by_begin found Facts)) e))
             (sym (ap (λ found. broken_or found (Admitted [])) e));
-        stands = denied_tables setup past Beginning [] (Broken rule code) tables tables stands (same_tables tables) refl none refl;
+        stands = denied_tables setup past Beginning [] (Broken rule code) tables tables stands (same_tables tables) refl refl none refl;
         has_job = refl;
         stays = stays_same setup past Beginning [] (Broken rule code) none;
       } where
@@ -189,7 +190,7 @@ module _ (setup : Setup) (past : History) (tables : Tables) (caller : Caller) (k
       drew = subst (λ c. length drawn < size_of (wanted_by_rules (CreateOperation key params forced) setup past c)) same (subst (λ n. length drawn < n) (sym (wanted_is begin may)) few);
       is_fault = refl;
     });
-    stands = denied_tables setup past Beginning drawn (Stopped EntropyFault) tables new stands still refl refl refl;
+    stands = denied_tables setup past Beginning drawn (Stopped EntropyFault) tables new stands still refl refl refl refl;
     has_job = refl;
     stays = stays_same setup past Beginning drawn (Stopped EntropyFault) refl;
   }
@@ -203,7 +204,7 @@ module _ (setup : Setup) (past : History) (tables : Tables) (caller : Caller) (k
       takes = refl;
       is_want = refl;
     });
-    stands = denied_tables setup past Beginning drawn (Stopped MemoryAllocationFailed) tables new stands still refl refl refl;
+    stands = denied_tables setup past Beginning drawn (Stopped MemoryAllocationFailed) tables new stands still refl refl refl refl;
     has_job = refl;
     stays = stays_same setup past Beginning drawn (Stopped MemoryAllocationFailed) refl;
   }
@@ -282,7 +283,7 @@ module _ (setup : Setup) (past : History) (tables : Tables) (caller : Caller) (k
         stands = record {
           clients = clients_stay setup past Beginning drawn reply tables.clients new.clients stands.clients
               (record { uids = λ client. one.clients.uids client ∙ way.clients.uids client; given = one.clients.given ∙ way.clients.given }) refl refl;
-          keys = keys_stay setup past (Acted Beginning drawn reply ∷ past) tables new stands.keys (same_keys_twice tables one.middle new way.keys one.keys) refl;
+          keys = keys_stay setup past (Acted Beginning drawn reply ∷ past) tables new stands.keys (same_keys_twice tables one.middle new way.keys one.keys) (quiet_stored setup past Beginning drawn reply refl refl);
           operations = rows_after setup past Beginning drawn reply (Opens pruned o) new.operations change
               (rw one.rows.rows (alike_more IsRow (rows_in one.middle.operations) (without_pruned pruned (open_of setup past)) row (as_begun (step_of past) o) way.rows (record {
                 number = row_is.number_is;

@@ -5,8 +5,10 @@ pub mod RowTable
 pub mod Alike
 pub mod Opened
 pub mod Standing
+pub mod Written
 pub mod Reading
 pub mod Making
 pub mod Begun
+pub mod Restarted
 pub mod Stepped
 pub mod Left

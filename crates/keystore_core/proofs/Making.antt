@@ -13,10 +13,11 @@ use Rattle.tags.specs.declared.rule.Rule.{Rule}
 use Rattle.tags.specs.declared.rule.RuleTable.TheVariants.{K}
 use Rattle.tags.specs.Table.{Ruling, first_broken, where_all_hold}
 use Rattle.journal_records.specs.declared.change.Change.{Change}
-use Rattle.journal_records.specs.Effects.{after}
 use Rattle.journal_records.specs.LastingPart.{Lasting}
 use Rattle.journal_records.specs.Needs.{has_place_for, is_met, is_number_left, is_owner}
-use Rattle.key_database.specs.Held.{CanMake, HasRoomForKey, Held, lasting_in}
+use Rattle.key_database.specs.declared.database.KeyDatabase.{KeyDatabase}
+use Rattle.key_database.specs.Held.{CanMake, HasRoomForKey}
+use Rattle.key_database.specs.Stands.{lasting, table_of}
 use Rattle.key_rules.specs.declared.facts.NewFacts.{NewFacts}
 use Rattle.key_rules.specs.declared.plan.KeyPlan.{KeyPlan}
 use Rattle.key_rules.specs.Creation.{IsFit, new_key, plan_of}
@@ -31,12 +32,12 @@ use Rattle.rule_model.specs.declared.reply.Reply.TheVariants.{Done, Broken, Stop
 use Rattle.rule_model.specs.declared.event.Event.{Event}
 use Rattle.rule_model.specs.declared.reply.Fields.{Fields}
 use Rattle.rule_model.specs.Access.{owner_of}
-use Rattle.rule_model.specs.Acts.{is_begin, is_connect, is_enter}
-use Rattle.rule_model.specs.Answer.{answer_by_rules, made_in}
+use Rattle.rule_model.specs.Acts.{is_begin, is_connect, is_enter, is_restart}
+use Rattle.rule_model.specs.Answer.{answer, answer_by_rules, answer_stored, made_in}
 use Rattle.rule_model.specs.Replies.{broken_or, no_fields}
-use Rattle.rule_model.specs.Changes.{after_change, alias_of, change_of, kept_as, owner_for}
+use Rattle.rule_model.specs.Changes.{alias_of, change_of, kept_as, owner_for}
 use Rattle.rule_model.specs.Clients.{caller_of}
-use Rattle.rule_model.specs.Drawn.{size_of, wanted_by_key, wanted_by_rules}
+use Rattle.rule_model.specs.Drawn.{size_of, wanted, wanted_by_key, wanted_by_rules}
 use Rattle.rule_model.specs.Entries.{History, is_done}
 use Rattle.rule_model.specs.Jobs.{HasJob}
 use Rattle.rule_model.specs.Kept.{kept}
@@ -44,6 +45,10 @@ use Rattle.rule_model.specs.Legal.{MayFollow, Answered, WithoutEntropy}
 use Rattle.rule_model.specs.NewFacts.{new_facts}
 use Rattle.rule_model.specs.Operations.{SameOperations, operation_change}
 use Rattle.rule_model.specs.Places.{has_key_place}
+use Rattle.rule_model.specs.Root.{root_given}
+use Rattle.rule_model.specs.Settling.{is_disk_fault}
+use Rattle.rule_model.specs.Stored.{change_by, stored_bytes, where_stored}
+use Rattle.rule_model.proofs.Kept.{denied_stands}
 use Rattle.rule_model.specs.Setup.{Setup}
 use Rattle.rule_model.specs.Tickets.{SameTickets as NoTickets, ticket_change}
 use Rattle.rule_model.proofs.Clients.{moves_clients, same_clients}
@@ -52,6 +57,9 @@ use Rattle.rule_model.proofs.Tickets.{moves_tickets, same_tickets}
 use Rattle.keystore_core.specs.declared.creating.Import.{Import}
 use Rattle.keystore_core.specs.declared.tables.Tables.{Tables}
 use Rattle.keystore_core.specs.Creating.{creates, facts_of_import, making, material_of}
+use Rattle.keystore_core.specs.Keys.{AreSettled}
+use Rattle.keystore_core.specs.Writing.{IsWritten}
+use Rattle.keystore_core.proofs.Written.{written_follows, written_job, written_keys}
 use Rattle.keystore_core.specs.Tables.{AnswersAfter, IsCaller, SameTables, TablesStand, event_by}
 use Rattle.keystore_core.proofs.Opened.{stays_same}
 use Rattle.keystore_core.proofs.Standing.{called, clients_stay, denied_tables, operations_stay, quiet, same_tables, slots_stay, tickets_stay}
@@ -144,15 +152,14 @@ blob_few None size drawn short few long =
 blob_few (Some import) size drawn short few long = omega (arith, length-append (drop size drawn) import.material, length-drop size drawn, long, few, short)
 
 -- what is made may be made: its need is met, and there is room for it
-pub may_make : (policy : List PolicyRow) (caller : Caller) (key : Descriptor) (params : List ℕ) (import : Option Import) (held : Held) (plan : NewKey) (drawn : List ℕ) → HasRoomForKey held → has_key_place (lasting_in held) (owner_of caller) key ≡ true → owner_of caller < 2 ^ 32
-    → IsFit (facts_of policy caller key params import) plan.size (length plan.list) → length drawn ≡ plan.size + 12 → CanMake held (creates (lasting_in held).next_key (owner_of caller) key plan import drawn)
+pub may_make : (policy : List PolicyRow) (caller : Caller) (key : Descriptor) (params : List ℕ) (import : Option Import) (held : KeyDatabase) (plan : NewKey) (drawn : List ℕ) → HasRoomForKey (table_of held) → has_key_place (lasting held) (owner_of caller) key ≡ true → owner_of caller < 2 ^ 32
+    → IsFit (facts_of policy caller key params import) plan.size (length plan.list) → length drawn ≡ plan.size + 12 → CanMake (table_of held) (creates (lasting held).next_key (owner_of caller) key plan import drawn)
 may_make policy caller key params import held plan drawn room place small fit long =
-    let part : Lasting = lasting_in held in
+    let part : Lasting = lasting held in
     let owner : ℕ × ℕ = owner_for (owner_of caller) key.domain key.nspace in
     let blob : List ℕ = kept_as (drop plan.size drawn) (material_of import (take plan.size drawn)) in
     let placed = and_parts (is_number_left part.next_key) (has_place_for owner.0 owner.1 (alias_of key) part) place in
-    let few : length blob ≤ 6327 = omega (arith, blob_few import plan.size drawn fit.short fit.drawn long) in
-    (
+    let few : length blob ≤ 6327 = omega (arith, blob_few import plan.size drawn fit.short fit.drawn long) in (
       rw (
         eq-eqb part.next_key part.next_key refl,
         placed.0,
@@ -188,19 +195,34 @@ module _ (setup : Setup) (past : History) (tables : Tables) (caller : Caller) (k
   pub planned_as : (result : Result NewKey (Rule × Code)) → planned (facts_of tables.policy caller key params import) ≡ result → planned Facts ≡ result
   planned_as result e = ap (λ policy. planned (facts_of policy caller key params import)) (sym stands.keys.policy_is) ∙ e
 
-  pub place_is : has_key_place (lasting_in tables.keys) (owner_of caller) key ≡ HasPlace
+  pub place_is : has_key_place (lasting tables.keys) (owner_of caller) key ≡ HasPlace
   place_is = ap (λ part. has_key_place part (owner_of caller) key) stands.keys.lasting_is
 
-  built_is : (i : Option Import) (drawn : List ℕ) (reply : Reply) → length drawn ≡ size_of (wanted_by_rules (making key params i) setup past (caller_of past (event_by caller (making key params i))))
-      → reply ≡ answer_by_rules (making key params i) setup past (caller_of past (event_by caller (making key params i))) drawn → MayFollow setup past (event_by caller (making key params i)) drawn reply
-  built_is None drawn reply drew is = Answered (record { drew = drew; is_answer = is })
-  built_is (Some i) drawn reply drew is = Answered (record { drew = drew; is_answer = is })
+  built_is : (i : Option Import) (drawn : List ℕ) (reply : Reply) → reply ≡ answer_stored (making key params i) setup past (caller_of past (event_by caller (making key params i))) drawn
+      → reply ≡ answer setup past (event_by caller (making key params i)) drawn
+  built_is None drawn reply is = is
+  built_is (Some i) drawn reply is = is
 
-  answered : (drawn : List ℕ) (reply : Reply) → length drawn ≡ size_of (wanted_by_rules (making key params import) setup past caller)
+  told_as : (drawn : List ℕ) (reply : Reply) → reply ≡ answer_stored (making key params import) setup past caller drawn → reply ≡ answer setup past Making drawn
+  told_as drawn reply is = built_is import drawn reply (is ∙ ap (λ c. answer_stored (making key params import) setup past c drawn) same)
+
+  drew_is : (i : Option Import) (drawn : List ℕ) → length drawn ≡ size_of (wanted_by_rules (making key params i) setup past (caller_of past (event_by caller (making key params i))))
+      → length drawn ≡ size_of (wanted setup past (event_by caller (making key params i)))
+  drew_is None drawn drew = drew
+  drew_is (Some i) drawn drew = drew
+
+  drew_as : (drawn : List ℕ) → length drawn ≡ size_of (wanted_by_rules (making key params import) setup past caller) → length drawn ≡ size_of (wanted setup past Making)
+  drew_as drawn drew = drew_is import drawn (drew ∙ ap (λ c. size_of (wanted_by_rules (making key params import) setup past c)) same)
+
+  -- an answer that admits nothing
+  answered : (drawn : List ℕ) (reply : Reply) → is_done reply ≡ false → length drawn ≡ size_of (wanted_by_rules (making key params import) setup past caller)
       → reply ≡ answer_by_rules (making key params import) setup past caller drawn → MayFollow setup past Making drawn reply
-  answered drawn reply drew is =
-      built_is import drawn reply (drew ∙ ap (λ c. size_of (wanted_by_rules (making key params import) setup past c)) same)
-      (is ∙ ap (λ c. answer_by_rules (making key params import) setup past c drawn) same)
+  answered drawn reply denied drew is =
+      let change : Option Change = change_of (making key params import) setup.policy (kept setup past) caller drawn in
+      Answered (record {
+        drew = drew_as drawn drew;
+        is_answer = told_as drawn reply (sym (denied_stands (stored_bytes setup past) change reply denied) ∙ ap (where_stored (stored_bytes setup past) change) is);
+      })
 
   undrawn_is : (i : Option Import) (drawn : List ℕ) → length drawn < size_of (wanted_by_rules (making key params i) setup past (caller_of past (event_by caller (making key params i))))
       → MayFollow setup past (event_by caller (making key params i)) drawn (Stopped EntropyFault)
@@ -208,11 +230,11 @@ module _ (setup : Setup) (past : History) (tables : Tables) (caller : Caller) (k
   undrawn_is (Some i) drawn few = WithoutEntropy (record { drew = few; is_fault = refl })
 
   -- the answer of a call that leaves all as it is
-  unmade : (new : Tables) (drawn : List ℕ) (reply : Reply) → SameTables tables new → is_done reply ≡ false → MayFollow setup past Making drawn reply
+  unmade : (new : Tables) (drawn : List ℕ) (reply : Reply) → SameTables tables new → is_done reply ≡ false → is_disk_fault reply ≡ false → MayFollow setup past Making drawn reply
       → HasJob setup (Acted Making drawn reply ∷ past) reply None → AnswersAfter setup past new Making (record { reply = reply; job = None; drawn = drawn })
-  unmade new drawn reply still denied follows no_job = record {
+  unmade new drawn reply still denied no_fault follows no_job = record {
     follows = follows;
-    stands = denied_tables setup past Making drawn reply tables new stands still denied (none drawn reply) (unticketed reply);
+    stands = denied_tables setup past Making drawn reply tables new stands still denied no_fault (none drawn reply) (unticketed reply);
     has_job = no_job;
     stays = stays_same setup past Making drawn reply (none drawn reply);
   }
@@ -230,15 +252,15 @@ module _ (setup : Setup) (past : History) (tables : Tables) (caller : Caller) (k
       → AnswersAfter setup past tables Making (record { reply = Broken rule code; job = None; drawn = [] })
   refused rule code e =
       let broken = is_broken Facts rule code e in
-      unmade tables [] (Broken rule code) (same_tables tables) refl
-      (answered [] (Broken rule code) (sym (ap size_of (wanted_is (Err (rule, code)) HasPlace broken refl))) (sym (answer_is (Err (rule, code)) [] broken))) refl
+      unmade tables [] (Broken rule code) (same_tables tables) refl refl
+      (answered [] (Broken rule code) refl (sym (ap size_of (wanted_is (Err (rule, code)) HasPlace broken refl))) (sym (answer_is (Err (rule, code)) [] broken))) refl
 
   -- no place for one more key
   pub full : (plan : NewKey) → planned Facts ≡ Ok plan → HasPlace ≡ false → AnswersAfter setup past tables Making (record { reply = Stopped StoreFull; job = None; drawn = [] })
   full plan e no_place =
       let is = is_planned Facts plan e in
-      unmade tables [] (Stopped StoreFull) (same_tables tables) refl
-      (answered [] (Stopped StoreFull) (sym (ap size_of (wanted_is (Ok (plan_of Facts)) false is.holds no_place)))
+      unmade tables [] (Stopped StoreFull) (same_tables tables) refl refl
+      (answered [] (Stopped StoreFull) refl (sym (ap size_of (wanted_is (Ok (plan_of Facts)) false is.holds no_place)))
       (sym (answer_is (Ok (plan_of Facts)) [] is.holds ∙ ap (λ p. if p then Done (record no_fields { key = Some (kept setup past).next_key }) else Stopped StoreFull) no_place))) refl
 
   planned_wanted : (plan : NewKey) → IsPlanned Facts plan → HasPlace ≡ true → size_of (wanted_by_rules (making key params import) setup past caller) ≡ plan.size + 12
@@ -251,7 +273,7 @@ module _ (setup : Setup) (past : History) (tables : Tables) (caller : Caller) (k
       → AnswersAfter setup past new Making (record { reply = Stopped EntropyFault; job = None; drawn = drawn })
   without_entropy new plan drawn e place still few =
       let is = is_planned Facts plan e in
-      unmade new drawn (Stopped EntropyFault) still refl
+      unmade new drawn (Stopped EntropyFault) still refl refl
       (undrawn_is import drawn (subst (λ c. length drawn < size_of (wanted_by_rules (making key params import) setup past c)) same (subst (λ n. length drawn < n) (sym (planned_wanted plan is place)) few))) refl
 
   -- the change of an entry that makes a key
@@ -260,34 +282,45 @@ module _ (setup : Setup) (past : History) (tables : Tables) (caller : Caller) (k
   made_change None plan part drawn is = rw is.plan_is refl
   made_change (Some i) plan part drawn is = rw is.plan_is refl
 
-  -- the keys after one that is made
-  made_kept : (middle new : Held) (plan : NewKey) (drawn : List ℕ) (fields : Fields) → IsPlanned Facts plan → lasting_in middle ≡ kept setup past
-      → lasting_in new ≡ after (lasting_in middle) (creates (lasting_in middle).next_key (owner_of caller) key plan import drawn)
-      → lasting_in new ≡ kept setup (Acted Making drawn (Done fields) ∷ past)
-  made_kept middle new plan drawn fields is before e =
-      e ∙ ap (λ part. after part (creates part.next_key (owner_of caller) key plan import drawn)) before
-      ∙ ap (λ change. after_change change (kept setup past)) (sym (made_change import plan (kept setup past) drawn is))
-      ∙ ap (λ c. after_change (change_of (making key params import) setup.policy (kept setup past) c drawn) (kept setup past)) same
+  restarts_none : (i : Option Import) → is_restart (making key params i) ≡ false
+  restarts_none None = refl
+  restarts_none (Some i) = refl
 
-  pub made : (middle : Tables) (new : Held) (plan : NewKey) (drawn : List ℕ) → planned Facts ≡ Ok plan → HasPlace ≡ true
-      → length drawn ≡ plan.size + 12 → SameTables tables middle
-      → lasting_in new ≡ after (lasting_in middle.keys) (creates (lasting_in middle.keys).next_key (owner_of caller) key plan import drawn)
-      → AnswersAfter setup past (record middle { keys = new }) Making (record { reply = Done (record no_fields { key = Some (lasting_in middle.keys).next_key }); job = None; drawn = drawn })
-  made middle new plan drawn e place long still makes =
+  roots_none : (i : Option Import) → root_given (making key params i) ≡ None
+  roots_none None = refl
+  roots_none (Some i) = refl
+
+  -- a key that is made where its record has room
+  pub made : (middle : Tables) (new : KeyDatabase) (plan : NewKey) (drawn : List ℕ) (reply : Reply) → planned Facts ≡ Ok plan → HasPlace ≡ true
+      → length drawn ≡ plan.size + 12 → SameTables tables middle → AreSettled tables
+      → IsWritten middle.keys new (creates (lasting middle.keys).next_key (owner_of caller) key plan import drawn) (record no_fields { key = Some (lasting middle.keys).next_key }) reply
+      → AnswersAfter setup past (record middle { keys = new }) Making (record { reply = reply; job = None; drawn = drawn })
+  made middle new plan drawn reply e place long still settled written =
       let is = is_planned Facts plan e in
-      let before : lasting_in middle.keys ≡ kept setup past = still.keys.lasting_is ∙ stands.keys.lasting_is in
-      let reply : Reply = Done (record no_fields { key = Some (lasting_in middle.keys).next_key }) in
+      let before : lasting middle.keys ≡ kept setup past = still.keys.store_is.lasting_is ∙ stands.keys.lasting_is in
+      let change : Change = creates (lasting middle.keys).next_key (owner_of caller) key plan import drawn in
+      let fields : Fields = record no_fields { key = Some (lasting middle.keys).next_key } in
+      let is_change : change_of (making key params import) setup.policy (kept setup past) caller drawn ≡ Some change =
+      made_change import plan (kept setup past) drawn is ∙ ap (λ (part : Lasting). Some (creates part.next_key (owner_of caller) key plan import drawn)) (sym before) in
+      let by : change_by setup past Making drawn ≡ Some change = ap (λ c. change_of (making key params import) setup.policy (kept setup past) c drawn) (sym same) ∙ is_change in
+      let ruled : Done fields ≡ answer_by_rules (making key params import) setup past caller drawn =
+      ap (λ (part : Lasting). Done (record no_fields { key = Some part.next_key })) before
+      ∙ sym (answer_is (Ok (plan_of Facts)) drawn is.holds ∙ ap (λ p. if p then Done (record no_fields { key = Some (kept setup past).next_key }) else Stopped StoreFull) place) in
+      let told : where_stored (stored_bytes setup past) (Some change) (Done fields) ≡ answer setup past Making drawn =
+      told_as drawn (where_stored (stored_bytes setup past) (Some change) (Done fields))
+      (ap (λ c. where_stored (stored_bytes setup past) c (Done fields)) (sym is_change) ∙ ap (where_stored (stored_bytes setup past) (change_of (making key params import) setup.policy (kept setup past) caller drawn)) ruled) in
       record {
-        follows = answered drawn reply (long ∙ sym (planned_wanted plan is place))
-            (ap (λ (part : Lasting). Done (record no_fields { key = Some part.next_key })) before
-            ∙ sym (answer_is (Ok (plan_of Facts)) drawn is.holds ∙ ap (λ p. if p then Done (record no_fields { key = Some (kept setup past).next_key }) else Stopped StoreFull) place));
+        follows = written_follows setup past tables middle.keys new Making drawn change fields stands.keys still.keys.store_is settled (restarts_none import) (roots_none import) by reply
+            (drew_as drawn (long ∙ sym (planned_wanted plan is place))) (sym told) written;
         stands = record {
-          clients = clients_stay setup past Making drawn reply tables.clients middle.clients stands.clients still.clients (same_clients Making reply (moves_none key params import)) (connects_none key params import);
-          keys = record { policy_is = still.keys.policy_is ∙ stands.keys.policy_is; lasting_is = made_kept middle.keys new plan drawn (record no_fields { key = Some (lasting_in middle.keys).next_key }) is before makes };
-          operations = operations_stay setup past Making drawn reply tables.operations middle.operations stands.operations still.operations (none drawn reply) (begins_none key params import);
+          clients = clients_stay setup past Making drawn reply tables.clients middle.clients stands.clients still.clients (same_clients Making reply (moves_none key params import)) (quiet is_connect past Making drawn reply (connects_none key params import));
+          keys =
+              let own = written_keys setup past tables middle.keys new Making drawn change fields stands.keys still.keys.store_is settled (restarts_none import) (roots_none import) by reply written in
+              record { policy_is = still.keys.policy_is ∙ own.policy_is; root_is = still.keys.root_is ∙ own.root_is; lasting_is = own.lasting_is; bytes_are = own.bytes_are; settled_is = own.settled_is };
+          operations = operations_stay setup past Making drawn reply tables.operations middle.operations stands.operations still.operations (none drawn reply) (quiet is_begin past Making drawn reply (begins_none key params import));
           slots = slots_stay setup past Making drawn reply tables.slots middle.slots stands.slots still.slots (none drawn reply);
           tickets = tickets_stay setup past Making drawn reply tables.tickets middle.tickets stands.tickets still.tickets (unticketed reply) (quiet is_enter past Making drawn reply (enters_none key params import)) (stays_same setup past Making drawn reply (none drawn reply));
         };
-        has_job = refl;
+        has_job = written_job setup past tables middle.keys new Making drawn change fields stands.keys still.keys.store_is settled (restarts_none import) (roots_none import) by reply refl written;
         stays = stays_same setup past Making drawn reply (none drawn reply);
       }

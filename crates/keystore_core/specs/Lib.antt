@@ -1,5 +1,6 @@
 pub mod Clients
 pub mod Keys
+pub mod Writing
 pub mod Alike
 pub mod Operations
 pub mod Slots
@@ -9,6 +10,7 @@ pub mod Drawn
 pub mod Creating
 pub mod Tables
 pub mod Leaving
+pub mod Restarting
 pub mod Beginning
 pub mod Stepping
 pub mod Engine

@@ -15,6 +15,7 @@ ghost use Rattle.keystore_core.specs.Beginning as spec;
 ghost use Rattle.keystore_core.specs.Drawn.{DrewForResult};
 ghost use Rattle.keystore_core.specs.Operations.{HasRoomForOperation, operations_given};
 ghost use Rattle.keystore_core.specs.Tables.{IsAt, IsCaller, ServesAt, event_by, state_at};
+ghost use Rattle.keystore_core.specs.Writing.{LeavesStore};
 ghost use Rattle.operation_slots.specs.Table.{IsLater, has_room as is_free, held};
 ghost use Rattle.rule_model.specs.Access.{bits_in};
 ghost use Rattle.rule_model.specs.Changes.{material_in};
@@ -28,11 +29,11 @@ use crate::room::Room;
 use crate::tables::Tables;
 use crate::victims::{has_slot, pruned_for};
 use cipher_ops::CipherState;
+use journal_records::KeyRecord;
+use key_domains::Access;
 use key_rules::{read_asked, usable};
 use keymint_ops::{Begin, BeginFault, plan_begin};
 use ks_outside::Entropy;
-use journal_records::KeyRecord;
-use key_domains::Access;
 use rule_model::{Caller, Fields, NO_FIELDS, Pieces, Reply};
 use std::alloc::Global;
 use tag_lists::{AuthList, ListFault};
@@ -207,6 +208,7 @@ impl Tables {
         ensures serves { ServesAt step None self.old self.new (event_by caller (acts.CreateOperation key params forced)) result }
         ensures job { IfOk result (λ answered. answered.job ≡ None) }
         ensures drew { DrewForResult N.Entropy entropy.old entropy.new result }
+        ensures store { IfOk result (λ answered. LeavesStore self.old self.new answered) }
     {
         let uid = owner_of(caller);
         let pruned = pruned_for(&self.slots, uid, forced, step);

@@ -2,13 +2,15 @@
 
 ghost use Rattle.std.specs.Prelude.{◌≡◌, ◌+◌, length, None, IfOk};
 ghost use Rattle.std.specs.Option.{option_map};
-ghost use Rattle.key_database.specs.Held.{lasting_in};
+ghost use Rattle.key_database.specs.Stands.{lasting};
 ghost use Rattle.rule_model.specs.NewFacts as model;
 ghost use Rattle.rule_model.specs.Places.{has_key_place};
 ghost use Rattle.keystore_core.specs.Creating as spec;
 ghost use Rattle.keystore_core.specs.Drawn.{DrewForResult};
+ghost use Rattle.keystore_core.specs.Keys.{AreSettled};
 ghost use Rattle.keystore_core.specs.Room.{room_in};
 ghost use Rattle.keystore_core.specs.Tables.{IsCaller, ServesAfter, event_by};
+ghost use Rattle.keystore_core.specs.Writing.{StoreGoesAfter};
 
 use crate::access::{owner_of, row_for};
 use crate::answered::Answered;
@@ -16,11 +18,12 @@ use crate::descriptors::{alias_bytes, into_alias, owner_for};
 use crate::draw_room::DrawRoom;
 use crate::room::Room;
 use crate::tables::Tables;
+use crate::writing::write_change;
+use journal_records::Change;
 use key_rules::{ImportFacts, NewFacts, NewFault};
 use keymint_ops::{NewKey, plan_key};
-use ks_outside::Entropy;
-use journal_records::Change;
-use rule_model::{Caller, Fields, NO_FIELDS, Pieces, Reply};
+use ks_outside::{Disk, Entropy};
+use rule_model::{Caller, Fields, NO_FIELDS, Pieces};
 use std::alloc::Global;
 use tags::{Bytes, Code, Descriptor, NoMemory, Policy};
 
@@ -127,7 +130,7 @@ fn new_key(
 impl Tables {
     /// Whether there is a place for one more key of a uid: the key under its name makes place.
     fn has_key_place(&self, uid: u32, key: &Descriptor) -> bool
-        ensures { result ≡ has_key_place (lasting_in self.now.keys) uid key.now }
+        ensures { result ≡ has_key_place (lasting self.now.keys) uid key.now }
     {
         let (domain, nspace) = owner_for(uid, key.domain, key.nspace);
         self.keys.next_numbers().0 < NUMBERS_END
@@ -135,9 +138,10 @@ impl Tables {
     }
 
     /// A client makes a key: an imported one, or else a generated one.
-    pub fn make_key<N: Entropy>(
+    pub fn make_key<D: Disk, N: Entropy>(
         &mut self,
         alloc: Global,
+        disk: &mut D,
         entropy: &mut N,
         caller: Caller,
         key: Descriptor,
@@ -145,9 +149,11 @@ impl Tables {
         import: Option<Import>,
     ) -> Result<Answered, NoMemory>
         requires caller { IsCaller self.old caller }
+        requires settled { AreSettled self.old }
         ensures serves { ServesAfter self.old self.new (event_by caller (spec.making key params import)) result }
         ensures job { IfOk result (λ answered. answered.job ≡ None) }
         ensures drew { DrewForResult N.Entropy entropy.old entropy.new result }
+        ensures store { StoreGoesAfter D.Disk self.old self.new disk.old disk.new caller (spec.making key params import) result }
     {
         let facts = new_facts(&self.policy, caller, key, params, &import);
         let plan = match plan_key(alloc, &facts) {
@@ -173,13 +179,13 @@ impl Tables {
         let id = self.keys.next_numbers().0;
         let key = facts.descriptor;
         let change = new_key(alloc, id, uid, key, plan, &import, room, drawn.as_slice());
-        self.keys.make(change);
         let fields = Fields {
             key: Some(id),
             ..NO_FIELDS
         };
+        let reply = write_change(&mut self.keys, disk, change, fields);
         Ok(Answered {
-            reply: Reply::Done(fields),
+            reply,
             job: None,
             drawn,
         })

@@ -18,10 +18,12 @@ mod engine;
 mod leaving;
 mod listing;
 mod operations;
+mod restarting;
 mod room;
 mod stepping;
 mod tables;
 mod tickets;
 mod victims;
+mod writing;
 
-pub use engine::Engine;
+pub use engine::{Engine, OpenFault};

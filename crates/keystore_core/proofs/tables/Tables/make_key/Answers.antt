@@ -1,5 +1,5 @@
 use Rattle.std.proofs.Common.{◌≡◌, ℕ, ◌+◌, ◌<◌, ◌^◌, true, length, ap, sym, ◌∙◌, arith}
-use Rattle.key_database.specs.Held.{lasting_in}
+use Rattle.key_database.specs.Stands.{lasting}
 use Rattle.key_rules.specs.declared.facts.NewFacts.{NewFacts}
 use Rattle.keymint_ops.specs.Creation.{planned}
 use Rattle.rule_model.specs.Access.{owner_of}
@@ -12,7 +12,7 @@ pub returns-in-Err-Broken-clause-serves : goal.returns-in-Err-Broken-clause-serv
 returns-in-Err-Broken-clause-serves g c = λ setup past stands.
     let facts = c.new_facts-facts.ensures in
     let broken = planned_as setup past c.args.self.now c.args.caller c.args.key c.args.params c.args.import stands c.requires.caller _
-        (sym (ap planned facts) ∙ rw c.in-Err-Broken.field-0-is at c.in-Err-Broken.ensures.key) in
+    (sym (ap planned facts) ∙ rw c.in-Err-Broken.field-0-is at c.in-Err-Broken.ensures.key) in
     rw (c.refused.ensures.reply, c.refused.ensures.job, c.refused.ensures.drawn, c.in-Err-Broken.rule-is, c.in-Err-Broken.code-is)
     (refused setup past c.args.self.now c.args.caller c.args.key c.args.params c.args.import stands c.requires.caller _ _ broken)
 
@@ -21,7 +21,7 @@ returns-then-not-has_key_place-clause-serves g c = λ setup past stands.
     let facts = c.new_facts-facts.ensures in
     let told = rw (c.owner_of-uid.ensures, ap (λ (f : NewFacts). f.descriptor) facts) at c.has_key_place.ensures in
     let plan = planned_as setup past c.args.self.now c.args.caller c.args.key c.args.params c.args.import stands c.requires.caller _
-        (sym (ap planned facts) ∙ c.in-Ok.ensures.key) in
+    (sym (ap planned facts) ∙ c.in-Ok.ensures.key) in
     rw (c.stopped.ensures.reply, c.stopped.ensures.job, c.stopped.ensures.drawn)
     (full setup past c.args.self.now c.args.caller c.args.key c.args.params c.args.import stands c.requires.caller c.in-Ok.plan plan
     (sym (place_is setup past c.args.self.now c.args.caller c.args.key c.args.params c.args.import stands c.requires.caller) ∙ sym told
@@ -32,19 +32,19 @@ returns-in-Err-clause-serves g c = λ setup past stands.
     let facts = c.new_facts-facts.ensures in
     let told = rw (c.owner_of-uid.ensures, ap (λ (f : NewFacts). f.descriptor) facts) at c.has_key_place.ensures in
     let plan = planned_as setup past c.args.self.now c.args.caller c.args.key c.args.params c.args.import stands c.requires.caller _
-        (sym (ap planned facts) ∙ c.in-Ok.ensures.key) in
+    (sym (ap planned facts) ∙ c.in-Ok.ensures.key) in
     let place = sym (place_is setup past c.args.self.now c.args.caller c.args.key c.args.params c.args.import stands c.requires.caller) ∙ sym told
-        ∙ c.if-not-has_key_place.false in
+    ∙ c.if-not-has_key_place.false in
     let few : length c.in-Err.drawn < c.in-Ok.plan.size + 12 = omega (arith, c.in-Err.ensures.part, c.in_ok-draws.ensures) in
     rw (c.without_entropy.ensures.reply, c.without_entropy.ensures.job, c.without_entropy.ensures.drawn)
     (without_entropy setup past c.args.self.now c.args.caller c.args.key c.args.params c.args.import stands c.requires.caller _ c.in-Ok.plan c.in-Err.drawn plan place
     (same_but_keys c.args.self.now c.reserve_key.new.self c.in_ok-reserve_key.ensures.same) few)
 
-pub make-requires : goal.make-requires
-make-requires g c =
+pub write_change-reply-requires-clause-can : goal.write_change-reply-requires-clause-can
+write_change-reply-requires-clause-can g c =
     let told = rw (c.owner_of-uid.ensures, ap (λ (f : NewFacts). f.descriptor) c.new_facts-facts.ensures) at c.has_key_place.ensures in
-    let place : has_key_place (lasting_in c.reserve_key.new.self) (owner_of c.args.caller) c.args.key ≡ true =
-    ap (λ part. has_key_place part (owner_of c.args.caller) c.args.key) c.in_ok-reserve_key.ensures.same ∙ sym told ∙ c.if-not-has_key_place.false in
+    let place : has_key_place (lasting c.reserve_key.new.self) (owner_of c.args.caller) c.args.key ≡ true =
+    ap (λ part. has_key_place part (owner_of c.args.caller) c.args.key) c.in_ok-reserve_key.ensures.same.lasting_is ∙ sym told ∙ c.if-not-has_key_place.false in
     let small : owner_of c.args.caller < 2 ^ 32 = rw c.owner_of-uid.ensures at c.owner_of-uid.type_inv in
     let long : length c.in-Ok-draw.drawn ≡ c.in-Ok.plan.size + 12 = omega (arith, c.in-Ok-draw.ensures.whole, c.in_ok-draws.ensures) in
     let changed = rw (
@@ -62,12 +62,12 @@ returns-clause-serves g c = λ setup past stands.
     let facts = c.new_facts-facts.ensures in
     let told = rw (c.owner_of-uid.ensures, ap (λ (f : NewFacts). f.descriptor) facts) at c.has_key_place.ensures in
     let plan = planned_as setup past c.args.self.now c.args.caller c.args.key c.args.params c.args.import stands c.requires.caller _
-        (sym (ap planned facts) ∙ c.in-Ok.ensures.key) in
+    (sym (ap planned facts) ∙ c.in-Ok.ensures.key) in
     let place = sym (place_is setup past c.args.self.now c.args.caller c.args.key c.args.params c.args.import stands c.requires.caller) ∙ sym told
-        ∙ c.if-not-has_key_place.false in
+    ∙ c.if-not-has_key_place.false in
     let long : length c.in-Ok-draw.drawn ≡ c.in-Ok.plan.size + 12 = omega (arith, c.in-Ok-draw.ensures.whole, c.in_ok-draws.ensures) in
-    let number : c.next_numbers-id.result.0 ≡ (lasting_in c.reserve_key.new.self).next_key = ap (λ (n : ℕ × ℕ). n.0) c.next_numbers-id.ensures in
+    let number : c.next_numbers-id.result.0 ≡ (lasting c.reserve_key.new.self).next_key = ap (λ (n : ℕ × ℕ). n.0) c.next_numbers-id.ensures in
     let changed = rw (c.owner_of-uid.ensures, ap (λ (f : NewFacts). f.descriptor) facts, c.as_slice.ensures, number) at c.new_key-change.ensures in
     rw number
-    (made setup past c.args.self.now c.args.caller c.args.key c.args.params c.args.import stands c.requires.caller (record c.args.self.now { keys = c.reserve_key.new.self }) c.make.new.self
-    c.in-Ok.plan c.in-Ok-draw.drawn plan place long (same_but_keys c.args.self.now c.reserve_key.new.self c.in_ok-reserve_key.ensures.same) (rw changed at c.make.ensures))
+    (made setup past c.args.self.now c.args.caller c.args.key c.args.params c.args.import stands c.requires.caller (record c.args.self.now { keys = c.reserve_key.new.self }) c.write_change.new.keys
+    c.in-Ok.plan c.in-Ok-draw.drawn c.write_change-reply.result plan place long (same_but_keys c.args.self.now c.reserve_key.new.self c.in_ok-reserve_key.ensures.same) c.requires.settled (rw (changed, number) at c.write_change-reply.ensures.written))
