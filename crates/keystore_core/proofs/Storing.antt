@@ -13,6 +13,7 @@ use Rattle.key_database.specs.declared.database.KeyDatabase.{KeyDatabase}
 use Rattle.key_database.specs.Stands.{Holds, SameStore, is_unsettled, lasting}
 use Rattle.key_database.specs.Store.{Between}
 use Rattle.key_database.proofs.Rereading.{one_store_same}
+use Rattle.cipher_ops.specs.declared.job.Done.{Done as JobDone}
 use Rattle.rule_model.specs.declared.entry.Entry.TheVariants.{Acted}
 use Rattle.rule_model.specs.declared.event.Act.{Act}
 use Rattle.rule_model.specs.declared.event.Event.{Event}
@@ -31,7 +32,8 @@ use Rattle.rule_model.specs.Stored.{after_reply, change_by, holding_of}
 use Rattle.rule_model.proofs.Kept.{changes_kept, next_holding}
 use Rattle.keystore_core.specs.declared.answered.Answered.{Answered}
 use Rattle.keystore_core.specs.declared.tables.Tables.{Tables}
-use Rattle.keystore_core.specs.Tables.{SameTables, ServesAfter, TablesStand, event_by}
+use Rattle.keystore_core.specs.Tables.{IsCaller, ServesAfter, ServesAt, TablesStand, event_by}
+use Rattle.keystore_core.specs.Clients.{uid_in}
 use Rattle.keystore_core.specs.Writing.{LeavesStore, StoreAnswers, StoreGoes, StoreGoesAfter, caller_by, change_for}
 use Rattle.keystore_core.proofs.Written.{denied_goes, leaves_goes, quiet_goes}
 
@@ -42,6 +44,16 @@ pub leaves_after : {D : Type 0} (g : Ghosts D) (disk : D) (old new : Tables) (ca
     → IfOk result (λ answered. LeavesStore old new answered) → ServesAfter old new (event_by caller act) result → StoreGoesAfter g old new disk disk caller act result
 leaves_after g disk old new caller act (Ok answered) e leaves serves = leaves_goes g disk old new caller act answered leaves e
 leaves_after g disk old new caller act (Err fault) e leaves serves = quiet_goes g disk old.keys new.keys false (Stopped MemoryAllocationFailed) serves.keys.store_is refl
+
+-- the same at a step
+pub leaves_at : {D : Type 0} (g : Ghosts D) (disk : D) (old new : Tables) (caller : Caller) (act : Act) (step : ℕ) (back : Option JobDone) (result : Result Answered NoMemory) → changes_kept act ≡ false
+    → IfOk result (λ answered. LeavesStore old new answered) → ServesAt step back old new (event_by caller act) result → StoreGoesAfter g old new disk disk caller act result
+leaves_at g disk old new caller act step back (Ok answered) e leaves serves = leaves_goes g disk old new caller act answered leaves e
+leaves_at g disk old new caller act step back (Err fault) e leaves serves = quiet_goes g disk old.keys new.keys false (Stopped MemoryAllocationFailed) serves.keys.store_is refl
+
+-- the caller of an event
+pub caller_told : (old : Tables) (event : Event) (caller : Caller) → IsCaller old caller → caller.reading ≡ event.reading → caller.client ≡ event.client → caller ≡ caller_by old event
+caller_told old event caller uid reading client = λ i. record { reading = reading i; client = client i; uid = (uid ∙ ap (λ n. uid_in old.clients n) client) i }
 
 -- an event that is given up for want of memory, and a line that is none
 pub memory_goes : {D : Type 0} (g : Ghosts D) (old new : KeyDatabase) (disk later : D) (restarts : Bool) (change : Option Change) → StoreGoes g old new disk later false None (Stopped MemoryAllocationFailed)

@@ -1,4 +1,4 @@
-use Rattle.std.proofs.Common.{ap, ◌+◌, arith}
+use Rattle.std.proofs.Common.{ap, refl, sym, ◌∙◌, ◌+◌, arith}
 use mathlib.Core.Logic.{∥∥₁_map}
 use Rattle.keystore_core.proofs.Storing.{store_goes_on, store_passes}
 use Rattle.keystore_core.proofs.engine.Engine.step.Goals as goal
@@ -19,6 +19,7 @@ returns-clause-stands g c = λ setup past stands done. record {
 pub returns-clause-follows : goal.returns-clause-follows
 returns-clause-follows g c = λ setup past stands done. record {
   settles = tt;
+  ready = rw (sym stands.tables.keys.settled_is ∙ c.requires.settled) refl;
   follows = (c.answer-answered.ensures.answers setup past (record { tables_stand = stands.tables; step_is = ap (λ n. n + 1) stands.entries; done_is = done })).follows;
 }
 
