@@ -1,5 +1,5 @@
 -- The keys and grants: what a step leaves of their relation to a history, and that the needs of a change are met.
-use Rattle.std.proofs.Common.{◌≡◌, ℕ, Bool, true, false, ◌&&◌, ◌||◌, if◌then◌else◌, List, [], ◌∷◌, Option, Some, None, length, find, refl, sym, ◌∙◌}
+use Rattle.std.proofs.Common.{◌≡◌, ℕ, Bool, true, false, ◌&&◌, ◌||◌, if◌then◌else◌, List, [], ◌∷◌, Option, Some, None, length, find, refl, sym, subst, ◌∙◌}
 use Rattle.std.specs.Prelude.{nat_lt}
 use Rattle.std.specs.List.{list_any}
 use Rattle.std.specs.Option.{option_map}
@@ -13,10 +13,10 @@ use Rattle.grants.specs.Rows.{is_for, is_numbered}
 use Rattle.journal_records.specs.declared.record.KeyRecord.{KeyRecord}
 use Rattle.journal_records.specs.LastingPart.{Lasting, has_id, some_has_id}
 use Rattle.journal_records.specs.Needs.{is_grant_numbered, is_number_left}
+use Rattle.key_database.specs.Stands.{SameStore}
 use Rattle.key_database.proofs.Rereading.{one_store_same, same_bytes, same_settled, same_twice}
 use Rattle.rule_model.specs.declared.facts.Caller.{Caller}
 use Rattle.rule_model.specs.Access.{access_by, id_by, id_of, key_in}
-use Rattle.rule_model.specs.Blobs.{device_at}
 use Rattle.rule_model.specs.Changes.{grant_at, grant_number, grant_of}
 use Rattle.rule_model.specs.Places.{has_grant_place}
 use Rattle.rule_model.specs.Entries.{History}
@@ -27,6 +27,10 @@ use Rattle.keystore_core.specs.Keys.{KeysStand, SameKeys}
 
 pub same_keys : (tables : Tables) → SameKeys tables tables
 same_keys tables = record { device_is = refl; policy_is = refl; store_is = one_store_same tables.keys }
+
+-- where the device, the policy and the store are one
+pub same_keys_as : (old new : Tables) → new.device ≡ old.device → new.policy ≡ old.policy → new.keys ≡ old.keys → SameKeys old new
+same_keys_as old new device policy keys = record { device_is = device; policy_is = policy; store_is = subst (λ k. SameStore old.keys k) (sym keys) (one_store_same old.keys) }
 
 pub same_keys_twice : (old middle new : Tables) → SameKeys old middle → SameKeys middle new → SameKeys old new
 same_keys_twice old middle new first second = record {

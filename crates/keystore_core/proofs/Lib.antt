@@ -7,6 +7,7 @@ pub mod Opened
 pub mod Booted
 pub mod Standing
 pub mod Written
+pub mod Storing
 pub mod Reading
 pub mod Making
 pub mod Begun

@@ -14,12 +14,13 @@ use Rattle.tags.specs.Descriptor.{has_alias, has_alias_in, is_alias}
 use Rattle.tags.specs.declared.rule.Rule.{Rule}
 use Rattle.tags.specs.declared.rule.RuleTable.TheVariants.{K}
 use Rattle.tags.specs.Table.{Ruling, first_broken, where_all_hold}
+use Rattle.ks_outside.specs.declared.disk.Disk.{Ghosts}
 use Rattle.journal_records.specs.declared.change.Change.{Change}
 use Rattle.journal_records.specs.LastingPart.{Lasting}
 use Rattle.journal_records.specs.Needs.{has_place_for, is_number_left, is_owner}
 use Rattle.key_database.specs.declared.database.KeyDatabase.{KeyDatabase}
 use Rattle.key_database.specs.Held.{HasRoomForKey}
-use Rattle.key_database.specs.Stands.{lasting, table_of}
+use Rattle.key_database.specs.Stands.{SameStore, lasting, table_of}
 use Rattle.key_rules.specs.declared.facts.NewFacts.{NewFacts}
 use Rattle.key_rules.specs.declared.plan.KeyPlan.{KeyPlan}
 use Rattle.key_rules.specs.Creation.{IsFit, new_key, plan_of}
@@ -62,8 +63,8 @@ use Rattle.keystore_core.specs.declared.creating.Import.{Import}
 use Rattle.keystore_core.specs.declared.tables.Tables.{Tables}
 use Rattle.keystore_core.specs.Creating.{CanKeep, blob_made, facts_of_import, keeping, kept_fields, making}
 use Rattle.keystore_core.specs.Keys.{AreSettled}
-use Rattle.keystore_core.specs.Writing.{IsWrittenIf}
-use Rattle.keystore_core.proofs.Written.{told_follows, told_job, told_keys}
+use Rattle.keystore_core.specs.Writing.{IsWrittenIf, StoreGoes}
+use Rattle.keystore_core.proofs.Written.{goes_from, told_follows, told_job, told_keys}
 use Rattle.keystore_core.specs.Tables.{AnswersAfter, IsCaller, SameTables, TablesStand, event_by}
 use Rattle.keystore_core.specs.Device.{early_in}
 use Rattle.keystore_core.proofs.Booted.{boot_stays}
@@ -189,6 +190,31 @@ may_keep policy caller key params import early_ended held plan blob list limit r
 -- the material of the import that the model speaks of
 abbrev imported : Option Import → Option (List ℕ)
 imported import = option_map (λ (i : Import). i.material) import
+
+-- what is known of the store goes on by the change of a new key
+planned_change : (tables : Tables) (caller : Caller) (key : Descriptor) (params : List ℕ) (i : Option Import) (early_ended : Bool) (plan : NewKey) (part : Lasting) (drawn : List ℕ) → IsPlanned (facts_of tables.policy caller key params i early_ended) plan
+    → keeping part (owner_of caller) key (blob_made tables.device plan.plan i drawn) plan.list plan.plan.limit ≡ change_of (making key params i) tables.device tables.policy part caller drawn
+planned_change tables caller key params None early_ended plan part drawn is =
+    ap (λ (p : NewKey). keeping part (owner_of caller) key (blob_made tables.device p.plan None drawn) p.list p.plan.limit) is.plan_is
+planned_change tables caller key params (Some i) early_ended plan part drawn is =
+    ap (λ (p : NewKey). keeping part (owner_of caller) key (blob_made tables.device p.plan (Some i) drawn) p.list p.plan.limit) is.plan_is
+
+no_restart : (key : Descriptor) (params : List ℕ) (i : Option Import) → is_restart (making key params i) ≡ false
+no_restart key params None = refl
+no_restart key params (Some i) = refl
+
+pub keeps_goes : {D : Type 0} (g : Ghosts D) (tables : Tables) (middle new : KeyDatabase) (disk later : D) (caller : Caller) (key : Descriptor) (params : List ℕ) (import : Option Import) (early_ended : Bool) (plan : NewKey) (drawn : List ℕ) (reply : Reply)
+    → planned (facts_of tables.policy caller key params import early_ended) ≡ Ok plan → SameStore tables.keys middle
+    → StoreGoes g middle new disk later false (keeping (lasting middle) (owner_of caller) key (blob_made tables.device plan.plan import drawn) plan.list plan.plan.limit) reply
+    → StoreGoes g tables.keys new disk later (is_restart (making key params import)) (change_of (making key params import) tables.device tables.policy (lasting tables.keys) caller drawn) reply
+keeps_goes g tables middle new disk later caller key params import early_ended plan drawn reply e same goes =
+    let is = is_planned (facts_of tables.policy caller key params import early_ended) plan e in
+    let change : Option Change = keeping (lasting middle) (owner_of caller) key (blob_made tables.device plan.plan import drawn) plan.list plan.plan.limit in
+    let change_is : change ≡ change_of (making key params import) tables.device tables.policy (lasting tables.keys) caller drawn =
+    ap (λ part. keeping part (owner_of caller) key (blob_made tables.device plan.plan import drawn) plan.list plan.plan.limit) same.lasting_is
+    ∙ planned_change tables caller key params import early_ended plan (lasting tables.keys) drawn is in
+    subst (λ c. StoreGoes g tables.keys new disk later (is_restart (making key params import)) c reply) change_is
+    (subst (λ r. StoreGoes g tables.keys new disk later r change reply) (sym (no_restart key params import)) (goes_from g tables.keys middle new disk later false change reply same goes))
 
 -- the blob is that of the model
 blob_is : (device : DeviceSecrets) (plan : KeyPlan) (import : Option Import) (drawn : List ℕ) → blob_made device plan import drawn ≡ new_blob device plan (imported import) drawn

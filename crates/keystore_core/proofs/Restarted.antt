@@ -87,7 +87,7 @@ module _ (setup : Setup) (past : History) (old : Tables) (caller : Caller) (root
   -- what was read is not what is kept
   pub other_store : AnswersAfter setup past old Restarting (record { reply = Stopped ValueCorrupted; job = None; drawn = [] })
   other_store = record {
-    follows = NotRestarted ValueCorrupted (record { drew = refl; restarts = tt; refusal = tt; is_refusal = refl });
+    follows = NotRestarted ValueCorrupted (record { drew = refl; restarts = refl; refusal = refl; is_refusal = refl });
     stands = refused_as ValueCorrupted (record { kept_is = refl; bytes_are = refl; settled_is = refl; device_is = refl });
     has_job = refl;
     stays = stays_same setup past Restarting [] (Stopped ValueCorrupted) refl;
@@ -96,7 +96,7 @@ module _ (setup : Setup) (past : History) (old : Tables) (caller : Caller) (root
   -- a device call failed
   pub unread_store : AnswersAfter setup past old Restarting (record { reply = Stopped SystemError; job = None; drawn = [] })
   unread_store = record {
-    follows = NotRestarted SystemError (record { drew = refl; restarts = tt; refusal = tt; is_refusal = refl });
+    follows = NotRestarted SystemError (record { drew = refl; restarts = refl; refusal = refl; is_refusal = refl });
     stands = refused_as SystemError (record { kept_is = refl; bytes_are = refl; settled_is = refl; device_is = refl });
     has_job = refl;
     stays = stays_same setup past Restarting [] (Stopped SystemError) refl;

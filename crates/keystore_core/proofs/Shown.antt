@@ -1,5 +1,5 @@
 -- A token that the system hands over: its answer, and the tables after it.
-use Rattle.std.proofs.Common.{◌≡◌, ℕ, Bool, true, false, ◌==◌, if◌then◌else◌, List, [], ◌∷◌, length, map, Option, Some, None, Ok, Err, refl, sym, ap, ◌∙◌, subst, arith}
+use Rattle.std.proofs.Common.{◌≡◌, ℕ, Bool, true, false, ◌==◌, if◌then◌else◌, List, [], ◌∷◌, length, map, Option, Some, None, Ok, Err, refl, sym, ap, ◌∙◌, arith}
 use Rattle.tags.specs.declared.code.Code.{Code}
 use Rattle.tags.specs.declared.code.Code.TheVariants.{TokensFull}
 use Rattle.tags.specs.declared.rule.Rule.{Rule}
@@ -9,8 +9,6 @@ use Rattle.call_rules.specs.declared.facts.SystemCallFacts.{SystemCallFacts}
 use Rattle.call_rules.specs.Table.{token_rules}
 use Rattle.auth_tokens.specs.declared.token.AuthToken.{AuthToken}
 use Rattle.cipher_ops.specs.declared.state.CipherState.{CipherState}
-use Rattle.key_database.specs.Stands.{SameStore}
-use Rattle.key_database.proofs.Rereading.{one_store_same}
 use Rattle.operation_slots.specs.declared.operation.Operation.{Operation as Slot}
 use Rattle.operation_slots.specs.Table.{capacity_of, idle_value, operations_of, stamp_of}
 use Rattle.rule_model.specs.declared.entry.Entry.TheVariants.{Acted}
@@ -43,7 +41,7 @@ use Rattle.keystore_core.specs.TokenCalls.{AcceptsToken, RefusesToken, adding}
 use Rattle.keystore_core.specs.Tokens.{token_key_in, tokens_in}
 use Rattle.keystore_core.proofs.Alike.{alike_change}
 use Rattle.keystore_core.proofs.Booted.{boot_after}
-use Rattle.keystore_core.proofs.KeyTable.{keys_stay}
+use Rattle.keystore_core.proofs.KeyTable.{keys_stay, same_keys_as}
 use Rattle.keystore_core.proofs.Opened.{stays_same, stays_shown}
 use Rattle.keystore_core.proofs.Standing.{called, clients_stay, denied_tables, rows_after, same_tables, slots_after, tickets_stay}
 
@@ -122,7 +120,7 @@ module _ (setup : Setup) (past : History) (tables : Tables) (caller : Caller) (t
   refused_same : (new : Tables) → RefusesToken tables new → SameTables tables new
   refused_same new is = record {
     clients = record { uids = λ client. ap (λ c. uid_in c client) is.clients; given = ap clients_given is.clients };
-    keys = record { device_is = is.secrets; policy_is = is.policy; store_is = subst (λ k. SameStore tables.keys k) (sym is.keys) (one_store_same tables.keys) };
+    keys = same_keys_as tables new is.secrets is.policy is.keys;
     operations = record { rows = ap rows_in is.operations; given = ap operations_given is.operations };
     slots = is.slots;
     tickets = record { outs = λ ticket. ap (λ t. out_in t ticket) is.tickets; given = ap tickets_given is.tickets };
@@ -148,7 +146,7 @@ module _ (setup : Setup) (past : History) (tables : Tables) (caller : Caller) (t
         stands = record {
           clients = clients_stay setup past Adding [] reply tables.clients new.clients stands.clients
               (record { uids = λ client. ap (λ c. uid_in c client) takes.clients; given = ap clients_given takes.clients }) refl refl;
-          keys = keys_stay setup past (Acted Adding [] reply ∷ past) tables new stands.keys (record { device_is = takes.secrets; policy_is = takes.policy; store_is = subst (λ k. SameStore tables.keys k) (sym takes.keys) (one_store_same tables.keys) }) (quiet_stored setup past Adding [] reply refl refl);
+          keys = keys_stay setup past (Acted Adding [] reply ∷ past) tables new stands.keys (same_keys_as tables new takes.secrets takes.policy takes.keys) (quiet_stored setup past Adding [] reply refl refl);
           operations = rows_after setup past Adding [] reply (Shows token) new.operations refl
               (rw takes.rows.rows (alike_change IsRow (is_for_row token) (is_for token) shown as_shown (for_same token) (λ row o r b. row_shown row o r) (rows_in tables.operations) (open_of setup past) stands.operations.rows))
               (takes.rows.given ∙ stands.operations.given);

@@ -46,7 +46,7 @@ use Rattle.keystore_core.specs.Slots.{IsSlot, SlotsStand}
 use Rattle.keystore_core.specs.Tables.{IsAt, IsCaller, IsTables, SameTables, ServesAfter, ServesAt, TablesStand, event_by}
 use Rattle.keystore_core.specs.Tickets.{BusyWith, SameOut, SameTickets, TicketsStand, out_in, tickets_given}
 use Rattle.keystore_core.proofs.Booted.{boot_stays, boot_still, same_boot}
-use Rattle.keystore_core.proofs.KeyTable.{keys_stay, same_keys}
+use Rattle.keystore_core.proofs.KeyTable.{keys_stay, same_keys, same_keys_as}
 use Rattle.keystore_core.proofs.Opened.{AreBusy, stays_same}
 
 pub same_tables : (tables : Tables) → SameTables tables tables
@@ -249,7 +249,7 @@ pub same_but_begun : (tables : Tables) (rows : Operations) (begins : Begins) →
     → SameTables tables (record tables { operations = rows; boot = record tables.boot { begins = begins } })
 same_but_begun tables rows begins same_rows same_begins = record {
   clients = record { uids = λ client. refl; given = refl };
-  keys = same_keys tables;
+  keys = same_keys_as tables (record tables { operations = rows; boot = record tables.boot { begins = begins } }) refl refl refl;
   operations = same_rows;
   slots = refl;
   tickets = record { outs = λ ticket. refl; given = refl };
@@ -259,7 +259,7 @@ same_but_begun tables rows begins same_rows same_begins = record {
 pub same_but_tickets : (tables : Tables) (tickets : Tickets) → SameTickets tables.tickets tickets → SameTables tables (record tables { tickets = tickets })
 same_but_tickets tables tickets same = record {
   clients = record { uids = λ client. refl; given = refl };
-  keys = same_keys tables;
+  keys = same_keys_as tables (record tables { tickets = tickets }) refl refl refl;
   operations = record { rows = refl; given = refl };
   slots = refl;
   tickets = same;

@@ -1,6 +1,6 @@
 //! A new key: generated, or imported.
 
-ghost use Rattle.std.specs.Prelude.{◌≡◌, ◌+◌, length, None, IfOk};
+ghost use Rattle.std.specs.Prelude.{◌≡◌, ◌+◌, length, false, None, IfOk};
 ghost use Rattle.std.specs.Option.{option_map};
 ghost use Rattle.key_database.specs.Stands.{is_unsettled, lasting, table_of};
 ghost use Rattle.rule_model.specs.NewFacts as model;

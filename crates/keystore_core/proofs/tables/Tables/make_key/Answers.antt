@@ -4,7 +4,8 @@ use Rattle.key_rules.specs.declared.facts.NewFacts.{NewFacts}
 use Rattle.keymint_ops.specs.Creation.{planned}
 use Rattle.rule_model.specs.Access.{owner_of}
 use Rattle.rule_model.specs.Places.{has_key_place}
-use Rattle.keystore_core.proofs.Making.{full, made, may_keep, place_is, planned_as, refused, unkept, without_entropy}
+use Rattle.keystore_core.specs.Device.{early_in}
+use Rattle.keystore_core.proofs.Making.{full, keeps_goes, made, may_keep, place_is, planned_as, refused, unkept, without_entropy}
 use Rattle.keystore_core.proofs.Standing.{same_but_keys}
 use Rattle.keystore_core.proofs.tables.Tables.make_key.Goals as goal
 
@@ -73,6 +74,14 @@ returns-clause-serves g c = λ setup past stands.
     ∙ c.if-not-has_key_place.false in
     let long : length c.in-Ok-draw.drawn ≡ c.in-Ok.new.plan.size + 12 = omega (arith, c.in-Ok-draw.ensures.whole, c.in_ok-draws.ensures) in
     let blob = rw (c.nonce_in.ensures, c.split_at.ensures.back, c.material_of-material.ensures, c.split_at.ensures.front, c.as_slice.ensures) at c.in-Ok-seal_key.ensures.blob in
-    (made setup past c.args.self.now c.args.caller c.args.key c.args.params c.args.import stands c.requires.caller (record c.args.self.now { keys = c.reserve_key.new.self }) c.keep.new.keys c.in-Ok.new c.in-Ok-draw.drawn c.keep-reply.result plan place long
+    (made setup past c.args.self.now c.args.caller c.args.key c.args.params c.args.import stands c.requires.caller (record c.args.self.now { keys = c.reserve_key.new.self }) c.keep-reply.new.keys c.in-Ok.new c.in-Ok-draw.drawn c.keep-reply.result plan place long
     (same_but_keys c.args.self.now c.reserve_key.new.self c.in_ok-reserve_key.ensures.same) c.requires.settled
     (rw (c.owner_of-uid.ensures, ap (λ (f : NewFacts). f.descriptor) facts, blob) at c.keep-reply.ensures.written))
+
+pub returns-clause-store : goal.returns-clause-store
+returns-clause-store g c =
+    let facts = rw c.has_early_ended-early_ended.ensures at c.new_facts-facts.ensures in
+    let blob = rw (c.nonce_in.ensures, c.split_at.ensures.back, c.material_of-material.ensures, c.split_at.ensures.front, c.as_slice.ensures) at c.in-Ok-seal_key.ensures.blob in
+    keeps_goes g.D.Disk c.args.self.now c.reserve_key.new.self c.keep-reply.new.keys c.args.disk.now c.keep-reply.new.disk c.args.caller c.args.key c.args.params c.args.import
+    (early_in c.args.self.now.boot.device) c.in-Ok.new c.in-Ok-draw.drawn c.keep-reply.result (sym (ap planned facts) ∙ c.in-Ok.ensures.key) c.in_ok-reserve_key.ensures.same
+    (rw (c.owner_of-uid.ensures, ap (λ (f : NewFacts). f.descriptor) facts, blob) at c.keep-reply.ensures.store)
