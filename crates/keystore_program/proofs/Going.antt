@@ -55,7 +55,8 @@ empty : (xs : List ℕ) → length xs ≡ 0 → xs ≡ []
 empty [] e = refl
 empty (x ∷ xs) e = absurd (omega arith)
 
-module _ {S K D N : Type 0} (s : SourceGhosts S) (k : SinkGhosts K) (d : DiskGhosts D) (n : EntropyGhosts N) where
+module _ {S K D N : Type 0} (s : SourceGhosts S) (k : SinkGhosts K) (d : DiskGhosts D) (n : EntropyGhosts N)
+    (only_now : (disk : D) (c : List ℕ) → d.images_since disk (d.moment disk) c → d.images disk c) where
   -- the lines so far were served and their text was written, and some bytes are held after them; a read failed, or none did
   pub record Going (setup : Setup) (old now : Outside S K D N) (session : Session) (held : List ℕ) (taken served : ℕ) (failed : Bool) : Type 0 where
     pub lines : List (List ℕ)
@@ -73,13 +74,13 @@ module _ {S K D N : Type 0} (s : SourceGhosts S) (k : SinkGhosts K) (d : DiskGho
 
   -- what the run leaves of the disk
   kept : {setup : Setup} {old now : Outside S K D N} {session : Session} {held : List ℕ} {taken served : ℕ} {failed : Bool} (going : Going setup old now session held taken served failed) → Keeps d setup old.disk now.disk going.past
-  kept {setup = setup} {old = old} {now = now} going = keeps_all d setup d.only_now old.disk now.disk going.past going.since (held_images d _ now.disk _ going.stands.store)
+  kept {setup = setup} {old = old} {now = now} going = keeps_all d setup only_now old.disk now.disk going.past going.since (held_images d _ now.disk _ going.stands.store)
 
   -- and what it leaves after one line more
   kept_more : (setup : Setup) (old now : Outside S K D N) (disk : D) (entropy : N) (past : History) (session : Session) (line : List ℕ) (later : History) (text : List ℕ) → KeptSince d setup old.disk now.disk past
       → GoesOn d n setup past session line (devices now.disk now.entropy) (devices disk entropy) later text → Keeps d setup old.disk disk later
   kept_more setup old now disk entropy past session line later text since goes =
-      keeps_all d setup d.only_now old.disk disk later (since_on d setup old.disk now.disk disk past later goes.failed since goes.keeps) (held_images d _ disk _ goes.stands.store)
+      keeps_all d setup only_now old.disk disk later (since_on d setup old.disk now.disk disk past later goes.failed since goes.keeps) (held_images d _ disk _ goes.stands.store)
 
   -- nothing was taken yet
   pub begins : (setup : Setup) (begin : D) (now : Outside S K D N) (session : Session) (held : List ℕ) (taken : ℕ) → StandsFor d setup session now.disk [] → IsUnwritten d begin now.disk → held ≡ [] → taken ≡ 0
@@ -299,10 +300,6 @@ module _ {S K D N : Type 0} (s : SourceGhosts S) (k : SinkGhosts K) (d : DiskGho
       (subst (λ l. IsServedInPart k d n setup going.past session' l now.sink sink (devices now.disk now.entropy) (devices disk entropy) false) is done))
   cut_line halts.Memory status setup old now sink disk entropy session session' held line own taken served e going few free short are is (inr done) =
       rw e (ends_unserved setup old now sink disk entropy session session' held taken served going few done)
-
-  -- a run of a form never ends with the status of words that are none
-  pub not_usage : (setup : Setup) (old new : Outside S K D N) (status : Status) → Ends s k d n setup old new status → status ≡ statuses.Usage → ⊥
-  not_usage setup old new status ends e = subst (Ends s k d n setup old new) e ends
 
 -- a line that is held with its LF
 pub held_line : (held : List ℕ) (count : ℕ) → IsFirstFeed held count → IsFree (take count held)

@@ -6,11 +6,15 @@ use Rattle.ks_outside.specs.Faults.{CountsFaults, Rises}
 use Rattle.ks_outside.specs.Images.{AllImages, AtEachMoment, Passes, tells}
 use Rattle.ks_outside.specs.declared.disk.Disk.{Ghosts}
 use Rattle.tags.specs.declared.settled.Settled.{Settled}
+use Rattle.journal_records.specs.declared.change.Change.{Change}
+use Rattle.journal_records.specs.Effects.{after, lasting_of}
 use Rattle.journal_records.specs.Holding.{Holding, Sure, Unsure}
+use Rattle.journal_records.specs.LastingPart.{Lasting}
+use Rattle.journal_records.specs.Needs.{is_met}
+use Rattle.use_journal.specs.Journal.{AreChanges, IsJournal}
 use Rattle.key_database.specs.declared.database.KeyDatabase.{KeyDatabase}
 use Rattle.key_database.specs.Stands.{Holds}
 use Rattle.key_database.specs.Store.{MayBe, StandsFor}
-use Rattle.key_database.proofs.Applied.{after_stands, before_stands}
 use Rattle.rule_model.specs.declared.entry.Entry.TheVariants.{Acted, Settling}
 use Rattle.rule_model.specs.declared.event.Event.{Event}
 use Rattle.rule_model.specs.declared.reply.Reply.{Reply}
@@ -62,12 +66,15 @@ not_estranged : (restarts other : Bool) (n m : ℕ) → n ≡ m → (restarts �
 not_estranged false other n m e none = e
 not_estranged true other n m e none = rw (none refl) e
 
+left_after : (past : List Change) (change : Change) (part : Lasting) → lasting_of past ≡ Some part → is_met part change ≡ true → lasting_of (change ∷ past) ≡ Some (after part change)
+left_after past change part left met = rw (left, met) refl
+
 -- each image stands for what the database holds
 pub held_images : {D : Type 0} (d : Ghosts D) (keys : KeyDatabase) (disk : D) (held : Holding) → Holds d keys disk held → AllImages d disk (MayBe held)
-held_images d keys disk (Sure part) is c image = before_stands is.past part c is.settled.changes is.left (is.settled.images c image)
+held_images d keys disk (Sure part) is c image = record { past = is.past; changes = is.settled.changes; journal = is.settled.images c image; lasting = is.left }
 held_images d keys disk (Unsure part later) is c image = ⊎_elim
-    (λ j. inl (before_stands is.past part c is.unsettled.changes.1 is.left j))
-    (λ j. inr (subst (λ p. StandsFor p c) is.after_it (after_stands is.past is.change part c is.unsettled.changes is.left is.met j)))
+    (λ j. inl (record { past = is.past; changes = is.unsettled.changes.1; journal = j; lasting = is.left }))
+    (λ j. inr (record { past = is.change ∷ is.past; changes = is.unsettled.changes; journal = j; lasting = left_after is.past is.change part is.left is.met ∙ ap (λ p. Some p) is.after_it }))
     (is.unsettled.images c image)
 
 module _ {D : Type 0} (d : Ghosts D) (setup : Setup) where
@@ -153,7 +160,7 @@ module _ {D : Type 0} (d : Ghosts D) (setup : Setup) where
   keeps_all only_now begin new past since holds = record {
     holds = holds;
     moments = λ stood.
-        let at_start = λ (c : List ℕ) (image : d.images begin c). ([], front_none past, stood c image) in
+        let at_start : (c : List ℕ) → d.images begin c → AtSome setup past c = λ c image. ([], front_none past, stood c image) in
         each_moment d only_now begin new (AtSome setup past) at_start
         (passes_as d begin new (Came begin past) (AtSome setup past) since.passes (λ c came. ⊎_elim (λ image. at_start c image) (λ held. held) came));
     faults = since.faults;

@@ -219,7 +219,7 @@ no_job setup past entered job e f = subst (λ x. IsHeld setup past x job) (sym e
 pub held_restarted : (setup : Setup) (past : History) (event : Event) (settled : Option Settled) (drawn : List ℕ) (reply : Reply) (old new : Jobs)
     → is_restart event.act ≡ true → settled ≡ None → Stays setup past (after_step settled event drawn reply past)
     → ClearsJobs (is_done reply) old new → JobsStand setup old past → JobsStand setup new (after_step settled event drawn reply past)
-held_restarted setup past event (Some settled) drawn reply old new restarts none stays clears held = absurd (let no = none in cc)
+held_restarted setup past event (Some settled) drawn reply old new restarts none stays clears held t = absurd (let no = none in cc)
 held_restarted setup past event None drawn (Done fields) old new restarts none stays clears held t =
     no_job setup _ _ _ (ap (λ change. ticket_after change t (ticket_at past t)) (all_gone event.act fields restarts)) (clears t)
 held_restarted setup past event None drawn (Broken rule code) old new restarts none stays clears held t =

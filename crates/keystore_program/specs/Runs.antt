@@ -100,17 +100,19 @@ module _ {D : Type 0} (d : DiskGhosts D) where
   pub record IsRefused (old new : D) (status : Status) : Type 0 where
     pub images : AllImages d new (d.images old)
     pub passes : Passes d old new (d.images old)
+    pub later : d.fault_count old ≤ d.fault_count new
     pub refuses : Refuses old new status
 
   -- a device call failed while the disk was formatted
   pub record IsTorn (old new : D) (status : Status) : Type 0 where
     pub is_fault : status ≡ statuses.DiskFault
+    pub later : d.fault_count old ≤ d.fault_count new
     pub rises : Rises (d.fault_count old) (d.fault_count new)
 
   -- what `init` leaves: an empty store, or a fault of the disk
   abbrev pub Formats : D → D → Status → Type 0
   Formats old new statuses.Ok = IsFormatted old new
-  Formats old new statuses.DiskFault = Rises (d.fault_count old) (d.fault_count new)
+  Formats old new statuses.DiskFault = IsTorn old new statuses.DiskFault
   Formats old new _ = ⊥
 
 module _ {S K D N : Type 0} (s : SourceGhosts S) (k : SinkGhosts K) (d : DiskGhosts D) (n : EntropyGhosts N) where

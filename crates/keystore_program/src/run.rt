@@ -1,6 +1,6 @@
 //! The top call: a store is made, or a script from a source is served over it, line by line into a sink.
 
-ghost use Rattle.std.specs.Prelude.{◌≡◌, ◌↔◌, ◌×◌, ℕ, ◌+◌, ◌-◌, ◌^◌, ◌<◌, ◌≤◌, [], Some, None, false};
+ghost use Rattle.std.specs.Prelude.{◌≡◌, ◌↔◌, ℕ, ◌+◌, ◌-◌, ◌^◌, ◌<◌, ◌≤◌, [], Some, None, false};
 ghost use Rattle.ks_outside.specs.Faults.{CountsFaults};
 ghost use Rattle.rule_model.specs.Setup.{Setup};
 ghost use Rattle.keystore_program.specs.Ends.{Ends, is_read_fault, is_write_fault, outside};
@@ -33,7 +33,7 @@ fn serve_script<S: Source, K: Sink, D: Disk, N: Entropy>(
     requires untaken { reader.old.taken ≡ 0 }
     requires fresh { entries_in session.old ≡ 0 }
     requires settled { is_waiting session.old ≡ false }
-    ensures ends { (setup : Setup) (begin : D.Self) → StandsFor D.Disk setup session.old disk.old [] → IsUnwritten D.Disk begin disk.old →
+    ensures ends { (setup : Setup) (begin : D) → StandsFor D.Disk setup session.old disk.old [] → IsUnwritten D.Disk begin disk.old →
         Ends S.Source K.Sink D.Disk N.Entropy setup (outside source.old sink.old begin entropy.old) (outside source.new sink.new disk.new entropy.new) result }
     ensures source_faults { CountsFaults (S.fault_count source.old) (S.fault_count source.new) (is_read_fault result) }
     ensures sink_faults { CountsFaults (K.fault_count sink.old) (K.fault_count sink.new) (is_write_fault result) }

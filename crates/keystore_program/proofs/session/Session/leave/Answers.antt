@@ -1,4 +1,5 @@
 use Rattle.std.proofs.Common.{◌≡◌, ℕ, ◌+◌, Bool, false, subst}
+use Rattle.std.proofs.Math.Bool.{Bool-set}
 use mathlib.Core.Logic.{∥∥₁_elim, ∥∥₁_map}
 use Rattle.keystore_program.proofs.KeepLemmas.{keeps_step}
 use Rattle.keystore_program.proofs.Tickets.{comes_back, engine_settled, held_left, may_leave}
@@ -31,6 +32,6 @@ returns-clause-steps g c = λ setup past for.
     }
 
 pub returns-clause-waits : goal.returns-clause-waits
-returns-clause-waits g c = λ fine. ∥∥₁_elim c.args.self.now.stands (isset-Bool _ _) (λ is.
+returns-clause-waits g c = λ fine. ∥∥₁_elim c.args.self.now.stands (Bool-set _ _) (λ is.
     let done = comes_back is.setup is.past c.args.ticket c.args.event.act c.args.self.now.jobs c.take.result c.run_job-done.result c.requires.act c.take.ensures.job is.held c.run_job-done.ensures in
     engine_settled is.setup is.past c.step.result.settled c.args.event c.step.result.drawn c.step.result.reply is.stands (c.step.ensures.stands is.setup is.past is.stands done) c.step.ensures.settled fine c.requires.settled)

@@ -1,4 +1,4 @@
-use Rattle.std.proofs.Common.{◌≡◌, ℕ, refl}
+use Rattle.std.proofs.Common.{◌≡◌, ℕ, [], refl}
 use mathlib.Core.Logic.{∥∥₁_map}
 use Rattle.keystore_program.proofs.Tickets.{no_job}
 use Rattle.keystore_program.proofs.session.Session.new.Goals as goal
@@ -14,4 +14,4 @@ invariant_of-result c = record {
 }
 
 pub returns-clause-jobs : goal.returns-clause-jobs
-returns-clause-jobs c = λ setup ticket. no_job setup _ _ _ refl (c.new.ensures ticket)
+returns-clause-jobs c = λ setup ticket. no_job setup [] _ _ refl (c.new.ensures ticket)

@@ -1,4 +1,5 @@
 use Rattle.std.proofs.Common.{◌≡◌, ℕ, ◌+◌, Bool, false, subst}
+use Rattle.std.proofs.Math.Bool.{Bool-set}
 use mathlib.Core.Logic.{∥∥₁_elim, ∥∥₁_map}
 use Rattle.keystore_program.specs.Jobs.{ClearsJobs}
 use Rattle.keystore_program.proofs.KeepLemmas.{keeps_step}
@@ -32,6 +33,6 @@ returns-clause-steps g c = λ setup past for.
     }
 
 pub returns-clause-waits : goal.returns-clause-waits
-returns-clause-waits g c = λ fine. ∥∥₁_elim c.args.self.now.stands (isset-Bool _ _) (λ is.
+returns-clause-waits g c = λ fine. ∥∥₁_elim c.args.self.now.stands (Bool-set _ _) (λ is.
     let done = not_leave is.setup is.past c.args.event.act (no_leave c.args.event.act c.requires.act) in
     engine_settled is.setup is.past c.step-stepped.result.settled c.args.event c.step-stepped.result.drawn c.step-stepped.result.reply is.stands (c.step-stepped.ensures.stands is.setup is.past is.stands done) c.step-stepped.ensures.settled fine c.requires.settled)
