@@ -67,6 +67,9 @@ start_images d setup keys disk is bytes c image = record {
   bytes = bytes ∙ is.settled.place;
 }
 
+pub opened_images : {D : Type 0} (d : DiskGhosts D) (device : DeviceSecrets) (policy : List PolicyRow) (slots : ℕ) (engine : Engine) (disk : D) → StoreStands d (setup_of device policy slots engine) engine disk [] → AllImages d disk (IsStart (setup_of device policy slots engine))
+opened_images d device policy slots engine disk store = start_images d (setup_of device policy slots engine) _ disk store refl
+
 module _ {D : Type 0} (d : DiskGhosts D) where
   pub unwritten : (old new : D) → Passes d old new (d.images old) → d.fault_count new ≡ d.fault_count old → tells d new ≡ tells d old → IsUnwritten d old new
   unwritten old new passes count telling = record { passes = passes; count = count; telling = telling }

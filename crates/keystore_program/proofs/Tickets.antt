@@ -221,7 +221,7 @@ pub held_restarted : (setup : Setup) (past : History) (event : Event) (settled :
     → ClearsJobs (is_done reply) old new → JobsStand setup old past → JobsStand setup new (after_step settled event drawn reply past)
 held_restarted setup past event (Some settled) drawn reply old new restarts none stays clears held t = absurd (let no = none in cc)
 held_restarted setup past event None drawn (Done fields) old new restarts none stays clears held t =
-    no_job setup _ _ _ (ap (λ change. ticket_after change t (ticket_at past t)) (all_gone event.act fields restarts)) (clears t)
+    no_job setup (Acted event drawn (Done fields) ∷ past) (ticket_at (Acted event drawn (Done fields) ∷ past) t) (job_in new t) (ap (λ change. ticket_after change t (ticket_at past t)) (all_gone event.act fields restarts)) (clears t)
 held_restarted setup past event None drawn (Broken rule code) old new restarts none stays clears held t =
     let later : History = Acted event drawn (Broken rule code) ∷ past in
     subst (IsHeld setup later (ticket_at later t)) (sym (clears t)) (keep setup past later stays t (job_in old t) refl (held t))
