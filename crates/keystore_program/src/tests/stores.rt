@@ -54,7 +54,7 @@ fn a_cut_store_is_refused_at_its_place_and_nothing_is_written(
     rt: HostRuntime,
 ) -> Result<(), Fail> {
     let alloc = rt.alloc();
-    let cases: [(&[u8], u64); 3] = [(&CUT, 8), (&EMPTY[..6], 0), (&EMPTY[..7], 7)];
+    let cases: [(&[u8], u64); 4] = [(&CUT, 8), (&[], 0), (&EMPTY[..7], 0), (&EMPTY[..8], 8)];
     for (bytes, offset) in cases {
         let mut disk = MemoryDisk::with_room(alloc, ROOM, &[])?;
         assert_eq!(rt; disk.write_at(0, bytes), Ok(()));
