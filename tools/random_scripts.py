@@ -1,9 +1,10 @@
 #!/usr/bin/env python3
 """Makes random scripts, runs the program over each, and compares its reply lines with those of second_model.py.
 
-    python3 tools/random_scripts.py SEED COUNT [--program PATH]
+    python3 tools/random_scripts.py SEED COUNT [--program PATH] [--runs N]
 
-The same seed makes the same scripts. Of what is drawn only challenges and blobs can be seen in them: a line whose reply
+With --runs each script is run over a fresh store, and N - 1 others after it over what the one before left, in the same folder, so
+that what lasts is compared too. The same seed makes the same scripts. Of what is drawn only challenges and blobs can be seen in them: a line whose reply
 would tell drawn bytes of another kind, or that would make a usable key of them, is left out. So the randomness of the
 device does not matter. A token may have the challenge of an operation, and a key the blob of another line; these are
 filled in as the program told them, so the program gets each line once the one before is answered. For each script that
@@ -30,15 +31,15 @@ MOST_SECONDS = 60
 MOST_SHOWN = 400
 
 
-def replies_to(program, lines, slots):
-    """The lines that the program writes over a script, and how the run ended where that is not with status 0."""
-    words = [program, "run", "--fresh", "--slots", str(slots)]
-    with tempfile.TemporaryDirectory() as folder, tempfile.TemporaryFile() as faults:
+def replies_to(program, maker, folder, is_fresh):
+    """The lines that the program writes over a script in a folder, and how the run ended where that is not with status 0."""
+    words = [program, "run", *(["--fresh"] if is_fresh else []), "--slots", str(maker.slots)]
+    with tempfile.TemporaryFile() as faults:
         process = subprocess.Popen(words, stdin=subprocess.PIPE, stdout=subprocess.PIPE, stderr=faults, cwd=folder)
         timer = threading.Timer(MOST_SECONDS, process.kill)
         timer.start()
         with process:
-            replies = [without_drawn(reply.removesuffix(b"\n")) for reply in replies_of(process, lines)]
+            replies = [without_drawn(reply.removesuffix(b"\n")) for reply in replies_of(process, maker.lines)]
             replies += process.communicate()[0].splitlines()
         timer.cancel()
         faults.seek(0)
@@ -73,20 +74,29 @@ def print_tally(replies):
         print(f"{count:8} {code:5} {rule}".rstrip())
 
 
-def compare(program, seed, count):
+def scripts_of(program, seed, runs):
+    """The makers of scripts over one store, each with what the program gave and its fault."""
+    store = None
+    with tempfile.TemporaryDirectory() as folder:
+        for run in range(runs):
+            maker = Maker(f"{seed} {run}" if run else seed, store)
+            maker.script()
+            yield maker, *replies_to(program, maker, folder, store is None)
+            store = maker.service.store
+
+
+def compare(program, seed, count, runs):
     """Compares so many scripts, and gives the number of those that differ."""
     replies = []
     differing = 0
     for number in range(1, count + 1):
-        maker = Maker(f"{seed} {number}")
-        maker.script()
-        replies += maker.replies
-        given, fault = replies_to(program, maker.lines, maker.slots)
-        if fault is not None or given != maker.replies:
-            differing += 1
-            print_difference(number, maker, given, fault)
+        for maker, given, fault in scripts_of(program, f"{seed} {number}", runs):
+            replies += maker.replies
+            if fault is not None or given != maker.replies:
+                differing += 1
+                print_difference(number, maker, given, fault)
     print_tally(replies)
-    print(f"{count} scripts, {len(replies)} lines, {differing} differ")
+    print(f"{count * runs} scripts, {len(replies)} lines, {differing} differ")
     return differing
 
 
@@ -95,11 +105,12 @@ def main():
     parser.add_argument("seed", type=int, metavar="SEED")
     parser.add_argument("count", type=int, metavar="COUNT")
     parser.add_argument("--program", type=Path, default=PROGRAM, metavar="PATH")
+    parser.add_argument("--runs", type=int, default=1, metavar="N")
     words = parser.parse_args()
     program = words.program.resolve()
     if not program.is_file() or not os.access(program, os.X_OK):
         parser.error(f"{program} is no program; ./keystore2 builds it")
-    return 1 if compare(program, words.seed, words.count) > 0 else 0
+    return 1 if compare(program, words.seed, words.count, words.runs) > 0 else 0
 
 
 if __name__ == "__main__":

@@ -121,6 +121,7 @@ MOST_LEVELS = 127
 # The numbers of a token, with their bits.
 TOKEN_NUMBERS = {"challenge": 64, "user": 64, "authenticator": 64, "kind": 32, "time": 64}
 MAC_BYTES = 32
+ROOT_BYTES = 32
 NO_WHOLE_NUMBER = object()
 
 
@@ -350,11 +351,18 @@ def leave_fields(members):
     return {"ticket": number_of(needed(members, "ticket"), 64)}
 
 
+def restart_fields(members):
+    root = bytes_of(members["root"]) if "root" in members else None
+    if root is not None and len(root) != ROOT_BYTES:
+        raise Malformed()
+    return {"root": root}
+
+
 def no_fields(members):
     return {}
 
 
-# The acts that are built, and what reads the fields of each.
+# The acts, and what reads the fields of each.
 FIELDS = {
     "connect": connect_fields,
     "disconnect": no_fields,
@@ -378,6 +386,7 @@ FIELDS = {
     "deviceLocked": user_fields,
     "deviceUnlocked": user_fields,
     "earlyBootEnded": no_fields,
+    "restart": restart_fields,
 }
 
 
@@ -389,6 +398,6 @@ def event_of(line):
     if type(act) is not str or act not in FIELDS:
         raise Malformed()
     event = {"act": act, "boot": boot, "wall": wall, **FIELDS[act](members)}
-    if act not in ("connect", "leave"):
+    if act not in ("connect", "leave", "restart"):
         event["client"] = number_of(needed(members, "c"), 64)
     return event

@@ -40,7 +40,7 @@ ODD_LINES = [
     b"[1]",
     b"\xff",
     b'{"t":[0,1],"do":"connect"}',
-    b'{"t":[0,1],"do":"restart"}',
+    b'{"t":[0,1],"do":"restart","root":"00"}',
     b'{"t":[0,1],"c":1,"do":"leave"}',
     b'{"t":[0,1000],"c":1,"do":"createOperation","key":{"domain":0,"alias":"a"},"forced":true}',
 ]
@@ -85,10 +85,10 @@ def opened_or_none(blob):
 class Maker(ListMaker):
     """Makes one script and its number of slots, line by line, each with an eye on what the model's service holds by then."""
 
-    def __init__(self, seed):
+    def __init__(self, seed, store=None):
         super().__init__(seed)
         self.slots = self.random.choice([1, 2, 3, 5, 16, 16])
-        self.service = Service(slots=self.slots)
+        self.service = Service(slots=self.slots, store=store)
         self.outputs = []
         self.told = Told()
         self.lines = []
@@ -109,8 +109,7 @@ class Maker(ListMaker):
 
     def script(self):
         """Puts all lines: clients, a key of AES and two of HMAC, one of which wants tokens, and then anything."""
-        for uid in (10001, 10002, 10001, 1000, *self.random.sample(UIDS, self.random.randrange(4))):
-            self.put(text_of({"t": [0, 0], "do": "connect", "uid": uid}))
+        self.connect_clients()
         keys = ((1, "a", AES_LIST, "00" * 16), (2, "a", HMAC_LIST, "0b" * 20), (2, "b", WAITING_LIST, "0b" * 20))
         for client, alias, params, material in keys:
             members = {"t": [0, 0], "c": client, "do": "importKey", "key": {"domain": 0, "alias": alias}}
@@ -121,6 +120,22 @@ class Maker(ListMaker):
                 self.fill(self.random.choice(list(self.service.operations)))
             if self.chance(0.001):
                 self.fill_tokens()
+            if self.chance(0.004):
+                self.restart()
+
+    def connect_clients(self):
+        for uid in (10001, 10002, 10001, 1000, *self.random.sample(UIDS, self.random.randrange(4))):
+            self.put(text_of({"t": [0, 0], "do": "connect", "uid": uid}))
+
+    def restart(self):
+        """Restarts, seldom under another root of trust, a few lines before clients are there again."""
+        members = {"t": [self.boot(), self.random.choice(WALLS)], "do": "restart"}
+        if self.chance(0.3):
+            members["root"] = self.random.choice([DEMO_ROOT, DEMO_ROOT, bytes(32)]).hex()
+        self.put(text_of(members))
+        for _ in range(self.random.randrange(3)):
+            self.put(self.line())
+        self.connect_clients()
 
     def descriptor(self):
         """A descriptor, mostly of an app's own key, and of a namespace, a grant or a number else."""

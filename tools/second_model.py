@@ -65,24 +65,30 @@ class Entropy:
 
 
 class Service:
-    """The service over a fresh store with so many slots; the draws with the numbers `failing`, counted from 1, fail."""
+    """A run with so many slots over a store, a fresh one where none is given; the draws with the numbers `failing`, counted from
+    1, fail."""
 
-    def __init__(self, failing=(), slots=16):
+    def __init__(self, failing=(), slots=16, store=None):
         self.entropy = Entropy(failing)
         self.slots = slots
         self.uids = []
-        self.store = KeyStore()
-        self.operations = {}
+        self.store = KeyStore() if store is None else store
         self.begun = 0
-        self.out = {}
         self.tickets = 0
         self.step = 0
+        self.seal_key = DEMO_SEAL_KEY
+        self.root = DEMO_ROOT
+        self.begin_boot()
+
+    def begin_boot(self):
+        """What lasts until the next restart is new; the numbers go on."""
+        self.uids = [None for _ in self.uids]
+        self.operations = {}
+        self.out = {}
         self.tokens = Tokens()
         self.is_early_over = False
         self.unlocked = set()
         self.begins = collections.Counter()
-        self.seal_key = DEMO_SEAL_KEY
-        self.root = DEMO_ROOT
 
     def uid_of(self, client):
         """The uid of a client that is connected, or None."""
@@ -125,6 +131,7 @@ class Service:
             "deviceLocked": self.device_locked,
             "deviceUnlocked": self.device_unlocked,
             "earlyBootEnded": self.early_boot_ended,
+            "restart": self.restart,
         }
         self.step += 1
         try:
@@ -307,6 +314,12 @@ class Service:
     def early_boot_ended(self, event):
         self.check_system(event, has_form=True)
         self.is_early_over = True
+        return {}
+
+    def restart(self, event):
+        self.begin_boot()
+        if event["root"] is not None:
+            self.root = event["root"]
         return {}
 
     # Operations.

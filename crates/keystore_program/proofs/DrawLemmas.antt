@@ -20,6 +20,16 @@ settled_undrawn : (settled : Option Settled) (past : History) → undrawn_of (af
 settled_undrawn None past = refl
 settled_undrawn (Some settled) past = refl
 
+-- so many faults and one more where a call failed
+pub counted : (failed : Bool) (n m a b c : ℕ) → (b < 2 ^ 64 - 1 → n + a ≤ b) → m ≡ (if failed then n + 1 else n) → b ≤ c → (failed ≡ true → Rises b c) → c < 2 ^ 64 - 1 → m + a ≤ c
+counted true n m a b c so is later rises few =
+    elim (rises refl) [ inl rose ↦ omega (arith, so (omega (arith, rose, few)), is, rose) | inr most ↦ absurd (omega (arith, most.0, most.1, few)) ]
+counted false n m a b c so is later rises few = omega (arith, so (omega (arith, later, few)), is, later)
+
+pub unchanged : (failed : Bool) (n m a b c : ℕ) → (n ≡ 0 → b ≡ a) → m ≡ (if failed then n + 1 else n) → (failed ≡ false → c ≡ b) → m ≡ 0 → c ≡ a
+unchanged true n m a b c so is same e = absurd (omega (arith, is, e))
+unchanged false n m a b c so is same e = same refl ∙ so (sym is ∙ e)
+
 module _ {N : Type 0} (g : Ghosts N) where
   -- the history without entries drew nothing
   pub drew_none : (entropy : N) → DrewAll g entropy entropy []
@@ -51,16 +61,6 @@ module _ {N : Type 0} (g : Ghosts N) where
     drew = subst (λ failed. Drew g old new (drawn ++ more) (failed || is_entropy_fault left)) fine (drew_on_drew g old mid new drawn more _ _ first second);
     undrawn = ap (λ n. if is_entropy_fault left then n + 1 else n) (ap (λ failed. if failed then undrawn_of (after_settling settled past) + 1 else undrawn_of (after_settling settled past)) fine ∙ settled_undrawn settled past);
   }
-
-  -- so many faults and one more where a draw failed
-  counted : (failed : Bool) (n m a b c : ℕ) → (b < 2 ^ 64 - 1 → n + a ≤ b) → m ≡ (if failed then n + 1 else n) → b ≤ c → (failed ≡ true → Rises b c) → c < 2 ^ 64 - 1 → m + a ≤ c
-  counted true n m a b c so is later rises few =
-      elim (rises refl) [ inl rose ↦ omega (arith, so (omega (arith, rose, few)), is, rose) | inr most ↦ absurd (omega (arith, most.0, most.1, few)) ]
-  counted false n m a b c so is later rises few = omega (arith, so (omega (arith, later, few)), is, later)
-
-  unchanged : (failed : Bool) (n m a b c : ℕ) → (n ≡ 0 → b ≡ a) → m ≡ (if failed then n + 1 else n) → (failed ≡ false → c ≡ b) → m ≡ 0 → c ≡ a
-  unchanged true n m a b c so is same e = absurd (omega (arith, is, e))
-  unchanged false n m a b c so is same e = same refl ∙ so (sym is ∙ e)
 
   -- a part after another
   pub drew_on : (a b c : N) (past later : History) → DrewAll g a b past → DrewMore g b c past later → DrewAll g a c later

@@ -4,6 +4,7 @@ use Rattle.std.proofs.lemmas.List.{length-take-le}
 use Rattle.std.proofs.lemmas.Bool.Decides.{nat_tests}
 use Rattle.std.specs.Io.KnownBytes.{Consumes, IsAtEnd}
 use Rattle.ks_outside.specs.Shown.{Outside, Put, Took}
+use Rattle.ks_outside.specs.declared.disk.Disk.{Ghosts as DiskGhosts}
 use Rattle.ks_outside.specs.declared.entropy.Entropy.{Ghosts as EntropyGhosts}
 use Rattle.ks_outside.specs.declared.sink.Sink.{Ghosts as SinkGhosts}
 use Rattle.ks_outside.specs.declared.source.Source.{Ghosts as SourceGhosts}
@@ -16,16 +17,18 @@ use Rattle.keystore_program.specs.declared.serve.Halt.TheVariants as halts
 use Rattle.keystore_program.specs.declared.status.Status.{Status}
 use Rattle.keystore_program.specs.declared.status.Status.TheVariants as statuses
 use Rattle.keystore_program.specs.Drawn.{DrewAll}
-use Rattle.keystore_program.specs.Ends.{AreTaken, EndsAmid, Ends, EndsCut, EndsOk, outside}
+use Rattle.keystore_program.specs.Ends.{AreTaken, EndsAmid, Ends, EndsCut, EndsOk, EndsWaiting, outside}
 use Rattle.keystore_program.specs.Follows.{Follows}
 use Rattle.keystore_program.specs.Halts.{status_of}
 use Rattle.keystore_program.specs.Lines.{AreLines, IsFree, ended, lines_of}
 use Rattle.keystore_program.specs.Serving.{IsServed, IsServedInPart, IsUnserved, ServesLine}
-use Rattle.keystore_program.specs.Session.{StandsFor}
+use Rattle.keystore_program.specs.Kept.{IsUnwritten, Keeps}
+use Rattle.keystore_program.specs.Session.{GoesOn, StandsFor, devices, is_waiting}
 use Rattle.keystore_program.specs.Window.{HasNoFeedBelow, IsFirstFeed}
 use Rattle.keystore_program.proofs.DrawLemmas.{drew_none, drew_nothing, drew_on}
+use Rattle.keystore_program.proofs.KeepLemmas.{KeptSince, held_images, keeps_all, since_none, since_on}
 use Rattle.keystore_program.proofs.LineLemmas.{are_more, ended-more, follows_more, free_take, free_whole, lines_of-ended, lines_of-last, split_feed}
-use Rattle.keystore_program.proofs.Sessions.{legal_none}
+use Rattle.keystore_program.proofs.Tickets.{waits_are}
 
 -- the held bytes around their first LF
 at_feed : (lines : List (List ℕ)) (held : List ℕ) (n : ℕ) → IsFirstFeed held n → ended (lines ++ take n held ∷ []) ++ drop (n + 1) held ≡ ended lines ++ held
@@ -52,30 +55,44 @@ empty : (xs : List ℕ) → length xs ≡ 0 → xs ≡ []
 empty [] e = refl
 empty (x ∷ xs) e = absurd (omega arith)
 
-module _ {S K D N : Type 0} (s : SourceGhosts S) (k : SinkGhosts K) (n : EntropyGhosts N) where
+module _ {S K D N : Type 0} (s : SourceGhosts S) (k : SinkGhosts K) (d : DiskGhosts D) (n : EntropyGhosts N)
+    (only_now : (disk : D) (c : List ℕ) → d.images_since disk (d.moment disk) c → d.images disk c) where
   -- the lines so far were served and their text was written, and some bytes are held after them; a read failed, or none did
   pub record Going (setup : Setup) (old now : Outside S K D N) (session : Session) (held : List ℕ) (taken served : ℕ) (failed : Bool) : Type 0 where
     pub lines : List (List ℕ)
     pub past : History
     pub text : List ℕ
-    pub stands : StandsFor setup session past
+    pub stands : StandsFor d setup session now.disk past
     pub follows : Follows [] lines past text
     pub drew : DrewAll n old.entropy now.entropy past
+    pub since : KeptSince d setup old.disk now.disk past
     pub put : Put k old.sink now.sink text false
     pub took : Took s old.source now.source (ended lines ++ held) failed
     pub short : AreLines lines
     pub count : served ≡ length lines
     pub sum : taken ≡ length (ended lines ++ held)
 
+  -- what the run leaves of the disk
+  kept : {setup : Setup} {old now : Outside S K D N} {session : Session} {held : List ℕ} {taken served : ℕ} {failed : Bool} (going : Going setup old now session held taken served failed) → Keeps d setup old.disk now.disk going.past
+  kept {setup = setup} {old = old} {now = now} going = keeps_all d setup only_now old.disk now.disk going.past going.since (held_images d _ now.disk _ going.stands.store)
+
+  -- and what it leaves after one line more
+  kept_more : (setup : Setup) (old now : Outside S K D N) (disk : D) (entropy : N) (past : History) (session : Session) (line : List ℕ) (later : History) (text : List ℕ) → KeptSince d setup old.disk now.disk past
+      → GoesOn d n setup past session line (devices now.disk now.entropy) (devices disk entropy) later text → Keeps d setup old.disk disk later
+  kept_more setup old now disk entropy past session line later text since goes =
+      keeps_all d setup only_now old.disk disk later (since_on d setup old.disk now.disk disk past later goes.failed since goes.keeps) (held_images d _ disk _ goes.stands.store)
+
   -- nothing was taken yet
-  pub begins : (setup : Setup) (now : Outside S K D N) (session : Session) (held : List ℕ) (taken : ℕ) → StandsFor setup session [] → held ≡ [] → taken ≡ 0 → Going setup now now session held taken 0 false
-  begins setup now session held taken for nothing none = record {
+  pub begins : (setup : Setup) (begin : D) (now : Outside S K D N) (session : Session) (held : List ℕ) (taken : ℕ) → StandsFor d setup session now.disk [] → IsUnwritten d begin now.disk → held ≡ [] → taken ≡ 0
+      → Going setup (record now { disk = begin }) now session held taken 0 false
+  begins setup begin now session held taken for unwritten nothing none = record {
     lines = [];
     past = [];
     text = [];
     stands = for;
     follows = (refl, refl);
     drew = drew_none n now.entropy;
+    since = since_none d setup begin now.disk unwritten;
     put = put_none k now.sink;
     took = rw nothing (took_none s now.source);
     short = tt;
@@ -97,6 +114,7 @@ module _ {S K D N : Type 0} (s : SourceGhosts S) (k : SinkGhosts K) (n : Entropy
         stands = going.stands;
         follows = going.follows;
         drew = going.drew;
+        since = going.since;
         put = going.put;
         took = rw more (took_on s old.source now.source source (ended going.lines ++ held) piece false failed going.took took);
         short = going.short;
@@ -105,11 +123,11 @@ module _ {S K D N : Type 0} (s : SourceGhosts S) (k : SinkGhosts K) (n : Entropy
       }
 
   -- a line is served and passed on
-  pub passes : (setup : Setup) (old now : Outside S K D N) (sink : K) (entropy : N) (session session' : Session) (held : List ℕ) (taken served count : ℕ)
+  pub passes : (setup : Setup) (old now : Outside S K D N) (sink : K) (disk : D) (entropy : N) (session session' : Session) (held : List ℕ) (taken served count : ℕ)
       → (going : Going setup old now session held taken served false) → IsFirstFeed held count → count ≤ 262144
-      → IsServed k n setup going.past session' (take count held) now.sink sink now.entropy entropy
-      → Going setup old (record now { sink = sink; entropy = entropy }) session' (drop (count + 1) held) taken (served + 1) false
-  passes setup old now sink entropy session session' held taken served count going feed short done =
+      → IsServed k d n setup going.past session' (take count held) now.sink sink (devices now.disk now.entropy) (devices disk entropy)
+      → Going setup old (record now { sink = sink; disk = disk; entropy = entropy }) session' (drop (count + 1) held) taken (served + 1) false
+  passes setup old now sink disk entropy session session' held taken served count going feed short done =
       let line : List ℕ = take count held in
       let same = at_feed going.lines held count feed in
       let long : length line ≡ count = length-take-le count held (omega (arith, feed.within)) in
@@ -121,6 +139,7 @@ module _ {S K D N : Type 0} (s : SourceGhosts S) (k : SinkGhosts K) (n : Entropy
         stands = done.goes_on.stands;
         follows = follows_more [] going.lines line going.past done.later going.text done.text going.follows done.goes_on.says;
         drew = drew_on n old.entropy now.entropy entropy going.past done.later going.drew done.goes_on.drew;
+        since = since_on d setup old.disk now.disk disk going.past done.later done.goes_on.failed going.since done.goes_on.keeps;
         put = put_on k old.sink now.sink sink going.text done.text false false going.put done.put;
         took = rw same going.took;
         short = are_more going.lines line going.short free (omega (arith, long));
@@ -130,7 +149,7 @@ module _ {S K D N : Type 0} (s : SourceGhosts S) (k : SinkGhosts K) (n : Entropy
 
   -- the source ends after an LF, or is empty
   pub ends_empty : (setup : Setup) (old now : Outside S K D N) (session : Session) (held : List ℕ) (taken served : ℕ)
-      → Going setup old now session held taken served false → IsAtEnd (s.content now.source) → taken < 2 ^ 30 → length held ≡ 0 → EndsOk s k n setup old now
+      → Going setup old now session held taken served false → IsAtEnd (s.content now.source) → taken < 2 ^ 30 → length held ≡ 0 → EndsOk s k d n setup old now
   ends_empty setup old now session held taken served going end few none =
       let nothing : held ≡ [] = empty held none in
       let split : lines_of (ended going.lines ++ held) ≡ going.lines = ap (λ l. lines_of (ended going.lines ++ l)) nothing ∙ lines_of-ended going.lines [] going.short ∙ append-nil going.lines in
@@ -138,7 +157,7 @@ module _ {S K D N : Type 0} (s : SourceGhosts S) (k : SinkGhosts K) (n : Entropy
         lines = going.lines;
         text = going.text;
         taken = ended going.lines ++ held;
-        served = record { history = going.past; legal = going.stands.legal; follows = going.follows; drew = going.drew };
+        served = record { history = going.past; legal = going.stands.legal; follows = going.follows; drew = going.drew; keeps = kept going };
         put = going.put;
         took = going.took;
         end = end;
@@ -149,10 +168,10 @@ module _ {S K D N : Type 0} (s : SourceGhosts S) (k : SinkGhosts K) (n : Entropy
       }
 
   -- the source ends in a line without LF, which is served
-  pub ends_last : (setup : Setup) (old now : Outside S K D N) (sink : K) (entropy : N) (session session' : Session) (held : List ℕ) (taken served : ℕ)
+  pub ends_last : (setup : Setup) (old now : Outside S K D N) (sink : K) (disk : D) (entropy : N) (session session' : Session) (held : List ℕ) (taken served : ℕ)
       → (going : Going setup old now session held taken served false) → HasNoFeedBelow held (length held) → length held ≤ 262144 → IsAtEnd (s.content now.source) → taken < 2 ^ 30 → 0 < length held
-      → IsServed k n setup going.past session' held now.sink sink now.entropy entropy → EndsOk s k n setup old (record now { sink = sink; entropy = entropy })
-  ends_last setup old now sink entropy session session' held taken served going feeds short end few some done =
+      → IsServed k d n setup going.past session' held now.sink sink (devices now.disk now.entropy) (devices disk entropy) → EndsOk s k d n setup old (record now { sink = sink; disk = disk; entropy = entropy })
+  ends_last setup old now sink disk entropy session session' held taken served going feeds short end few some done =
       let free : IsFree held = free_whole held feeds in
       let split : lines_of (ended going.lines ++ held) ≡ going.lines ++ held ∷ [] = lines_of-ended going.lines held going.short ∙ ap (λ ls. going.lines ++ ls) (lines_of-last held free some) in
       record {
@@ -164,6 +183,7 @@ module _ {S K D N : Type 0} (s : SourceGhosts S) (k : SinkGhosts K) (n : Entropy
           legal = done.goes_on.stands.legal;
           follows = follows_more [] going.lines held going.past done.later going.text done.text going.follows done.goes_on.says;
           drew = drew_on n old.entropy now.entropy entropy going.past done.later going.drew done.goes_on.drew;
+          keeps = kept_more setup old now disk entropy going.past session' held done.later done.text going.since done.goes_on;
         };
         put = put_on k old.sink now.sink sink going.text done.text false false going.put done.put;
         took = going.took;
@@ -176,10 +196,10 @@ module _ {S K D N : Type 0} (s : SourceGhosts S) (k : SinkGhosts K) (n : Entropy
 
   -- the run ends amid the bytes of a line
   pub ends_amid : (setup : Setup) (old now : Outside S K D N) (session : Session) (held : List ℕ) (taken served : ℕ) (failed : Bool)
-      → (going : Going setup old now session held taken served failed) → HasNoFeedBelow held (length held) → EndsAmid s k n setup old now going.lines held failed
+      → (going : Going setup old now session held taken served failed) → HasNoFeedBelow held (length held) → EndsAmid s k d n setup old now going.lines held failed
   ends_amid setup old now session held taken served failed going feeds = record {
     text = going.text;
-    served = record { history = going.past; legal = going.stands.legal; follows = going.follows; drew = going.drew };
+    served = record { history = going.past; legal = going.stands.legal; follows = going.follows; drew = going.drew; keeps = kept going };
     put = going.put;
     took = going.took;
     short = going.short;
@@ -187,11 +207,11 @@ module _ {S K D N : Type 0} (s : SourceGhosts S) (k : SinkGhosts K) (n : Entropy
   }
 
   -- the run stops at a line that was served with a front of its text written
-  ends_in_part : (setup : Setup) (old now : Outside S K D N) (sink : K) (entropy : N) (session session' : Session) (held line : List ℕ) (taken served : ℕ) (failed : Bool)
+  ends_in_part : (setup : Setup) (old now : Outside S K D N) (sink : K) (disk : D) (entropy : N) (session session' : Session) (held line : List ℕ) (taken served : ℕ) (failed : Bool)
       → (going : Going setup old now session held taken served false) → taken ≤ 2 ^ 30 → IsFree line → length line ≤ 262144
       → AreTaken (s.content now.source) (ended going.lines ++ held) (going.lines ++ line ∷ [])
-      → IsServedInPart k n setup going.past session' line now.sink sink now.entropy entropy failed → EndsCut s k n setup old (record now { sink = sink; entropy = entropy }) failed
-  ends_in_part setup old now sink entropy session session' held line taken served failed going few free short are done = record {
+      → IsServedInPart k d n setup going.past session' line now.sink sink (devices now.disk now.entropy) (devices disk entropy) failed → EndsCut s k d n setup old (record now { sink = sink; disk = disk; entropy = entropy }) failed
+  ends_in_part setup old now sink disk entropy session session' held line taken served failed going few free short are done = record {
     front = going.lines;
     last = line ∷ [];
     one = omega arith;
@@ -202,6 +222,7 @@ module _ {S K D N : Type 0} (s : SourceGhosts S) (k : SinkGhosts K) (n : Entropy
     missing = done.missing;
     legal = done.goes_on.stands.legal;
     drew = drew_on n old.entropy now.entropy entropy going.past done.later going.drew done.goes_on.drew;
+    keeps = kept_more setup old now disk entropy going.past session' line done.later (done.part ++ done.missing) going.since done.goes_on;
     served = going.follows;
     stopped = (done.later, done.part ++ done.missing, [], done.goes_on.says, (refl, refl), sym (append-nil (done.part ++ done.missing)));
     put = put_on k old.sink now.sink sink going.text done.part false failed going.put done.put;
@@ -212,11 +233,36 @@ module _ {S K D N : Type 0} (s : SourceGhosts S) (k : SinkGhosts K) (n : Entropy
     few = omega (arith, going.sum, few);
   }
 
+  -- the run stops behind a line of whose change a device call failed
+  ends_waiting : (setup : Setup) (old now : Outside S K D N) (sink : K) (disk : D) (entropy : N) (session session' : Session) (held line : List ℕ) (taken served : ℕ)
+      → (going : Going setup old now session held taken served false) → taken ≤ 2 ^ 30 → IsFree line → length line ≤ 262144
+      → AreTaken (s.content now.source) (ended going.lines ++ held) (going.lines ++ line ∷ [])
+      → IsServed k d n setup going.past session' line now.sink sink (devices now.disk now.entropy) (devices disk entropy) → is_waiting session' ≡ true
+      → EndsWaiting s k d n setup old (record now { sink = sink; disk = disk; entropy = entropy })
+  ends_waiting setup old now sink disk entropy session session' held line taken served going few free short are done waits = record {
+    lines = going.lines ++ line ∷ [];
+    text = going.text ++ done.text;
+    served = record {
+      history = done.later;
+      legal = done.goes_on.stands.legal;
+      follows = follows_more [] going.lines line going.past done.later going.text done.text going.follows done.goes_on.says;
+      drew = drew_on n old.entropy now.entropy entropy going.past done.later going.drew done.goes_on.drew;
+      keeps = kept_more setup old now disk entropy going.past session' line done.later done.text going.since done.goes_on;
+    };
+    waits = sym (waits_are d setup session' disk done.later done.goes_on.stands) ∙ waits;
+    put = put_on k old.sink now.sink sink going.text done.text false false going.put done.put;
+    taken = ended going.lines ++ held;
+    took = going.took;
+    are = are;
+    short = are_more going.lines line going.short free short;
+    few = omega (arith, going.sum, few);
+  }
+
   -- the run stops at a line that was not served
-  ends_unserved : (setup : Setup) (old now : Outside S K D N) (sink : K) (entropy : N) (session session' : Session) (held : List ℕ) (taken served : ℕ)
+  ends_unserved : (setup : Setup) (old now : Outside S K D N) (sink : K) (disk : D) (entropy : N) (session session' : Session) (held : List ℕ) (taken served : ℕ)
       → (going : Going setup old now session held taken served false) → taken ≤ 2 ^ 30
-      → IsUnserved k n setup going.past session' now.sink sink now.entropy entropy → EndsCut s k n setup old (record now { sink = sink; entropy = entropy }) false
-  ends_unserved setup old now sink entropy session session' held taken served going few done = record {
+      → IsUnserved k d n setup going.past session' now.sink sink (devices now.disk now.entropy) (devices disk entropy) → EndsCut s k d n setup old (record now { sink = sink; disk = disk; entropy = entropy }) false
+  ends_unserved setup old now sink disk entropy session session' held taken served going few done = record {
     front = going.lines;
     last = [];
     one = omega arith;
@@ -227,6 +273,7 @@ module _ {S K D N : Type 0} (s : SourceGhosts S) (k : SinkGhosts K) (n : Entropy
     missing = [];
     legal = going.stands.legal;
     drew = drew_on n old.entropy now.entropy entropy going.past going.past going.drew (drew_nothing n now.entropy entropy going.past done.stays.undrawn);
+    keeps = subst (λ (x : D). Keeps d setup old.disk x going.past) (sym done.stays.uncalled) (kept going);
     served = going.follows;
     stopped = (refl, refl);
     put = put_on k old.sink now.sink sink going.text [] false false going.put done.put;
@@ -238,45 +285,21 @@ module _ {S K D N : Type 0} (s : SourceGhosts S) (k : SinkGhosts K) (n : Entropy
   }
 
   -- the run stops at a line, by why it does
-  pub cut_line : (halt : Halt) (status : Status) (setup : Setup) (old now : Outside S K D N) (sink : K) (entropy : N) (session session' : Session) (held line own : List ℕ) (taken served : ℕ)
+  pub cut_line : (halt : Halt) (status : Status) (setup : Setup) (old now : Outside S K D N) (sink : K) (disk : D) (entropy : N) (session session' : Session) (held line own : List ℕ) (taken served : ℕ)
       → status ≡ status_of halt → (going : Going setup old now session held taken served false) → taken ≤ 2 ^ 30 → IsFree line → length line ≤ 262144
       → AreTaken (s.content now.source) (ended going.lines ++ held) (going.lines ++ line ∷ []) → own ≡ line
-      → ServesLine k n setup going.past session' own now.sink sink now.entropy entropy (Err halt) → Ends s k n setup old (record now { sink = sink; entropy = entropy }) status
-  cut_line halts.Write status setup old now sink entropy session session' held line own taken served e going few free short are is done =
-      rw e (ends_in_part setup old now sink entropy session session' held line taken served true going few free short are
-      (subst (λ l. IsServedInPart k n setup going.past session' l now.sink sink now.entropy entropy true) is done))
-  cut_line halts.Memory status setup old now sink entropy session session' held line own taken served e going few free short are is (inl done) =
-      rw e (ends_in_part setup old now sink entropy session session' held line taken served false going few free short are
-      (subst (λ l. IsServedInPart k n setup going.past session' l now.sink sink now.entropy entropy false) is done))
-  cut_line halts.Memory status setup old now sink entropy session session' held line own taken served e going few free short are is (inr done) =
-      rw e (ends_unserved setup old now sink entropy session session' held taken served going few done)
-
-  -- a run that stops before its first line
-  pub cut_nothing : (setup : Setup) (now : Outside S K D N) → EndsCut s k n setup now now false
-  cut_nothing setup now = record {
-    front = [];
-    last = [];
-    one = omega arith;
-    mid = [];
-    later = [];
-    whole = [];
-    part = [];
-    missing = [];
-    legal = legal_none setup;
-    drew = drew_none n now.entropy;
-    served = (refl, refl);
-    stopped = (refl, refl);
-    put = put_none k now.sink;
-    taken = [];
-    took = took_none s now.source;
-    are = inl ([], refl);
-    short = tt;
-    few = omega arith;
-  }
-
-  -- a run of a form never ends with the status of words that are none
-  pub not_usage : (setup : Setup) (old new : Outside S K D N) (status : Status) → Ends s k n setup old new status → status ≡ statuses.Usage → ⊥
-  not_usage setup old new status ends e = subst (Ends s k n setup old new) e ends
+      → ServesLine k d n setup going.past session' own now.sink sink (devices now.disk now.entropy) (devices disk entropy) (Err halt) → Ends s k d n setup old (record now { sink = sink; disk = disk; entropy = entropy }) status
+  cut_line halts.Write status setup old now sink disk entropy session session' held line own taken served e going few free short are is done =
+      rw e (ends_in_part setup old now sink disk entropy session session' held line taken served true going few free short are
+      (subst (λ l. IsServedInPart k d n setup going.past session' l now.sink sink (devices now.disk now.entropy) (devices disk entropy) true) is done))
+  cut_line halts.Waits status setup old now sink disk entropy session session' held line own taken served e going few free short are is done =
+      rw e (ends_waiting setup old now sink disk entropy session session' held line taken served going few free short are
+      (subst (λ l. IsServed k d n setup going.past session' l now.sink sink (devices now.disk now.entropy) (devices disk entropy)) is done.0) done.1)
+  cut_line halts.Memory status setup old now sink disk entropy session session' held line own taken served e going few free short are is (inl done) =
+      rw e (ends_in_part setup old now sink disk entropy session session' held line taken served false going few free short are
+      (subst (λ l. IsServedInPart k d n setup going.past session' l now.sink sink (devices now.disk now.entropy) (devices disk entropy) false) is done))
+  cut_line halts.Memory status setup old now sink disk entropy session session' held line own taken served e going few free short are is (inr done) =
+      rw e (ends_unserved setup old now sink disk entropy session session' held taken served going few done)
 
 -- a line that is held with its LF
 pub held_line : (held : List ℕ) (count : ℕ) → IsFirstFeed held count → IsFree (take count held)

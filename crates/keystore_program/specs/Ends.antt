@@ -1,26 +1,22 @@
--- How a run ends: what was taken from the source, what was served, what was drawn for it, and what was written, between two
--- moments of all that a run is handed.
+-- How a run ends: what was taken from the source, what was served, what was drawn for it, what was written, and what is on the
+-- disk, between two moments of all that a run is handed.
 use Rattle.std.specs.Prelude.{◌≡◌, ℕ, ◌+◌, ◌<◌, ◌≤◌, ◌⊎◌, Bool, true, false, List, [], ◌∷◌, ◌++◌, length, Option, IfSome}
 use Rattle.std.specs.Io.KnownBytes.{IsAtEnd}
 use Rattle.ks_outside.specs.Shown.{Outside, Put, Took}
+use Rattle.ks_outside.specs.declared.disk.Disk.{Ghosts as DiskGhosts}
 use Rattle.ks_outside.specs.declared.entropy.Entropy.{Ghosts as EntropyGhosts}
 use Rattle.ks_outside.specs.declared.sink.Sink.{Ghosts as SinkGhosts}
 use Rattle.ks_outside.specs.declared.source.Source.{Ghosts as SourceGhosts}
-use Rattle.tags.specs.declared.policy.PolicyRow.{PolicyRow}
-use Rattle.tags.specs.declared.secrets.DeviceSecrets.{DeviceSecrets}
-use Rattle.journal_records.specs.LastingPart.{empty_lasting}
 use Rattle.rule_model.specs.Entries.{History}
 use Rattle.rule_model.specs.Legal.{Legal}
+use Rattle.rule_model.specs.Settling.{is_unsettled}
 use Rattle.rule_model.specs.Setup.{Setup}
 use Rattle.keystore_program.specs.declared.status.Status.{Status}
 use Rattle.keystore_program.specs.declared.status.Status.TheVariants as statuses
 use Rattle.keystore_program.specs.Drawn.{DrewAll}
 use Rattle.keystore_program.specs.Follows.{Follows}
+use Rattle.keystore_program.specs.Kept.{Keeps}
 use Rattle.keystore_program.specs.Lines.{AreLines, IsFree, LINE_BYTES, SCRIPT_BYTES, ended, lines_of}
-
--- what is fixed in a run of a fresh store
-abbrev pub fresh_setup : DeviceSecrets → List PolicyRow → ℕ → Setup
-fresh_setup device policy slots = record { device = device; policy = policy; slots = slots; start = empty_lasting }
 
 -- all that a run is handed, at one moment
 abbrev pub outside : {S K D N : Type 0} → S → K → D → N → Outside S K D N
@@ -41,21 +37,22 @@ AreTaken left taken lines =
     ((rest : List ℕ) × (taken ≡ ended lines ++ rest))
     ⊎ ((front : List (List ℕ)) × (line : List ℕ) × (lines ≡ front ++ line ∷ []) × (taken ≡ ended front ++ line) × IsAtEnd left)
 
--- lines were served: a legal history follows them with a text, and drew what the entropy gave
-pub record Served {N : Type 0} (n : EntropyGhosts N) (setup : Setup) (before after : N) (lines : List (List ℕ)) (text : List ℕ) : Type 0 where
-  pub history : History
-  pub legal : Legal setup history
-  pub follows : Follows [] lines history text
-  pub drew : DrewAll n before after history
+module _ {S K D N : Type 0} (s : SourceGhosts S) (k : SinkGhosts K) (d : DiskGhosts D) (n : EntropyGhosts N) where
+  -- lines were served: a legal history follows them with a text, drew what the entropy gave, and is kept on the disk
+  pub record Served (setup : Setup) (old new : Outside S K D N) (lines : List (List ℕ)) (text : List ℕ) : Type 0 where
+    pub history : History
+    pub legal : Legal setup history
+    pub follows : Follows [] lines history text
+    pub drew : DrewAll n old.entropy new.entropy history
+    pub keeps : Keeps d setup old.disk new.disk history
 
-module _ {S K D N : Type 0} (s : SourceGhosts S) (k : SinkGhosts K) (n : EntropyGhosts N) where
   -- The whole source was read: all its lines were served, and their text was written. No line and no script is too long, and
   -- no call failed.
   pub record EndsOk (setup : Setup) (old new : Outside S K D N) : Type 0 where
     pub lines : List (List ℕ)
     pub text : List ℕ
     pub taken : List ℕ
-    pub served : Served n setup old.entropy new.entropy lines text
+    pub served : Served setup old new lines text
     pub put : Put k old.sink new.sink text false
     pub took : Took s old.source new.source taken false
     pub end : IsAtEnd (s.content new.source)
@@ -68,7 +65,7 @@ module _ {S K D N : Type 0} (s : SourceGhosts S) (k : SinkGhosts K) (n : Entropy
   -- failed, or none did.
   pub record EndsAmid (setup : Setup) (old new : Outside S K D N) (lines : List (List ℕ)) (rest : List ℕ) (failed : Bool) : Type 0 where
     pub text : List ℕ
-    pub served : Served n setup old.entropy new.entropy lines text
+    pub served : Served setup old new lines text
     pub put : Put k old.sink new.sink text false
     pub took : Took s old.source new.source (ended lines ++ rest) failed
     pub short : AreLines lines
@@ -100,7 +97,8 @@ module _ {S K D N : Type 0} (s : SourceGhosts S) (k : SinkGhosts K) (n : Entropy
     pub many : length (ended lines ++ rest) ≡ SCRIPT_BYTES
 
   -- The run stopped at a line. The lines before it were served and their text was written; it was served with a front of its
-  -- text written, or it was not served. What the entropy gave was drawn for these lines. No read failed; a write did, or none.
+  -- text written, or it was not served. What the entropy gave was drawn for these lines, and what they change of what lasts is on
+  -- the disk. No read failed; a write did, or none.
   pub record EndsCut (setup : Setup) (old new : Outside S K D N) (failed : Bool) : Type 0 where
     pub front : List (List ℕ)
     pub last : List (List ℕ)
@@ -112,6 +110,7 @@ module _ {S K D N : Type 0} (s : SourceGhosts S) (k : SinkGhosts K) (n : Entropy
     pub missing : List ℕ
     pub legal : Legal setup later
     pub drew : DrewAll n old.entropy new.entropy later
+    pub keeps : Keeps d setup old.disk new.disk later
     pub served : Follows [] front mid whole
     pub stopped : Follows mid last later (part ++ missing)
     pub put : Put k old.sink new.sink (whole ++ part) failed
@@ -121,6 +120,20 @@ module _ {S K D N : Type 0} (s : SourceGhosts S) (k : SinkGhosts K) (n : Entropy
     pub short : AreLines (front ++ last)
     pub few : length taken ≤ SCRIPT_BYTES
 
+  -- A device call of a line's change failed. This line and those before it were served, and their text was written; whether its
+  -- change lasts is not known yet.
+  pub record EndsWaiting (setup : Setup) (old new : Outside S K D N) : Type 0 where
+    pub lines : List (List ℕ)
+    pub text : List ℕ
+    pub served : Served setup old new lines text
+    pub waits : is_unsettled served.history ≡ true
+    pub put : Put k old.sink new.sink text false
+    pub taken : List ℕ
+    pub took : Took s old.source new.source taken false
+    pub are : AreTaken (s.content new.source) taken lines
+    pub short : AreLines lines
+    pub few : length taken ≤ SCRIPT_BYTES
+
   abbrev pub Ends : Setup → Outside S K D N → Outside S K D N → Status → Type 0
   Ends setup old new statuses.Ok = EndsOk setup old new
   Ends setup old new statuses.Memory = EndsCut setup old new false
@@ -128,7 +141,7 @@ module _ {S K D N : Type 0} (s : SourceGhosts S) (k : SinkGhosts K) (n : Entropy
   Ends setup old new statuses.WriteFault = EndsCut setup old new true
   Ends setup old new (statuses.LineTooLong line) = EndsLong setup old new line
   Ends setup old new statuses.ScriptTooLong = EndsMany setup old new
+  Ends setup old new statuses.DiskFault = EndsWaiting setup old new
   Ends setup old new statuses.Usage = ⊥
-  Ends setup old new statuses.DiskFault = ⊥
   Ends setup old new (statuses.Corrupted offset) = ⊥
   Ends setup old new statuses.ListenFault = ⊥

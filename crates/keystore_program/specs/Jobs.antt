@@ -33,6 +33,10 @@ SetsJob number job old new = (ticket : ℕ) → job_in new ticket ≡ (if number
 abbrev pub SameJobs : Jobs → Jobs → Type 0
 SameJobs old new = (ticket : ℕ) → job_in new ticket ≡ job_in old ticket
 
+-- all jobs go, or none
+abbrev pub ClearsJobs : Bool → Jobs → Jobs → Type 0
+ClearsJobs all old new = (ticket : ℕ) → job_in new ticket ≡ (if all then None else job_in old ticket)
+
 -- what a job comes back with is what its work comes to, with one of two codes where its output is refused
 pub record RanJob (job : Job) (done : Done) : Type 0 where
   pub comes : (plan : Plan) (limited : Bool) (key nonce aad text : List ℕ) (work : Work) → JobFor job plan limited key nonce aad text work → ComesTo done plan limited key nonce aad text work

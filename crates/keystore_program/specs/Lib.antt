@@ -5,7 +5,9 @@ pub mod Follows
 pub mod Halts
 pub mod Held
 pub mod Jobs
+pub mod Kept
 pub mod Lines
+pub mod Runs
 pub mod Serving
 pub mod Session
 pub mod SessionKept

@@ -1,9 +1,11 @@
 -- The forms of the command line.
-use Rattle.std.specs.Prelude.{ℕ, ◌+◌, ◌-◌, ◌*◌, Bool, ◌&&◌, nat_le, List, [], ◌∷◌, length, Option, Some, None, if◌then◌else◌, codes, string_bytes}
+use Rattle.std.specs.Prelude.{ℕ, ◌+◌, ◌-◌, ◌*◌, ◌<◌, ◌≤◌, Bool, true, false, ◌&&◌, nat_le, List, [], ◌∷◌, length, Option, Some, None, option_map, if◌then◌else◌, codes, string_bytes}
 use Rattle.std.specs.List.{list_all}
 use Rattle.std.specs.Str.{bytes_eq}
 use Rattle.std.specs.declared.string.String.{String}
 use Rattle.std.specs.declared.alloc.Global.{Global}
+use Rattle.keystore_program.specs.declared.words.Form.{Form}
+use Rattle.keystore_program.specs.declared.words.Form.TheVariants.{Init, Run}
 
 abbrev pub is_digit : ℕ → Bool
 is_digit b = nat_le 48 b && nat_le b 57
@@ -21,12 +23,25 @@ is_number text = nat_le 1 (length text) && (nat_le (length text) 20 && list_all 
 abbrev pub slots_in : List ℕ → Option ℕ
 slots_in text = if is_number text && (nat_le 1 (value_on 0 text) && nat_le (value_on 0 text) 64) then Some (value_on 0 text) else None
 
-abbrev pub is_fresh : String Global → String Global → Bool
-is_fresh first second = bytes_eq (string_bytes first) (codes "run") && bytes_eq (string_bytes second) (codes "--fresh")
+-- whether a word is this text
+abbrev pub is_word : List ℕ → String Global → Bool
+is_word text word = bytes_eq (string_bytes word) text
 
--- The slots of `run --fresh`, 16 where they are not said, and of `run --fresh --slots N`; other words are no form.
-abbrev pub slots_of : List (String Global) → Option ℕ
-slots_of (first ∷ second ∷ []) = if is_fresh first second then Some 16 else None
-slots_of (first ∷ second ∷ third ∷ fourth ∷ []) =
-    if is_fresh first second && bytes_eq (string_bytes third) (codes "--slots") then slots_in (string_bytes fourth) else None
-slots_of _ = None
+-- the run of a word that gives its slots, where it gives some
+abbrev pub run_with : Bool → Option ℕ → Option Form
+run_with fresh slots = option_map (λ n. Run fresh n) slots
+
+-- `init`; or `run`, optionally `--fresh`, and then optionally `--slots N`, where 16 stands for N that is not said. Other words are no form.
+abbrev pub form_of : List (String Global) → Option Form
+form_of (first ∷ []) = if is_word (codes "init") first then Some Init else if is_word (codes "run") first then Some (Run false 16) else None
+form_of (first ∷ second ∷ []) = if is_word (codes "run") first && is_word (codes "--fresh") second then Some (Run true 16) else None
+form_of (first ∷ second ∷ third ∷ []) =
+    if is_word (codes "run") first && is_word (codes "--slots") second then run_with false (slots_in (string_bytes third)) else None
+form_of (first ∷ second ∷ third ∷ fourth ∷ []) =
+    if is_word (codes "run") first && (is_word (codes "--fresh") second && is_word (codes "--slots") third) then run_with true (slots_in (string_bytes fourth)) else None
+form_of _ = None
+
+-- a run has 1 to 64 slots
+abbrev pub HasSlots : Form → Type 0
+HasSlots Init = Unit {0}
+HasSlots (Run fresh slots) = (0 < slots) × (slots ≤ 64)

@@ -1,7 +1,7 @@
 //! The jobs that a session holds, each under the ticket of its enter.
 
 ghost use Rattle.std.specs.Prelude.{◌≡◌, None, ℕ, OnOk};
-ghost use Rattle.keystore_program.specs.Jobs.{HasRoomForJob, Holds, Ran, SameJobs, SetsJob, job_in};
+ghost use Rattle.keystore_program.specs.Jobs.{ClearsJobs, HasRoomForJob, Holds, Ran, SameJobs, SetsJob, job_in};
 
 use cipher_ops::{Done, Job};
 use std::alloc::Global;
@@ -53,6 +53,15 @@ impl Jobs {
         match self.places.get_mut(&ticket) {
             Some(place) => *place = Some(job),
             None => unreachable!(),
+        }
+    }
+
+    /// Drops all jobs, or none.
+    pub fn clear_if(&mut self, all: bool)
+        ensures { ClearsJobs all self.old self.new }
+    {
+        if all {
+            self.places.clear();
         }
     }
 

@@ -1,8 +1,9 @@
 //! `keystore2`: the key service of an Android device for symmetric keys, over a script of calls.
 //!
 //! The one contract is that of `run_words`, in the module `run`: a legal history follows the lines of the input, its
-//! text is what was written, and what was drawn for it is what the entropy gave. This file hands the process's words,
-//! input and output, the device and the policy of the current folder and the system's random device to it.
+//! text is what was written, what was drawn for it is what the entropy gave, and what it changes of what lasts is on the
+//! disk. This file hands the process's words, input and output, the device, the policy and the store of the current folder
+//! and the system's random device to it.
 #![tactic(auto)]
 
 mod jobs;
@@ -19,7 +20,7 @@ mod writer;
 use crate::run::run_words;
 use crate::status::Status;
 use device_files::{FileFault, read_device, read_policy};
-use ks_outside::{EmptyDisk, ReaderSource, WriterSink, open_device};
+use ks_outside::{ReaderSource, WriterSink, open_device, open_store};
 use std::process::ExitCode;
 use std::{env, io};
 use tags::{DeviceSecrets, Policy};
@@ -33,13 +34,13 @@ fn words_of(rt: &HostRuntime) -> io::Result<Vec<String>> {
     Ok(words)
 }
 
-/// Serves the words over standard input and output.
+/// Serves the words over standard input and output, and the store of the current folder.
 fn run_process(rt: &HostRuntime, device: &DeviceSecrets, policy: &Policy) -> io::Result<Status> {
     let alloc = rt.alloc();
     let words = words_of(rt)?;
     let mut source = ReaderSource::new(rt.reader());
     let mut sink = WriterSink::new(io::writer(rt));
-    let mut disk = EmptyDisk;
+    let mut disk = open_store(rt, "store.ks");
     let mut entropy = open_device(rt);
     Ok(run_words(
         alloc,

@@ -1,12 +1,12 @@
 //! A line of a script, served and answered.
 
-ghost use Rattle.std.specs.Prelude.{◌≡◌, ◌+◌, ◌-◌, ◌^◌, ◌<◌, ◌≤◌};
+ghost use Rattle.std.specs.Prelude.{◌≡◌, ◌+◌, ◌-◌, ◌^◌, ◌<◌, ◌≤◌, false, OnOk};
 ghost use Rattle.ks_outside.specs.Faults.{CountsFaults};
 ghost use Rattle.rule_model.specs.Entries.{History};
 ghost use Rattle.rule_model.specs.Setup.{Setup};
 ghost use Rattle.keystore_program.specs.Halts.{is_write_halt};
 ghost use Rattle.keystore_program.specs.Serving.{ServesLine};
-ghost use Rattle.keystore_program.specs.Session.{StandsFor, entries_in};
+ghost use Rattle.keystore_program.specs.Session.{StandsFor, devices, entries_in, is_waiting};
 
 use crate::session::Session;
 use crate::status::Status;
@@ -21,6 +21,8 @@ pub enum Halt {
     Memory,
     /// the sink failed
     Write,
+    /// the line was served and answered, and a change of the store waits to be settled
+    Waits,
 }
 
 impl Halt {
@@ -33,11 +35,12 @@ impl Halt {
         match self {
             Halt::Memory => Status::Memory,
             Halt::Write => Status::WriteFault,
+            Halt::Waits => Status::DiskFault,
         }
     }
 }
 
-/// Serves a line and writes its text.
+/// Serves a line and writes its text. Where a device call of a change failed, the run stops then.
 pub fn serve_line<K: Sink, D: Disk, N: Entropy>(
     alloc: Global,
     session: &mut Session,
@@ -46,12 +49,13 @@ pub fn serve_line<K: Sink, D: Disk, N: Entropy>(
     entropy: &mut N,
     line: &[u8],
 ) -> Result<(), Halt>
-    requires { entries_in session.old < 2 ^ 62 - 2 }
-    ensures serves { (setup : Setup) (past : History) → StandsFor setup session.old past →
-        ServesLine K.Sink N.Entropy setup past session.new line.now sink.old sink.new entropy.old entropy.new result }
+    requires few { entries_in session.old < 2 ^ 62 - 2 }
+    requires settled { is_waiting session.old ≡ false }
+    ensures serves { (setup : Setup) (past : History) → StandsFor D.Disk setup session.old disk.old past →
+        ServesLine K.Sink D.Disk N.Entropy setup past session.new line.now sink.old sink.new (devices disk.old entropy.old) (devices disk.new entropy.new) result }
+    ensures settled { OnOk result (is_waiting session.new ≡ false) }
     ensures entries { entries_in session.new ≤ entries_in session.old + 2 }
     ensures sink_faults { CountsFaults (K.fault_count sink.old) (K.fault_count sink.new) (is_write_halt result) }
-    ensures disk { disk.new ≡ disk.old }
 {
     let Ok(text) = session.line(alloc, disk, entropy, line) else {
         return Err(Halt::Memory);
@@ -59,5 +63,9 @@ pub fn serve_line<K: Sink, D: Disk, N: Entropy>(
     let Ok(()) = write_all(sink, text.as_slice()) else {
         return Err(Halt::Write);
     };
-    Ok(())
+    if session.is_settled() {
+        Ok(())
+    } else {
+        Err(Halt::Waits)
+    }
 }

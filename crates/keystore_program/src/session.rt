@@ -1,10 +1,12 @@
 //! A session: an engine that takes the lines of a script.
 
-ghost use Rattle.std.specs.Prelude.{◌≡◌, ◌+◌, ◌-◌, ◌^◌, ◌<◌, ◌≤◌, [], Some, None, OnOk};
+ghost use Rattle.std.specs.Prelude.{◌≡◌, ◌+◌, ◌-◌, ◌^◌, ◌<◌, ◌≤◌, [], Some, None, true, false, not, OnOk};
 ghost use Rattle.ks_outside.specs.Shown.{Drew};
 ghost use Rattle.rule_model.specs.declared.event.Act.TheVariants as acts;
 ghost use Rattle.rule_model.specs.Drawn.{is_entropy_fault};
-ghost use Rattle.rule_model.specs.Entries.{History};
+ghost use Rattle.rule_model.specs.Acts as acts_spec;
+ghost use Rattle.rule_model.specs.Entries.{History, is_done as is_admitted};
+ghost use Rattle.rule_model.specs.Settling.{is_disk_fault};
 ghost use Rattle.rule_model.specs.Setup.{Setup};
 ghost use Rattle.keystore_program.specs.Follows as spec;
 ghost use Rattle.keystore_program.specs.SessionKept.{IsSession};
@@ -45,6 +47,26 @@ fn left_by(act: &Act) -> Option<u64>
     }
 }
 
+/// Whether an act is a restart.
+fn is_restart(act: &Act) -> bool
+    ensures { result ≡ acts_spec.is_restart act.now }
+{
+    match act {
+        Act::Restart { .. } => true,
+        _ => false,
+    }
+}
+
+/// Whether a reply admits its event.
+fn is_done(reply: &Reply) -> bool
+    ensures { result ≡ is_admitted reply.now }
+{
+    match reply {
+        Reply::Done(_) => true,
+        _ => false,
+    }
+}
+
 /// The leave that a line makes.
 fn leave_at(reading: Reading, ticket: u64) -> Event
     ensures { result ≡ spec.leave_at reading ticket }
@@ -57,15 +79,15 @@ fn leave_at(reading: Reading, ticket: u64) -> Event
 }
 
 impl Session {
-    ghost use Rattle.keystore_core.specs.Engine.{Stands, entries_of};
-    ghost use Rattle.keystore_program.specs.Session.{EngineStands, HasRoom, StandsFor, Serves, ServesBy, StepsTo, entries_in};
+    ghost use Rattle.keystore_program.specs.Jobs.{JobsStand};
+    ghost use Rattle.keystore_program.specs.Session.{HasRoom, StandsFor, Serves, ServesBy, StepsTo, devices, engine_of, entries_in, is_waiting, jobs_of};
     ghost use Rattle.keystore_program.specs.SessionKept.{IsIdle};
 
     /// A session over an engine none of whose works is out.
     pub fn new(alloc: Global, engine: Engine) -> Session
         requires { ∥ IsIdle engine ∥₁ }
-        ensures stands { (setup : Setup) → Stands setup engine [] → StandsFor setup result [] }
-        ensures entries { entries_in result ≡ entries_of engine }
+        ensures engine { engine_of result ≡ engine }
+        ensures jobs { (setup : Setup) → JobsStand setup (jobs_of result) [] }
     {
         Session {
             engine,
@@ -73,12 +95,19 @@ impl Session {
         }
     }
 
+    /// Whether no change of the store waits to be settled.
+    pub fn is_settled(&self) -> bool
+        ensures { result ≡ not (is_waiting self.now) }
+    {
+        self.engine.is_settled()
+    }
+
     /// Takes the room of the next ticket's job.
     fn reserve(&mut self) -> Result<(), NoMemory>
         requires { entries_in self.old < 2 ^ 62 }
         ensures room { OnOk result (HasRoom self.new) }
-        ensures stands { (setup : Setup) (past : History) → StandsFor setup self.old past → StandsFor setup self.new past }
-        ensures entries { entries_in self.new ≡ entries_in self.old }
+        ensures jobs { (setup : Setup) (past : History) → JobsStand setup (jobs_of self.old) past → JobsStand setup (jobs_of self.new) past }
+        ensures engine { engine_of self.new ≡ engine_of self.old }
     {
         let next = self.engine.next_ticket();
         self.jobs.reserve(next)
@@ -93,11 +122,12 @@ impl Session {
         ticket: u64,
     ) -> Stepped
         requires few { entries_in self.old < 2 ^ 62 }
+        requires settled { is_waiting self.old ≡ false }
         requires act { event.act ≡ acts.Leave ticket }
-        ensures steps { (setup : Setup) (past : History) → StandsFor setup self.old past → StepsTo setup past self.new event result }
+        ensures steps { (setup : Setup) (past : History) → StandsFor D.Disk setup self.old disk.old past → StepsTo D.Disk setup past self.new disk.old disk.new event result }
         ensures settled { result.settled ≡ None }
+        ensures waits { is_disk_fault result.reply ≡ false → is_waiting self.new ≡ false }
         ensures entries { entries_in self.new ≡ entries_in self.old + 1 }
-        ensures disk { disk.new ≡ disk.old }
         ensures drew { Drew N.Entropy entropy.old entropy.new result.drawn (is_entropy_fault result.reply) }
     {
         let done = run_job(self.jobs.take(ticket));
@@ -107,11 +137,13 @@ impl Session {
     /// Makes the step of another event, and holds the job of a work that goes out.
     fn go<D: Disk, N: Entropy>(&mut self, disk: &mut D, entropy: &mut N, event: Event) -> Stepped
         requires few { entries_in self.old < 2 ^ 62 }
+        requires settled { is_waiting self.old ≡ false }
         requires room { HasRoom self.old }
         requires act { spec.left_by event.act ≡ None }
-        ensures steps { (setup : Setup) (past : History) → StandsFor setup self.old past → StepsTo setup past self.new event result }
+        requires goes_on { acts_spec.is_restart event.act ≡ false }
+        ensures steps { (setup : Setup) (past : History) → StandsFor D.Disk setup self.old disk.old past → StepsTo D.Disk setup past self.new disk.old disk.new event result }
+        ensures waits { is_disk_fault result.reply ≡ false → is_waiting self.new ≡ false }
         ensures entries { entries_in self.new ≡ entries_in self.old + 1 }
-        ensures disk { disk.new ≡ disk.old }
         ensures drew { Drew N.Entropy entropy.old entropy.new result.drawn (is_entropy_fault result.reply) }
     {
         let next = self.engine.next_ticket();
@@ -130,18 +162,46 @@ impl Session {
         }
     }
 
+    /// Makes the step of a restart. Where it is admitted no work is out any more.
+    fn restart<D: Disk, N: Entropy>(
+        &mut self,
+        disk: &mut D,
+        entropy: &mut N,
+        event: Event,
+    ) -> Stepped
+        requires few { entries_in self.old < 2 ^ 62 }
+        requires settled { is_waiting self.old ≡ false }
+        requires act { acts_spec.is_restart event.act ≡ true }
+        ensures steps { (setup : Setup) (past : History) → StandsFor D.Disk setup self.old disk.old past → StepsTo D.Disk setup past self.new disk.old disk.new event result }
+        ensures waits { is_disk_fault result.reply ≡ false → is_waiting self.new ≡ false }
+        ensures entries { entries_in self.new ≡ entries_in self.old + 1 }
+        ensures drew { Drew N.Entropy entropy.old entropy.new result.drawn (is_entropy_fault result.reply) }
+    {
+        let stepped = self.engine.step(disk, entropy, event, None);
+        self.jobs.clear_if(is_done(&stepped.reply));
+        stepped
+    }
+
     /// Makes the step of an event.
     fn step<D: Disk, N: Entropy>(&mut self, disk: &mut D, entropy: &mut N, event: Event) -> Stepped
         requires few { entries_in self.old < 2 ^ 62 }
+        requires settled { is_waiting self.old ≡ false }
         requires room { HasRoom self.old }
-        ensures steps { (setup : Setup) (past : History) → StandsFor setup self.old past → StepsTo setup past self.new event result }
+        ensures steps { (setup : Setup) (past : History) → StandsFor D.Disk setup self.old disk.old past → StepsTo D.Disk setup past self.new disk.old disk.new event result }
+        ensures waits { is_disk_fault result.reply ≡ false → is_waiting self.new ≡ false }
         ensures entries { entries_in self.new ≡ entries_in self.old + 1 }
-        ensures disk { disk.new ≡ disk.old }
         ensures drew { Drew N.Entropy entropy.old entropy.new result.drawn (is_entropy_fault result.reply) }
     {
+        let restarts = is_restart(&event.act);
         match left_by(&event.act) {
             Some(ticket) => self.leave(disk, entropy, event, ticket),
-            None => self.go(disk, entropy, event),
+            None => {
+                if restarts {
+                    self.restart(disk, entropy, event)
+                } else {
+                    self.go(disk, entropy, event)
+                }
+            }
         }
     }
 
@@ -153,11 +213,11 @@ impl Session {
         entropy: &mut N,
         line: Line,
     ) -> Result<Bytes, NoMemory>
-        requires { entries_in self.old < 2 ^ 62 - 2 }
-        ensures serves { (setup : Setup) (past : History) → StandsFor setup self.old past →
-            ServesBy N.Entropy setup past self.new (Some line) entropy.old entropy.new result }
+        requires few { entries_in self.old < 2 ^ 62 - 2 }
+        requires settled { is_waiting self.old ≡ false }
+        ensures serves { (setup : Setup) (past : History) → StandsFor D.Disk setup self.old disk.old past →
+            ServesBy D.Disk N.Entropy setup past self.new (Some line) (devices disk.old entropy.old) (devices disk.new entropy.new) result }
         ensures entries { entries_in self.new ≤ entries_in self.old + 2 }
-        ensures disk { disk.new ≡ disk.old }
     {
         let Line { event, hold } = line;
         let reading = event.reading;
@@ -176,8 +236,9 @@ impl Session {
 
     /// Makes the steps of one line and gives their reply lines: of a line that enters without holding, the enter and its
     /// leave, with the leave's reply. After want of memory the session stands for the history with all of the line's entries,
-    /// or with none of them. What the entropy gave was drawn for these entries; one of them is the reply to a failed draw
-    /// exactly where a draw failed.
+    /// or with none of them. What the entropy gave was drawn for these entries. One of them is the reply to a failed draw
+    /// exactly where a draw failed, and one the reply to a failed call of the disk exactly where one failed. What they change
+    /// of what lasts is on the disk before their text is given.
     pub fn line<D: Disk, N: Entropy>(
         &mut self,
         alloc: Global,
@@ -185,11 +246,11 @@ impl Session {
         entropy: &mut N,
         line: &[u8],
     ) -> Result<Bytes, NoMemory>
-        requires { entries_in self.old < 2 ^ 62 - 2 }
-        ensures serves { (setup : Setup) (past : History) → StandsFor setup self.old past →
-            Serves N.Entropy setup past self.new line.now entropy.old entropy.new result }
+        requires few { entries_in self.old < 2 ^ 62 - 2 }
+        requires settled { is_waiting self.old ≡ false }
+        ensures serves { (setup : Setup) (past : History) → StandsFor D.Disk setup self.old disk.old past →
+            Serves D.Disk N.Entropy setup past self.new line.now (devices disk.old entropy.old) (devices disk.new entropy.new) result }
         ensures entries { entries_in self.new ≤ entries_in self.old + 2 }
-        ensures disk { disk.new ≡ disk.old }
     {
         match event_of(alloc, line) {
             Ok(line) => self.serve(alloc, disk, entropy, line),

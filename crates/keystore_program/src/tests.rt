@@ -11,13 +11,15 @@ mod orders;
 mod script;
 mod sealing;
 mod sharing;
+mod stores;
 mod tickets;
 mod tokens;
 mod vectors;
 
 use crate::run::run_words;
 use crate::status::Status;
-use ks_outside::{EmptyDisk, Entropy, MemoryEntropy, MemorySink, MemorySource, Sink, Source};
+use disk_model::{MemoryDisk, Room};
+use ks_outside::{Disk, Entropy, MemoryEntropy, MemorySink, MemorySource, Sink, Source};
 use std::alloc::Global;
 use std::process::Abort;
 use std::test::Fail;
@@ -48,12 +50,32 @@ const MAC: &str =
 
 const MALFORMED: &str = "{\"code\":20,\"rule\":\"L1\"}\n";
 
-/// Runs the words over the demo device and policy.
+/// What a disk of a test has room for.
+const ROOM: Room = Room {
+    calls: 256,
+    bytes: 65_536,
+    pages: 16,
+};
+
+/// Runs the words over the demo device and policy, and an empty disk in memory.
 fn run_over<S: Source, K: Sink, N: Entropy>(
     alloc: Global,
     text: &str,
     source: &mut S,
     sink: &mut K,
+    entropy: &mut N,
+) -> Result<Status, Fail> {
+    let mut disk = MemoryDisk::with_room(alloc, ROOM, &[])?;
+    run_on(alloc, text, source, sink, &mut disk, entropy)
+}
+
+/// The same over a disk.
+fn run_on<S: Source, K: Sink, D: Disk, N: Entropy>(
+    alloc: Global,
+    text: &str,
+    source: &mut S,
+    sink: &mut K,
+    disk: &mut D,
     entropy: &mut N,
 ) -> Result<Status, Fail> {
     let mut words = Vec::new(alloc);
@@ -68,7 +90,7 @@ fn run_over<S: Source, K: Sink, N: Entropy>(
         &policy,
         source,
         sink,
-        &mut EmptyDisk,
+        disk,
         entropy,
     ))
 }
@@ -180,10 +202,12 @@ fn a_line_has_at_most_262144_bytes(rt: HostRuntime) -> Result<(), Fail> {
 }
 
 /// Words that are no form of the command line.
-static NO_FORMS: [&str; 12] = [
+static NO_FORMS: [&str; 15] = [
     "",
-    "run",
+    "init init",
+    "init --fresh",
     "run --slots",
+    "run --slots 65",
     "--fresh run",
     "run --fresh x",
     "run --fresh --slots",
@@ -193,6 +217,7 @@ static NO_FORMS: [&str; 12] = [
     "run --fresh --slots 1a",
     "run --fresh --slots 18446744073709551617",
     "run --fresh --slots 1 1",
+    "run --slots 1 --fresh",
 ];
 
 #[test]

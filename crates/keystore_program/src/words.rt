@@ -1,9 +1,10 @@
 //! The forms of the command line.
 
-ghost use Rattle.std.specs.Prelude.{◌≡◌, ◌≤◌, ◌&&◌, ◌<◌, ℕ, List, min, IfSome, string_bytes};
+ghost use Rattle.std.specs.Prelude.{◌≡◌, ◌≤◌, ◌&&◌, ◌<◌, ℕ, List, true, false, Some, None, min, codes, if◌then◌else◌, IfSome, string_bytes};
 ghost use Rattle.std.specs.List.{list_all};
+ghost use Rattle.std.specs.Str.{bytes_eq};
 ghost use Rattle.keystore_program.specs.Words as spec;
-ghost use Rattle.keystore_program.specs.Words.{is_digit as is_decimal, value_on};
+ghost use Rattle.keystore_program.specs.Words.{HasSlots, is_digit as is_decimal, value_on};
 
 /// The slots of an engine where the words do not say.
 const SLOTS: usize = 16;
@@ -60,29 +61,68 @@ fn slots_in(text: &[u8]) -> Option<usize>
     }
 }
 
-fn is_fresh(first: &String, second: &String) -> bool
-    ensures { result ≡ spec.is_fresh first.now second.now }
-{
-    first.as_str() == "run" && second.as_str() == "--fresh"
+/// What the words ask for.
+#[derive(Clone, Copy, Debug, PartialEq, Eq)]
+pub enum Form {
+    /// an empty store
+    Init,
+    /// a script is served, over an empty store where it is `fresh`, with so many slots for operations
+    Run { fresh: bool, slots: usize },
 }
 
-/// The slots of words that are a form: `run --fresh`, and then optionally `--slots N`, where N is a number from 1 to 64.
-pub fn slots_of(words: &[String]) -> Option<usize>
-    ensures slots { result ≡ spec.slots_of words.now }
-    ensures some { IfSome result (λ slots. 0 < slots) }
-    ensures few { IfSome result (λ slots. slots ≤ 64) }
+/// The run of a word that gives its slots, where it gives some.
+fn run_with(fresh: bool, slots: Option<usize>) -> Option<Form>
+    ensures { result ≡ spec.run_with fresh slots }
+{
+    match slots {
+        Some(slots) => Some(Form::Run { fresh, slots }),
+        None => None,
+    }
+}
+
+fn form_of_one(first: &str) -> Option<Form>
+    ensures { result ≡ (if bytes_eq first.now (codes "init") then Some Form.Init else if bytes_eq first.now (codes "run") then Some (Form.Run false 16) else None) }
+{
+    if first == "init" {
+        Some(Form::Init)
+    } else if first == "run" {
+        Some(Form::Run {
+            fresh: false,
+            slots: SLOTS,
+        })
+    } else {
+        None
+    }
+}
+
+/// The form of the words: `init`; or `run`, optionally `--fresh`, and then optionally `--slots N`, where N is a number from 1 to
+/// 64.
+pub fn form_of(words: &[String]) -> Option<Form>
+    ensures form { result ≡ spec.form_of words.now }
+    ensures slots { IfSome result HasSlots }
 {
     match words {
+        [first] => form_of_one(first.as_str()),
         [first, second] => {
-            if is_fresh(first, second) {
-                Some(SLOTS)
+            if first.as_str() == "run" && second.as_str() == "--fresh" {
+                run_with(true, Some(SLOTS))
+            } else {
+                None
+            }
+        }
+        [first, second, third] => {
+            if first.as_str() == "run" && second.as_str() == "--slots" {
+                run_with(false, slots_in(third.as_bytes()))
             } else {
                 None
             }
         }
         [first, second, third, fourth] => {
-            if is_fresh(first, second) && third.as_str() == "--slots" {
-                slots_in(fourth.as_bytes())
+            if first.as_str() == "run"
+                && second.as_str() == "--fresh"
+                && third.as_str() == "--slots"
+            {
+                run_with(true, slots_in(fourth.as_bytes()))
             } else {
                 None
             }

@@ -1,37 +1,27 @@
-use Rattle.std.proofs.Common.{◌≡◌, ℕ, [], refl, Some, None, arith}
-use Rattle.keystore_core.specs.Engine.{IsFresh, Stands}
-use Rattle.keystore_program.specs.Ends.{fresh_setup}
-use Rattle.keystore_program.proofs.Going.{cut_nothing, not_usage}
+use Rattle.std.proofs.Common.{◌≡◌, true, false, subst, refl}
+use Rattle.keystore_program.specs.declared.words.Form.{Form}
+use Rattle.keystore_program.specs.declared.words.Form.TheVariants.{Run}
+use Rattle.keystore_program.specs.Ends.{outside}
+use Rattle.keystore_program.specs.Runs.{Does}
+use Rattle.keystore_program.proofs.Openings.{fresh_cause, runs_cause}
 use Rattle.keystore_program.proofs.run.run_words.Goals as goal
 
-pub returns-in_default-fresh-clause-ends : goal.returns-in_default-fresh-clause-ends
-returns-in_default-fresh-clause-ends g c = λ slots form. cut_nothing _ _ _ _ _
+pub returns-in-Some-Run-true-default-clause-does : goal.returns-in-Some-Run-true-default-clause-does
+returns-in-Some-Run-true-default-clause-does g c = λ form said.
+    let same : Run true c.in-Some-Run-true-default.slots ≡ form = cc (said, c.in-Some-Run-true-default.ensures.form, c.in-Some-Run-true-default.field-0-is) in
+    subst (λ (form : Form). Does g.S.Source g.K.Sink g.D.Disk g.N.Entropy c.args.device.now c.args.policy.now form
+        (outside c.args.source.now c.args.sink.now c.args.disk.now c.args.entropy.now) (outside c.serve_fresh.new.source c.serve_fresh.new.sink c.serve_fresh.new.disk c.serve_fresh.new.entropy) c.serve_fresh.result)
+    same c.serve_fresh.ensures.runs
 
-pub returns-in_default-new-clause-ends : goal.returns-in_default-new-clause-ends
-returns-in_default-new-clause-ends g c = λ slots form. cut_nothing _ _ _ _ _
+pub returns-in-Some-Run-false-default-clause-does : goal.returns-in-Some-Run-false-default-clause-does
+returns-in-Some-Run-false-default-clause-does g c = λ form said.
+    let same : Run false c.in-Some-Run-false-default.slots ≡ form = cc (said, c.in-Some-Run-false-default.ensures.form, c.in-Some-Run-false-default.field-0-is) in
+    subst (λ (form : Form). Does g.S.Source g.K.Sink g.D.Disk g.N.Entropy c.args.device.now c.args.policy.now form
+        (outside c.args.source.now c.args.sink.now c.args.disk.now c.args.entropy.now) (outside c.serve_store.new.source c.serve_store.new.sink c.serve_store.new.disk c.serve_store.new.entropy) c.serve_store.result)
+    same c.serve_store.ensures.since_call
 
-pub returns-clause-ends : goal.returns-clause-ends
-returns-clause-ends g c = λ slots form.
-    let setup = fresh_setup c.args.device.now c.args.policy.now slots in
-    let same : slots ≡ c.in-Some.slots = cc in
-    c.serve_script.ensures.ends setup (c.new-session.ensures.stands setup (c.in-Ok.ensures.stands setup (record { start = refl; device_is = refl; policy_is = refl; slots_are = same })))
+pub returns-in-Some-Run-true-default-clause-disk_faults : goal.returns-in-Some-Run-true-default-clause-disk_faults
+returns-in-Some-Run-true-default-clause-disk_faults g c = fresh_cause g.S.Source g.K.Sink g.D.Disk g.N.Entropy _ _ _ _ c.serve_fresh.ensures.runs
 
-pub new-session-requires : goal.new-session-requires
-new-session-requires g c = ∣ record {
-  setup = fresh_setup c.args.device.now c.args.policy.now c.in-Some.slots;
-  past = [];
-  stands = c.in-Ok.ensures.stands (fresh_setup c.args.device.now c.args.policy.now c.in-Some.slots) (record { start = refl; device_is = refl; policy_is = refl; slots_are = refl });
-  none = λ ticket. refl;
-} ∣₁
-
-pub returns-clause-usage : goal.returns-clause-usage
-returns-clause-usage g c =
-    let setup = fresh_setup c.args.device.now c.args.policy.now c.in-Some.slots in
-    let ends = c.serve_script.ensures.ends setup (c.new-session.ensures.stands setup (c.in-Ok.ensures.stands setup (record { start = refl; device_is = refl; policy_is = refl; slots_are = refl }))) in
-    (λ e. absurd (not_usage _ _ _ setup _ _ _ ends e), λ e. cc)
-
-pub returns-clause-untouched : goal.returns-clause-untouched
-returns-clause-untouched g c = λ e.
-    let setup = fresh_setup c.args.device.now c.args.policy.now c.in-Some.slots in
-    let ends = c.serve_script.ensures.ends setup (c.new-session.ensures.stands setup (c.in-Ok.ensures.stands setup (record { start = refl; device_is = refl; policy_is = refl; slots_are = refl }))) in
-    absurd (not_usage _ _ _ setup _ _ _ ends e)
+pub returns-in-Some-Run-false-default-clause-disk_faults : goal.returns-in-Some-Run-false-default-clause-disk_faults
+returns-in-Some-Run-false-default-clause-disk_faults g c = runs_cause g.S.Source g.K.Sink g.D.Disk g.N.Entropy _ (λ opened. c.args.disk.now) _ _ _ (λ setup opened read. refl) c.serve_store.ensures.since_call

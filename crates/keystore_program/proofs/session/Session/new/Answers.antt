@@ -1,6 +1,6 @@
-use Rattle.std.proofs.Common.{◌≡◌, ℕ, None, subst, sym}
+use Rattle.std.proofs.Common.{◌≡◌, ℕ, [], refl}
 use mathlib.Core.Logic.{∥∥₁_map}
-use Rattle.keystore_program.specs.Jobs.{IsHeld, job_in}
+use Rattle.keystore_program.proofs.Tickets.{no_job}
 use Rattle.keystore_program.proofs.session.Session.new.Goals as goal
 
 pub invariant_of-result : goal.invariant_of-result
@@ -9,6 +9,9 @@ invariant_of-result c = record {
     setup = idle.setup;
     past = idle.past;
     stands = idle.stands;
-    held = λ ticket. subst (λ e. IsHeld idle.setup idle.past e (job_in c.new.result ticket)) (sym (idle.none ticket)) (subst (IsHeld idle.setup idle.past None) (sym (c.new.ensures ticket)) tt);
+    held = λ ticket. no_job idle.setup idle.past _ _ (idle.none ticket) (c.new.ensures ticket);
   });
 }
+
+pub returns-clause-jobs : goal.returns-clause-jobs
+returns-clause-jobs c = λ setup ticket. no_job setup [] _ _ refl (c.new.ensures ticket)
