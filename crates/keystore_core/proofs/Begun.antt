@@ -68,10 +68,15 @@ use Rattle.keystore_core.specs.Slots.{IsKept, IsSlot}
 use Rattle.keystore_core.specs.Tables.{AnswersAfter, IsCaller, SameTables, TablesStand, event_by}
 use Rattle.keystore_core.proofs.Alike.{alike_filter, alike_images, alike_length, alike_more}
 use Rattle.keystore_core.proofs.Booted.{begun_early, begun_tokens, begun_users, boot_after, boot_still, conditions_are, same_boot_twice}
-use Rattle.keystore_core.proofs.KeyTable.{keys_stay, same_keys_twice}
+use Rattle.keystore_core.proofs.KeyTable.{keys_stay, same_keys, same_keys_twice}
 use Rattle.keystore_core.proofs.Opened.{found_more, is_other, stays_by, stays_same, without_keeps}
 use Rattle.keystore_core.proofs.Standing.{called, clients_stay, denied_tables, rows_after, same_tables, slots_after, still, tickets_stay}
 use Rattle.keystore_core.proofs.Stepped.{idle_there, row_named, slot_found, slot_named}
+
+-- where an operation gave way, the keys and grants are as they were
+pub way_keys : (pruned : Option ℕ) (old new : Tables) → MakesWay pruned old new → SameKeys old new
+way_keys None old new way = subst (λ t. SameKeys old t) (sym way) (same_keys old)
+way_keys (Some op) old new way = way.keys
 
 -- the nonce of the operation
 nonce_is : (facts : BeginFacts) (begin : Begin) (drawn : List ℕ) → MayBegin begin facts → nonce_used begin.nonce (take begin.wanted drawn) ≡ nonce_of facts drawn

@@ -153,7 +153,12 @@ fn keep<D: Disk>(
         key: Some(id),
         ..NO_FIELDS
     };
-    write_change(keys, disk, stored_key(alloc, id, uid, key, blob, list, limit), fields)
+    write_change(
+        keys,
+        disk,
+        stored_key(alloc, id, uid, key, blob, list, limit),
+        fields,
+    )
 }
 
 impl Tables {

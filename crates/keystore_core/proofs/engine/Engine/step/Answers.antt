@@ -33,8 +33,8 @@ returns-clause-stays g c = λ setup past stands done.
 
 pub returns-clause-store : goal.returns-clause-store
 returns-clause-store g c = λ setup past stands held.
-    store_goes_on g.D.Disk setup past c.args.self.now.tables c.answer.new.self c.args.disk.now c.answer.new.disk c.args.event c.answer-answered.result stands.tables c.requires.settled c.answer-answered.ensures.store held
+    store_goes_on g.D.Disk setup past c.args.self.now.tables c.answer-answered.new.self c.args.disk.now c.answer-answered.new.disk c.args.event c.answer-answered.result stands.tables c.requires.settled c.answer-answered.ensures.store held
 
 pub returns-clause-passes : goal.returns-clause-passes
 returns-clause-passes g c = λ setup past stands held.
-    store_passes g.D.Disk setup past c.args.self.now.tables c.answer.new.self c.args.disk.now c.answer.new.disk c.args.event c.answer-answered.result stands.tables c.requires.settled c.answer-answered.ensures.store held
+    store_passes g.D.Disk setup past c.args.self.now.tables c.answer-answered.new.self c.args.disk.now c.answer-answered.new.disk c.args.event c.answer-answered.result stands.tables c.requires.settled c.answer-answered.ensures.store held
