@@ -13,10 +13,10 @@ import json
 import pathlib
 import subprocess
 import sys
-import tempfile
 
 from check_lines import ASKED, BLOB, MAC_LIST, OK, PARAMS, begin, broken, call, connect, made, named, sealed, text_of
 from make_token import mac_of
+from scratch import scratch_folder
 
 PROGRAM = pathlib.Path(__file__).resolve().parent.parent / "keystore2"
 HAS_CIPHERS = importlib.util.find_spec("cryptography") is not None
@@ -38,7 +38,7 @@ def script_of(lines):
 
 def ended_run(program, files, words, lines):
     """What the program writes in a folder with these files, its status and the first line of its fault."""
-    with tempfile.TemporaryDirectory() as name:
+    with scratch_folder() as name:
         for file, content in files.items():
             if content is FOLDER:
                 (pathlib.Path(name) / file).mkdir()

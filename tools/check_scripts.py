@@ -13,9 +13,9 @@ import pathlib
 import re
 import subprocess
 import sys
-import tempfile
 
 from dialog import OPEN, replies_of
+from scratch import scratch_folder
 
 TOP = pathlib.Path(__file__).resolve().parent.parent
 HAS_MODEL = importlib.util.find_spec("cryptography") is not None
@@ -62,7 +62,7 @@ def fault_of(script):
 
 
 def main():
-    with tempfile.TemporaryDirectory() as folder:
+    with scratch_folder() as folder:
         # where no device.key and no policy.json stand
         os.chdir(folder)
         for script in sorted([*TOP.glob("examples/*.jsonl"), *TOP.glob("checks/*.jsonl")]):

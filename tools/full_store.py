@@ -12,6 +12,8 @@ import subprocess
 import sys
 from pathlib import Path
 
+from scratch import scratch_folder
+
 TOP = Path(__file__).resolve().parent.parent
 PROGRAM = TOP / "crates/keystore_program/out/keystore_program"
 MOST = 65_536
@@ -77,7 +79,8 @@ def main():
     parser.add_argument("--program", type=Path, default=PROGRAM)
     given = parser.parse_args()
     asked, wanted = zip(*itertools.chain(keys(), grants()))
-    ended = subprocess.run([given.program, "run", "--fresh"], input="\n".join(asked), capture_output=True, text=True, check=False)
+    with scratch_folder() as folder:
+        ended = subprocess.run([given.program.resolve(), "run", "--fresh"], input="\n".join(asked), cwd=folder, capture_output=True, text=True, check=False)
     if ended.returncode == 0 and ended.stdout == "\n".join(wanted) + "\n":
         return 0
     for line, own, reply in itertools.zip_longest(asked, wanted, ended.stdout.splitlines()):

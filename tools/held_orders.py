@@ -14,6 +14,8 @@ import subprocess
 import sys
 from pathlib import Path
 
+from scratch import scratch_folder
+
 TOP = Path(__file__).resolve().parent.parent
 PROGRAM = TOP / "crates/keystore_program/out/keystore_program"
 START = '{"t":[0,1000],'
@@ -91,7 +93,8 @@ def fault_of(program, orders):
     asked, wanted = start()
     for before, (steps, ways) in enumerate(orders):
         add_order(asked, wanted, steps, ways, before)
-    ended = subprocess.run([program, "run", "--fresh"], input="\n".join(asked), capture_output=True, text=True, check=False)
+    with scratch_folder() as folder:
+        ended = subprocess.run([program, "run", "--fresh"], input="\n".join(asked), cwd=folder, capture_output=True, text=True, check=False)
     if ended.returncode == 0 and ended.stdout == "\n".join(wanted) + "\n":
         return None
     for line, own, reply in itertools.zip_longest(asked, wanted, ended.stdout.splitlines()):
@@ -112,7 +115,7 @@ def main():
     else:
         pairs = zip(orders, itertools.cycle(ways))
     while script := list(itertools.islice(pairs, ORDERS_A_SCRIPT)):
-        if fault := fault_of(given.program, script):
+        if fault := fault_of(given.program.resolve(), script):
             print(fault, file=sys.stderr)
             return 1
     return 0

@@ -24,6 +24,7 @@ from pathlib import Path
 
 from dialog import replies_of
 from script_maker import Maker, without_drawn
+from scratch import scratch_folder
 
 PROGRAM = Path(__file__).resolve().parent.parent / "crates/keystore_program/out/keystore_program"
 # How many seconds a run may take, and how many characters of a line are printed.
@@ -77,7 +78,7 @@ def print_tally(replies):
 def scripts_of(program, seed, runs):
     """The makers of scripts over one store, each with what the program gave and its fault."""
     store = None
-    with tempfile.TemporaryDirectory() as folder:
+    with scratch_folder() as folder:
         for run in range(runs):
             maker = Maker(f"{seed} {run}" if run else seed, store)
             maker.script()
