@@ -69,7 +69,7 @@ module _ {D N : Type 0} (d : DiskGhosts D) (n : Ghosts N) (setup : Setup) where
       → StandsFor d setup new after.disk (after_step settled (leave_at line.event.reading ticket) drawn reply (after_step stepped.settled line.event stepped.drawn stepped.reply past)) → settled ≡ None
       → KeepsMore d setup before.disk between.disk past (after_step stepped.settled line.event stepped.drawn stepped.reply past) (is_disk_fault stepped.reply)
       → KeepsMore d setup between.disk after.disk (after_step stepped.settled line.event stepped.drawn stepped.reply past)
-          (after_step settled (leave_at line.event.reading ticket) drawn reply (after_step stepped.settled line.event stepped.drawn stepped.reply past)) (is_disk_fault reply)
+      (after_step settled (leave_at line.event.reading ticket) drawn reply (after_step stepped.settled line.event stepped.drawn stepped.reply past)) (is_disk_fault reply)
       → Drew n before.entropy between.entropy stepped.drawn (is_entropy_fault stepped.reply) → Drew n between.entropy after.entropy drawn (is_entropy_fault reply) → Some ticket ≡ ticket_due line.hold stepped.reply
       → GoesBy d n setup past new (Some line) before after (after_step None (leave_at line.event.reading ticket) drawn reply (after_step stepped.settled line.event stepped.drawn stepped.reply past)) (line_of stepped.settled reply)
   both_steps past new before between after line stepped ticket (Some settled) drawn reply for none kept left first second due = absurd (let no = none in cc)

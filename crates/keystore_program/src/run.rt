@@ -147,9 +147,7 @@ fn serve_fresh<S: Source, K: Sink, D: Disk, N: Entropy>(
     let Ok(()) = Engine::format(disk) else {
         return Status::DiskFault;
     };
-    serve_store(
-        alloc, device, policy, slots, source, sink, disk, entropy,
-    )
+    serve_store(alloc, device, policy, slots, source, sink, disk, entropy)
 }
 
 /// Serves the words of the command line. `init` writes an empty store to the disk. `run` opens the store of the disk and serves
@@ -184,9 +182,12 @@ pub fn run_words<S: Source, K: Sink, D: Disk, N: Entropy>(
     match form_of(words) {
         None => Status::Usage,
         Some(Form::Init) => format(disk),
-        Some(Form::Run { fresh: false, slots }) => serve_store(
-            alloc, device, policy, slots, source, sink, disk, entropy,
-        ),
+        Some(
+            Form::Run {
+                fresh: false,
+                slots,
+            },
+        ) => serve_store(alloc, device, policy, slots, source, sink, disk, entropy),
         Some(Form::Run { fresh: true, slots }) => serve_fresh(
             alloc, device, policy, slots, source, sink, disk, entropy,
         ),

@@ -50,9 +50,7 @@ fn an_empty_store_begins_with_its_header_and_ends_there(rt: HostRuntime) -> Resu
 }
 
 #[test]
-fn a_cut_store_is_refused_at_its_place_and_nothing_is_written(
-    rt: HostRuntime,
-) -> Result<(), Fail> {
+fn a_cut_store_is_refused_at_its_place_and_nothing_is_written(rt: HostRuntime) -> Result<(), Fail> {
     let alloc = rt.alloc();
     let cases: [(&[u8], u64); 4] = [(&CUT, 8), (&[], 0), (&EMPTY[..7], 0), (&EMPTY[..8], 8)];
     for (bytes, offset) in cases {
@@ -66,9 +64,7 @@ fn a_cut_store_is_refused_at_its_place_and_nothing_is_written(
 }
 
 #[test]
-fn a_device_that_fails_before_the_store_is_open_ends_the_run(
-    rt: HostRuntime,
-) -> Result<(), Fail> {
+fn a_device_that_fails_before_the_store_is_open_ends_the_run(rt: HostRuntime) -> Result<(), Fail> {
     let alloc = rt.alloc();
     for failing in [[1u64], [2]] {
         for words in ["init", "run --fresh"] {
@@ -119,15 +115,24 @@ static RUNS: [(Runs, Runs); 7] = [
         (&[CONNECT, BEGIN, FINISH], &[CONNECTED, BEGUN, MAC]),
     ),
     (
-        (&[CONNECT, IMPORT, IMPORT], &[CONNECTED, IMPORTED, IMPORTED_AGAIN]),
+        (
+            &[CONNECT, IMPORT, IMPORT],
+            &[CONNECTED, IMPORTED, IMPORTED_AGAIN],
+        ),
         (&[CONNECT, BEGIN, FINISH], &[CONNECTED, BEGUN, MAC]),
     ),
     (
         (&[CONNECT, IMPORT, DELETE], &[CONNECTED, IMPORTED, DONE]),
-        (&[CONNECT, BEGIN, IMPORT], &[CONNECTED, NO_KEY, IMPORTED_AGAIN]),
+        (
+            &[CONNECT, BEGIN, IMPORT],
+            &[CONNECTED, NO_KEY, IMPORTED_AGAIN],
+        ),
     ),
     (
-        (&[CONNECT, IMPORT, GRANT], &[CONNECTED, IMPORTED, "{\"code\":0,\"grant\":1}\n"]),
+        (
+            &[CONNECT, IMPORT, GRANT],
+            &[CONNECTED, IMPORTED, "{\"code\":0,\"grant\":1}\n"],
+        ),
         (&[OTHER, BEGIN_GRANTED, FINISH], &[CONNECTED, BEGUN, MAC]),
     ),
     (
@@ -163,7 +168,15 @@ fn run_lines(
 ) -> Result<(), Fail> {
     let script = runs.0.concat(alloc)?;
     let text = runs.1.concat(alloc)?;
-    run_case(rt, alloc, words, script.as_str(), disk, Status::Ok, text.as_str())
+    run_case(
+        rt,
+        alloc,
+        words,
+        script.as_str(),
+        disk,
+        Status::Ok,
+        text.as_str(),
+    )
 }
 
 #[test]

@@ -10,14 +10,14 @@ pub returns-in-Some-Run-true-default-clause-does : goal.returns-in-Some-Run-true
 returns-in-Some-Run-true-default-clause-does g c = λ form said.
     let same : Run true c.in-Some-Run-true-default.slots ≡ form = cc (said, c.in-Some-Run-true-default.ensures.form, c.in-Some-Run-true-default.field-0-is) in
     subst (λ (form : Form). Does g.S.Source g.K.Sink g.D.Disk g.N.Entropy c.args.device.now c.args.policy.now form
-        (outside c.args.source.now c.args.sink.now c.args.disk.now c.args.entropy.now) (outside c.serve_fresh.new.source c.serve_fresh.new.sink c.serve_fresh.new.disk c.serve_fresh.new.entropy) c.serve_fresh.result)
+    (outside c.args.source.now c.args.sink.now c.args.disk.now c.args.entropy.now) (outside c.serve_fresh.new.source c.serve_fresh.new.sink c.serve_fresh.new.disk c.serve_fresh.new.entropy) c.serve_fresh.result)
     same c.serve_fresh.ensures.runs
 
 pub returns-in-Some-Run-false-default-clause-does : goal.returns-in-Some-Run-false-default-clause-does
 returns-in-Some-Run-false-default-clause-does g c = λ form said.
     let same : Run false c.in-Some-Run-false-default.slots ≡ form = cc (said, c.in-Some-Run-false-default.ensures.form, c.in-Some-Run-false-default.field-0-is) in
     subst (λ (form : Form). Does g.S.Source g.K.Sink g.D.Disk g.N.Entropy c.args.device.now c.args.policy.now form
-        (outside c.args.source.now c.args.sink.now c.args.disk.now c.args.entropy.now) (outside c.serve_store.new.source c.serve_store.new.sink c.serve_store.new.disk c.serve_store.new.entropy) c.serve_store.result)
+    (outside c.args.source.now c.args.sink.now c.args.disk.now c.args.entropy.now) (outside c.serve_store.new.source c.serve_store.new.sink c.serve_store.new.disk c.serve_store.new.entropy) c.serve_store.result)
     same c.serve_store.ensures.since_call
 
 pub returns-in-Some-Run-true-default-clause-disk_faults : goal.returns-in-Some-Run-true-default-clause-disk_faults

@@ -32,8 +32,8 @@ returns-clause-steps g c = λ setup past for.
       stands = c.step-settled.ensures.stands setup past for.stands done;
       store = c.step-settled.ensures.store setup past for.stands for.store;
       held = held_on setup past c.args.event c.step-settled.result.settled c.step-settled.result.drawn c.step-settled.result.reply c.step-settled.result.job (tickets_of c.args.self.now.engine + 1) c.args.self.now.jobs c.hold.new.self c.requires.act c.requires.goes_on c.step-settled.ensures.settled
-        (c.step-settled.ensures.job setup past for.stands done) (c.step-settled.ensures.stays setup past for.stands done)
-        c.step-settled.ensures.number (subst (λ n. Holds n c.step-settled.result.job c.args.self.now.jobs c.hold.new.self) c.next_ticket-next.ensures c.hold.ensures) for.held;
+          (c.step-settled.ensures.job setup past for.stands done) (c.step-settled.ensures.stays setup past for.stands done)
+          c.step-settled.ensures.number (subst (λ n. Holds n c.step-settled.result.job c.args.self.now.jobs c.hold.new.self) c.next_ticket-next.ensures c.hold.ensures) for.held;
       keeps = keeps_step g.D.Disk setup c.args.disk.now c.step-settled.new.disk past c.step-settled.result.settled c.args.event c.step-settled.result.drawn c.step-settled.result.reply
           (c.step-settled.ensures.passes setup past for.stands for.store) c.step-settled.ensures.cause c.step-settled.ensures.telling (c.step-settled.ensures.same setup past for.stands for.store);
     }
