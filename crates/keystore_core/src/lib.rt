@@ -1,7 +1,9 @@
 //! The engine: it takes the events of the service one after another, and answers each by the rules.
 //!
 //! Its one contract is that of `Engine::step`: an engine that stands for a history stands, after a step, for the
-//! history with the step's entry, and that entry may follow the history by the definitions of `rule_model`.
+//! history with the step's entry, and that entry may follow the history by the definitions of `rule_model`. What lasts
+//! is on the disk before a reply that admits it: with its store the engine holds what is known by the history, and
+//! at each moment of a step each image of the disk stands for what may last before the step or after it.
 #![tactic(auto)]
 
 mod access;
@@ -22,6 +24,7 @@ mod engine;
 mod leaving;
 mod listing;
 mod operations;
+mod restarting;
 mod room;
 mod stepping;
 mod tables;
@@ -29,5 +32,6 @@ mod tickets;
 mod token_calls;
 mod tokens;
 mod victims;
+mod writing;
 
-pub use engine::Engine;
+pub use engine::{Engine, OpenFault};

@@ -1,5 +1,6 @@
-use Rattle.std.proofs.Common.{ap, ◌+◌, arith}
+use Rattle.std.proofs.Common.{ap, refl, sym, ◌∙◌, ◌+◌, arith}
 use mathlib.Core.Logic.{∥∥₁_map}
+use Rattle.keystore_core.proofs.Storing.{store_goes_on, store_passes}
 use Rattle.keystore_core.proofs.engine.Engine.step.Goals as goal
 
 pub answer-answered-requires-clause-at : goal.answer-answered-requires-clause-at
@@ -18,6 +19,7 @@ returns-clause-stands g c = λ setup past stands done. record {
 pub returns-clause-follows : goal.returns-clause-follows
 returns-clause-follows g c = λ setup past stands done. record {
   settles = tt;
+  ready = rw (sym stands.tables.keys.settled_is ∙ c.requires.settled) refl;
   follows = (c.answer-answered.ensures.answers setup past (record { tables_stand = stands.tables; step_is = ap (λ n. n + 1) stands.entries; done_is = done })).follows;
 }
 
@@ -28,3 +30,11 @@ returns-clause-job g c = λ setup past stands done.
 pub returns-clause-stays : goal.returns-clause-stays
 returns-clause-stays g c = λ setup past stands done.
     (c.answer-answered.ensures.answers setup past (record { tables_stand = stands.tables; step_is = ap (λ n. n + 1) stands.entries; done_is = done })).stays
+
+pub returns-clause-store : goal.returns-clause-store
+returns-clause-store g c = λ setup past stands held.
+    store_goes_on g.D.Disk setup past c.args.self.now.tables c.answer-answered.new.self c.args.disk.now c.answer-answered.new.disk c.args.event c.answer-answered.result stands.tables c.requires.settled c.answer-answered.ensures.store held
+
+pub returns-clause-passes : goal.returns-clause-passes
+returns-clause-passes g c = λ setup past stands held.
+    store_passes g.D.Disk setup past c.args.self.now.tables c.answer-answered.new.self c.args.disk.now c.answer-answered.new.disk c.args.event c.answer-answered.result stands.tables c.requires.settled c.answer-answered.ensures.store held

@@ -1,6 +1,8 @@
-use Rattle.std.proofs.Common.{[], refl, arith}
+use Rattle.std.proofs.Common.{[], refl, arith, subst}
 use Rattle.rule_model.specs.Legal.{WithoutMemory}
 use Rattle.keystore_core.proofs.Standing.{without_memory}
+use Rattle.keystore_core.specs.Writing.{StoreGoesFor}
+use Rattle.keystore_core.proofs.Storing.{caller_told, malformed_goes, memory_goes}
 use Rattle.keystore_core.proofs.tables.Tables.answer.Goals as goal
 
 pub returns-in-Ok-clause-answers : goal.returns-in-Ok-clause-answers
@@ -15,3 +17,12 @@ returns-in-Err-clause-answers g c = λ setup past at.
       has_job = refl;
       stays = after.1;
     })
+
+pub returns-in-Ok-clause-store : goal.returns-in-Ok-clause-store
+returns-in-Ok-clause-store g c =
+    subst (λ who. StoreGoesFor g.D.Disk c.args.self.now c.serve.new.self c.args.disk.now c.serve.new.disk who c.args.event.act c.in-Ok.answered)
+    (caller_told c.args.self.now c.args.event c.caller-caller.result c.caller-caller.ensures.caller c.caller-caller.ensures.reading c.caller-caller.ensures.client) c.in-Ok.ensures.store
+
+pub returns-in-Err-clause-store : goal.returns-in-Err-clause-store
+returns-in-Err-clause-store g c =
+    rw c.without_memory.ensures.reply (memory_goes g.D.Disk c.args.self.now.keys c.serve.new.self.keys c.args.disk.now c.serve.new.disk _ _ c.in-Err.ensures.store)

@@ -1,5 +1,5 @@
 use Rattle.std.proofs.lemmas.Result.{err_from_is_err_and}
-use Rattle.std.proofs.Common.{◌≡◌, ◌+◌, ◌<◌, length, is_some, ap, sym, ◌∙◌, arith}
+use Rattle.std.proofs.Common.{◌≡◌, ◌+◌, ◌<◌, length, is_some, refl, ap, sym, ◌∙◌, arith}
 use mathlib.Core.Logic.{∥∥₁_elim}
 use denote.Struct.Props.{≡_prop}
 use Rattle.std.specs.Coded.{coded_bool}
@@ -9,7 +9,8 @@ use Rattle.use_rules.specs.Table.{answer, key_of}
 use Rattle.rule_model.specs.declared.facts.Conditions.{Conditions}
 use Rattle.rule_model.specs.Access.{owner_of}
 use Rattle.rule_model.specs.Slots.{pruned_for}
-use Rattle.keystore_core.proofs.Begun.{Size, begins, facts_are, gathered_room, idle_pruned, is_free, key_is, may_begin, pruned_is, refused, room_is, unkept, without_entropy}
+use Rattle.keystore_core.proofs.Begun.{Size, begins, facts_are, gathered_room, idle_pruned, is_free, key_is, may_begin, pruned_is, refused, room_is, unkept, way_keys, without_entropy}
+use Rattle.keystore_core.proofs.KeyTable.{same_keys_twice}
 use Rattle.keystore_core.proofs.Standing.{at_few, at_later, few_counted, few_operations, same_but_begun}
 use Rattle.keystore_core.proofs.tables.Tables.begin.Goals as goal
 
@@ -113,3 +114,10 @@ pub open-requires-clause-less : goal.open-requires-clause-less
 open-requires-clause-less g c =
     few_counted c.args.self.now c.reserve_begin.new.begins c.in_ok-own.own.id c.in_ok-reserve_begin.ensures.same
     (at_few c.args.self.now c.args.step _ _ c.requires.few c.requires.at)
+
+pub returns-clause-store : goal.returns-clause-store
+returns-clause-store g c = record {
+  keys = same_keys_twice _ _ _ (same_but_begun c.args.self.now c.reserve.new.self c.reserve_begin.new.begins c.in_ok-reserve.ensures.same c.in_ok-reserve_begin.ensures.same).keys
+      (same_keys_twice _ _ _ (way_keys c.pruned_for-pruned.result _ _ c.open.ensures.way) c.open.ensures.keys);
+  no_fault = refl;
+}

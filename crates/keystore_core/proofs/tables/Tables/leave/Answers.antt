@@ -6,7 +6,7 @@ use Rattle.std.specs.Coded.{coded_bool}
 use Rattle.operation_slots.specs.Table.{held, is_busy}
 use Rattle.rule_model.specs.Answer.{given_or}
 use Rattle.keystore_core.specs.Stepping.{reply_of}
-use Rattle.keystore_core.proofs.Left.{came_back, is_back, no_fault, none_out, not_out, replied, slot_busy, some_done}
+use Rattle.keystore_core.proofs.Left.{came_back, is_back, no_disk_fault_of, no_fault, none_out, not_out, replied, slot_busy, some_done}
 use Rattle.keystore_core.proofs.Standing.{at_later}
 use Rattle.keystore_core.proofs.Stepped.{slot_found}
 use Rattle.keystore_core.proofs.tables.Tables.leave.Goals as goal
@@ -47,4 +47,13 @@ returns-clause-drew c = record {
       let back = is_back t.setup t.past c.args.ticket _ _ c.in-Some.out c.args.done c.in-Some-done.done (t.stands.tables_stand.tickets.outs c.args.ticket) (sym c.get.ensures ∙ c.in-Some.is) refl
       (λ e is. t.stands.tables_stand.tickets.busy c.args.ticket e is) t.stands.done_is c.in-Some-done.is in
       rw (c.undrawn-2.ensures.reply, c.reply_of.ensures) (no_fault c.in-Some.out.brought.kind c.in-Some-done.done.result back.done_is.refuses));
+}
+
+pub returns-clause-store : goal.returns-clause-store
+returns-clause-store c = record {
+  keys = c.take_back.ensures.keys;
+  no_fault = ∥∥₁_elim c.requires (≡_prop coded_bool _ _) (λ t.
+      let back = is_back t.setup t.past c.args.ticket _ _ c.in-Some.out c.args.done c.in-Some-done.done (t.stands.tables_stand.tickets.outs c.args.ticket) (sym c.get.ensures ∙ c.in-Some.is) refl
+      (λ e is. t.stands.tables_stand.tickets.busy c.args.ticket e is) t.stands.done_is c.in-Some-done.is in
+      rw (c.undrawn-2.ensures.reply, c.reply_of.ensures) (no_disk_fault_of c.in-Some.out.brought.kind c.in-Some-done.done.result back.done_is.refuses));
 }
