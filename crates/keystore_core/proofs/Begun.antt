@@ -1,16 +1,13 @@
 -- The beginning of an operation: its answer, and the tables after it.
-use Rattle.std.proofs.Common.{◌≡◌, ℕ, ◌+◌, ◌<◌, ◌≤◌, ◌==◌, ◌||◌, Bool, true, false, not, if◌then◌else◌, List, [], ◌∷◌, length, find, Option, Some, None, Result, Err, is_some, unwrap_or, refl, sym, ap, ◌∙◌, subst, arith, inl, inr}
+use Rattle.std.proofs.Common.{◌≡◌, ℕ, ◌+◌, ◌<◌, ◌≤◌, ◌==◌, ◌||◌, Bool, true, false, not, if◌then◌else◌, List, [], ◌∷◌, ◌++◌, length, find, filter, Option, Some, None, Result, Err, is_some, unwrap_or, refl, sym, ap, ◌∙◌, subst, arith, inl, inr}
 use Rattle.std.specs.Prelude.{IfNone, IfSome, IsSome}
-use Rattle.std.specs.Prelude.{take, drop}
 use Rattle.std.proofs.lemmas.Bool.{cases_Bool, eqb-true}
-use Rattle.std.proofs.lemmas.List.{length-drop}
-use Rattle.byteorder.specs.Endian.{big_number}
 use Rattle.tags.specs.declared.code.Code.{Code}
 use Rattle.tags.specs.declared.code.Code.TheVariants.{EntropyFault, MemoryAllocationFailed}
 use Rattle.tags.specs.declared.descriptor.Descriptor.{Descriptor}
 use Rattle.tags.specs.declared.rule.Rule.{Rule}
 use Rattle.use_rules.specs.declared.facts.BeginFacts.{BeginFacts}
-use Rattle.use_rules.specs.Plans.{challenge_wanted, is_per_operation, nonce_given}
+use Rattle.use_rules.specs.Plans.{nonce_given}
 use Rattle.use_rules.specs.Table as begin_table
 use Rattle.use_rules.specs.Table.{asked_of, key_of}
 use Rattle.cipher_ops.specs.declared.state.CipherState.{CipherState}
@@ -24,26 +21,23 @@ use Rattle.tags.specs.declared.policy.PolicyRow.{PolicyRow}
 use Rattle.rule_model.specs.declared.event.Act.TheVariants.{CreateOperation}
 use Rattle.rule_model.specs.declared.event.Event.{Event}
 use Rattle.rule_model.specs.declared.facts.Caller.{Caller}
-use Rattle.rule_model.specs.declared.facts.Conditions.{Conditions}
 use Rattle.rule_model.specs.declared.reply.Reply.{Reply}
-use Rattle.rule_model.specs.declared.reply.Reply.TheVariants.{Broken, Stopped}
+use Rattle.rule_model.specs.declared.reply.Reply.TheVariants.{Done, Broken, Stopped}
 use Rattle.rule_model.specs.Acts.{is_begin}
 use Rattle.rule_model.specs.Answer.{answer_by_rules, drawn_nonce}
 use Rattle.rule_model.specs.Replies.{broken_or, no_fields}
-use Rattle.key_rules.specs.Asked.{asked}
-use Rattle.tags.specs.declared.param.Param.{Param}
-use Rattle.rule_model.specs.BeginFacts.{BeginKey, begin_key, facts_by}
-use Rattle.rule_model.specs.Blobs.{device_at, fits_key, list_read}
-use Rattle.rule_model.specs.Boot.{begins_after, begins_on, boot_change}
+use Rattle.rule_model.specs.BeginFacts.{facts_on}
 use Rattle.rule_model.specs.Clients.{caller_of}
 use Rattle.rule_model.specs.Drawn.{size_of, wanted_by_begin, wanted_by_rules}
 use Rattle.rule_model.specs.Entries.{History, count_of}
-use Rattle.rule_model.specs.Access.{access_by, id_of, key_in, owner_of}
-use Rattle.rule_model.specs.Kept.{access_at, begin_key_at, kept, key_found}
+use Rattle.rule_model.specs.Access.{access_by, key_in, owner_of}
+use Rattle.rule_model.specs.Changes.{material_in}
+use Rattle.rule_model.specs.Kept.{access_at, kept, key_found}
 use Rattle.rule_model.specs.Legal.{MayFollow, Answered, WithoutMemory, WithoutEntropy}
-use Rattle.rule_model.specs.Operations.{Open, OperationChange, Opens, SameOperations, as_begun, challenge_of, has_number, facts_of_begin, is_busy, nonce_of, nonce_size, open_after, open_of, operation_at, operation_change, operation_on, opens, step_of, without, without_pruned}
+use Rattle.rule_model.specs.Operations.{Open, OperationChange, Opens, SameOperations, as_begun, has_number, facts_of_begin, is_busy, is_limited, nonce_of, open_after, open_of, operation_at, operation_change, operation_on, opens, step_of, without, without_pruned}
+use Rattle.rule_model.proofs.Kept.{quiet_stored}
 use Rattle.rule_model.specs.Setup.{Setup}
-use Rattle.rule_model.specs.Slots.{begin_facts, conditions_on, facts_of_open, has_free, has_room, pruned_for}
+use Rattle.rule_model.specs.Slots.{begin_facts, facts_of_open, has_free, has_room, open_facts, pruned_for}
 use Rattle.rule_model.specs.Jobs.{Stays}
 use Rattle.keystore_core.specs.declared.operations.Operation.{Operation}
 use Rattle.keystore_core.specs.declared.tables.Tables.{Tables}
@@ -54,45 +48,33 @@ use Rattle.pruning.specs.Facts as seen
 use Rattle.pruning.specs.Victim.{OpenFacts, victim}
 use Rattle.rule_model.specs.Answer.{begun_with}
 use Rattle.keystore_core.specs.Alike.{Alike}
-use Rattle.keystore_core.specs.Begins.{begins_in}
-use Rattle.keystore_core.specs.Boot.{SameBoot, conditions_in}
-use Rattle.keystore_core.specs.Device.{early_in, unlocked_in}
-use Rattle.keystore_core.specs.Tokens.{token_key_in, tokens_in}
-use Rattle.keystore_core.specs.Beginning.{IsBeginKey, IsNewRow, MakesWay, OpensOne}
-use Rattle.keystore_core.specs.declared.beginning.BeginKey.{BeginKey as OwnKey}
-use Rattle.key_database.specs.Held.{lasting_in}
+use Rattle.keystore_core.specs.Beginning.{IsNewRow, MakesWay, OpensOne}
+use Rattle.key_database.specs.Stands.{lasting}
 use Rattle.keystore_core.specs.Keys.{SameKeys}
+use Rattle.keystore_core.specs.Leaving.{ClosesOne}
 use Rattle.keystore_core.specs.Operations.{IsRow, has_row, operations_given, rows_in}
 use Rattle.keystore_core.specs.Slots.{IsKept, IsSlot}
 use Rattle.keystore_core.specs.Tables.{AnswersAfter, IsCaller, SameTables, TablesStand, event_by}
 use Rattle.keystore_core.proofs.Alike.{alike_filter, alike_images, alike_length, alike_more}
-use Rattle.keystore_core.proofs.Booted.{begun_early, begun_tokens, begun_users, boot_after, boot_still, conditions_are, same_boot_twice}
 use Rattle.keystore_core.proofs.KeyTable.{keys_stay, same_keys_twice}
 use Rattle.keystore_core.proofs.Opened.{found_more, is_other, stays_by, stays_same, without_keeps}
 use Rattle.keystore_core.proofs.Standing.{called, clients_stay, denied_tables, rows_after, same_tables, slots_after, still, tickets_stay}
 use Rattle.keystore_core.proofs.Stepped.{idle_there, row_named, slot_found, slot_named}
 
+-- no key is found where none is there
+pub no_key : (facts : BeginFacts) (policy : List PolicyRow) (found : Option KeyRecord) (access : Access) (caller : Caller) (key : Descriptor) (params : List ℕ) (begin : Begin)
+    → (forced room : Bool) → facts ≡ facts_on policy found access caller key params forced room → found ≡ None → MayBegin begin facts → ⊥
+no_key facts policy found access caller key params begin forced room e none may =
+    let there : facts.found ≡ is_some found = ap (λ (f : BeginFacts). f.found) e in
+    let no : is_some found ≡ false = rw none refl in
+    cc (there, no, may.is_found)
+
 -- the nonce of the operation
-nonce_is : (facts : BeginFacts) (begin : Begin) (drawn : List ℕ) → MayBegin begin facts → nonce_used begin.nonce (take begin.wanted drawn) ≡ nonce_of facts drawn
-nonce_is facts begin drawn may =
-    ap (λ n. nonce_used n (take begin.wanted drawn)) may.nonce_is
-    ∙ ap (λ n. nonce_used (nonce_given (asked_of facts) (key_of facts)) (take n drawn)) may.wanted_is
-    ∙ by_nonce (nonce_given (asked_of facts) (key_of facts)) where
-      by_nonce : (nonce : Option (List ℕ)) → nonce_used nonce (take (nonce_size facts) drawn) ≡ unwrap_or nonce (take (nonce_size facts) drawn)
-      by_nonce None = refl
-      by_nonce (Some nonce) = refl
-
--- the challenge of the operation, of the bytes behind the nonce
-challenge_by : (per : Bool) (back : List ℕ) → length back ≡ (if per then 8 else 0)
-    → (if length back == 8 then Some (big_number 8 back) else None) ≡ (if per then Some (big_number 8 back) else None)
-challenge_by true back long = ap (λ n. if n == 8 then Some (big_number 8 back) else None) long
-challenge_by false back long = ap (λ n. if n == 8 then Some (big_number 8 back) else None) long
-
-challenge_is : (facts : BeginFacts) (begin : Begin) (drawn : List ℕ) → MayBegin begin facts → length drawn ≡ begin.wanted + challenge_wanted (key_of facts)
-    → (if length (drop begin.wanted drawn) == 8 then Some (big_number 8 (drop begin.wanted drawn)) else None) ≡ challenge_of facts drawn
-challenge_is facts begin drawn may long =
-    challenge_by (is_per_operation (key_of facts)) (drop begin.wanted drawn) (omega (arith, length-drop begin.wanted drawn, long))
-    ∙ ap (λ n. if is_per_operation (key_of facts) then Some (big_number 8 (drop n drawn)) else None) may.wanted_is
+nonce_is : (facts : BeginFacts) (begin : Begin) (drawn : List ℕ) → MayBegin begin facts → nonce_used begin.nonce drawn ≡ nonce_of facts drawn
+nonce_is facts begin drawn may = ap (λ n. nonce_used n drawn) may.nonce_is ∙ by_nonce (nonce_given (asked_of facts) (key_of facts)) where
+  by_nonce : (nonce : Option (List ℕ)) → nonce_used nonce drawn ≡ unwrap_or nonce drawn
+  by_nonce None = refl
+  by_nonce (Some nonce) = refl
 
 -- what may begin over the facts that were gathered may begin over those of the history
 pub may_begin : (begin : Begin) (gathered facts : BeginFacts) → gathered ≡ facts → MayBegin begin gathered → MayBegin begin facts
@@ -129,9 +111,9 @@ is_free false room None f e = cc
 is_free false room (Some op) f e = tt
 
 -- the facts that were gathered say whether there was a slot
-pub gathered_room : (facts : BeginFacts) (policy : List PolicyRow) (found : Bool) (list : Option (List Param)) (fits : Bool) (access : Access) (caller : Caller) (key : Descriptor) (told : Result (List Param) Code) (forced : Bool) (conditions : Conditions)
-    → facts ≡ facts_by policy found list fits access caller key told forced conditions → facts.room ≡ conditions.room
-gathered_room facts policy found list fits access caller key told forced conditions e = ap (λ (f : BeginFacts). f.room) e
+pub gathered_room : (facts : BeginFacts) (policy : List PolicyRow) (found : Option KeyRecord) (access : Access) (caller : Caller) (key : Descriptor) (params : List ℕ) (forced room : Bool)
+    → facts ≡ facts_on policy found access caller key params forced room → facts.room ≡ room
+gathered_room facts policy found access caller key params forced room e = ap (λ (f : BeginFacts). f.room) e
 
 pub idle_pruned : (slots : SlotTable Rattle.cipher_ops.specs.declared.state.CipherState.CipherState) (pruned : Option ℕ) → IfSome pruned (λ op. IsSome (idle_value (held slots op))) → (op : ℕ) → pruned ≡ Some op → is_some (idle_value (held slots op)) ≡ true
 idle_pruned slots None idle op e = cc
@@ -153,41 +135,21 @@ module _ (setup : Setup) (past : History) (tables : Tables) (caller : Caller) (k
   same = called past tables caller (CreateOperation key params forced) stands.clients is_caller
 
   -- what the tables find is what the history says
-  pub access_is : access_by tables.policy (lasting_in tables.keys) caller key ≡ access_at setup past caller key
+  pub access_is : access_by tables.policy (lasting tables.keys) caller key ≡ access_at setup past caller key
   access_is = rw (stands.keys.policy_is, stands.keys.lasting_is) refl
 
-  pub found_key : (access : Access) → access ≡ access_by tables.policy (lasting_in tables.keys) caller key → key_in (lasting_in tables.keys) access ≡ key_found setup past caller key
+  pub found_key : (access : Access) → access ≡ access_by tables.policy (lasting tables.keys) caller key → key_in (lasting tables.keys) access ≡ key_found setup past caller key
   found_key access is = ap (λ part. key_in part access) stands.keys.lasting_is ∙ ap (key_in (kept setup past)) (is ∙ access_is)
 
-  -- the key of the begin
-  abbrev pub Key : BeginKey
-  Key = begin_key_at setup past caller key params
-
-  pub key_is : (own : OwnKey) (access : Access) (stored : Option KeyRecord) (told : Result (List Param) Code) → access ≡ access_by tables.policy (lasting_in tables.keys) caller key
-      → stored ≡ key_in (lasting_in tables.keys) access → told ≡ asked params → IsBeginKey own (begin_key tables.device access stored key told) → IsBeginKey own Key
-  key_is own access stored told at is same_list own_is =
-      subst (IsBeginKey own)
-      (ap (λ d. begin_key d access stored key told) stands.keys.device_is
-      ∙ ap (begin_key (device_at setup past) access stored key) same_list
-      ∙ ap (λ a. begin_key (device_at setup past) a stored key (asked params)) (at ∙ access_is)
-      ∙ ap (λ s. begin_key (device_at setup past) (access_at setup past caller key) s key (asked params)) (is ∙ found_key access at))
-      own_is
-
   -- what the rules read is that of the history
-  pub facts_are : (own : OwnKey) (access : Access) (room : Bool) (told : Result (List Param) Code) (conditions : Conditions) → IsBeginKey own Key
-      → access ≡ access_by tables.policy (lasting_in tables.keys) caller key → told ≡ asked params → room ≡ has_room setup past (owner_of caller) forced
-      → conditions ≡ conditions_in tables.boot caller own.opened.list own.id room
-      → facts_by tables.policy own.found own.opened.list own.opened.fits access caller key told forced conditions ≡ Facts
-  facts_are own access room told conditions is at same_list has met_told =
-      let met : conditions ≡ conditions_on setup past caller Key (has_room setup past (owner_of caller) forced) =
-      met_told ∙ conditions_are setup past tables.boot stands.boot caller Key own.opened.list own.id room (has_room setup past (owner_of caller) forced) is.list_is is.id_is has in
-      ap (λ p. facts_by p own.found own.opened.list own.opened.fits access caller key told forced conditions) stands.keys.policy_is
-      ∙ ap (λ f. facts_by setup.policy f own.opened.list own.opened.fits access caller key told forced conditions) is.found_is
-      ∙ ap (λ l. facts_by setup.policy Key.found l own.opened.fits access caller key told forced conditions) is.list_is
-      ∙ ap (λ f. facts_by setup.policy Key.found (list_read Key.opened) f access caller key told forced conditions) is.fits_is
-      ∙ ap (λ a. facts_by setup.policy Key.found (list_read Key.opened) (fits_key Key.opened) a caller key told forced conditions) (at ∙ access_is)
-      ∙ ap (λ l. facts_by setup.policy Key.found (list_read Key.opened) (fits_key Key.opened) (access_at setup past caller key) caller key l forced conditions) same_list
-      ∙ ap (facts_by setup.policy Key.found (list_read Key.opened) (fits_key Key.opened) (access_at setup past caller key) caller key (asked params) forced) met
+  pub facts_are : (found : Option KeyRecord) (access : Access) (room : Bool) → access ≡ access_by tables.policy (lasting tables.keys) caller key
+      → found ≡ key_in (lasting tables.keys) access → room ≡ has_room setup past (owner_of caller) forced
+      → facts_on tables.policy found access caller key params forced room ≡ Facts
+  facts_are found access room at is has =
+      ap (λ policy. facts_on policy found access caller key params forced room) stands.keys.policy_is
+      ∙ ap (λ f. facts_on setup.policy f access caller key params forced room) (is ∙ found_key access at)
+      ∙ ap (λ a. facts_on setup.policy (key_found setup past caller key) a caller key params forced room) (at ∙ access_is)
+      ∙ ap (facts_on setup.policy (key_found setup past caller key) (access_at setup past caller key) caller key params forced) has
 
   answered : (drawn : List ℕ) (reply : Reply) → length drawn ≡ size_of (wanted_by_begin Answer Facts)
       → reply ≡ answer_by_rules (CreateOperation key params forced) setup past caller drawn → MayFollow setup past Beginning drawn reply
@@ -198,7 +160,7 @@ module _ (setup : Setup) (past : History) (tables : Tables) (caller : Caller) (k
 
   -- the reply of a begin that no rule denies
   abbrev Admitted : List ℕ → Reply
-  Admitted drawn = begun_with (count_of is_begin past + 1) (challenge_of Facts drawn) (drawn_nonce Facts drawn) (pruned_for setup past (owner_of caller) forced)
+  Admitted drawn = begun_with (count_of is_begin past + 1) (drawn_nonce Facts drawn) (pruned_for setup past (owner_of caller) forced)
 
   -- a broken rule
   pub refused : (rule : Rule) (code : Code) → Answer ≡ Err (rule, code)
@@ -209,7 +171,7 @@ module _ (setup : Setup) (past : History) (tables : Tables) (caller : Caller) (k
         follows = answered [] (Broken rule code)
             (sym (ap (λ found. size_of (wanted_by_begin found Facts)) e))
             (sym (ap (λ found. broken_or found (Admitted [])) e));
-        stands = denied_tables setup past Beginning [] (Broken rule code) tables tables stands (same_tables tables) refl none refl;
+        stands = denied_tables setup past Beginning [] (Broken rule code) tables tables stands (same_tables tables) refl refl none refl;
         has_job = refl;
         stays = stays_same setup past Beginning [] (Broken rule code) none;
       } where
@@ -217,28 +179,24 @@ module _ (setup : Setup) (past : History) (tables : Tables) (caller : Caller) (k
         either true = refl
         either false = refl
 
-  -- how many bytes are drawn for a begin that may begin
-  abbrev pub Size : Begin → ℕ
-  Size begin = begin.wanted + challenge_wanted (key_of Facts)
-
-  wanted_is : (begin : Begin) → MayBegin begin Facts → size_of (wanted_by_begin Answer Facts) ≡ Size begin
-  wanted_is begin may = ap (λ found. size_of (wanted_by_begin found Facts)) may.answers ∙ ap (λ n. n + challenge_wanted (key_of Facts)) (sym may.wanted_is)
+  wanted_is : (begin : Begin) → MayBegin begin Facts → size_of (wanted_by_begin Answer Facts) ≡ begin.wanted
+  wanted_is begin may = ap (λ found. size_of (wanted_by_begin found Facts)) may.answers ∙ omega (arith, may.wanted_is)
 
   -- a draw that failed
-  pub without_entropy : (new : Tables) (begin : Begin) (drawn : List ℕ) → MayBegin begin Facts → SameTables tables new → length drawn < Size begin
+  pub without_entropy : (new : Tables) (begin : Begin) (drawn : List ℕ) → MayBegin begin Facts → SameTables tables new → length drawn < begin.wanted
       → AnswersAfter setup past new Beginning (record { reply = Stopped EntropyFault; job = None; drawn = drawn })
   without_entropy new begin drawn may still few = record {
     follows = WithoutEntropy (record {
       drew = subst (λ c. length drawn < size_of (wanted_by_rules (CreateOperation key params forced) setup past c)) same (subst (λ n. length drawn < n) (sym (wanted_is begin may)) few);
       is_fault = refl;
     });
-    stands = denied_tables setup past Beginning drawn (Stopped EntropyFault) tables new stands still refl refl refl;
+    stands = denied_tables setup past Beginning drawn (Stopped EntropyFault) tables new stands still refl refl refl refl;
     has_job = refl;
     stays = stays_same setup past Beginning drawn (Stopped EntropyFault) refl;
   }
 
   -- want of memory for the cipher's state
-  pub unkept : (new : Tables) (begin : Begin) (drawn : List ℕ) → MayBegin begin Facts → SameTables tables new → length drawn ≡ Size begin
+  pub unkept : (new : Tables) (begin : Begin) (drawn : List ℕ) → MayBegin begin Facts → SameTables tables new → length drawn ≡ begin.wanted
       → AnswersAfter setup past new Beginning (record { reply = Stopped MemoryAllocationFailed; job = None; drawn = drawn })
   unkept new begin drawn may still long = record {
     follows = WithoutMemory (record {
@@ -246,22 +204,18 @@ module _ (setup : Setup) (past : History) (tables : Tables) (caller : Caller) (k
       takes = refl;
       is_want = refl;
     });
-    stands = denied_tables setup past Beginning drawn (Stopped MemoryAllocationFailed) tables new stands still refl refl refl;
+    stands = denied_tables setup past Beginning drawn (Stopped MemoryAllocationFailed) tables new stands still refl refl refl refl;
     has_job = refl;
     stays = stays_same setup past Beginning drawn (Stopped MemoryAllocationFailed) refl;
   }
 
   -- the operation that begins
-  opened : (drawn : List ℕ) (number : ℕ) (challenge : Option ℕ) (nonce : Option (List ℕ)) (pruned : Option ℕ)
-      → operation_change setup past Beginning drawn (begun_with number challenge nonce pruned)
-      ≡ Opens pruned (operation_on Key (facts_of_begin setup past caller key params) caller number drawn)
-  opened drawn number challenge nonce pruned =
-      sym (ap (λ c. opens (begin_key_at setup past c key params) (facts_of_begin setup past c key params) c (record no_fields { op = Some number; challenge = challenge; nonce = nonce; pruned = pruned }) drawn) same)
-
-  -- it counts for the key, where that is stored
-  counted : (drawn : List ℕ) (number : ℕ) (challenge : Option ℕ) (nonce : Option (List ℕ)) (pruned : Option ℕ)
-      → boot_change setup past Beginning (begun_with number challenge nonce pruned) ≡ begins_on Key.id
-  counted drawn number challenge given pruned = sym (ap (λ c. begins_on (id_of (key_found setup past c key))) same)
+  opened : (found : KeyRecord) (drawn : List ℕ) (number : ℕ) (nonce : Option (List ℕ)) (pruned : Option ℕ) → key_found setup past caller key ≡ Some found
+      → operation_change setup past Beginning drawn (begun_with number nonce pruned)
+      ≡ Opens pruned (operation_on found (facts_of_begin setup past caller key params) caller number drawn)
+  opened found drawn number nonce pruned is =
+      sym (ap (λ c. opens (key_found setup past c key) (facts_of_begin setup past c key params) c (record no_fields { op = Some number; nonce = nonce; pruned = pruned }) drawn) same)
+      ∙ ap (λ k. opens k (facts_of_begin setup past caller key params) caller (record no_fields { op = Some number; nonce = nonce; pruned = pruned }) drawn) is
 
   -- what the operation that gives way leaves
   pub record Way (pruned : Option ℕ) (middle : Tables) : Type 0 where
@@ -274,7 +228,6 @@ module _ (setup : Setup) (past : History) (tables : Tables) (caller : Caller) (k
     pub fresh : (number : ℕ) → held tables.slots number ≡ None → held middle.slots number ≡ None
     pub later : (next : ℕ) → IsLater tables.slots next → IsLater middle.slots next
     pub tickets : Rattle.keystore_core.specs.Tickets.SameTickets tables.tickets middle.tickets
-    pub boot : SameBoot tables.boot middle.boot
     pub keeps : (n : ℕ) (x : Open) → is_busy x ≡ true → find (has_number n) (open_of setup past) ≡ Some x → find (has_number n) (without_pruned pruned (open_of setup past)) ≡ Some x
 
   makes_way : (start : Tables) (pruned : Option ℕ) (middle : Tables) → SameTables tables start → ((op : ℕ) → pruned ≡ Some op → is_some (idle_value (held tables.slots op)) ≡ true) → MakesWay pruned start middle → Way pruned middle
@@ -288,7 +241,6 @@ module _ (setup : Setup) (past : History) (tables : Tables) (caller : Caller) (k
     fresh = λ number none. rw (way, still.slots) none;
     later = λ next l. rw (way, still.slots) l;
     tickets = rw way still.tickets;
-    boot = rw way still.boot;
     keeps = λ n x busy found. found;
   }
   makes_way start (Some op) middle still idle way =
@@ -303,51 +255,45 @@ module _ (setup : Setup) (past : History) (tables : Tables) (caller : Caller) (k
         fresh = λ number none. way.fresh number (rw still.slots none);
         later = λ next l. way.later next (rw still.slots l);
         tickets = record { outs = λ ticket. way.tickets.outs ticket ∙ still.tickets.outs ticket; given = way.tickets.given ∙ still.tickets.given };
-        boot = same_boot_twice tables.boot start.boot middle.boot still.boot way.boot;
         keeps = λ n x busy found. without_keeps op (open_of setup past) n x
             (is_other op n (open_of setup past) x (idle_there (held tables.slots op) (operation_at setup past op) (slot_found setup past tables op stands) (idle op refl)) found busy) found;
       }
 
-  pub begins : (start new : Tables) (own : OwnKey) (begin : Begin) (row : Operation) (state : CipherState) (drawn : List ℕ) (number step : ℕ) (challenge : Option ℕ) (nonce : Option (List ℕ)) (pruned : Option ℕ)
-      → IsBeginKey own Key → MayBegin begin Facts → SameTables tables start → length drawn ≡ Size begin
-      → number ≡ operations_given start.operations + 1 → challenge ≡ (if length (drop begin.wanted drawn) == 8 then Some (big_number 8 (drop begin.wanted drawn)) else None)
-      → nonce ≡ (if begin.wanted == 0 then None else Some (take begin.wanted drawn)) → pruned ≡ pruned_for setup past (owner_of caller) forced
+  pub begins : (start new : Tables) (found : KeyRecord) (begin : Begin) (row : Operation) (state : CipherState) (drawn : List ℕ) (number step : ℕ) (nonce : Option (List ℕ)) (pruned : Option ℕ)
+      → key_found setup past caller key ≡ Some found → MayBegin begin Facts → SameTables tables start → length drawn ≡ begin.wanted
+      → number ≡ operations_given start.operations + 1 → nonce ≡ (if begin.wanted == 0 then None else Some drawn) → pruned ≡ pruned_for setup past (owner_of caller) forced
       → ((op : ℕ) → pruned ≡ Some op → is_some (idle_value (held tables.slots op)) ≡ true) → step ≡ step_of past
-      → IsNewRow row number caller.client own.id own.limited begin.plan (key_of Facts) challenge → StandsFor state begin.plan own.limited own.opened.material (nonce_used begin.nonce (take begin.wanted drawn)) [] []
-      → OpensOne pruned step (owner_of caller) own.id row state start new
-      → AnswersAfter setup past new Beginning (record { reply = begun_with number challenge nonce pruned; job = None; drawn = drawn })
-  begins start new own begin row state drawn number step challenge nonce pruned is may still_same long next challenge_told nonce_told pruned_told idle is_step row_is standing one =
-      let o : Rattle.rule_model.specs.Operations.Operation = operation_on Key (facts_of_begin setup past caller key params) caller number drawn in
-      let reply : Reply = begun_with number challenge nonce pruned in
+      → IsNewRow row number caller.client found begin.plan → StandsFor state begin.plan (is_limited found.limit) (material_in found) (nonce_used begin.nonce drawn) [] []
+      → OpensOne pruned step (owner_of caller) row state start new
+      → AnswersAfter setup past new Beginning (record { reply = begun_with number nonce pruned; job = None; drawn = drawn })
+  begins start new found begin row state drawn number step nonce pruned is may still_same long next nonce_told pruned_told idle is_step row_is standing one =
+      let o : Rattle.rule_model.specs.Operations.Operation = operation_on found (facts_of_begin setup past caller key params) caller number drawn in
+      let reply : Reply = begun_with number nonce pruned in
       let way : Way pruned one.middle = makes_way start pruned one.middle still_same idle one.way in
       let first : number ≡ count_of is_begin past + 1 = next ∙ ap (λ n. n + 1) (still_same.operations.given ∙ stands.operations.given) in
-      let told : nonce ≡ drawn_nonce Facts drawn = nonce_told ∙ ap (λ w. if w == 0 then None else Some (take w drawn)) may.wanted_is in
-      let challenged : challenge ≡ challenge_of Facts drawn = challenge_told ∙ challenge_is Facts begin drawn may long in
-      let change : operation_change setup past Beginning drawn reply ≡ Opens pruned o = opened drawn number challenge nonce pruned in
+      let told : nonce ≡ drawn_nonce Facts drawn = nonce_told ∙ ap (λ w. if w == 0 then None else Some drawn) may.wanted_is in
+      let change : operation_change setup past Beginning drawn reply ≡ Opens pruned o = opened found drawn number nonce pruned is in
       let plan : begin.plan ≡ o.plan = may.plan_is in
-      let same_nonce : nonce_used begin.nonce (take begin.wanted drawn) ≡ o.nonce = nonce_is Facts begin drawn may in
+      let same_nonce : nonce_used begin.nonce drawn ≡ o.nonce = nonce_is Facts begin drawn may in
       let stays : Stays setup past (Acted Beginning drawn reply ∷ past) = stays_by setup past Beginning drawn reply (Opens pruned o) change stands.tickets.busy
       (λ ticket entered x after named busy there. found_more entered.op (without_pruned pruned (open_of setup past)) (as_begun (step_of past) o ∷ []) x (way.keeps entered.op x busy there)) in
       record {
-        follows = answered drawn reply (long ∙ sym (wanted_is begin may)) (rw (first, challenged, told, pruned_told)
+        follows = answered drawn reply (long ∙ sym (wanted_is begin may)) (rw (first, told, pruned_told)
             (sym (ap (λ found. broken_or found (Admitted drawn)) may.answers)));
         stands = record {
           clients = clients_stay setup past Beginning drawn reply tables.clients new.clients stands.clients
               (record { uids = λ client. one.clients.uids client ∙ way.clients.uids client; given = one.clients.given ∙ way.clients.given }) refl refl;
-          keys = keys_stay setup past (Acted Beginning drawn reply ∷ past) tables new stands.keys (same_keys_twice tables one.middle new way.keys one.keys) refl refl;
+          keys = keys_stay setup past (Acted Beginning drawn reply ∷ past) tables new stands.keys (same_keys_twice tables one.middle new way.keys one.keys) (quiet_stored setup past Beginning drawn reply refl refl);
           operations = rows_after setup past Beginning drawn reply (Opens pruned o) new.operations change
               (rw one.rows.rows (alike_more IsRow (rows_in one.middle.operations) (without_pruned pruned (open_of setup past)) row (as_begun (step_of past) o) way.rows (record {
                 number = row_is.number_is;
                 client = row_is.client_is;
-                key = row_is.key_is ∙ is.id_is;
+                key = row_is.key_is;
                 plan = row_is.plan_is ∙ plan;
-                limited = row_is.limited_is ∙ is.limited_is;
+                limited = row_is.limited_is;
                 aad_is = row_is.aad_is;
                 text_is = row_is.text_is;
                 busy_is = row_is.busy_is;
-                challenge_is = row_is.challenge_is ∙ challenged;
-                shown_is = row_is.shown_is;
-                list_is = row_is.list_is;
               })))
               (one.rows.given ∙ ap (λ n. n + 1) (way.given ∙ stands.operations.given));
           slots = slots_after setup past Beginning drawn reply (Opens pruned o) tables.slots new.slots stands.slots change
@@ -355,18 +301,13 @@ module _ (setup : Setup) (past : History) (tables : Tables) (caller : Caller) (k
                 number = row_is.number_is;
                 uid = refl;
                 client = row_is.client_is;
-                state = (is_step, rw (plan, same_nonce, is.limited_is, is.material_is) at standing);
+                state = (is_step, rw (plan, same_nonce) at standing);
               })))
               (one.slots.capacity ∙ way.capacity)
               (λ n l. one.found n ∙ fresh n l)
               (λ next l. one.later next (way.later next (stands.slots.later next (omega (arith, l)))) (omega (arith, l, is_step)));
           tickets = tickets_stay setup past Beginning drawn reply tables.tickets new.tickets stands.tickets
               (record { outs = λ ticket. one.tickets.outs ticket ∙ way.tickets.outs ticket; given = one.tickets.given ∙ way.tickets.given }) refl refl stays;
-          boot = boot_after setup past Beginning drawn reply (begins_on Key.id) one.middle.boot new.boot (boot_still setup past tables.boot one.middle.boot stands.boot way.boot)
-              (counted drawn number challenge nonce pruned)
-              (record { users = λ user. ap (λ device. unlocked_in device user) one.device ∙ sym (begun_users Key.id user (unlocked_in one.middle.boot.device user)); early = ap early_in one.device ∙ sym (begun_early Key.id (early_in one.middle.boot.device)) })
-              (record { tokens = ap tokens_in one.tokens ∙ sym (begun_tokens Key.id (tokens_in one.middle.boot.tokens)); key = ap token_key_in one.tokens })
-              (λ id. one.begins id ∙ ap (λ k. begins_after (begins_on k) id (begins_in one.middle.boot.begins id)) is.id_is);
         };
         has_job = refl;
         stays = stays;

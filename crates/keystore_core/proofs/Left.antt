@@ -1,5 +1,6 @@
 -- A work that comes back, and a client that goes: their answers, and the tables after them.
-use Rattle.std.proofs.Common.{◌≡◌, ℕ, ◌+◌, ◌-◌, ◌^◌, ◌<◌, ◌≤◌, Bool, true, false, ◌&&◌, not, ◌==◌, min, if◌then◌else◌, List, [], ◌∷◌, ◌++◌, length, find, map, Option, Some, None, Result, Ok, Err, is_some, refl, sym, ap, ◌∙◌, subst, arith, inl, inr, length-append, append-nil}
+use Rattle.std.proofs.Common.{◌≡◌, ℕ, ◌+◌, ◌-◌, ◌^◌, ◌<◌, ◌≤◌, Bool, true, false, ◌&&◌, not, ◌==◌, min, if◌then◌else◌, List, [], ◌∷◌, ◌++◌, length, find, map, filter, Option, Some, None, Result, Ok, Err, is_some, option_map, refl, sym, ap, ◌∙◌, subst, arith, inl, inr, length-append, append-nil}
+use Rattle.std.specs.List.{list_any}
 use Rattle.std.proofs.lemmas.Bool.{cases_Bool, eqb-true, eq-eqb}
 use Rattle.tags.specs.declared.code.Code.{Code}
 use Rattle.tags.specs.declared.code.Code.TheVariants.{NoTicket}
@@ -29,27 +30,28 @@ use Rattle.rule_model.specs.Clients.{SameClients as NoClients, caller_of, client
 use Rattle.std.specs.Prelude.{IfErr}
 use Rattle.cipher_ops.specs.Jobs.{is_refusal}
 use Rattle.rule_model.specs.Drawn.{is_entropy_fault}
-use Rattle.rule_model.specs.Entries.{History, admits}
-use Rattle.rule_model.specs.Boot.{SameBoot as NoBoot, boot_change}
+use Rattle.rule_model.specs.Entries.{History, admits, count_of}
 use Rattle.rule_model.specs.Jobs.{HasJob, IsDoneOn, IsDoneOut, Stays}
-use Rattle.rule_model.specs.Legal.{Answered}
-use Rattle.rule_model.specs.Operations.{Closes, ClosesOf, Open, OperationChange, Returns, SameOperations, as_returned, has_busy, has_number, is_busy, is_of, open_after, open_of, operation_at, operation_change, output_of, returns, step_of}
+use Rattle.rule_model.specs.Legal.{MayFollow, Answered}
+use Rattle.rule_model.specs.Operations.{Closes, ClosesOf, Open, OperationChange, Returns, SameOperations, as_returned, has_busy, has_number, is_busy, is_limited, is_of, open_after, open_of, operation_at, operation_change, output_of, returns, step_of}
+use Rattle.rule_model.specs.Settling.{is_disk_fault, is_system_error}
 use Rattle.rule_model.specs.Setup.{Setup}
 use Rattle.rule_model.specs.StepFacts.{brought_by}
 use Rattle.rule_model.specs.Tickets.{ComesBack, Entered, ticket_after, ticket_at, ticket_change}
-use Rattle.rule_model.proofs.Kept.{same_device, same_kept}
+use Rattle.rule_model.proofs.Kept.{quiet_stored}
+use Rattle.keystore_core.specs.declared.operations.Added.{Added}
 use Rattle.keystore_core.specs.declared.operations.Operation.{Operation as Row}
 use Rattle.keystore_core.specs.declared.operations.RowChange.TheVariants.{Returns as RowReturns}
 use Rattle.keystore_core.specs.declared.tables.Tables.{Tables}
 use Rattle.keystore_core.specs.declared.tickets.Out.{Out}
 use Rattle.keystore_core.specs.Alike.{Alike, BothFound}
+use Rattle.keystore_core.specs.Clients.{uid_in}
 use Rattle.keystore_core.specs.Leaving.{EndsClient}
 use Rattle.keystore_core.specs.Operations.{ChangesRow, IsRow, changed, grown, has_busy_row, has_row, is_row_of, rows_in}
 use Rattle.keystore_core.specs.Slots.{IsKept, IsSlot, IsStateOf}
 use Rattle.keystore_core.specs.Stepping.{TakesBack, added_by, reply_of}
 use Rattle.keystore_core.specs.Tables.{AnswersAfter, IsCaller, TablesStand, event_by}
 use Rattle.keystore_core.specs.Tickets.{BusyWith, IsBusyWith, IsOut, SameOut, out_in}
-use Rattle.keystore_core.proofs.Booted.{boot_stays, same_boot}
 use Rattle.keystore_core.proofs.Alike.{alike_any, alike_at, alike_filter, alike_found, alike_images}
 use Rattle.keystore_core.proofs.KeyTable.{keys_stay}
 use Rattle.keystore_core.proofs.Opened.{found_apart, stays_by, stays_same, without_client, without_keeps}
@@ -83,9 +85,6 @@ row_back step aad text row o r within = record {
   aad_is = grows row.aad (length aad) (length (o.aad ++ aad)) (omega (arith, r.aad_is, within)) (omega (arith, r.aad_is, length-append o.aad aad));
   text_is = grows row.text (length text) (length (o.text ++ text)) (omega (arith, r.text_is, within)) (omega (arith, r.text_is, length-append o.text text));
   busy_is = refl;
-  challenge_is = r.challenge_is;
-  shown_is = r.shown_is;
-  list_is = r.list_is;
 }
 
 slot_back : (step : ℕ) (aad text : List ℕ) (state : CipherState) (slot : Slot CipherState) (o : Open) → IsSlot slot o → IsStateOf state (as_returned step aad text o)
@@ -115,10 +114,6 @@ leave_client : (caller : Caller) (ticket : ℕ) (work : Work) (result : Result (
 leave_client caller ticket work (Ok bytes) = refl
 leave_client caller ticket work (Err code) = refl
 
-leave_boot : (setup : Setup) (past : History) (caller : Caller) (ticket : ℕ) (work : Work) (result : Result (List ℕ) Code) → boot_change setup past (event_by caller (Leave ticket)) (given_or work result) ≡ NoBoot
-leave_boot setup past caller ticket work (Ok bytes) = refl
-leave_boot setup past caller ticket work (Err code) = refl
-
 leave_job : (setup : Setup) (later : History) (work : Work) (result : Result (List ℕ) Code) → HasJob setup later (given_or work result) None
 leave_job setup later work (Ok bytes) = refl
 leave_job setup later work (Err code) = refl
@@ -133,6 +128,15 @@ came o (Last input signature) back is = is.comes.0
 not_back : (before : Option Entered) (b : Bool) (entered : Entered) → (if b then None else before) ≡ Some entered → (b ≡ false) × (before ≡ Some entered)
 not_back before true entered e = cc
 not_back before false entered e = (refl, e)
+
+no_system : (code : Code) → Rattle.cipher_ops.specs.Jobs.is_refusal code ≡ true → is_system_error code ≡ false
+no_system Rattle.tags.specs.declared.code.Code.TheVariants.SystemError e = cc
+no_system _ e = refl
+
+-- no disk is at fault for what a work put out
+no_disk_fault : (work : Work) (result : Result (List ℕ) Code) → IfErr result (λ code. is_refusal code ≡ true) → is_disk_fault (given_or work result) ≡ false
+no_disk_fault work (Ok out) codes = refl
+no_disk_fault work (Err code) codes = no_system code codes
 
 module _ (setup : Setup) (past : History) (old : Tables) (caller : Caller) (ticket : ℕ) (stands : TablesStand setup old past) where
   abbrev Left : Reply → History
@@ -153,7 +157,7 @@ module _ (setup : Setup) (past : History) (old : Tables) (caller : Caller) (tick
         follows = Answered (record { drew = refl; is_answer = sym (ap (leaving setup past) none) });
         stands = record {
           clients = clients_stay setup past (event_by caller (Leave ticket)) [] (Stopped NoTicket) old.clients old.clients stands.clients (same_tables old).clients refl refl;
-          keys = keys_stay setup past (Left (Stopped NoTicket)) old old stands.keys (same_tables old).keys (same_kept setup past (event_by caller (Leave ticket)) [] (Stopped NoTicket) refl) (same_device setup past (event_by caller (Leave ticket)) [] (Stopped NoTicket) refl);
+          keys = keys_stay setup past (Left (Stopped NoTicket)) old old stands.keys (same_tables old).keys (quiet_stored setup past (event_by caller (Leave ticket)) [] (Stopped NoTicket) refl refl);
           operations = Rattle.keystore_core.proofs.Standing.operations_stay setup past (event_by caller (Leave ticket)) [] (Stopped NoTicket) old.operations old.operations stands.operations (same_tables old).operations same refl;
           slots = Rattle.keystore_core.proofs.Standing.slots_stay setup past (event_by caller (Leave ticket)) [] (Stopped NoTicket) old.slots old.slots stands.slots refl same;
           tickets = record {
@@ -161,7 +165,6 @@ module _ (setup : Setup) (past : History) (old : Tables) (caller : Caller) (tick
             given = stands.tickets.given;
             busy = λ t entered after. busy_after setup past (event_by caller (Leave ticket)) [] (Stopped NoTicket) stays stands.tickets.busy t entered (sym (gone none t) ∙ after) after;
           };
-          boot = boot_stays setup past (event_by caller (Leave ticket)) [] (Stopped NoTicket) old.boot old.boot stands.boot (same_boot old.boot) refl;
         };
         has_job = refl;
         stays = stays;
@@ -219,7 +222,7 @@ module _ (setup : Setup) (past : History) (old : Tables) (caller : Caller) (tick
           follows = Answered (record { drew = refl; is_answer = ap (given_or entered.work) (came o entered.work back done_is ∙ ap (λ found. output_of found entered.work) (sym is_open)) ∙ sym (ap (leaving setup past) is_out) });
           stands = record {
             clients = clients_stay setup past event [] Reply_of old.clients new.clients stands.clients taken.clients (leave_client caller ticket entered.work back.result) no_connect;
-            keys = keys_stay setup past (Left Reply_of) old new stands.keys taken.keys (same_kept setup past event [] Reply_of refl) (same_device setup past event [] Reply_of refl);
+            keys = keys_stay setup past (Left Reply_of) old new stands.keys taken.keys (quiet_stored setup past event [] Reply_of refl (no_disk_fault entered.work back.result done_is.refuses));
             operations = rows_after setup past event [] Reply_of change new.operations is moved.rows (moved.given ∙ stands.operations.given ∙ sym (uncounted is_begin past event [] Reply_of no_begin));
             slots = slots_after setup past event [] Reply_of change old.slots new.slots stands.slots is moved.slots moved.capacity
                 (λ number l. moved.fresh number (stands.slots.fresh number (let grows = count_grows is_begin past event [] Reply_of in omega (arith, l, grows))))
@@ -232,7 +235,6 @@ module _ (setup : Setup) (past : History) (old : Tables) (caller : Caller) (tick
                   let before = (not_back (ticket_at past t) (ticket == t) e (sym (ap (λ c. ticket_after c t (ticket_at past t)) ticket_is) ∙ after)).1 in
                   busy_after setup past event [] Reply_of stays stands.tickets.busy t e before after;
             };
-            boot = boot_stays setup past event [] Reply_of old.boot new.boot stands.boot taken.boot (leave_boot setup past caller ticket entered.work back.result);
           };
           has_job = leave_job setup (Left Reply_of) entered.work back.result;
           stays = stays;
@@ -302,11 +304,11 @@ pub came_back : (setup : Setup) (past : History) (old : Tables) (caller : Caller
     → ticket_at past ticket ≡ Some (record { op = op; work = work }) → IsOut out (record { op = op; work = work }) → operation_at setup past op ≡ Some o → IsBusyWith ticket work o → IsDoneOn (Some o) work back → step ≡ step_of past
     → TakesBack ticket out step back.state old new → AnswersAfter setup past new (event_by caller (Leave ticket)) (record { reply = given_or work back.result; job = None; drawn = [] })
 came_back setup past old caller ticket stands new op (Aad input) out o step back is_out same_out is_open busy done_is is_step taken =
-    let state = going_state back.state o.operation.plan o.operation.limited o.operation.material o.operation.nonce (o.aad ++ input) o.text done_is.comes.1 in
+    let state = going_state back.state o.operation.plan (is_limited o.operation.limit) o.operation.material o.operation.nonce (o.aad ++ input) o.text done_is.comes.1 in
     goes_on setup past old caller ticket stands new (record { op = op; work = Aad input }) out o step back is_out same_out is_open busy done_is is_step taken input [] state.0 refl (ap added_by same_out.brought)
     (omega (arith, busy.within)) (rw (append-nil o.text) state.2) state.1
 came_back setup past old caller ticket stands new op (Text input) out o step back is_out same_out is_open busy done_is is_step taken =
-    let state = going_state back.state o.operation.plan o.operation.limited o.operation.material o.operation.nonce o.aad (o.text ++ input) done_is.comes.1 in
+    let state = going_state back.state o.operation.plan (is_limited o.operation.limit) o.operation.material o.operation.nonce o.aad (o.text ++ input) done_is.comes.1 in
     goes_on setup past old caller ticket stands new (record { op = op; work = Text input }) out o step back is_out same_out is_open busy done_is is_step taken [] input state.0 refl (ap added_by same_out.brought)
     (omega (arith, busy.within)) (rw (append-nil o.aad) state.2) state.1
 came_back setup past old caller ticket stands new op (Last input signature) out o step back is_out same_out is_open busy done_is is_step taken =
@@ -372,6 +374,12 @@ no_fault Rattle.step_rules.specs.declared.facts.StepKind.TheVariants.Aad (Ok out
 no_fault _ (Ok out) codes = refl
 no_fault kind (Err code) codes = no_draw code codes
 
+-- nor is the disk
+pub no_disk_fault_of : (kind : Rattle.step_rules.specs.declared.facts.StepKind.StepKind) (result : Result (List ℕ) Code) → IfErr result (λ code. is_refusal code ≡ true) → is_disk_fault (reply_of kind result) ≡ false
+no_disk_fault_of Rattle.step_rules.specs.declared.facts.StepKind.TheVariants.Aad (Ok out) codes = refl
+no_disk_fault_of _ (Ok out) codes = refl
+no_disk_fault_of kind (Err code) codes = no_system code codes
+
 -- a client that goes
 module _ (setup : Setup) (past : History) (old : Tables) (caller : Caller) (stands : TablesStand setup old past) (is_caller : IsCaller old caller) where
   same_caller : caller ≡ caller_of past (event_by caller Disconnect)
@@ -390,7 +398,7 @@ module _ (setup : Setup) (past : History) (old : Tables) (caller : Caller) (stan
       let none : operation_change setup past (event_by caller Disconnect) [] (Broken rule code) ≡ SameOperations = either (Rattle.step_rules.specs.Table.ends_operation rule) in
       record {
         follows = Answered (record { drew = refl; is_answer = sym (ap (λ found. broken_or found (Done no_fields)) e) ∙ ap (λ c. answer_by_rules Disconnect setup past c []) same_caller });
-        stands = denied_tables setup past (event_by caller Disconnect) [] (Broken rule code) old old stands (same_tables old) refl none refl;
+        stands = denied_tables setup past (event_by caller Disconnect) [] (Broken rule code) old old stands (same_tables old) refl refl none refl;
         has_job = refl;
         stays = stays_same setup past (event_by caller Disconnect) [] (Broken rule code) none;
       } where
@@ -412,7 +420,7 @@ module _ (setup : Setup) (past : History) (old : Tables) (caller : Caller) (stan
             uids = λ client. ended.goes client ∙ ap (λ u. Rattle.rule_model.specs.Clients.uid_after (Rattle.rule_model.specs.Clients.Goes caller.client) client u) (stands.clients.uids client);
             given = ended.given ∙ stands.clients.given;
           };
-          keys = keys_stay setup past (Acted event [] reply ∷ past) old new stands.keys ended.keys (same_kept setup past event [] reply refl) (same_device setup past event [] reply refl);
+          keys = keys_stay setup past (Acted event [] reply ∷ past) old new stands.keys ended.keys (quiet_stored setup past event [] reply refl refl);
           operations = rows_after setup past event [] reply (ClosesOf caller.client) new.operations refl
               (rw ended.rows.rows (alike_filter IsRow (λ row. not (is_row_of caller.client row)) (λ o. not (is_of caller.client o)) (λ row o r. ap (λ c. not (c == caller.client)) r.client) (rows_in old.operations) (open_of setup past) stands.operations.rows))
               (ended.rows.given ∙ stands.operations.given);
@@ -420,7 +428,6 @@ module _ (setup : Setup) (past : History) (old : Tables) (caller : Caller) (stan
               (rw ended.slots.operations (alike_filter IsSlot (λ slot. not (table.is_client caller.client slot)) (λ o. not (is_of caller.client o)) (λ slot o r. ap (λ c. not (c == caller.client)) r.client) (operations_of old.slots) (open_of setup past) stands.slots.slots_are))
               ended.slots.capacity (λ number l. ended.fresh number (stands.slots.fresh number l)) (λ next l. ended.later next (stands.slots.later next (omega (arith, l))));
           tickets = tickets_stay setup past event [] reply old.tickets new.tickets stands.tickets ended.tickets refl refl stays;
-          boot = boot_stays setup past event [] reply old.boot new.boot stands.boot ended.boot refl;
         };
         has_job = refl;
         stays = stays;

@@ -1,6 +1,5 @@
 -- The parts of the relation between the tables and a history, each after an entry that leaves it as it is, or makes a change.
 use Rattle.std.proofs.Common.{◌≡◌, ℕ, ◌+◌, ◌<◌, ◌≤◌, ◌-◌, ◌^◌, Bool, true, false, IsTrue, ◌&&◌, if◌then◌else◌, List, ◌∷◌, length, Option, Some, None, Result, Ok, Err, refl, sym, ap, ◌∙◌, subst, arith}
-use Rattle.std.specs.Prelude.{IfSome}
 use Rattle.std.proofs.Math.Bridge.{le_prop}
 use Rattle.std.proofs.Props.{props}
 use mathlib.Core.Logic.{∥∥₁_elim, ∥∥₁_map}
@@ -8,7 +7,6 @@ use Rattle.tags.specs.declared.bytes.NoMemory.{NoMemory}
 use Rattle.tags.specs.declared.code.Code.TheVariants.{MemoryAllocationFailed}
 use Rattle.tags.specs.declared.descriptor.Descriptor.{Descriptor}
 use Rattle.cipher_ops.specs.declared.job.Done.{Done as JobDone}
-use Rattle.cipher_ops.specs.declared.room.Work.{Work}
 use Rattle.cipher_ops.specs.declared.state.CipherState.{CipherState}
 use Rattle.operation_slots.specs.Table.{IsLater, SlotTable, capacity_of, held, operations_of}
 use Rattle.rule_model.specs.declared.entry.Entry.TheVariants.{Acted}
@@ -19,31 +17,28 @@ use Rattle.rule_model.specs.declared.facts.Caller.{Caller}
 use Rattle.rule_model.specs.declared.reply.Reply.{Reply}
 use Rattle.rule_model.specs.declared.reply.Reply.TheVariants.{Done, Broken, Stopped}
 use Rattle.rule_model.specs.Acts.{fixed_for, is_begin, is_connect, is_enter}
-use Rattle.rule_model.specs.Boot.{SameBoot as NoBoot, boot_change}
 use Rattle.rule_model.specs.Clients.{SameClients as NoClients, caller_of, client_change, uid_after, uid_of}
 use Rattle.rule_model.specs.Entries.{History, admits, count_of, is_done}
-use Rattle.rule_model.specs.Jobs.{Stays, but_shown}
-use Rattle.rule_model.specs.Operations.{Open, OperationChange, SameOperations, open_after, open_of, operation_at, operation_change, step_of, stopped_operation}
+use Rattle.rule_model.specs.Jobs.{Stays}
+use Rattle.rule_model.specs.Operations.{OperationChange, SameOperations, open_after, open_of, operation_at, operation_change, step_of, stopped_operation}
+use Rattle.rule_model.specs.Settling.{is_disk_fault}
 use Rattle.rule_model.specs.Setup.{Setup}
 use Rattle.rule_model.specs.Tickets.{Entered, SameTickets as NoTickets, stopped_ticket, ticket_after, ticket_at, ticket_change}
-use Rattle.rule_model.proofs.Boot.{begins_few}
 use Rattle.rule_model.proofs.Counting.{count_few}
-use Rattle.rule_model.proofs.Kept.{denied_device, denied_kept}
+use Rattle.rule_model.proofs.Kept.{denied_stored, same_stored}
 use Rattle.keystore_core.specs.declared.answered.Answered.{Answered}
-use Rattle.keystore_core.specs.declared.begins.Begins.{Begins}
 use Rattle.keystore_core.specs.declared.clients.Clients.{Clients}
-use Rattle.key_database.specs.Held.{Held, lasting_in}
+use Rattle.key_database.specs.declared.database.KeyDatabase.{KeyDatabase}
+use Rattle.key_database.specs.Stands.{SameStore}
 use Rattle.keystore_core.specs.declared.operations.Operations.{Operations}
 use Rattle.keystore_core.specs.declared.tables.Tables.{Tables}
 use Rattle.keystore_core.specs.declared.tickets.Tickets.{Tickets}
 use Rattle.keystore_core.specs.Alike.{Alike}
-use Rattle.keystore_core.specs.Begins.{SameBegins, begins_in}
 use Rattle.keystore_core.specs.Clients.{ClientsStand, SameClients, clients_given}
 use Rattle.keystore_core.specs.Operations.{IsRow, OperationsStand, SameRows, operations_given, rows_in}
 use Rattle.keystore_core.specs.Slots.{IsSlot, SlotsStand}
 use Rattle.keystore_core.specs.Tables.{IsAt, IsCaller, IsTables, SameTables, ServesAfter, ServesAt, TablesStand, event_by}
 use Rattle.keystore_core.specs.Tickets.{BusyWith, SameOut, SameTickets, TicketsStand, out_in, tickets_given}
-use Rattle.keystore_core.proofs.Booted.{boot_stays, boot_still, same_boot}
 use Rattle.keystore_core.proofs.KeyTable.{keys_stay, same_keys}
 use Rattle.keystore_core.proofs.Opened.{AreBusy, stays_same}
 
@@ -54,7 +49,6 @@ same_tables tables = record {
   operations = record { rows = refl; given = refl };
   slots = refl;
   tickets = record { outs = λ ticket. refl; given = refl };
-  boot = same_boot tables.boot;
 }
 
 -- an entry that no count looks at
@@ -76,15 +70,6 @@ and_false false = refl
 
 pub quiet : (test : Act → Bool) (past : History) (event : Event) (drawn : List ℕ) (reply : Reply) → test event.act ≡ false → admits test (Acted event drawn reply) ≡ false
 quiet test past event drawn reply e = ap (λ b. is_done reply && b) e ∙ and_false (is_done reply)
-
--- whether an operation is busy with a work, whether or not a token was shown to it
-busy_shown : (ticket : ℕ) (work : Work) (found : Option Open) → BusyWith ticket work found → BusyWith ticket work (but_shown found)
-busy_shown ticket work None busy = absurd busy
-busy_shown ticket work (Some o) busy = record { busy = busy.busy; within = busy.within }
-
-shown_busy : (ticket : ℕ) (work : Work) (found : Option Open) → BusyWith ticket work (but_shown found) → BusyWith ticket work found
-shown_busy ticket work None busy = absurd busy
-shown_busy ticket work (Some o) busy = record { busy = busy.busy; within = busy.within }
 
 module _ (setup : Setup) (past : History) (event : Event) (drawn : List ℕ) (reply : Reply) where
   pub clients_stay : (old new : Clients) → ClientsStand old past → SameClients old new → client_change event reply ≡ NoClients
@@ -130,9 +115,7 @@ module _ (setup : Setup) (past : History) (event : Event) (drawn : List ℕ) (re
   -- an operation that was busy with a work and stays is so later
   pub busy_after : Stays setup past (Acted event drawn reply ∷ past) → AreBusy setup past event drawn reply → (ticket : ℕ) (entered : Entered) → ticket_at past ticket ≡ Some entered
       → ticket_at (Acted event drawn reply ∷ past) ticket ≡ Some entered → BusyWith ticket entered.work (operation_at setup (Acted event drawn reply ∷ past) entered.op)
-  busy_after stays busy ticket entered before after =
-      shown_busy ticket entered.work (operation_at setup (Acted event drawn reply ∷ past) entered.op)
-      (subst (BusyWith ticket entered.work) (sym (stays ticket entered before after)) (busy_shown ticket entered.work (operation_at setup past entered.op) (busy ticket entered before)))
+  busy_after stays busy ticket entered before after = subst (BusyWith ticket entered.work) (sym (stays ticket entered before after)) (busy ticket entered before)
 
   pub tickets_stay : (old new : Tickets) → TicketsStand setup old past → SameTickets old new → ticket_change event reply ≡ NoTickets
       → admits is_enter (Acted event drawn reply) ≡ false → Stays setup past (Acted event drawn reply ∷ past) → TicketsStand setup new (Acted event drawn reply ∷ past)
@@ -155,23 +138,15 @@ module _ (setup : Setup) (past : History) (event : Event) (drawn : List ℕ) (re
     by_reply (Broken rule code) e = refl
     by_reply (Stopped code) e = refl
 
-  denied_boot : is_done reply ≡ false → boot_change setup past event reply ≡ NoBoot
-  denied_boot denied = by_reply reply denied where
-    by_reply : (r : Reply) → is_done r ≡ false → boot_change setup past event r ≡ NoBoot
-    by_reply (Done fields) e = cc
-    by_reply (Broken rule code) e = refl
-    by_reply (Stopped code) e = refl
-
   -- an event that is not admitted, and changes no operation and no ticket
-  pub denied_tables : (old new : Tables) → TablesStand setup old past → SameTables old new → is_done reply ≡ false
+  pub denied_tables : (old new : Tables) → TablesStand setup old past → SameTables old new → is_done reply ≡ false → is_disk_fault reply ≡ false
       → operation_change setup past event drawn reply ≡ SameOperations → ticket_change event reply ≡ NoTickets → TablesStand setup new (Acted event drawn reply ∷ past)
-  denied_tables old new stands same denied none no_ticket = record {
+  denied_tables old new stands same denied no_fault none no_ticket = record {
     clients = clients_stay old.clients new.clients stands.clients same.clients (denied_clients denied) (not_admitted denied is_connect);
-    keys = keys_stay setup past (Acted event drawn reply ∷ past) old new stands.keys same.keys (denied_kept setup past event drawn reply denied) (denied_device setup past event drawn reply denied);
+    keys = keys_stay setup past (Acted event drawn reply ∷ past) old new stands.keys same.keys (denied_stored setup past event drawn reply denied no_fault);
     operations = operations_stay old.operations new.operations stands.operations same.operations none (not_admitted denied is_begin);
     slots = slots_stay old.slots new.slots stands.slots same.slots none;
     tickets = tickets_stay old.tickets new.tickets stands.tickets same.tickets no_ticket (not_admitted denied is_enter) (stays_same setup past event drawn reply none);
-    boot = boot_stays setup past event drawn reply old.boot new.boot stands.boot same.boot (denied_boot denied);
   }
 
 -- tables that answer as others do stand for what those stood for
@@ -181,7 +156,7 @@ still setup past old new stands same = record {
     uids = λ client. same.clients.uids client ∙ stands.clients.uids client;
     given = same.clients.given ∙ stands.clients.given;
   };
-  keys = keys_stay setup past past old new stands.keys same.keys refl refl;
+  keys = keys_stay setup past past old new stands.keys same.keys (same_stored setup past);
   operations = record { rows = rw same.operations.rows stands.operations.rows; given = same.operations.given ∙ stands.operations.given };
   slots = rw same.slots stands.slots;
   tickets = record {
@@ -189,7 +164,6 @@ still setup past old new stands same = record {
     given = same.tickets.given ∙ stands.tickets.given;
     busy = stands.tickets.busy;
   };
-  boot = boot_still setup past old.boot new.boot stands.boot same.boot;
 }
 
 -- who makes a call, by the history
@@ -203,14 +177,6 @@ few_clients tables is = ∥∥₁_elim is le_prop (λ t. omega (arith, t.stands.
 
 pub few_operations : (tables : Tables) → ∥ IsTables tables (2 ^ 62 - 1) ∥₁ → operations_given tables.operations < 2 ^ 62
 few_operations tables is = ∥∥₁_elim is le_prop (λ t. omega (arith, t.stands.operations.given, count_few is_begin t.past, t.few))
-
-pub few_begins : (tables : Tables) (key : ℕ) → ∥ IsTables tables (2 ^ 62 - 1) ∥₁ → begins_in tables.boot.begins key < 2 ^ 62
-few_begins tables key is = ∥∥₁_elim is le_prop (λ t. omega (arith, t.stands.boot.begins key, begins_few t.setup t.past key, t.few))
-
--- a begin on a key, stored or not, is counted in a number
-pub few_counted : (tables : Tables) (new : Begins) (id : Option ℕ) → SameBegins tables.boot.begins new → ∥ IsTables tables (2 ^ 62 - 1) ∥₁ → IfSome id (λ key. begins_in new key < 2 ^ 62)
-few_counted tables new None same is = tt
-few_counted tables new (Some id) same is = omega (arith, same id, few_begins tables id is)
 
 pub few_tickets : (tables : Tables) → ∥ IsTables tables (2 ^ 62 - 1) ∥₁ → tickets_given tables.tickets < 2 ^ 62
 few_tickets tables is = ∥∥₁_elim is le_prop (λ t. omega (arith, t.stands.tickets.given, count_few is_enter t.past, t.few))
@@ -232,36 +198,31 @@ pub at_later : (tables : Tables) (step : ℕ) (act : Act) (back : Option JobDone
 at_later tables step act back at = ∥∥₁_elim at (IsLater-prop tables.slots step) (λ t. t.stands.tables_stand.slots.later step (omega (arith, t.stands.step_is)))
 
 -- tables in which one part is another that answers the same
-pub same_but_keys : (tables : Tables) (new : Held) → lasting_in new ≡ lasting_in tables.keys → SameTables tables (record tables { keys = new })
+pub same_but_keys : (tables : Tables) (new : KeyDatabase) → SameStore tables.keys new → SameTables tables (record tables { keys = new })
 same_but_keys tables new same = record {
   clients = record { uids = λ client. refl; given = refl };
-  keys = record { device_is = refl; policy_is = refl; lasting_is = same };
+  keys = record { policy_is = refl; root_is = refl; store_is = same };
   operations = record { rows = refl; given = refl };
   slots = refl;
   tickets = record { outs = λ ticket. refl; given = refl };
-  boot = same_boot tables.boot;
 }
 
--- the tables with room for one operation more, and for a begin more on a key
-pub same_but_begun : (tables : Tables) (rows : Operations) (begins : Begins) → SameRows tables.operations rows → SameBegins tables.boot.begins begins
-    → SameTables tables (record tables { operations = rows; boot = record tables.boot { begins = begins } })
-same_but_begun tables rows begins same_rows same_begins = record {
+pub same_but_operations : (tables : Tables) (rows : Operations) → SameRows tables.operations rows → SameTables tables (record tables { operations = rows })
+same_but_operations tables rows same_rows = record {
   clients = record { uids = λ client. refl; given = refl };
-  keys = record { device_is = refl; policy_is = refl; lasting_is = refl };
+  keys = same_keys tables;
   operations = same_rows;
   slots = refl;
   tickets = record { outs = λ ticket. refl; given = refl };
-  boot = record { device = refl; tokens = record { tokens = refl; key = refl }; begins = same_begins };
 }
 
 pub same_but_tickets : (tables : Tables) (tickets : Tickets) → SameTickets tables.tickets tickets → SameTables tables (record tables { tickets = tickets })
 same_but_tickets tables tickets same = record {
   clients = record { uids = λ client. refl; given = refl };
-  keys = record { device_is = refl; policy_is = refl; lasting_is = refl };
+  keys = same_keys tables;
   operations = record { rows = refl; given = refl };
   slots = refl;
   tickets = same;
-  boot = same_boot tables.boot;
 }
 
 -- what serves after every history serves at a step
@@ -292,4 +253,4 @@ pub without_memory : (setup : Setup) (past : History) (old new : Tables) (event 
     → TablesStand setup new (Acted event drawn (Stopped MemoryAllocationFailed) ∷ past) × Stays setup past (Acted event drawn (Stopped MemoryAllocationFailed) ∷ past)
 without_memory setup past old new event drawn stands takes same =
     let none = takes_memory event.act past takes in
-    (denied_tables setup past event drawn (Stopped MemoryAllocationFailed) old new stands same refl none.0 none.1, stays_same setup past event drawn (Stopped MemoryAllocationFailed) none.0)
+    (denied_tables setup past event drawn (Stopped MemoryAllocationFailed) old new stands same refl refl none.0 none.1, stays_same setup past event drawn (Stopped MemoryAllocationFailed) none.0)

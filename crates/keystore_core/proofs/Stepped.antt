@@ -1,8 +1,8 @@
 -- A step of an open operation: that its work may go out, its answer, and the tables after it.
-use Rattle.std.proofs.Common.{◌≡◌, ◌&&◌, ℕ, ◌+◌, ◌≤◌, Bool, true, false, not, ◌==◌, if◌then◌else◌, List, [], ◌∷◌, length, find, Option, Some, None, Ok, Err, is_some, refl, sym, ap, ◌∙◌, subst, arith, length-append}
+use Rattle.std.proofs.Common.{◌≡◌, ℕ, ◌+◌, ◌<◌, ◌≤◌, Bool, true, false, not, ◌==◌, if◌then◌else◌, List, [], ◌∷◌, length, find, map, filter, Option, Some, None, Result, Ok, Err, is_some, refl, sym, ap, ◌∙◌, subst, arith, inl, inr, length-append}
 use Rattle.std.proofs.Math.Bridge.{le_prop}
 use Rattle.std.proofs.Props.{props}
-use Rattle.std.proofs.lemmas.Bool.{eqb-true, eq-eqb}
+use Rattle.std.proofs.lemmas.Bool.{cases_Bool, eqb-true, eq-eqb}
 use mathlib.Core.Logic.{∥∥₁_prop}
 use Rattle.tags.specs.declared.code.Code.{Code}
 use Rattle.tags.specs.declared.plan.Plan.{Plan}
@@ -17,7 +17,7 @@ use Rattle.cipher_ops.specs.declared.room.JobRoom.{JobRoom}
 use Rattle.cipher_ops.specs.declared.room.Work.{Work}
 use Rattle.cipher_ops.specs.declared.room.Work.TheVariants.{Aad, Text, Last}
 use Rattle.cipher_ops.specs.declared.state.CipherState.{CipherState}
-use Rattle.cipher_ops.specs.Jobs.{JobFor}
+use Rattle.cipher_ops.specs.Jobs.{JobFor, ticket_of}
 use Rattle.cipher_ops.specs.Running.{GoesOn, IsRoom, MayCome}
 use Rattle.operation_slots.specs.declared.operation.Operation.{Operation as Slot}
 use Rattle.operation_slots.specs.Table as table
@@ -34,29 +34,29 @@ use Rattle.rule_model.specs.Acts.{is_begin, is_connect, is_enter}
 use Rattle.rule_model.specs.Answer.{answer_by_rules}
 use Rattle.rule_model.specs.Replies.{broken_or, no_fields}
 use Rattle.rule_model.specs.Clients.{SameClients as NoClients, caller_of, client_change}
+use Rattle.rule_model.specs.Drawn.{size_of, wanted}
 use Rattle.rule_model.specs.Entries.{History, admits, count_of}
 use Rattle.rule_model.specs.Jobs.{HasJob, IsJobOn, IsJobOut, Stays}
 use Rattle.rule_model.specs.Kept.{is_live}
-use Rattle.rule_model.specs.Boot.{SameBoot as NoBoot, boot_change}
 use Rattle.rule_model.specs.Legal.{MayFollow, Answered}
-use Rattle.rule_model.specs.Operations.{Closes, Enters as EntersOne, Open, SameOperations, as_entered, closes, has_number, is_busy, open_after, open_of, operation_at, operation_change, operation_of, step_of}
+use Rattle.rule_model.specs.Operations.{Closes, Enters as EntersOne, Open, OperationChange, SameOperations, as_entered, closes, has_number, is_busy, is_limited, open_after, open_of, operation_at, operation_change, operation_of, step_of}
+use Rattle.rule_model.specs.Settling.{is_disk_fault}
 use Rattle.rule_model.specs.Setup.{Setup}
 use Rattle.rule_model.specs.StepFacts.{brought_by, brought_by_abort, facts_of, has_ended, step_facts}
 use Rattle.rule_model.specs.Tickets.{Entered, GoesOut, SameTickets as NoTickets, next_ticket, ticket_after, ticket_at, ticket_change}
-use Rattle.rule_model.proofs.Kept.{changes_kept, same_device, same_kept}
+use Rattle.rule_model.proofs.Kept.{changes_kept, quiet_stored}
 use Rattle.keystore_core.specs.declared.operations.Operation.{Operation as Row}
 use Rattle.keystore_core.specs.declared.operations.RowChange.TheVariants.{Enters as RowEnters}
 use Rattle.keystore_core.specs.declared.tables.Tables.{Tables}
 use Rattle.keystore_core.specs.declared.tickets.Out.{Out}
-use Rattle.keystore_core.specs.Alike.{BothFound}
+use Rattle.keystore_core.specs.Alike.{Alike, BothFound}
 use Rattle.keystore_core.specs.Leaving.{ClosesOne}
-use Rattle.keystore_core.specs.Operations.{IsRow, changed, has_row, rows_in}
+use Rattle.keystore_core.specs.Operations.{ChangesRow, IsRow, changed, has_row, operation_in, rows_in}
 use Rattle.keystore_core.specs.Slots.{IsKept, IsSlot, IsStateOf}
 use Rattle.keystore_core.specs.Stepping.{CanWork, Denies, DeniesBy, IsRoomAt, MayGrow, SendsJob, entering}
 use Rattle.keystore_core.specs.Tables.{AnswersAfter, IsCaller, SameTables, TablesStand, event_by, row_at, state_at}
 use Rattle.keystore_core.specs.Tickets.{BusyWith, SameOut, tickets_given}
 use Rattle.keystore_core.proofs.Alike.{alike_change, alike_filter, alike_found}
-use Rattle.keystore_core.proofs.Booted.{boot_stays}
 use Rattle.keystore_core.proofs.KeyTable.{keys_stay}
 use Rattle.keystore_core.proofs.Opened.{found_apart, found_changed, is_other, stays_by, stays_same, without_keeps}
 use Rattle.keystore_core.proofs.Standing.{busy_after, called, clients_stay, count_grows, denied_tables, quiet, rows_after, same_tables, slots_after, tickets_stay, uncounted}
@@ -108,7 +108,7 @@ ended_same live other same None = refl
 ended_same live other same (Some id) = ap not (same id)
 
 pub some_facts : (live other : ℕ → Bool) → ((id : ℕ) → live id ≡ other id) → (row : Row) (o : Option Open) (found : Option Row) (caller : Caller) (brought : Brought) → BothFound IsRow found o → found ≡ Some row
-    → record { kind = brought.kind; own = row.client == caller.client; busy = row.busy; input = brought.input; signature = brought.signature; ended = has_ended live row.key; waiting = is_some row.challenge && not row.shown; plan = row.plan; aad = row.aad; text = row.text }
+    → record { kind = brought.kind; own = row.client == caller.client; busy = row.busy; input = brought.input; signature = brought.signature; ended = has_ended live row.key; plan = row.plan; aad = row.aad; text = row.text }
     ≡ facts_of o other caller brought
 some_facts live other same row None None caller brought both e = cc
 some_facts live other same row (Some o) None caller brought both e = cc
@@ -116,10 +116,10 @@ some_facts live other same row None (Some r) caller brought both e = absurd both
 some_facts live other same row (Some o) (Some r) caller brought both e =
     let is : r ≡ row = cc in
     let row_is : IsRow row o = subst (λ x. IsRow x o) is both in
-    rw (row_is.client, row_is.busy_is, row_is.plan, row_is.aad_is, row_is.text_is, row_is.challenge_is, row_is.shown_is, ended_same live other same row.key, row_is.key) refl
+    rw (row_is.client, row_is.busy_is, row_is.plan, row_is.aad_is, row_is.text_is, ended_same live other same row.key, row_is.key) refl
 
 pub none_facts : (other : ℕ → Bool) (o : Option Open) (found : Option Row) (caller : Caller) (brought : Brought) → BothFound IsRow found o → found ≡ None
-    → record { kind = brought.kind; own = false; busy = false; input = brought.input; signature = brought.signature; ended = false; waiting = false; plan = Rattle.tags.specs.declared.plan.Plan.TheVariants.Ctr; aad = 0; text = 0 }
+    → record { kind = brought.kind; own = false; busy = false; input = brought.input; signature = brought.signature; ended = false; plan = Rattle.tags.specs.declared.plan.Plan.TheVariants.Ctr; aad = 0; text = 0 }
     ≡ facts_of o other caller brought
 none_facts other None None caller brought both e = refl
 none_facts other (Some o) None caller brought both e = absurd both
@@ -152,7 +152,7 @@ module _ (live : ℕ → Bool) (caller : Caller) where
 
   -- the room of a row is that of its operation
   pub room_of : (row : Row) (o : Open) (work : Work) (room : JobRoom) → IsRow row o → IsRoom room row.plan row.limited row.text work
-      → IsRoom room o.operation.plan o.operation.limited (length o.text) work
+      → IsRoom room o.operation.plan (is_limited o.operation.limit) (length o.text) work
   room_of row o work room same is_room = rw (same.plan, same.limited, same.text_is) at is_room
 
   pub can_work : (work : Work) (row : Option Row) (o : Option Open) (slot : Option (Slot CipherState)) (room : JobRoom) → BothFound IsRow row o → BothFound IsSlot slot o
@@ -164,7 +164,7 @@ module _ (live : ℕ → Bool) (caller : Caller) where
       let state = kept_state (idle_value (Some slot)) _ o o.ticket kept.state idle in
       subst (λ v. CanWork v room) (sym state.1) ∣ record {
         plan = o.operation.plan;
-        limited = o.operation.limited;
+        limited = is_limited o.operation.limit;
         key = o.operation.material;
         nonce = o.operation.nonce;
         aad = o.aad;
@@ -185,8 +185,8 @@ module _ (live : ℕ → Bool) (caller : Caller) where
   job_on work (Some row) (Some o) None room job same kept idle enters is_room is = absurd kept
   job_on work (Some row) (Some o) (Some slot) room job same kept idle enters is_room is =
       let state = kept_state (idle_value (Some slot)) _ o o.ticket kept.state idle in
-      is o.operation.plan o.operation.limited o.operation.material o.operation.nonce o.aad o.text work
-      (subst (λ v. GoesOn v o.operation.plan o.operation.limited o.operation.material o.operation.nonce o.aad o.text) (sym state.1) state.2)
+      is o.operation.plan (is_limited o.operation.limit) o.operation.material o.operation.nonce o.aad o.text work
+      (subst (λ v. GoesOn v o.operation.plan (is_limited o.operation.limit) o.operation.material o.operation.nonce o.aad o.text) (sym state.1) state.2)
       (room_of row o work room same is_room) (may_come o work enters)
 
   -- it is not busy, where the facts say so
@@ -267,13 +267,6 @@ enter_keys op (Aad input) = refl
 enter_keys op (Text input) = refl
 enter_keys op (Last input signature) = refl
 
-enter_boot : (setup : Setup) (past : History) (caller : Caller) (op : ℕ) (work : Work) (reply : Reply) → boot_change setup past (event_by caller (entering op work)) reply ≡ NoBoot
-enter_boot setup past caller op (Aad input) (Done fields) = refl
-enter_boot setup past caller op (Text input) (Done fields) = refl
-enter_boot setup past caller op (Last input signature) (Done fields) = refl
-enter_boot setup past caller op work (Broken rule code) = refl
-enter_boot setup past caller op work (Rattle.rule_model.specs.declared.reply.Reply.TheVariants.Stopped code) = refl
-
 -- nothing is found under a number where nothing was, and under that of the one that is gone
 pub none_without : (op : ℕ) (old new : SlotTable CipherState) → FindsWithout old new op → (number : ℕ) → held old number ≡ None → held new number ≡ None
 none_without op old new finds number none = finds number ∙ either (number == op) where
@@ -285,14 +278,14 @@ module _ (setup : Setup) (past : History) (event : Event) (drawn : List ℕ) (re
   -- an entry that closes one operation, and touches nothing else
   pub closed_tables : (op : ℕ) (old new : Tables) → TablesStand setup old past → ClosesOne op old new → operation_change setup past event drawn reply ≡ Closes op
       → client_change event reply ≡ NoClients → ticket_change event reply ≡ NoTickets → admits is_connect (Acted event drawn reply) ≡ false → admits is_begin (Acted event drawn reply) ≡ false
-      → admits is_enter (Acted event drawn reply) ≡ false → changes_kept event.act ≡ false → boot_change setup past event reply ≡ NoBoot → ((x : Open) → operation_at setup past op ≡ Some x → is_busy x ≡ false)
+      → admits is_enter (Acted event drawn reply) ≡ false → changes_kept event.act ≡ false → is_disk_fault reply ≡ false → ((x : Open) → operation_at setup past op ≡ Some x → is_busy x ≡ false)
       → TablesStand setup new (Acted event drawn reply ∷ past) × Stays setup past (Acted event drawn reply ∷ past)
-  closed_tables op old new stands closed is no_client no_ticket no_connect no_begin no_enter no_key no_boot idle =
+  closed_tables op old new stands closed is no_client no_ticket no_connect no_begin no_enter no_key no_fault idle =
       let stays : Stays setup past (Acted event drawn reply ∷ past) = stays_by setup past event drawn reply (Closes op) is stands.tickets.busy
       (λ ticket entered o after named busy found. without_keeps op (open_of setup past) entered.op o (is_other op entered.op (open_of setup past) o idle found busy) found) in (
         record {
           clients = clients_stay setup past event drawn reply old.clients new.clients stands.clients closed.clients no_client no_connect;
-          keys = keys_stay setup past (Acted event drawn reply ∷ past) old new stands.keys closed.keys (same_kept setup past event drawn reply no_key) (same_device setup past event drawn reply no_key);
+          keys = keys_stay setup past (Acted event drawn reply ∷ past) old new stands.keys closed.keys (quiet_stored setup past event drawn reply no_key no_fault);
           operations = rows_after setup past event drawn reply (Closes op) new.operations is
               (rw closed.rows.rows (alike_filter IsRow (λ row. not (has_row op row)) (λ o. not (has_number op o)) (λ row o r. ap not (row_named op row o r)) (rows_in old.operations) (open_of setup past) stands.operations.rows))
               (closed.rows.given ∙ stands.operations.given ∙ sym (uncounted is_begin past event drawn reply no_begin));
@@ -302,7 +295,6 @@ module _ (setup : Setup) (past : History) (event : Event) (drawn : List ℕ) (re
               (λ number l. closed.fresh number (stands.slots.fresh number (let grows = count_grows is_begin past event drawn reply in omega (arith, l, grows))))
               (λ next l. closed.later next (stands.slots.later next (omega (arith, l))));
           tickets = tickets_stay setup past event drawn reply old.tickets new.tickets stands.tickets closed.tickets no_ticket no_enter stays;
-          boot = boot_stays setup past event drawn reply old.boot new.boot stands.boot closed.boot no_boot;
         },
         stays,
       )
@@ -321,7 +313,7 @@ module _ (setup : Setup) (past : History) (tables : Tables) (caller : Caller) (o
     by_rule false e same =
         let none : operation_change setup past (event_by caller act) [] (Broken rule code) ≡ SameOperations = ap (λ b. if b then closes (operation_of act) else SameOperations) e in (
           subst (λ t. TablesStand setup t (Acted (event_by caller act) [] (Broken rule code) ∷ past)) (sym same)
-              (denied_tables setup past (event_by caller act) [] (Broken rule code) tables tables stands (same_tables tables) refl none refl),
+              (denied_tables setup past (event_by caller act) [] (Broken rule code) tables tables stands (same_tables tables) refl refl none refl),
           stays_same setup past (event_by caller act) [] (Broken rule code) none,
         )
 
@@ -476,10 +468,10 @@ module _ (setup : Setup) (past : History) (tables : Tables) (caller : Caller) (o
         stands = record {
           clients = clients_stay setup past Entering [] reply tables.clients new.clients stands.clients
               (record { uids = λ client. sent.clients.uids client ∙ still.clients.uids client; given = sent.clients.given ∙ still.clients.given }) (enter_clients caller op work reply) no_connect;
-          keys = keys_stay setup past later start new now.keys sent.keys (same_kept setup past Entering [] reply (enter_keys op work)) (same_device setup past Entering [] reply (enter_keys op work));
+          keys = keys_stay setup past later start new now.keys sent.keys (quiet_stored setup past Entering [] reply (enter_keys op work) refl);
           operations = rows_after setup past Entering [] reply (EntersOne op ticket) new.operations is
               (rw sent.rows.rows (alike_change IsRow (has_row op) (has_number op) (changed RowEnters) (as_entered (step_of past) ticket) (row_named op)
-              (λ row x r named. record { number = r.number; client = r.client; key = r.key; plan = r.plan; limited = r.limited; aad_is = r.aad_is; text_is = r.text_is; busy_is = refl; challenge_is = r.challenge_is; shown_is = r.shown_is; list_is = r.list_is })
+              (λ row x r named. record { number = r.number; client = r.client; key = r.key; plan = r.plan; limited = r.limited; aad_is = r.aad_is; text_is = r.text_is; busy_is = refl })
               (rows_in start.operations) (open_of setup past) now.operations.rows))
               (sent.rows.given ∙ now.operations.given ∙ sym (uncounted is_begin past Entering [] reply no_begin));
           slots = slots_after setup past Entering [] reply (EntersOne op ticket) start.slots new.slots now.slots is
@@ -500,7 +492,6 @@ module _ (setup : Setup) (past : History) (tables : Tables) (caller : Caller) (o
                 (λ b. subst (λ n. BusyWith n work (operation_at setup later op)) (eqb-true ticket t b) busy_here)
                 (λ before. busy_after setup past Entering [] reply stays stands.tickets.busy t entered before after);
           };
-          boot = boot_stays setup past Entering [] reply start.boot new.boot now.boot sent.boot (enter_boot setup past caller op work reply);
         };
         has_job = (sent.number ∙ number, subst (λ x. Rattle.rule_model.specs.Jobs.IsJobOut setup later x job) (sym ticket_here) (subst (λ x. IsJobOn x work job) (sym here) on_o));
         stays = stays;

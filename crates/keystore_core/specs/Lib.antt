@@ -1,9 +1,6 @@
 pub mod Clients
-pub mod Device
-pub mod Tokens
-pub mod Begins
-pub mod Boot
 pub mod Keys
+pub mod Writing
 pub mod Alike
 pub mod Operations
 pub mod Slots
@@ -13,7 +10,7 @@ pub mod Drawn
 pub mod Creating
 pub mod Tables
 pub mod Leaving
-pub mod TokenCalls
+pub mod Restarting
 pub mod Beginning
 pub mod Stepping
 pub mod Engine

@@ -1,9 +1,7 @@
 //! The beginning of an operation.
 
-ghost use Rattle.std.specs.Prelude.{◌≡◌, ℕ, ◌^◌, ◌==◌, ◌<◌, ◌≤◌, List, [], true, false, unwrap_or, Some, None, IfNone, IfOk, IfSome, IsSome, OnOk, is_some, length, if◌then◌else◌};
-ghost use Rattle.std.specs.List.{list_any};
-ghost use Rattle.std.specs.Option.{option_and_then, option_copied, option_map_or};
-ghost use Rattle.byteorder.specs.Endian.{big_number};
+ghost use Rattle.std.specs.Prelude.{◌≡◌, ℕ, ◌^◌, ◌==◌, ◌<◌, ◌≤◌, List, [], true, false, unwrap_or, Some, None, IfNone, IfOk, IfSome, IsSome, is_some, length, if◌then◌else◌};
+ghost use Rattle.std.specs.Option.{option_copied, option_map_or};
 ghost use Rattle.tags.specs.Plan.{Fits};
 ghost use Rattle.tag_lists.specs.Lookups.{IsKey};
 ghost use Rattle.use_rules.specs.Table.{key_of};
@@ -12,220 +10,145 @@ ghost use Rattle.keymint_ops.specs.Begin.{nonce_used};
 ghost use Rattle.rule_model.specs.declared.event.Act.TheVariants as acts;
 ghost use Rattle.journal_records.specs.declared.record.KeyRecord.{KeyRecord};
 ghost use Rattle.rule_model.specs.BeginFacts as model;
+ghost use Rattle.rule_model.specs.Operations.{is_limited};
 ghost use Rattle.keystore_core.specs.Beginning as spec;
 ghost use Rattle.keystore_core.specs.Drawn.{DrewForResult};
 ghost use Rattle.keystore_core.specs.Operations.{HasRoomForOperation, operations_given};
 ghost use Rattle.keystore_core.specs.Tables.{IsAt, IsCaller, ServesAt, event_by, state_at};
+ghost use Rattle.keystore_core.specs.Writing.{LeavesStore};
 ghost use Rattle.operation_slots.specs.Table.{IsLater, has_room as is_free, held};
-ghost use Rattle.rule_model.specs.Access as users;
-ghost use Rattle.token_store.specs.Fitting.{opens};
-ghost use Rattle.keystore_core.specs.Begins.{ChangesBegins, SameBegins, begins_in};
-ghost use Rattle.rule_model.specs.Boot.{begins_on as begins_of_key};
-ghost use Rattle.keystore_core.specs.Boot.{conditions_in};
-ghost use Rattle.keystore_core.specs.Tokens.{tokens_in};
+ghost use Rattle.rule_model.specs.Access.{bits_in};
+ghost use Rattle.rule_model.specs.Changes.{material_in};
 
 use crate::access::{access_by, bits_in, key_in, owner_of, row_for};
 use crate::answered::Answered;
-use crate::begins::Begins;
-use crate::boot::Boot;
+use crate::creating::NONCE_BYTES;
 use crate::draw_room::DrawRoom;
 use crate::operations::Operation;
 use crate::room::Room;
 use crate::tables::Tables;
-use crate::tokens::Tokens;
 use crate::victims::{has_slot, pruned_for};
-use byteorder::{BigEndian, ByteOrder};
 use cipher_ops::CipherState;
 use journal_records::KeyRecord;
 use key_domains::Access;
-use key_rules::read_asked;
-use keymint_ops::{Begin, BeginFault, OpenedKey, open_key, plan_begin};
+use key_rules::{read_asked, usable};
+use keymint_ops::{Begin, BeginFault, plan_begin};
 use ks_outside::Entropy;
-use rule_model::{Caller, Conditions, Fields, NO_FIELDS, Pieces, Reply};
+use rule_model::{Caller, Fields, NO_FIELDS, Pieces, Reply};
 use std::alloc::Global;
-use tag_lists::AuthList;
-use tags::{Bytes, Code, Descriptor, DeviceSecrets, NoMemory, Policy, Tag};
-use use_rules::{BeginFacts, challenge_wanted};
+use tag_lists::{AuthList, ListFault};
+use tags::{Bytes, Descriptor, NoMemory, Policy};
+use use_rules::BeginFacts;
 
-/// The key of a begin.
-struct BeginKey {
-    /// whether there is one
-    found: bool,
-    /// its number, where it is stored
-    id: Option<u64>,
-    /// what its blob gave to the operation's list
-    opened: OpenedKey,
-    /// whether all output comes at the finish
-    limited: bool,
-}
-
-/// The blob of the stored key, or the one that is handed in; no bytes, which open nowhere, where there is none.
-fn blob_for<'a>(access: &Access, stored: Option<&'a KeyRecord>, key: &'a Descriptor) -> &'a [u8]
-    ensures { result.now ≡ model.blob_for access.now (option_copied stored.entry) key.now }
+/// The list that is kept with a key; `None` where its bytes spell none.
+fn list_of(alloc: Global, key: &KeyRecord) -> Result<Option<AuthList>, NoMemory>
+    ensures { IfOk result (λ list. list ≡ model.list_of key.now) }
 {
-    match (access, &key.blob, stored) {
-        (Access::Blob { bits: _ }, Some(blob), _) => blob.as_slice(),
-        (Access::Blob { bits: _ }, None, _) => &[],
-        (_, _, Some(stored)) => stored.blob.as_slice(),
-        (_, _, None) => &[],
+    match AuthList::read(alloc, key.list.as_slice()) {
+        Ok(list) => Ok(Some(list)),
+        Err(ListFault::Memory) => Err(NoMemory),
+        Err(_) => Ok(None),
     }
 }
 
-/// Whether all output comes at the finish: a stored key is limited by its record, and a blob that is handed in by its list.
-fn limited_by(access: &Access, stored: Option<&KeyRecord>, list: &Option<AuthList>) -> bool
-    ensures { result ≡ model.limited_by access.now (option_copied stored.entry) list.now }
+/// A key's material, behind the nonce in its record.
+fn material_in(key: &KeyRecord) -> &[u8]
+    ensures { result.now ≡ material_in key.now }
 {
-    match (access, list, stored) {
-        (Access::Blob { bits: _ }, Some(list), _) => list.stands(Tag::UsageCountLimit),
-        (Access::Blob { bits: _ }, None, _) => false,
-        (_, _, Some(stored)) => stored.limit != 0,
-        (_, _, None) => false,
+    let blob = key.blob.as_slice();
+    if blob.len() < NONCE_BYTES {
+        return &[];
     }
+    &blob[NONCE_BYTES..]
 }
 
-/// Whether there is a key: a blob that is handed in always is one.
-fn is_found(access: &Access, stored: Option<&KeyRecord>) -> bool
-    ensures { result ≡ model.is_found access.now (option_copied stored.entry) }
+/// Whether the key's material fits its list.
+fn is_usable(key: &KeyRecord, list: &Option<AuthList>) -> bool
+    ensures usable { result ≡ option_map_or (model.is_usable (material_in key.now)) list.now false }
+    ensures key { result ≡ true → IsKey (unwrap_or list.now []) (length (material_in key.now)) }
 {
-    match access {
-        Access::Blob { bits: _ } => true,
-        _ => stored.is_some(),
-    }
-}
-
-/// The number of the stored key.
-fn id_of(stored: Option<&KeyRecord>) -> Option<u64>
-    ensures { result ≡ users.id_of (option_copied stored.entry) }
-{
-    match stored {
-        Some(stored) => Some(stored.id),
-        None => None,
-    }
-}
-
-/// The key of a begin, whose blob is opened for the operation's list.
-fn begin_key(
-    alloc: Global,
-    device: &DeviceSecrets,
-    access: &Access,
-    stored: Option<&KeyRecord>,
-    key: &Descriptor,
-    asked: &Result<AuthList, Code>,
-) -> Result<BeginKey, NoMemory>
-    ensures key { IfOk result (λ own. spec.IsBeginKey own (model.begin_key device.now access.now (option_copied stored.entry) key.now asked.now)) }
-    ensures usable { IfOk result (λ own. own.opened.fits ≡ true → IsKey (unwrap_or own.opened.list []) (length own.opened.material)) }
-{
-    let opened = open_key(alloc, device, blob_for(access, stored, key), asked)?;
-    let limited = limited_by(access, stored, &opened.list);
-    Ok(BeginKey {
-        found: is_found(access, stored),
-        id: id_of(stored),
-        opened,
-        limited,
-    })
-}
-
-/// The user of a caller.
-fn user_of(caller: Caller) -> u32
-    ensures { result ≡ users.user_of caller }
-{
-    owner_of(caller) / 100_000
-}
-
-/// Whether one of the last tokens opens the key of a list at the reading `boot`.
-fn is_timely(tokens: &Tokens, opened: &Option<AuthList>, boot: u64) -> bool
-    ensures { result ≡ option_map_or (λ list. list_any (λ token. opens list boot token) (tokens_in tokens.now)) opened.now false }
-{
-    match opened {
-        Some(list) => tokens.timely(list, boot),
+    match list {
+        Some(list) => usable(list, material_in(key).len()),
         None => false,
     }
 }
 
-/// How many operations began on the key of a number; none on one that is not stored.
-fn begins_on(begins: &Begins, id: Option<u64>) -> u64
-    ensures { result ≡ option_map_or (begins_in begins.now) id 0 }
-{
-    match id {
-        Some(id) => begins.of(id),
-        None => 0,
-    }
-}
-
-/// The conditions of a caller's begin on a key.
-fn conditions(boot: &Boot, caller: Caller, key: &BeginKey, room: bool) -> Conditions
-    ensures { result ≡ conditions_in boot.now caller key.now.opened.list key.now.id room }
-{
-    Conditions {
-        early_ended: boot.device.has_early_ended(),
-        unlocked: boot.device.is_unlocked(user_of(caller)),
-        timely: is_timely(&boot.tokens, &key.opened.list, caller.reading.boot),
-        begins: begins_on(&boot.begins, key.id),
-        room,
-    }
-}
-
-/// What the rules of a begin read, by the list of its key, the caller's bits and the conditions.
+/// What the rules of a begin read, by the key that is found and the caller's bits.
 fn begin_facts(
+    alloc: Global,
     policy: &Policy,
-    found: bool,
-    opened: Option<AuthList>,
-    fits: bool,
+    found: Option<&KeyRecord>,
     access: &Access,
     caller: Caller,
     key: Descriptor,
-    asked: Result<AuthList, Code>,
+    params: &[u8],
     forced: bool,
-    conditions: Conditions,
-) -> BeginFacts
-    ensures { result ≡ model.facts_by policy.now found opened fits access.now caller key asked forced conditions }
+    room: bool,
+) -> Result<BeginFacts, NoMemory>
+    ensures facts { IfOk result (λ facts. facts ≡ model.facts_on policy.now (option_copied found.entry) access.now caller key params.now forced room) }
+    ensures key { IfOk result (λ facts. facts.fits ≡ true → IsKey (key_of facts) (length (option_map_or material_in (option_copied found.entry) []))) }
 {
     let row = row_for(policy, caller, key.nspace);
-    BeginFacts {
+    let asked = read_asked(alloc, params)?;
+    let (opened, fits) = match found {
+        Some(found) => {
+            let list = list_of(alloc, found)?;
+            let fits = is_usable(found, &list);
+            (list, fits)
+        }
+        None => (None, false),
+    };
+    Ok(BeginFacts {
         connected: caller.uid.is_some(),
         descriptor: key,
         row,
-        found,
+        found: found.is_some(),
         bits: bits_in(access),
         forced,
         asked,
         opened,
         fits,
-        wall: caller.reading.wall,
-        user: user_of(caller),
-        early_ended: conditions.early_ended,
-        unlocked: conditions.unlocked,
-        timely: conditions.timely,
-        begins: conditions.begins,
-        room: conditions.room,
+        room,
+    })
+}
+
+/// The material of the key that is found, and no bytes where none is.
+fn material_of(found: Option<&KeyRecord>) -> &[u8]
+    ensures { result.now ≡ option_map_or material_in (option_copied found.entry) [] }
+{
+    match found {
+        Some(found) => material_in(found),
+        None => &[],
     }
 }
 
-/// What the rules read of a new operation on a key of this list, with the challenge that it has.
-fn new_operation(
-    number: u64,
-    client: u64,
-    id: Option<u64>,
-    limited: bool,
-    begin: &Begin,
-    list: AuthList,
-    challenge: Option<u64>,
-) -> Operation
-    ensures { spec.IsNewRow result number client id limited begin.now.plan list challenge }
+/// What the rules read of a new operation on a key.
+fn new_operation(number: u64, client: u64, key: &KeyRecord, begin: &Begin) -> Operation
+    ensures { spec.IsNewRow result number client key.now begin.now.plan }
 {
     Operation {
         number,
         client,
-        key: id,
+        key: Some(key.id),
         plan: begin.plan,
-        limited,
+        limited: key.limit != 0,
         aad: 0,
         text: 0,
         busy: false,
-        challenge,
-        shown: false,
-        list,
     }
+}
+
+/// The cipher's state of a new operation on a key.
+fn new_cipher(
+    alloc: Global,
+    key: &KeyRecord,
+    begin: &Begin,
+    drawn: &[u8],
+) -> Result<CipherState, NoMemory>
+    requires { Fits begin.now.plan (material_in key.now) (nonce_used begin.now.nonce drawn.now) }
+    ensures { IfOk result (λ state. StandsFor state begin.now.plan (is_limited key.now.limit) (material_in key.now) (nonce_used begin.now.nonce drawn.now) [] []) }
+{
+    begin.start(alloc, key.limit != 0, material_in(key), drawn)
 }
 
 /// The nonce that was drawn, for the reply.
@@ -239,45 +162,12 @@ fn drawn_nonce(room: Room, wanted: usize, drawn: &[u8]) -> Option<Bytes>
     Some(room.filled(drawn))
 }
 
-/// The challenge that was drawn: eight bytes, the highest first, or none.
-fn challenge_in(drawn: &[u8]) -> Option<u64>
-    ensures { result ≡ (if length drawn.now == 8 then Some (big_number 8 drawn.now) else None) }
-{
-    if drawn.len() != 8 {
-        return None;
-    }
-    Some(BigEndian::read_u64(drawn))
-}
-
-/// Takes room for a begin on a key, where it is stored.
-fn reserve_begin(begins: &mut Begins, id: Option<u64>) -> Result<(), NoMemory>
-    ensures room { OnOk result (spec.HasRoomOn begins.new id) }
-    ensures same { SameBegins begins.old begins.new }
-{
-    match id {
-        Some(id) => begins.reserve(id),
-        None => Ok(()),
-    }
-}
-
-/// Counts a begin on a key, where it is stored.
-fn count_begin(begins: &mut Begins, id: Option<u64>)
-    requires room { spec.HasRoomOn begins.old id }
-    requires few { IfSome id (λ key. begins_in begins.old key < 2 ^ 62) }
-    ensures { ChangesBegins (begins_of_key id) begins.old begins.new }
-{
-    if let Some(id) = id {
-        begins.count(id);
-    }
-}
-
 impl Tables {
     /// Closes the operation that gives way, where one does; then a slot is free.
     fn make_way(&mut self, pruned: Option<u64>)
         requires idle { IfSome pruned (λ op. IsSome (state_at self.old op)) }
         requires free { IfNone pruned (is_free self.old.slots ≡ true) }
         ensures way { spec.MakesWay pruned self.old self.new }
-        ensures boot { self.new.boot ≡ self.old.boot }
         ensures free { is_free self.new.slots ≡ true }
         ensures room { HasRoomForOperation self.old.operations → HasRoomForOperation self.new.operations }
     {
@@ -286,31 +176,19 @@ impl Tables {
         }
     }
 
-    /// Opens an operation of a uid on a key with its state, in the place of one that gives way, and counts it for the key where
-    /// that is stored.
-    fn open(
-        &mut self,
-        pruned: Option<u64>,
-        step: u64,
-        uid: u32,
-        key: Option<u64>,
-        row: Operation,
-        state: CipherState,
-    )
+    /// Opens an operation of a uid with its state, in the place of one that gives way.
+    fn open(&mut self, pruned: Option<u64>, step: u64, uid: u32, row: Operation, state: CipherState)
         requires idle { IfSome pruned (λ op. IsSome (state_at self.old op)) }
         requires free { IfNone pruned (is_free self.old.slots ≡ true) }
         requires fresh { is_some (held self.old.slots row.number) ≡ false }
         requires later { IsLater self.old.slots step }
         requires room { HasRoomForOperation self.old.operations }
         requires few { operations_given self.old.operations < 2 ^ 62 }
-        requires counted { spec.HasRoomOn self.old.boot.begins key }
-        requires less { IfSome key (λ id. begins_in self.old.boot.begins id < 2 ^ 62) }
-        ensures { spec.OpensOne pruned step uid key row state self.old self.new }
+        ensures { spec.OpensOne pruned step uid row state self.old self.new }
     {
         self.make_way(pruned);
         self.slots.begin(row.number, uid, row.client, step, state);
         self.operations.open(row);
-        count_begin(&mut self.boot.begins, key);
     }
 
     /// A client begins an operation on a key that its descriptor finds.
@@ -330,69 +208,52 @@ impl Tables {
         ensures serves { ServesAt step None self.old self.new (event_by caller (acts.CreateOperation key params forced)) result }
         ensures job { IfOk result (λ answered. answered.job ≡ None) }
         ensures drew { DrewForResult N.Entropy entropy.old entropy.new result }
+        ensures store { IfOk result (λ answered. LeavesStore self.old self.new answered) }
     {
         let uid = owner_of(caller);
         let pruned = pruned_for(&self.slots, uid, forced, step);
         let room = has_slot(&self.slots, pruned);
         let access = access_by(&self.policy, &self.keys, caller, &key);
-        let stored = key_in(&self.keys, &access);
-        let asked = read_asked(alloc, params.as_slice())?;
-        let own = begin_key(alloc, &self.device, &access, stored, &key, &asked)?;
-        let conditions = conditions(&self.boot, caller, &own, room);
-        let BeginKey {
-            found,
-            id,
-            opened,
-            limited,
-        } = own;
-        let OpenedKey {
-            list,
-            fits,
-            material,
-        } = opened;
+        let found = key_in(&self.keys, &access);
         let facts = begin_facts(
+            alloc,
             &self.policy,
             found,
-            list,
-            fits,
             &access,
             caller,
             key,
-            asked,
+            params.as_slice(),
             forced,
-            conditions,
-        );
-        let begin = match plan_begin(alloc, &facts, material.as_slice()) {
+            room,
+        )?;
+        let begin = match plan_begin(alloc, &facts, material_of(found)) {
             Ok(begin) => begin,
             Err(BeginFault::Broken(rule, code)) => return Ok(Answered::refused(alloc, rule, code)),
             Err(BeginFault::Memory) => return Err(NoMemory),
         };
+        let Some(found) = found else { unreachable!() };
         let nonce = Room::of(alloc, begin.wanted)?;
-        let pieces = Pieces {
-            first: begin.wanted,
-            second: challenge_wanted(&facts),
-        };
-        let draws = DrawRoom::of(alloc, pieces)?;
+        let draws = DrawRoom::of(
+            alloc,
+            Pieces {
+                first: begin.wanted,
+                second: 0,
+            },
+        )?;
         let op = self.operations.next();
         self.operations.reserve()?;
-        reserve_begin(&mut self.boot.begins, id)?;
         let drawn = match draws.draw(entropy) {
             Ok(drawn) => drawn,
             Err(drawn) => return Ok(Answered::without_entropy(drawn)),
         };
-        let (front, back) = drawn.as_slice().split_at(begin.wanted);
-        let Ok(state) = begin.start(alloc, limited, material.as_slice(), front) else {
+        let Ok(state) = new_cipher(alloc, found, &begin, drawn.as_slice()) else {
             return Ok(Answered::without_memory(drawn));
         };
-        let challenge = challenge_in(back);
-        let nonce = drawn_nonce(nonce, begin.wanted, front);
-        let list = facts.opened.unwrap_or(AuthList::empty(alloc));
-        let row = new_operation(op, caller.client, id, limited, &begin, list, challenge);
-        self.open(pruned, step, uid, id, row, state);
+        let row = new_operation(op, caller.client, found, &begin);
+        self.open(pruned, step, uid, row, state);
         let fields = Fields {
             op: Some(op),
-            challenge,
-            nonce,
+            nonce: drawn_nonce(nonce, begin.wanted, drawn.as_slice()),
             pruned,
             ..NO_FIELDS
         };

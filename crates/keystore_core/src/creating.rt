@@ -2,14 +2,15 @@
 
 ghost use Rattle.std.specs.Prelude.{◌≡◌, ◌+◌, length, None, IfOk};
 ghost use Rattle.std.specs.Option.{option_map};
-ghost use Rattle.key_database.specs.Held.{lasting_in};
+ghost use Rattle.key_database.specs.Stands.{lasting};
 ghost use Rattle.rule_model.specs.NewFacts as model;
-ghost use Rattle.rule_model.specs.Changes.{after_change};
 ghost use Rattle.rule_model.specs.Places.{has_key_place};
 ghost use Rattle.keystore_core.specs.Creating as spec;
 ghost use Rattle.keystore_core.specs.Drawn.{DrewForResult};
+ghost use Rattle.keystore_core.specs.Keys.{AreSettled};
 ghost use Rattle.keystore_core.specs.Room.{room_in};
 ghost use Rattle.keystore_core.specs.Tables.{IsCaller, ServesAfter, event_by};
+ghost use Rattle.keystore_core.specs.Writing.{StoreGoesAfter};
 
 use crate::access::{owner_of, row_for};
 use crate::answered::Answered;
@@ -17,14 +18,14 @@ use crate::descriptors::{alias_bytes, into_alias, owner_for};
 use crate::draw_room::DrawRoom;
 use crate::room::Room;
 use crate::tables::Tables;
+use crate::writing::write_change;
 use journal_records::Change;
-use key_database::LastingTable;
 use key_rules::{ImportFacts, NewFacts, NewFault};
-use keymint_ops::{NewKey, plan_key, seal_key};
-use ks_outside::Entropy;
-use rule_model::{Caller, Fields, NO_FIELDS, Pieces, Reply};
+use keymint_ops::{NewKey, plan_key};
+use ks_outside::{Disk, Entropy};
+use rule_model::{Caller, Fields, NO_FIELDS, Pieces};
 use std::alloc::Global;
-use tags::{Bytes, Code, DOMAIN_BLOB, Descriptor, NoMemory, Policy};
+use tags::{Bytes, Code, Descriptor, NoMemory, Policy};
 
 /// The bytes of the nonce that a key is sealed with.
 pub const NONCE_BYTES: usize = 12;
@@ -58,9 +59,8 @@ fn new_facts(
     key: Descriptor,
     params: Bytes,
     import: &Option<Import>,
-    early_ended: bool,
 ) -> NewFacts
-    ensures { result ≡ model.new_facts policy.now caller key params (option_map spec.facts_of_import import.now) early_ended }
+    ensures { result ≡ model.new_facts policy.now caller key params (option_map spec.facts_of_import import.now) }
 {
     let row = row_for(policy, caller, key.nspace);
     NewFacts {
@@ -69,50 +69,53 @@ fn new_facts(
         row,
         params,
         import: import_facts(import),
-        early_ended,
         wall: caller.reading.wall,
     }
 }
 
-/// A new key's material: the imported one, or these drawn bytes in the room that was taken.
-fn material_of(import: Option<Import>, room: Room, drawn: &[u8]) -> Bytes
-    requires { room_in room ≡ length drawn.now }
-    ensures { result ≡ spec.material_of import drawn.now }
+/// How many bytes a new key's material has, where so many are drawn for a generated one.
+fn material_bytes(import: &Option<Import>, size: usize) -> usize
+    ensures { result ≡ spec.material_bytes import.now size }
 {
     match import {
-        Some(
-            Import {
-                format: _,
-                material,
-            },
-        ) => material,
-        None => room.filled(drawn),
+        Some(import) => import.material.len(),
+        None => size,
     }
 }
 
-/// The nonce of a blob.
-fn nonce_in(drawn: &[u8]) -> [u8; 12]
-    requires { length drawn.now ≡ 12 }
-    ensures { result ≡ drawn.now }
+/// A new key's material: the imported one, or these drawn bytes.
+fn material_of<'a>(import: &'a Option<Import>, drawn: &'a [u8]) -> &'a [u8]
+    ensures { result.now ≡ spec.material_of import.now drawn.now }
 {
-    let mut nonce = [0; 12];
-    nonce.copy_from_slice(drawn);
-    nonce
+    match import {
+        Some(import) => import.material.as_slice(),
+        None => drawn,
+    }
 }
 
-/// The record of a key of a uid that is stored.
-fn stored_key(
+/// A planned key of a uid, by the bytes that were drawn for it, in the room that was taken.
+fn new_key(
     alloc: Global,
     id: u64,
     uid: u32,
     key: Descriptor,
-    blob: Bytes,
-    list: Bytes,
-    limit: u32,
+    plan: NewKey,
+    import: &Option<Import>,
+    room: Room,
+    drawn: &[u8],
 ) -> Change
-    ensures { result ≡ spec.creates id uid key blob list limit }
+    requires drawn { length drawn.now ≡ plan.size + 12 }
+    requires room { room_in room ≡ 12 + spec.material_bytes import.now plan.size }
+    ensures { result ≡ spec.creates id uid key plan import.now drawn.now }
 {
+    let (front, nonce) = drawn.split_at(plan.size);
+    let blob = room.joined(nonce, material_of(import, front));
     let (domain, nspace) = owner_for(uid, key.domain, key.nspace);
+    let NewKey {
+        list,
+        limit,
+        size: _,
+    } = plan;
     Change::Create {
         id,
         domain,
@@ -124,51 +127,21 @@ fn stored_key(
     }
 }
 
-/// Keeps a new key of a uid in its blob, or hands the blob out where it is made in BLOB.
-fn keep(
-    alloc: Global,
-    keys: &mut LastingTable,
-    uid: u32,
-    key: Descriptor,
-    blob: Bytes,
-    list: Bytes,
-    limit: u32,
-) -> Fields
-    requires { spec.CanKeep keys.old uid key blob list limit }
-    ensures fields { result ≡ spec.kept_fields (lasting_in keys.old) key blob }
-    ensures lasting { lasting_in keys.new ≡ after_change (spec.keeping (lasting_in keys.old) uid key blob list limit) (lasting_in keys.old) }
-{
-    if key.domain == DOMAIN_BLOB {
-        return Fields {
-            blob: Some(blob),
-            ..NO_FIELDS
-        };
-    }
-    let id = keys.next_numbers().0;
-    keys.make(stored_key(alloc, id, uid, key, blob, list, limit));
-    Fields {
-        key: Some(id),
-        ..NO_FIELDS
-    }
-}
-
 impl Tables {
-    /// Whether there is a place for one more key of a uid: the key under its name makes place, and a blob takes none.
+    /// Whether there is a place for one more key of a uid: the key under its name makes place.
     fn has_key_place(&self, uid: u32, key: &Descriptor) -> bool
-        ensures { result ≡ has_key_place (lasting_in self.now.keys) uid key.now }
+        ensures { result ≡ has_key_place (lasting self.now.keys) uid key.now }
     {
-        if key.domain == DOMAIN_BLOB {
-            return true;
-        }
         let (domain, nspace) = owner_for(uid, key.domain, key.nspace);
         self.keys.next_numbers().0 < NUMBERS_END
             && self.keys.has_place_for(domain, nspace, alias_bytes(key))
     }
 
     /// A client makes a key: an imported one, or else a generated one.
-    pub fn make_key<N: Entropy>(
+    pub fn make_key<D: Disk, N: Entropy>(
         &mut self,
         alloc: Global,
+        disk: &mut D,
         entropy: &mut N,
         caller: Caller,
         key: Descriptor,
@@ -176,14 +149,15 @@ impl Tables {
         import: Option<Import>,
     ) -> Result<Answered, NoMemory>
         requires caller { IsCaller self.old caller }
+        requires settled { AreSettled self.old }
         ensures serves { ServesAfter self.old self.new (event_by caller (spec.making key params import)) result }
         ensures job { IfOk result (λ answered. answered.job ≡ None) }
         ensures drew { DrewForResult N.Entropy entropy.old entropy.new result }
+        ensures store { StoreGoesAfter D.Disk self.old self.new disk.old disk.new caller (spec.making key params import) result }
     {
-        let early_ended = self.boot.device.has_early_ended();
-        let facts = new_facts(&self.policy, caller, key, params, &import, early_ended);
-        let new = match plan_key(alloc, &facts) {
-            Ok(new) => new,
+        let facts = new_facts(&self.policy, caller, key, params, &import);
+        let plan = match plan_key(alloc, &facts) {
+            Ok(plan) => plan,
             Err(NewFault::Broken(rule, code)) => return Ok(Answered::refused(alloc, rule, code)),
             Err(NewFault::Memory) => return Err(NoMemory),
         };
@@ -191,12 +165,9 @@ impl Tables {
         if !self.has_key_place(uid, &facts.descriptor) {
             return Ok(Answered::stopped(alloc, Code::StoreFull));
         }
-        let NewKey { plan, list } = new;
-        let size = plan.size;
-        let limit = plan.limit;
-        let room = Room::of(alloc, size)?;
+        let room = Room::of(alloc, NONCE_BYTES + material_bytes(&import, plan.size))?;
         let pieces = Pieces {
-            first: size,
+            first: plan.size,
             second: NONCE_BYTES,
         };
         let draws = DrawRoom::of(alloc, pieces)?;
@@ -205,22 +176,16 @@ impl Tables {
             Ok(drawn) => drawn,
             Err(drawn) => return Ok(Answered::without_entropy(drawn)),
         };
-        let (front, back) = drawn.as_slice().split_at(size);
-        let material = material_of(import, room, front);
-        let Ok(blob) = seal_key(alloc, &self.device, nonce_in(back), plan, material) else {
-            return Ok(Answered::without_memory(drawn));
+        let id = self.keys.next_numbers().0;
+        let key = facts.descriptor;
+        let change = new_key(alloc, id, uid, key, plan, &import, room, drawn.as_slice());
+        let fields = Fields {
+            key: Some(id),
+            ..NO_FIELDS
         };
-        let fields = keep(
-            alloc,
-            &mut self.keys,
-            uid,
-            facts.descriptor,
-            blob,
-            list,
-            limit,
-        );
+        let reply = write_change(&mut self.keys, disk, change, fields);
         Ok(Answered {
-            reply: Reply::Done(fields),
+            reply,
             job: None,
             drawn,
         })

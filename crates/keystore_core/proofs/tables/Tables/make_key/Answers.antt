@@ -1,16 +1,16 @@
-use Rattle.std.proofs.Common.{◌≡◌, ◌+◌, ◌<◌, ◌^◌, true, length, ap, sym, ◌∙◌, arith}
-use Rattle.key_database.specs.Held.{lasting_in}
+use Rattle.std.proofs.Common.{◌≡◌, ℕ, ◌+◌, ◌<◌, ◌^◌, true, length, ap, sym, ◌∙◌, arith}
+use Rattle.key_database.specs.Stands.{lasting}
 use Rattle.key_rules.specs.declared.facts.NewFacts.{NewFacts}
 use Rattle.keymint_ops.specs.Creation.{planned}
 use Rattle.rule_model.specs.Access.{owner_of}
 use Rattle.rule_model.specs.Places.{has_key_place}
-use Rattle.keystore_core.proofs.Making.{full, made, may_keep, place_is, planned_as, refused, unkept, without_entropy}
+use Rattle.keystore_core.proofs.Making.{full, made, may_make, place_is, planned_as, refused, without_entropy}
 use Rattle.keystore_core.proofs.Standing.{same_but_keys}
 use Rattle.keystore_core.proofs.tables.Tables.make_key.Goals as goal
 
 pub returns-in-Err-Broken-clause-serves : goal.returns-in-Err-Broken-clause-serves
 returns-in-Err-Broken-clause-serves g c = λ setup past stands.
-    let facts = rw c.has_early_ended-early_ended.ensures at c.new_facts-facts.ensures in
+    let facts = c.new_facts-facts.ensures in
     let broken = planned_as setup past c.args.self.now c.args.caller c.args.key c.args.params c.args.import stands c.requires.caller _
     (sym (ap planned facts) ∙ rw c.in-Err-Broken.field-0-is at c.in-Err-Broken.ensures.key) in
     rw (c.refused.ensures.reply, c.refused.ensures.job, c.refused.ensures.drawn, c.in-Err-Broken.rule-is, c.in-Err-Broken.code-is)
@@ -18,62 +18,56 @@ returns-in-Err-Broken-clause-serves g c = λ setup past stands.
 
 pub returns-then-not-has_key_place-clause-serves : goal.returns-then-not-has_key_place-clause-serves
 returns-then-not-has_key_place-clause-serves g c = λ setup past stands.
-    let facts = rw c.has_early_ended-early_ended.ensures at c.new_facts-facts.ensures in
+    let facts = c.new_facts-facts.ensures in
     let told = rw (c.owner_of-uid.ensures, ap (λ (f : NewFacts). f.descriptor) facts) at c.has_key_place.ensures in
     let plan = planned_as setup past c.args.self.now c.args.caller c.args.key c.args.params c.args.import stands c.requires.caller _
     (sym (ap planned facts) ∙ c.in-Ok.ensures.key) in
     rw (c.stopped.ensures.reply, c.stopped.ensures.job, c.stopped.ensures.drawn)
-    (full setup past c.args.self.now c.args.caller c.args.key c.args.params c.args.import stands c.requires.caller c.in-Ok.new plan
+    (full setup past c.args.self.now c.args.caller c.args.key c.args.params c.args.import stands c.requires.caller c.in-Ok.plan plan
     (sym (place_is setup past c.args.self.now c.args.caller c.args.key c.args.params c.args.import stands c.requires.caller) ∙ sym told
     ∙ c.if-not-has_key_place.true))
 
 pub returns-in-Err-clause-serves : goal.returns-in-Err-clause-serves
 returns-in-Err-clause-serves g c = λ setup past stands.
-    let facts = rw c.has_early_ended-early_ended.ensures at c.new_facts-facts.ensures in
+    let facts = c.new_facts-facts.ensures in
     let told = rw (c.owner_of-uid.ensures, ap (λ (f : NewFacts). f.descriptor) facts) at c.has_key_place.ensures in
     let plan = planned_as setup past c.args.self.now c.args.caller c.args.key c.args.params c.args.import stands c.requires.caller _
     (sym (ap planned facts) ∙ c.in-Ok.ensures.key) in
     let place = sym (place_is setup past c.args.self.now c.args.caller c.args.key c.args.params c.args.import stands c.requires.caller) ∙ sym told
     ∙ c.if-not-has_key_place.false in
-    let few : length c.in-Err.drawn < c.in-Ok.new.plan.size + 12 = omega (arith, c.in-Err.ensures.part, c.in_ok-draws.ensures) in
+    let few : length c.in-Err.drawn < c.in-Ok.plan.size + 12 = omega (arith, c.in-Err.ensures.part, c.in_ok-draws.ensures) in
     rw (c.without_entropy.ensures.reply, c.without_entropy.ensures.job, c.without_entropy.ensures.drawn)
-    (without_entropy setup past c.args.self.now c.args.caller c.args.key c.args.params c.args.import stands c.requires.caller _ c.in-Ok.new c.in-Err.drawn plan place
+    (without_entropy setup past c.args.self.now c.args.caller c.args.key c.args.params c.args.import stands c.requires.caller _ c.in-Ok.plan c.in-Err.drawn plan place
     (same_but_keys c.args.self.now c.reserve_key.new.self c.in_ok-reserve_key.ensures.same) few)
 
-pub returns-in_default-clause-serves : goal.returns-in_default-clause-serves
-returns-in_default-clause-serves g c = λ setup past stands.
-    let facts = rw c.has_early_ended-early_ended.ensures at c.new_facts-facts.ensures in
-    let told = rw (c.owner_of-uid.ensures, ap (λ (f : NewFacts). f.descriptor) facts) at c.has_key_place.ensures in
-    let plan = planned_as setup past c.args.self.now c.args.caller c.args.key c.args.params c.args.import stands c.requires.caller _
-    (sym (ap planned facts) ∙ c.in-Ok.ensures.key) in
-    let place = sym (place_is setup past c.args.self.now c.args.caller c.args.key c.args.params c.args.import stands c.requires.caller) ∙ sym told
-    ∙ c.if-not-has_key_place.false in
-    let long : length c.in-Ok-draw.drawn ≡ c.in-Ok.new.plan.size + 12 = omega (arith, c.in-Ok-draw.ensures.whole, c.in_ok-draws.ensures) in
-    rw (c.without_memory.ensures.reply, c.without_memory.ensures.job, c.without_memory.ensures.drawn)
-    (unkept setup past c.args.self.now c.args.caller c.args.key c.args.params c.args.import stands c.requires.caller _ c.in-Ok.new c.in-Ok-draw.drawn plan place
-    (same_but_keys c.args.self.now c.reserve_key.new.self c.in_ok-reserve_key.ensures.same) long)
-
-pub keep-fields-requires : goal.keep-fields-requires
-keep-fields-requires g c =
+pub write_change-reply-requires-clause-can : goal.write_change-reply-requires-clause-can
+write_change-reply-requires-clause-can g c =
     let told = rw (c.owner_of-uid.ensures, ap (λ (f : NewFacts). f.descriptor) c.new_facts-facts.ensures) at c.has_key_place.ensures in
-    let place : has_key_place (lasting_in c.reserve_key.new.self) (owner_of c.args.caller) c.args.key ≡ true =
-    ap (λ part. has_key_place part (owner_of c.args.caller) c.args.key) c.in_ok-reserve_key.ensures.same ∙ sym told ∙ c.if-not-has_key_place.false in
+    let place : has_key_place (lasting c.reserve_key.new.self) (owner_of c.args.caller) c.args.key ≡ true =
+    ap (λ part. has_key_place part (owner_of c.args.caller) c.args.key) c.in_ok-reserve_key.ensures.same.lasting_is ∙ sym told ∙ c.if-not-has_key_place.false in
     let small : owner_of c.args.caller < 2 ^ 32 = rw c.owner_of-uid.ensures at c.owner_of-uid.type_inv in
-    rw (c.owner_of-uid.ensures, ap (λ (f : NewFacts). f.descriptor) c.new_facts-facts.ensures)
-    (may_keep c.args.self.now.policy c.args.caller c.args.key c.args.params c.args.import _ c.reserve_key.new.self c.in-Ok.new.plan _ _ c.in-Ok.new.plan.limit c.in_ok-reserve_key.ensures.room place small
-    (rw c.new_facts-facts.ensures at c.in-Ok.ensures.fit) c.in-Ok-seal_key.ensures.few c.in-Ok.ensures.listed)
+    let long : length c.in-Ok-draw.drawn ≡ c.in-Ok.plan.size + 12 = omega (arith, c.in-Ok-draw.ensures.whole, c.in_ok-draws.ensures) in
+    let changed = rw (
+      c.owner_of-uid.ensures,
+      ap (λ (f : NewFacts). f.descriptor) c.new_facts-facts.ensures,
+      c.as_slice.ensures,
+      ap (λ (n : ℕ × ℕ). n.0) c.next_numbers-id.ensures,
+    ) at c.new_key-change.ensures in
+    rw changed
+    (may_make c.args.self.now.policy c.args.caller c.args.key c.args.params c.args.import c.reserve_key.new.self c.in-Ok.plan c.in-Ok-draw.drawn c.in_ok-reserve_key.ensures.room place small
+    (rw c.new_facts-facts.ensures at c.in-Ok.ensures.fit) long)
 
 pub returns-clause-serves : goal.returns-clause-serves
 returns-clause-serves g c = λ setup past stands.
-    let facts = rw c.has_early_ended-early_ended.ensures at c.new_facts-facts.ensures in
+    let facts = c.new_facts-facts.ensures in
     let told = rw (c.owner_of-uid.ensures, ap (λ (f : NewFacts). f.descriptor) facts) at c.has_key_place.ensures in
     let plan = planned_as setup past c.args.self.now c.args.caller c.args.key c.args.params c.args.import stands c.requires.caller _
     (sym (ap planned facts) ∙ c.in-Ok.ensures.key) in
     let place = sym (place_is setup past c.args.self.now c.args.caller c.args.key c.args.params c.args.import stands c.requires.caller) ∙ sym told
     ∙ c.if-not-has_key_place.false in
-    let long : length c.in-Ok-draw.drawn ≡ c.in-Ok.new.plan.size + 12 = omega (arith, c.in-Ok-draw.ensures.whole, c.in_ok-draws.ensures) in
-    let blob = rw (c.nonce_in.ensures, c.split_at.ensures.back, c.material_of-material.ensures, c.split_at.ensures.front, c.as_slice.ensures) at c.in-Ok-seal_key.ensures.blob in
-    rw (c.keep-fields.ensures.fields, ap (λ (f : NewFacts). f.descriptor) facts, blob)
-    (made setup past c.args.self.now c.args.caller c.args.key c.args.params c.args.import stands c.requires.caller (record c.args.self.now { keys = c.reserve_key.new.self }) c.keep-fields.new.keys c.in-Ok.new c.in-Ok-draw.drawn plan place long
-    (same_but_keys c.args.self.now c.reserve_key.new.self c.in_ok-reserve_key.ensures.same)
-    (rw (c.owner_of-uid.ensures, ap (λ (f : NewFacts). f.descriptor) facts, blob) at c.keep-fields.ensures.lasting))
+    let long : length c.in-Ok-draw.drawn ≡ c.in-Ok.plan.size + 12 = omega (arith, c.in-Ok-draw.ensures.whole, c.in_ok-draws.ensures) in
+    let number : c.next_numbers-id.result.0 ≡ (lasting c.reserve_key.new.self).next_key = ap (λ (n : ℕ × ℕ). n.0) c.next_numbers-id.ensures in
+    let changed = rw (c.owner_of-uid.ensures, ap (λ (f : NewFacts). f.descriptor) facts, c.as_slice.ensures, number) at c.new_key-change.ensures in
+    rw number
+    (made setup past c.args.self.now c.args.caller c.args.key c.args.params c.args.import stands c.requires.caller (record c.args.self.now { keys = c.reserve_key.new.self }) c.write_change.new.keys
+    c.in-Ok.plan c.in-Ok-draw.drawn c.write_change-reply.result plan place long (same_but_keys c.args.self.now c.reserve_key.new.self c.in_ok-reserve_key.ensures.same) c.requires.settled (rw (changed, number) at c.write_change-reply.ensures.written))
