@@ -11,7 +11,7 @@ use Rattle.journal_records.specs.Holding.{Sure, Unsure}
 use Rattle.journal_records.specs.LastingPart.{Lasting}
 use Rattle.rule_model.specs.declared.entry.Entry.TheVariants.{Acted}
 use Rattle.rule_model.specs.declared.event.Act.{Act}
-use Rattle.rule_model.specs.declared.event.Act.TheVariants.{GenerateKey, ImportKey, DeleteKey, Grant, Ungrant, ClearNamespace, UserRemoved, Restart}
+use Rattle.rule_model.specs.declared.event.Act.TheVariants.{GenerateKey, ImportKey, EnterFinish, DeleteKey, Grant, Ungrant, ClearNamespace, UserRemoved, Restart}
 use Rattle.rule_model.specs.declared.event.Event.{Event}
 use Rattle.rule_model.specs.declared.facts.Caller.{Caller}
 use Rattle.rule_model.specs.declared.reply.Fields.{Fields}
@@ -22,7 +22,8 @@ use Rattle.rule_model.specs.Blobs.{device_at, root_given, root_of}
 use Rattle.rule_model.specs.Changes.{after_change, change_of}
 use Rattle.rule_model.specs.Clients.{caller_of}
 use Rattle.rule_model.specs.Entries.{History, is_done}
-use Rattle.rule_model.specs.Kept.{kept, kept_after, kept_settled}
+use Rattle.rule_model.specs.Kept.{kept, kept_after, kept_settled, open_of}
+use Rattle.rule_model.specs.Operations.{Open}
 use Rattle.rule_model.specs.Settling.{is_disk_fault, is_faulted, is_system_error, is_unsettled}
 use Rattle.rule_model.specs.Setup.{Setup}
 use Rattle.rule_model.specs.Stored.{after_reply, bytes_if, bytes_settled, bytes_with, change_by, holding_of, made_by, record_bytes, stored_bytes, torn_by, where_stored}
@@ -31,6 +32,7 @@ use Rattle.rule_model.specs.Stored.{after_reply, bytes_if, bytes_settled, bytes_
 abbrev pub changes_kept : Act → Bool
 changes_kept (GenerateKey key params) = true
 changes_kept (ImportKey key params format material) = true
+changes_kept (EnterFinish op input signature) = true
 changes_kept (DeleteKey key) = true
 changes_kept (Grant key uid bits) = true
 changes_kept (Ungrant key uid) = true
@@ -39,16 +41,17 @@ changes_kept (UserRemoved user) = true
 changes_kept (Restart root) = true
 changes_kept _ = false
 
-pub none_changed : (act : Act) (device : DeviceSecrets) (policy : List PolicyRow) (part : Lasting) (caller : Caller) (drawn : List ℕ) → changes_kept act ≡ false → change_of act device policy part caller drawn ≡ None
-none_changed (GenerateKey key params) device policy part caller drawn e = cc
-none_changed (ImportKey key params format material) device policy part caller drawn e = cc
-none_changed (DeleteKey key) device policy part caller drawn e = cc
-none_changed (Grant key uid bits) device policy part caller drawn e = cc
-none_changed (Ungrant key uid) device policy part caller drawn e = cc
-none_changed (ClearNamespace domain nspace) device policy part caller drawn e = cc
-none_changed (UserRemoved user) device policy part caller drawn e = cc
-none_changed (Restart root) device policy part caller drawn e = cc
-none_changed _ device policy part caller drawn e = refl
+pub none_changed : (act : Act) (device : DeviceSecrets) (policy : List PolicyRow) (part : Lasting) (opened : List Open) (caller : Caller) (drawn : List ℕ) → changes_kept act ≡ false → change_of act device policy part opened caller drawn ≡ None
+none_changed (GenerateKey key params) device policy part opened caller drawn e = cc
+none_changed (ImportKey key params format material) device policy part opened caller drawn e = cc
+none_changed (EnterFinish op input signature) device policy part opened caller drawn e = cc
+none_changed (DeleteKey key) device policy part opened caller drawn e = cc
+none_changed (Grant key uid bits) device policy part opened caller drawn e = cc
+none_changed (Ungrant key uid) device policy part opened caller drawn e = cc
+none_changed (ClearNamespace domain nspace) device policy part opened caller drawn e = cc
+none_changed (UserRemoved user) device policy part opened caller drawn e = cc
+none_changed (Restart root) device policy part opened caller drawn e = cc
+none_changed _ device policy part opened caller drawn e = refl
 
 none_given : (act : Act) (before : List ℕ) → changes_kept act ≡ false → root_given act before ≡ before
 none_given (Restart root) before e = cc
@@ -67,13 +70,13 @@ denied_kept setup past event drawn (Done fields) e = cc
 denied_kept setup past event drawn (Broken rule code) e = refl
 denied_kept setup past event drawn (Stopped code) e =
     uncounted (is_faulted (is_unsettled past) event.act (Stopped code)) setup past
-    (λ part. after_change (change_of event.act (device_at setup past) setup.policy part (caller_of past event) drawn) part)
+    (λ part. after_change (change_of event.act (device_at setup past) setup.policy part (open_of setup past) (caller_of past event) drawn) part)
 
 -- an entry whose act changes none
 pub same_kept : (setup : Setup) (past : History) (event : Event) (drawn : List ℕ) (reply : Reply) → changes_kept event.act ≡ false
     → kept setup (Acted event drawn reply ∷ past) ≡ kept setup past
 same_kept setup past event drawn (Done fields) e =
-    ap (λ change. after_change change (kept setup past)) (none_changed event.act (device_at setup past) setup.policy (kept setup past) (caller_of past event) drawn e)
+    ap (λ change. after_change change (kept setup past)) (none_changed event.act (device_at setup past) setup.policy (kept setup past) (open_of setup past) (caller_of past event) drawn e)
 same_kept setup past event drawn (Broken rule code) e = denied_kept setup past event drawn (Broken rule code) refl
 same_kept setup past event drawn (Stopped code) e = denied_kept setup past event drawn (Stopped code) refl
 
@@ -125,7 +128,7 @@ denied_stored setup past event drawn (Broken rule code) e f = record { kept_is =
 denied_stored setup past event drawn (Stopped code) e f = record {
   kept_is = denied_kept setup past event drawn (Stopped code) refl;
   bytes_are = uncounted_bytes (is_faulted (is_unsettled past) event.act (Stopped code)) setup past
-      (change_of event.act (device_at setup past) setup.policy (kept_settled setup (if is_faulted (is_unsettled past) event.act (Stopped code) then None else None) past) (caller_of past event) drawn);
+      (change_of event.act (device_at setup past) setup.policy (kept_settled setup (if is_faulted (is_unsettled past) event.act (Stopped code) then None else None) past) (open_of setup past) (caller_of past event) drawn);
   settled_is = rw f refl;
   device_is = refl;
 }
@@ -135,7 +138,7 @@ pub quiet_stored : (setup : Setup) (past : History) (event : Event) (drawn : Lis
     → SameStored setup past (Acted event drawn reply ∷ past)
 quiet_stored setup past event drawn (Done fields) e f = record {
   kept_is = same_kept setup past event drawn (Done fields) e;
-  bytes_are = ap (λ change. bytes_with change (stored_bytes setup past)) (none_changed event.act (device_at setup past) setup.policy (kept setup past) (caller_of past event) drawn e);
+  bytes_are = ap (λ change. bytes_with change (stored_bytes setup past)) (none_changed event.act (device_at setup past) setup.policy (kept setup past) (open_of setup past) (caller_of past event) drawn e);
   settled_is = refl;
   device_is = same_device setup past event drawn (Done fields) e;
 }
@@ -170,7 +173,7 @@ pub torn_stored : (setup : Setup) (past : History) (event : Event) (drawn : List
 torn_stored setup past event drawn e stays = record {
   kept_is = denied_kept setup past event drawn (Stopped SystemError) refl;
   bytes_are = uncounted_bytes (is_faulted (is_unsettled past) event.act (Stopped SystemError)) setup past
-      (change_of event.act (device_at setup past) setup.policy (kept_settled setup (if is_faulted (is_unsettled past) event.act (Stopped SystemError) then None else None) past) (caller_of past event) drawn);
+      (change_of event.act (device_at setup past) setup.policy (kept_settled setup (if is_faulted (is_unsettled past) event.act (Stopped SystemError) then None else None) past) (open_of setup past) (caller_of past event) drawn);
   waits = rw (stays, e) refl;
   device_is = refl;
 }

@@ -15,13 +15,13 @@ use Rattle.rule_model.specs.Blobs.{device_at}
 use Rattle.rule_model.specs.Changes.{change_of}
 use Rattle.rule_model.specs.Clients.{caller_of}
 use Rattle.rule_model.specs.Entries.{History}
-use Rattle.rule_model.specs.Kept.{kept, kept_settled}
+use Rattle.rule_model.specs.Kept.{kept, kept_settled, open_of}
 use Rattle.rule_model.specs.Settling.{counts, is_system_error, is_unsettled, verdict_before}
 use Rattle.rule_model.specs.Setup.{Setup}
 
 -- the change that an event makes of what a history keeps, where it counts
 abbrev pub change_by : Setup → History → Event → List ℕ → Option Change
-change_by setup past event drawn = change_of event.act (device_at setup past) setup.policy (kept setup past) (caller_of past event) drawn
+change_by setup past event drawn = change_of event.act (device_at setup past) setup.policy (kept setup past) (open_of setup past) (caller_of past event) drawn
 
 -- how many bytes a record has: its gate, the body's length, and the body
 abbrev pub record_bytes : Change → ℕ
@@ -41,7 +41,7 @@ bytes_settled setup verdict [] = setup.bytes
 bytes_settled setup verdict (Settling settled ∷ past) = bytes_settled setup (Some settled) past
 bytes_settled setup verdict (Acted event drawn reply ∷ past) =
     bytes_if (counts verdict past event.act reply)
-    (change_of event.act (device_at setup past) setup.policy (kept_settled setup (verdict_before verdict past event.act reply) past) (caller_of past event) drawn)
+    (change_of event.act (device_at setup past) setup.policy (kept_settled setup (verdict_before verdict past event.act reply) past) (open_of setup past) (caller_of past event) drawn)
     (bytes_settled setup (verdict_before verdict past event.act reply) past)
 
 -- how many bytes the header and the records have
