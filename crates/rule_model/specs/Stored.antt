@@ -1,11 +1,12 @@
 -- What the store of a history is: how many bytes it has, and what is known of the lasting part that it stands for.
-use Rattle.std.specs.Prelude.{ℕ, ◌+◌, Bool, ◌&&◌, not, nat_le, List, [], ◌∷◌, length, Option, Some, None, if◌then◌else◌}
+use Rattle.std.specs.Prelude.{◌≡◌, ◌⊎◌, ℕ, ◌+◌, Bool, true, false, ◌&&◌, not, nat_le, List, [], ◌∷◌, length, Option, Some, None, if◌then◌else◌}
 use Rattle.tags.specs.declared.code.Code.{Code}
 use Rattle.tags.specs.declared.code.Code.TheVariants.{JournalFull}
 use Rattle.tags.specs.declared.settled.Settled.{Settled}
 use Rattle.tags.specs.declared.settled.Settled.TheVariants.{Kept, Lost}
 use Rattle.journal_records.specs.declared.change.Change.{Change}
 use Rattle.journal_records.specs.Holding.{Holding, Sure, Unsure, changed_in, torn_in}
+use Rattle.journal_records.specs.LastingPart.{Lasting}
 use Rattle.journal_records.specs.Spelling.{framed}
 use Rattle.rule_model.specs.declared.entry.Entry.TheVariants.{Acted, Settling}
 use Rattle.rule_model.specs.declared.event.Event.{Event}
@@ -68,6 +69,15 @@ where_stored bytes (Some change) (Stopped code) = Stopped code
 abbrev pub holding_of : Setup → History → Holding
 holding_of setup past =
     if is_unsettled past then Unsure (kept setup (Settling Lost ∷ past)) (kept setup (Settling Kept ∷ past)) else Sure (kept setup past)
+
+-- What the store may stand for, whenever a crash comes: what the history keeps; where a faulted change waits to be settled, what
+-- is kept where it is lost, or what is where it is kept.
+abbrev pub MayWhere : Bool → Setup → History → Lasting → Type 0
+MayWhere true setup past part = (part ≡ kept setup (Settling Lost ∷ past)) ⊎ (part ≡ kept setup (Settling Kept ∷ past))
+MayWhere false setup past part = part ≡ kept setup past
+
+abbrev pub May : Setup → History → Lasting → Type 0
+May setup past part = MayWhere (is_unsettled past) setup past part
 
 -- what is known where a change, if there is one, was made, and where a device call failed
 abbrev pub made_by : Option Change → Holding → Holding
