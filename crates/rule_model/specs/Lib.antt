@@ -24,3 +24,4 @@ pub mod StepFacts
 pub mod Drawn
 pub mod Answer
 pub mod Legal
+pub mod Uses
