@@ -1,4 +1,5 @@
 pub mod Boot
+pub mod Bounds
 pub mod Clients
 pub mod Counting
 pub mod Kept

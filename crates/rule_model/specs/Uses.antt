@@ -32,10 +32,10 @@ used_by opened (EnterFinish op input signature) = used_key op opened
 used_by opened _ = None
 
 -- how many uses of the key of a number were admitted
-abbrev pub uses_of : Setup → History → ℕ → ℕ
-uses_of setup [] id = 0
-uses_of setup (Settling settled ∷ past) id = uses_of setup past id
-uses_of setup (Acted event drawn reply ∷ past) id = one_if (is_done reply && gives (used_by (open_of setup past) event.act) id) (uses_of setup past id)
+abbrev pub uses_made : Setup → History → ℕ → ℕ
+uses_made setup [] id = 0
+uses_made setup (Settling settled ∷ past) id = uses_made setup past id
+uses_made setup (Acted event drawn reply ∷ past) id = one_if (is_done reply && gives (used_by (open_of setup past) event.act) id) (uses_made setup past id)
 
 -- the limited key with which the work that is out under a ticket gives its output, where it is a finish's
 abbrev pub output_key : List Open → Option Entered → Option ℕ
@@ -51,10 +51,10 @@ finished_by setup past (Leave ticket) = output_key (open_of setup past) (ticket_
 finished_by setup past _ = None
 
 -- how many finishes gave output with the key of a number: an admitted leave of a finish gives it
-abbrev pub outputs_of : Setup → History → ℕ → ℕ
-outputs_of setup [] id = 0
-outputs_of setup (Settling settled ∷ past) id = outputs_of setup past id
-outputs_of setup (Acted event drawn reply ∷ past) id = one_if (is_done reply && gives (finished_by setup past event.act) id) (outputs_of setup past id)
+abbrev pub outputs_made : Setup → History → ℕ → ℕ
+outputs_made setup [] id = 0
+outputs_made setup (Settling settled ∷ past) id = outputs_made setup past id
+outputs_made setup (Acted event drawn reply ∷ past) id = one_if (is_done reply && gives (finished_by setup past event.act) id) (outputs_made setup past id)
 
 -- ---- the keys of a run
 
@@ -96,11 +96,11 @@ AreRuns (run ∷ earlier) = Legal run.setup (run.undone ++ run.past) × BeginsAf
 -- the uses of a key, and the outputs with it, over all runs
 abbrev pub uses_in : List Run → ℕ → ℕ
 uses_in [] id = 0
-uses_in (run ∷ earlier) id = uses_of run.setup run.past id + uses_in earlier id
+uses_in (run ∷ earlier) id = uses_made run.setup run.past id + uses_in earlier id
 
 abbrev pub outputs_in : List Run → ℕ → ℕ
 outputs_in [] id = 0
-outputs_in (run ∷ earlier) id = outputs_of run.setup run.past id + outputs_in earlier id
+outputs_in (run ∷ earlier) id = outputs_made run.setup run.past id + outputs_in earlier id
 
 -- such a key was among the keys of one of the runs
 abbrev pub HasStood : List Run → ℕ → ℕ → Type 0
