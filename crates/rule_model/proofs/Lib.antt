@@ -7,4 +7,5 @@ pub mod Held
 pub mod Kept
 pub mod Legal
 pub mod Operations
+pub mod Outputs
 pub mod Tickets
