@@ -8,4 +8,5 @@ pub mod Kept
 pub mod Legal
 pub mod Operations
 pub mod Outputs
+pub mod Returned
 pub mod Tickets

@@ -102,7 +102,7 @@ any_from_used number id (o ∷ opened) e = by_number (o.operation.number == numb
 -- ---- tickets
 
 -- fewer tickets are left without one that is among them
-left_length : (ticket : ℕ) (tickets : List ℕ) → length (filter (λ t. not (t == ticket)) tickets) ≤ length tickets
+pub left_length : (ticket : ℕ) (tickets : List ℕ) → length (filter (λ t. not (t == ticket)) tickets) ≤ length tickets
 left_length ticket [] = omega arith
 left_length ticket (t ∷ tickets) = by_same (t == ticket) (left_length ticket tickets) where
   by_same : (b : Bool) → length (filter (λ t. not (t == ticket)) tickets) ≤ length tickets → length (if not b then t ∷ filter (λ t. not (t == ticket)) tickets else filter (λ t. not (t == ticket)) tickets) ≤ length (t ∷ tickets)

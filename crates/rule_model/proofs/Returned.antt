@@ -1,0 +1,233 @@
+-- Over a legal history the outputs with a key, and the finishes with it that are out, are no more than its uses.
+use Rattle.std.proofs.Common.{◌≡◌, ◌⊎◌, inl, inr, ℕ, ◌+◌, ◌<◌, ◌≤◌, Bool, true, false, ◌==◌, ◌&&◌, ◌||◌, not, if◌then◌else◌, List, [], ◌∷◌, ◌++◌, map, filter, find, length, Option, Some, None, refl, sym, ap, ◌∙◌, subst, arith}
+use Rattle.std.proofs.lemmas.Bool.{eqb-true, eqb-false}
+use Rattle.std.specs.List.{list_any}
+use Rattle.tags.specs.declared.code.Code.{Code}
+use Rattle.tags.specs.declared.rule.Rule.{Rule}
+use Rattle.auth_tokens.specs.declared.token.AuthToken.{AuthToken}
+use Rattle.cipher_ops.specs.declared.room.Work.{Work}
+use Rattle.cipher_ops.specs.declared.room.Work.TheVariants.{Aad, Text, Last}
+use Rattle.journal_records.specs.LastingPart.{Lasting}
+use Rattle.step_rules.specs.Table.{ends_operation}
+use Rattle.use_rules.specs.declared.facts.BeginFacts.{BeginFacts}
+use Rattle.rule_model.specs.declared.entry.Entry.TheVariants.{Acted, Settling}
+use Rattle.rule_model.specs.declared.event.Act.{Act}
+use Rattle.rule_model.specs.declared.event.Act.TheVariants.{AddAuthToken, Disconnect, CreateOperation, EnterAad, EnterUpdate, EnterFinish, Abort, Leave, Restart}
+use Rattle.rule_model.specs.declared.event.Event.{Event}
+use Rattle.rule_model.specs.declared.facts.Caller.{Caller}
+use Rattle.rule_model.specs.declared.reply.Fields.{Fields}
+use Rattle.rule_model.specs.declared.reply.Reply.{Reply}
+use Rattle.rule_model.specs.declared.reply.Reply.TheVariants.{Done, Broken, Stopped}
+use Rattle.rule_model.specs.Acts.{is_begin}
+use Rattle.rule_model.specs.Answer.{answer_by_rules}
+use Rattle.rule_model.specs.BeginFacts.{BeginKey}
+use Rattle.rule_model.specs.Clients.{caller_of}
+use Rattle.rule_model.specs.Entries.{History, count_of, gives, is_done}
+use Rattle.rule_model.specs.Kept.{kept, open_of, operation_at}
+use Rattle.rule_model.specs.Operations.{Open, Operation, OperationChange, SameOperations, Opens, Enters, Returns, Shows, Closes, ClosesOf, ClosesAll, admitted_operation, as_begun, as_entered, as_returned, as_shown, closes, enters, has_number, is_for, is_of, limited_key, open_after, opens, operation_of, operation_on, returns, step_of, stopped_operation, used_key, with_change, without, without_pruned}
+use Rattle.rule_model.specs.Setup.{Setup}
+use Rattle.rule_model.specs.Tickets.{Entered, TicketChange, admitted_ticket, goes_out, stopped_ticket, ticket_after, ticket_at}
+use Rattle.rule_model.specs.Uses.{finished_by, one_if, output_key, outputs_made, used_by, uses_made}
+use Rattle.rule_model.proofs.Admitted.{IsEntered, entered}
+use Rattle.rule_model.proofs.Bounds.{Each, each_changed, each_in, each_left, each_more}
+use Rattle.rule_model.proofs.Outputs.{Apart, Differs, IsFew, any_changed, any_from_used, any_left, any_more, any_ticket_left, apart_changed, apart_left, apart_more, left_length, less_length, used_from_any, works_on}
+
+-- ---- the tickets of finishes that are out
+
+-- the operation of the work that is out, where it is a finish's
+abbrev pub finishing : Option Entered → Option ℕ
+finishing None = None
+finishing (Some entered) = by_work entered.work where
+  by_work : Work → Option ℕ
+  by_work (Aad input) = None
+  by_work (Text input) = None
+  by_work (Last input signature) = Some entered.op
+
+abbrev pub IsKnown : ℕ → Option Entered → Type 0
+IsKnown most None = Unit {0}
+IsKnown most (Some entered) = entered.op ≤ most
+
+-- What is known of the operations, of the tickets that are out, and of those that finishes with a key took: an operation with the
+-- key, whose finish is out, has its ticket among these, and they stand for uses that gave no output yet.
+pub record Paired (most : ℕ) (opened : List Open) (tickets : ℕ → Option Entered) (taken : List ℕ) (outputs uses id : ℕ) : Type 0 where
+  pub few : Each (IsFew most) opened
+  pub apart : Apart opened
+  pub known : (ticket : ℕ) → IsKnown most (tickets ticket)
+  pub waits : (ticket op : ℕ) → finishing (tickets ticket) ≡ Some op → list_any (works_on op id) opened ≡ true → list_any (λ t. t == ticket) taken ≡ true
+  pub counted : outputs + length taken ≤ uses
+
+-- the operations after an entry that opens none
+pub record Narrow (id : ℕ) (opened later : List Open) : Type 0 where
+  pub few : (most : ℕ) → Each (IsFew most) opened → Each (IsFew most) later
+  pub apart : Apart opened → Apart later
+  pub any : (op : ℕ) → list_any (works_on op id) later ≡ true → list_any (works_on op id) opened ≡ true
+
+narrow_same : (id : ℕ) (opened : List Open) → Narrow id opened opened
+narrow_same id opened = record { few = λ most few. few; apart = λ apart. apart; any = λ op e. e }
+
+narrow_left : (id : ℕ) (test : Open → Bool) (opened : List Open) → Narrow id opened (filter test opened)
+narrow_left id test opened = record {
+  few = λ most few. each_left (IsFew most) test opened few;
+  apart = apart_left test opened;
+  any = λ op e. any_left test (works_on op id) opened e;
+}
+
+narrow_changed : (id : ℕ) (change : Open → Open) (opened : List Open) → ((o : Open) → (change o).operation ≡ o.operation) → Narrow id opened (map change opened)
+narrow_changed id change opened same = record {
+  few = λ most few. each_changed (IsFew most) (IsFew most) change (λ o less. subst (λ (it : Operation). it.number ≤ most) (sym (same o)) less) opened few;
+  apart = apart_changed change same opened;
+  any = λ op e. sym (any_changed change (works_on op id) (λ o. ap (λ (it : Operation). (it.number == op) && gives (if it.limited then it.key else None) id) (same o)) opened) ∙ e;
+}
+
+narrow_none : (id : ℕ) (opened : List Open) → Narrow id opened []
+narrow_none id opened = record { few = λ most few. tt; apart = λ apart. tt; any = λ op e. cc }
+
+-- the changes that open none
+abbrev pub opens_none : OperationChange → Bool
+opens_none (Opens pruned operation) = false
+opens_none _ = true
+
+one_changed : (b : Bool) (change : Open → Open) (o : Open) → (change o).operation ≡ o.operation → (if b then change o else o).operation ≡ o.operation
+one_changed true change o same = same
+one_changed false change o same = refl
+
+narrow_by : (id step : ℕ) (change : OperationChange) (opened : List Open) → opens_none change ≡ true → Narrow id opened (open_after step change opened)
+narrow_by id step SameOperations opened e = narrow_same id opened
+narrow_by id step (Opens pruned operation) opened e = cc
+narrow_by id step (Enters op ticket) opened e = narrow_changed id (λ o. if has_number op o then as_entered step ticket o else o) opened (λ o. one_changed (has_number op o) (as_entered step ticket) o refl)
+narrow_by id step (Returns op aad text) opened e = narrow_changed id (λ o. if has_number op o then as_returned step aad text o else o) opened (λ o. one_changed (has_number op o) (as_returned step aad text) o refl)
+narrow_by id step (Shows token) opened e = narrow_changed id (λ o. if is_for token o then as_shown o else o) opened (λ o. one_changed (is_for token o) as_shown o refl)
+narrow_by id step (Closes op) opened e = narrow_left id (λ o. not (has_number op o)) opened
+narrow_by id step (ClosesOf client) opened e = narrow_left id (λ o. not (is_of client o)) opened
+narrow_by id step ClosesAll opened e = narrow_none id opened
+
+returns_none : (found : Option Entered) → opens_none (returns found) ≡ true
+returns_none None = refl
+returns_none (Some entered) = by_work entered.work where
+  by_work : (work : Work) → opens_none (returns (Some (record { op = entered.op; work = work }))) ≡ true
+  by_work (Aad input) = refl
+  by_work (Text input) = refl
+  by_work (Last input signature) = refl
+
+closes_none : (op : Option ℕ) → opens_none (closes op) ≡ true
+closes_none None = refl
+closes_none (Some op) = refl
+
+-- ---- over an entry that takes no ticket and opens nothing
+
+known_later : (most later : ℕ) (found : Option Entered) → most ≤ later → IsKnown most found → IsKnown later found
+known_later most later None less known = tt
+known_later most later (Some entered) less known = omega (arith, less, known)
+
+paired_still : (most : ℕ) (opened later : List Open) (tickets : ℕ → Option Entered) (taken : List ℕ) (outputs uses id : ℕ) → Narrow id opened later
+    → Paired most opened tickets taken outputs uses id → Paired most later tickets taken outputs uses id
+paired_still most opened later tickets taken outputs uses id narrow paired = record {
+  few = narrow.few most paired.few;
+  apart = narrow.apart paired.apart;
+  known = paired.known;
+  waits = λ ticket op is any. paired.waits ticket op is (narrow.any op any);
+  counted = paired.counted;
+}
+
+-- one ticket came back
+back_known : (most : ℕ) (b : Bool) (found : Option Entered) → IsKnown most found → IsKnown most (if b then None else found)
+back_known most true found known = tt
+back_known most false found known = known
+
+paired_back : (most : ℕ) (opened : List Open) (tickets : ℕ → Option Entered) (taken : List ℕ) (outputs uses id number : ℕ)
+    → Paired most opened tickets taken outputs uses id → Paired most opened (λ t. if number == t then None else tickets t) taken outputs uses id
+paired_back most opened tickets taken outputs uses id number paired = record {
+  few = paired.few;
+  apart = paired.apart;
+  known = λ t. back_known most (number == t) (tickets t) (paired.known t);
+  waits = λ t op is any. waits t op (number == t) is any;
+  counted = paired.counted;
+} where
+  waits : (t op : ℕ) (b : Bool) → finishing (if b then None else tickets t) ≡ Some op → list_any (works_on op id) opened ≡ true → list_any (λ it. it == t) taken ≡ true
+  waits t op true is any = cc
+  waits t op false is any = paired.waits t op is any
+
+among_taken : (most : ℕ) (opened : List Open) (tickets : ℕ → Option Entered) (taken : List ℕ) (outputs uses id number op : ℕ) (work : Work) → Paired most opened tickets taken outputs uses id
+    → tickets number ≡ Some (record { op = op; work = work }) → gives (output_key opened (Some (record { op = op; work = work }))) id ≡ true → list_any (λ it. it == number) taken ≡ true
+among_taken most opened tickets taken outputs uses id number op (Aad input) paired is e = cc
+among_taken most opened tickets taken outputs uses id number op (Text input) paired is e = cc
+among_taken most opened tickets taken outputs uses id number op (Last input signature) paired is e = paired.waits number op (ap finishing is) (any_from_used op id opened e)
+
+-- and its output counts, where it is that of a finish with the key
+paired_given : (most : ℕ) (opened : List Open) (tickets : ℕ → Option Entered) (taken : List ℕ) (outputs uses id number : ℕ)
+    → Paired most opened tickets taken outputs uses id
+    → Paired most opened (λ t. if number == t then None else tickets t) (filter (λ t. not (t == number)) taken) (one_if (gives (output_key opened (tickets number)) id) outputs) uses id
+paired_given most opened tickets taken outputs uses id number paired = record {
+  few = paired.few;
+  apart = paired.apart;
+  known = λ t. back_known most (number == t) (tickets t) (paired.known t);
+  waits = λ t op is any. waits t op (number == t) refl is any;
+  counted = counted (tickets number) refl (gives (output_key opened (tickets number)) id) refl;
+} where
+  Left : List ℕ
+  Left = filter (λ t. not (t == number)) taken
+  waits : (t op : ℕ) (b : Bool) → (number == t) ≡ b → finishing (if b then None else tickets t) ≡ Some op → list_any (works_on op id) opened ≡ true → list_any (λ it. it == t) Left ≡ true
+  waits t op true same is any = cc
+  waits t op false same is any = any_ticket_left number t taken (eqb-false number t same) (paired.waits t op is any)
+  among : (found : Option Entered) → tickets number ≡ found → gives (output_key opened found) id ≡ true → list_any (λ it. it == number) taken ≡ true
+  among None is e = cc
+  among (Some entered) is e = among_taken most opened tickets taken outputs uses id number entered.op entered.work paired is e
+  counted : (found : Option Entered) → tickets number ≡ found → (b : Bool) → gives (output_key opened (tickets number)) id ≡ b → one_if b outputs + length Left ≤ uses
+  counted found is true e = omega (arith, paired.counted, less_length number taken (among (tickets number) refl e))
+  counted found is false e = omega (arith, paired.counted, left_length number taken)
+
+-- ---- over an entry that takes a ticket
+
+-- the number of the operation that is found
+found_few : (most op : ℕ) (opened : List Open) (o : Open) → Each (IsFew most) opened → find (has_number op) opened ≡ Some o → op ≤ most
+found_few most op [] o few is = cc
+found_few most op (first ∷ opened) o few is = by_number (first.operation.number == op) refl is (found_few most op opened o few.1) where
+  by_number : (b : Bool) → (first.operation.number == op) ≡ b → (if b then Some first else find (has_number op) opened) ≡ Some o → (find (has_number op) opened ≡ Some o → op ≤ most) → op ≤ most
+  by_number true same is rest = subst (λ n. n ≤ most) (eqb-true first.operation.number op same) few.0
+  by_number false same is rest = rest is
+
+-- the ticket of a finish with the key is taken, and that of another step is not
+abbrev pub taken_with : Option ℕ → Bool → List ℕ → List ℕ
+taken_with None used taken = taken
+taken_with (Some ticket) used taken = if used then ticket ∷ taken else taken
+
+abbrev pub uses_key : Work → ℕ → List Open → ℕ → Bool
+uses_key (Aad input) op opened id = false
+uses_key (Text input) op opened id = false
+uses_key (Last input signature) op opened id = gives (used_key op opened) id
+
+behind : (first rest : Bool) → rest ≡ true → (first || rest) ≡ true
+behind true rest e = refl
+behind false rest e = e
+
+paired_out : (most op number : ℕ) (work : Work) (opened later : List Open) (tickets : ℕ → Option Entered) (taken : List ℕ) (outputs uses id : ℕ) → op ≤ most → Narrow id opened later
+    → Paired most opened tickets taken outputs uses id
+    → Paired most later (λ t. if number == t then Some (record { op = op; work = work }) else tickets t) (if uses_key work op opened id then number ∷ taken else taken) outputs (one_if (uses_key work op opened id) uses) id
+paired_out most op number work opened later tickets taken outputs uses id less narrow paired = record {
+  few = narrow.few most paired.few;
+  apart = narrow.apart paired.apart;
+  known = λ t. known t (number == t);
+  waits = λ t n is any. waits t n (number == t) refl is (narrow.any n any);
+  counted = counted (uses_key work op opened id);
+} where
+  known : (t : ℕ) (b : Bool) → IsKnown most (if b then Some (record { op = op; work = work }) else tickets t)
+  known t true = less
+  known t false = paired.known t
+  newest : (t n : ℕ) (work : Work) (b : Bool) → uses_key work op opened id ≡ b → (number == t) ≡ true → finishing (Some (record { op = op; work = work })) ≡ Some n → list_any (works_on n id) opened ≡ true
+      → list_any (λ it. it == t) (if b then number ∷ taken else taken) ≡ true
+  newest t n (Aad input) b uses same is any = cc
+  newest t n (Text input) b uses same is any = cc
+  newest t n (Last input signature) true uses same is any = rw same refl
+  newest t n (Last input signature) false uses same is any =
+      let this : op ≡ n = cc in
+      let used : gives (used_key op opened) id ≡ true = used_from_any op id opened paired.apart (subst (λ k. list_any (works_on k id) opened ≡ true) (sym this) any) in cc
+  more : (t : ℕ) (b : Bool) → list_any (λ it. it == t) taken ≡ true → list_any (λ it. it == t) (if b then number ∷ taken else taken) ≡ true
+  more t true any = behind (number == t) (list_any (λ it. it == t) taken) any
+  more t false any = any
+  waits : (t n : ℕ) (b : Bool) → (number == t) ≡ b → finishing (if b then Some (record { op = op; work = work }) else tickets t) ≡ Some n → list_any (works_on n id) opened ≡ true
+      → list_any (λ it. it == t) (if uses_key work op opened id then number ∷ taken else taken) ≡ true
+  waits t n true same is any = newest t n work (uses_key work op opened id) refl same is any
+  waits t n false same is any = more t (uses_key work op opened id) (paired.waits t n is any)
+  counted : (b : Bool) → outputs + length (if b then number ∷ taken else taken) ≤ one_if b uses
+  counted true = omega (arith, paired.counted)
+  counted false = paired.counted
