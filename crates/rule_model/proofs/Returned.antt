@@ -27,6 +27,7 @@ use Rattle.rule_model.specs.Kept.{kept, open_of, operation_at}
 use Rattle.rule_model.specs.Operations.{Open, Operation, OperationChange, SameOperations, Opens, Enters, Returns, Shows, Closes, ClosesOf, ClosesAll, admitted_operation, as_begun, as_entered, as_returned, as_shown, closes, enters, has_number, is_for, is_of, limited_key, open_after, opens, operation_of, operation_on, returns, step_of, stopped_operation, used_key, with_change, without, without_pruned}
 use Rattle.rule_model.specs.Setup.{Setup}
 use Rattle.rule_model.specs.Tickets.{Entered, TicketChange, admitted_ticket, goes_out, stopped_ticket, ticket_after, ticket_at}
+use Rattle.rule_model.specs.Tokens.{token_of}
 use Rattle.rule_model.specs.Uses.{finished_by, one_if, output_key, outputs_made, used_by, uses_made}
 use Rattle.rule_model.proofs.Admitted.{IsEntered, entered}
 use Rattle.rule_model.proofs.Bounds.{Each, each_changed, each_in, each_left, each_more}
@@ -231,3 +232,118 @@ paired_out most op number work opened later tickets taken outputs uses id less n
   counted : (b : Bool) → outputs + length (if b then number ∷ taken else taken) ≤ one_if b uses
   counted true = omega (arith, paired.counted)
   counted false = paired.counted
+
+paired_enters : (most step op : ℕ) (work : Work) (ticket : Option ℕ) (opened : List Open) (tickets : ℕ → Option Entered) (taken : List ℕ) (outputs uses id : ℕ) → op ≤ most
+    → Paired most opened tickets taken outputs uses id
+    → Paired most (open_after step (enters op ticket) opened) (λ t. ticket_after (goes_out ticket op work) t (tickets t)) (taken_with ticket (uses_key work op opened id) taken) outputs (one_if (uses_key work op opened id) uses) id
+paired_enters most step op work (Some ticket) opened tickets taken outputs uses id less paired =
+    paired_out most op ticket work opened (open_after step (Enters op ticket) opened) tickets taken outputs uses id less (narrow_by id step (Enters op ticket) opened refl) paired
+paired_enters most step op work None opened tickets taken outputs uses id less paired =
+    record { few = paired.few; apart = paired.apart; known = paired.known; waits = paired.waits; counted = counted (uses_key work op opened id) } where
+  counted : (b : Bool) → outputs + length taken ≤ one_if b uses
+  counted true = omega (arith, paired.counted)
+  counted false = paired.counted
+
+-- ---- over an entry that opens one
+
+narrow_pruned : (id : ℕ) (pruned : Option ℕ) (opened : List Open) → Narrow id opened (without_pruned pruned opened)
+narrow_pruned id None opened = narrow_same id opened
+narrow_pruned id (Some number) opened = narrow_left id (λ o. not (has_number number o)) opened
+
+known_op : (most op : ℕ) (found : Option Entered) → IsKnown most found → finishing found ≡ Some op → op ≤ most
+known_op most op None known is = cc
+known_op most op (Some entered) known is = by_work entered.op entered.work known is where
+  by_work : (n : ℕ) (work : Work) → n ≤ most → finishing (Some (record { op = n; work = work })) ≡ Some op → op ≤ most
+  by_work n (Aad input) less is = cc
+  by_work n (Text input) less is = cc
+  by_work n (Last input signature) less is = let same : n ≡ op = cc in omega (arith, less, same)
+
+number_of_any : (op id : ℕ) (o : Open) → works_on op id o ≡ true → o.operation.number ≡ op
+number_of_any op id o e = eqb-true o.operation.number op (both (o.operation.number == op) (gives (limited_key o) id) e) where
+  both : (a b : Bool) → a && b ≡ true → a ≡ true
+  both true b is = refl
+  both false b is = cc
+
+paired_opens : (most step : ℕ) (pruned : Option ℕ) (o : Operation) (opened : List Open) (tickets : ℕ → Option Entered) (taken : List ℕ) (outputs uses id : ℕ) → o.number ≡ most + 1
+    → Paired most opened tickets taken outputs uses id → Paired (most + 1) (open_after step (Opens pruned o) opened) tickets taken outputs uses id
+paired_opens most step pruned o opened tickets taken outputs uses id next paired = record {
+  few = each_more (IsFew (most + 1)) Old New (each_in (IsFew most) (IsFew (most + 1)) (λ it less. omega (arith, less)) Old old_few) (omega (arith, next));
+  apart = apart_more Old New (each_in (IsFew most) (Differs o.number) (λ it less is. omega (arith, less, is, next)) Old old_few) (narrow.apart paired.apart);
+  known = λ t. known_later most (most + 1) (tickets t) (omega arith) (paired.known t);
+  waits = waits;
+  counted = paired.counted;
+} where
+  Old : List Open
+  Old = without_pruned pruned opened
+  New : Open
+  New = as_begun step o
+  narrow : Narrow id opened Old
+  narrow = narrow_pruned id pruned opened
+  old_few : Each (IsFew most) Old
+  old_few = narrow.few most paired.few
+  which : (t op : ℕ) → finishing (tickets t) ≡ Some op → (list_any (works_on op id) Old ≡ true) ⊎ (works_on op id New ≡ true) → list_any (λ it. it == t) taken ≡ true
+  which t op is (inl any) = paired.waits t op is (narrow.any op any)
+  which t op is (inr this) = absurd (omega (arith, known_op most op (tickets t) (paired.known t) is, number_of_any op id New this, next))
+  waits : (t op : ℕ) → finishing (tickets t) ≡ Some op → list_any (works_on op id) (Old ++ New ∷ []) ≡ true → list_any (λ it. it == t) taken ≡ true
+  waits t op is any = which t op is (any_more (works_on op id) Old New any)
+
+-- ---- over each admitted act
+
+abbrev taken_done : Act → Fields → List Open → ℕ → List ℕ → List ℕ
+taken_done (EnterAad op input) fields opened id taken = taken_with fields.ticket false taken
+taken_done (EnterUpdate op input) fields opened id taken = taken_with fields.ticket false taken
+taken_done (EnterFinish op input signature) fields opened id taken = taken_with fields.ticket (gives (used_key op opened) id) taken
+taken_done (Leave ticket) fields opened id taken = filter (λ t. not (t == ticket)) taken
+taken_done _ fields opened id taken = taken
+
+abbrev taken_of : Setup → History → ℕ → List ℕ
+taken_of setup [] id = []
+taken_of setup (Settling settled ∷ past) id = taken_of setup past id
+taken_of setup (Acted event drawn (Done fields) ∷ past) id = taken_done event.act fields (open_of setup past) id (taken_of setup past id)
+taken_of setup (Acted event drawn (Broken rule code) ∷ past) id = taken_of setup past id
+taken_of setup (Acted event drawn (Stopped code) ∷ past) id = taken_of setup past id
+
+-- what is known after a history
+abbrev pub IsPaired : Setup → History → ℕ → Type 0
+IsPaired setup past id = Paired (count_of is_begin past) (open_of setup past) (λ t. ticket_at past t) (taken_of setup past id) (outputs_made setup past id) (uses_made setup past id) id
+
+-- and after an admitted act
+abbrev PairedBy : Setup → History → Event → List ℕ → Fields → ℕ → Act → Type 0
+PairedBy setup past event drawn fields id act =
+    Paired (if is_begin act then count_of is_begin past + 1 else count_of is_begin past)
+    (open_after (step_of past) (admitted_operation act setup (kept setup past) past event drawn fields) (open_of setup past))
+    (λ t. ticket_after (admitted_ticket act fields) t (ticket_at past t)) (taken_done act fields (open_of setup past) id (taken_of setup past id))
+    (one_if (gives (finished_by setup past act) id) (outputs_made setup past id)) (one_if (gives (used_by (open_of setup past) act) id) (uses_made setup past id)) id
+
+op_few : (setup : Setup) (past : History) (id op : ℕ) → IsPaired setup past id → IsEntered setup past op → op ≤ count_of is_begin past
+op_few setup past id op paired here = found_few (count_of is_begin past) op (open_of setup past) here.operation paired.few here.found
+
+paired_done : (setup : Setup) (past : History) (event : Event) (drawn : List ℕ) (fields : Fields) (id : ℕ) (act : Act) → is_done (answer_by_rules act setup past (caller_of past event) drawn) ≡ true
+    → (is_begin act ≡ true → fields.op ≡ Some (count_of is_begin past + 1)) → IsPaired setup past id → PairedBy setup past event drawn fields id act
+paired_done setup past event drawn fields id (CreateOperation key params forced) done number paired =
+    subst (λ (found : Option ℕ). PairedBy setup past event drawn (record fields { op = found }) id (CreateOperation key params forced)) (sym (number refl))
+    (paired_opens (count_of is_begin past) (step_of past) fields.pruned _ (open_of setup past) (λ t. ticket_at past t) (taken_of setup past id) (outputs_made setup past id) (uses_made setup past id) id refl paired)
+paired_done setup past event drawn fields id (EnterAad op input) done number paired =
+    paired_enters (count_of is_begin past) (step_of past) op (Aad input) fields.ticket (open_of setup past) (λ t. ticket_at past t) (taken_of setup past id) (outputs_made setup past id) (uses_made setup past id) id
+    (op_few setup past id op paired (entered setup past (caller_of past event) drawn (EnterAad op input) op refl refl done)) paired
+paired_done setup past event drawn fields id (EnterUpdate op input) done number paired =
+    paired_enters (count_of is_begin past) (step_of past) op (Text input) fields.ticket (open_of setup past) (λ t. ticket_at past t) (taken_of setup past id) (outputs_made setup past id) (uses_made setup past id) id
+    (op_few setup past id op paired (entered setup past (caller_of past event) drawn (EnterUpdate op input) op refl refl done)) paired
+paired_done setup past event drawn fields id (EnterFinish op input signature) done number paired =
+    paired_enters (count_of is_begin past) (step_of past) op (Last input signature) fields.ticket (open_of setup past) (λ t. ticket_at past t) (taken_of setup past id) (outputs_made setup past id) (uses_made setup past id) id
+    (op_few setup past id op paired (entered setup past (caller_of past event) drawn (EnterFinish op input signature) op refl refl done)) paired
+paired_done setup past event drawn fields id (Abort op) done number paired =
+    paired_still (count_of is_begin past) (open_of setup past) _ (λ t. ticket_at past t) (taken_of setup past id) (outputs_made setup past id) (uses_made setup past id) id
+    (narrow_by id (step_of past) (Closes op) (open_of setup past) refl) paired
+paired_done setup past event drawn fields id (Leave ticket) done number paired =
+    paired_still (count_of is_begin past) (open_of setup past) _ _ _ _ _ id (narrow_by id (step_of past) (returns (ticket_at past ticket)) (open_of setup past) (returns_none (ticket_at past ticket)))
+    (paired_given (count_of is_begin past) (open_of setup past) (λ t. ticket_at past t) (taken_of setup past id) (outputs_made setup past id) (uses_made setup past id) id ticket paired)
+paired_done setup past event drawn fields id (AddAuthToken challenge user authenticator kind time mac) done number paired =
+    paired_still (count_of is_begin past) (open_of setup past) _ (λ t. ticket_at past t) (taken_of setup past id) (outputs_made setup past id) (uses_made setup past id) id
+    (narrow_by id (step_of past) (Shows (token_of challenge user authenticator kind time mac)) (open_of setup past) refl) paired
+paired_done setup past event drawn fields id Disconnect done number paired =
+    paired_still (count_of is_begin past) (open_of setup past) _ (λ t. ticket_at past t) (taken_of setup past id) (outputs_made setup past id) (uses_made setup past id) id
+    (narrow_by id (step_of past) (ClosesOf event.client) (open_of setup past) refl) paired
+paired_done setup past event drawn fields id (Restart root) done number paired =
+    record { few = tt; apart = tt; known = λ t. tt; waits = λ t op is any. cc; counted = paired.counted }
+paired_done setup past event drawn fields id _ done number paired = paired
