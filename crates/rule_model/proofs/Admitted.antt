@@ -23,6 +23,7 @@ use Rattle.rule_model.specs.Answer.{answer, answer_by_rules, answer_stored, malf
 use Rattle.rule_model.specs.Clients.{caller_of}
 use Rattle.rule_model.specs.Entries.{History, is_done}
 use Rattle.rule_model.specs.Kept.{is_live, operation_at}
+use Rattle.rule_model.specs.Legal.{IsAnswered, MayFollow, Answered, WithoutMemory, WithoutEntropy, Faulted, NotSettled, NotRestarted}
 use Rattle.rule_model.specs.Operations.{Open, operation_of}
 use Rattle.rule_model.specs.Replies.{broken_or}
 use Rattle.rule_model.specs.Setup.{Setup}
@@ -99,3 +100,16 @@ entered setup past caller drawn (EnterFinish number input signature) op enters i
     let same : number ≡ op = cc in
     subst (IsEntered setup past) same (entered_from setup past number (operation_at setup past number) caller (brought_by (Last input signature)) refl refl (broken_done _ _ e))
 entered setup past caller drawn _ op enters is e = cc
+
+-- ---- an entry that is admitted has the answer of the rules
+
+done_is_none : (fields : Fields) (code : Code) → Done fields ≡ Stopped code → ⊥
+done_is_none fields code e = cc
+
+pub answered_done : (setup : Setup) (past : History) (event : Event) (drawn : List ℕ) (fields : Fields) → MayFollow setup past event drawn (Done fields) → IsAnswered setup past event drawn (Done fields)
+answered_done setup past event drawn fields (Answered is) = is
+answered_done setup past event drawn fields (WithoutMemory is) = absurd (done_is_none fields _ is.is_want)
+answered_done setup past event drawn fields (WithoutEntropy is) = absurd (done_is_none fields _ is.is_fault)
+answered_done setup past event drawn fields (Faulted is) = absurd (done_is_none fields _ is.is_fault)
+answered_done setup past event drawn fields (NotSettled is) = absurd (done_is_none fields _ is.is_fault)
+answered_done setup past event drawn fields (NotRestarted code is) = absurd (done_is_none fields _ is.is_refusal)

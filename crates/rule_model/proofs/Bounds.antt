@@ -114,11 +114,14 @@ goes_made : (id made limit : ℕ) (key : KeyRecord) (part : Lasting) → key.id 
 goes_made id made limit key part next full bounded = by_number (id == part.next_key) refl where
   Old : List KeyRecord
   Old = filter (λ old. not (is_named key.domain key.nspace key.alias old)) part.keys
+
   old_numbered : Each (λ (old : KeyRecord). old.id < part.next_key) Old
   old_numbered = each_left (λ (old : KeyRecord). old.id < part.next_key) (λ old. not (is_named key.domain key.nspace key.alias old)) part.keys bounded.numbered
+
   all_numbered : Each (λ (old : KeyRecord). old.id < key.id + 1) (Old ++ key ∷ [])
   all_numbered = each_more (λ (old : KeyRecord). old.id < key.id + 1) Old key
       (each_in (λ (old : KeyRecord). old.id < part.next_key) (λ (old : KeyRecord). old.id < key.id + 1) (λ old less. omega (arith, less, next)) Old old_numbered) (omega arith)
+
   by_number : (b : Bool) → (id == part.next_key) ≡ b → Goes id limit made part (with_key key part)
   by_number true is =
       let this : id ≡ part.next_key = eqb-true id part.next_key is in
@@ -170,9 +173,12 @@ less_left id n made limit key within stays = by_number (key.id == n) stays where
 less_counted : (id made limit : ℕ) (key : KeyRecord) → IsWithin id made limit key → not (is_last_use id key) ≡ true → IsWithin id (made + 1) limit (with_use id key)
 less_counted id made limit key within stays = by_number (key.id == id) refl stays where
   by_number : (b : Bool) → (key.id == id) ≡ b → not (b && (key.left == 1)) ≡ true → IsWithin id (made + 1) limit (if b then record key { left = key.left - 1 } else key)
-  by_number true is more = λ same. ((within same).0, λ limited.
-      let two : 1 ≤ key.left - 1 = two_left key.left more ((within same).1 limited).1 in
-      (omega (arith, two, ((within same).1 limited).0), two))
+  by_number true is more = λ same. (
+    (within same).0,
+    λ limited.
+        let two : 1 ≤ key.left - 1 = two_left key.left more ((within same).1 limited).1 in
+        (omega (arith, two, ((within same).1 limited).0), two),
+  )
   by_number false is more = λ same. absurd (eqb-false key.id id is same)
 
 same_number : (n next : ℕ) (key : KeyRecord) → key.id < next → (with_use n key).id < next
@@ -274,6 +280,7 @@ bounded_from id (change ∷ past) part e = by_before (lasting_of past) e (λ bef
       let made : after before change ≡ part = cc in
       let goes : Goes id limit 0 before (after before change) = goes_on id 0 limit before change (takes_next before change met) bounded in
       (goes.limit_now, subst (Bounded id 0 goes.limit_now) made goes.bounded)
+
   by_before : (found : Option Lasting) → option_and_then (λ before. changed before change) found ≡ Some part → ((before : Lasting) → found ≡ Some before → (limit : ℕ) × Bounded id 0 limit before) → (limit : ℕ) × Bounded id 0 limit part
   by_before None is rest = cc
   by_before (Some before) is rest = over before (rest before refl) (is_met before change) refl is

@@ -31,7 +31,7 @@ use Rattle.rule_model.specs.Changes.{after_change, change_of, creating, grant_of
 use Rattle.rule_model.specs.Clients.{caller_of}
 use Rattle.rule_model.specs.Entries.{History, gives, is_done}
 use Rattle.rule_model.specs.Kept.{is_live, kept, kept_after, kept_settled, open_of, operation_at}
-use Rattle.rule_model.specs.Legal.{IsAnswered, IsFaulted, IsNotRestarted, IsNotSettled, IsWithoutEntropy, IsWithoutMemory, LegalBefore, MayFollow, Answered, WithoutMemory, WithoutEntropy, Faulted, NotSettled, NotRestarted, is_ready, is_settled}
+use Rattle.rule_model.specs.Legal.{LegalBefore, MayFollow}
 use Rattle.rule_model.specs.NewFacts.{import_of}
 use Rattle.rule_model.specs.Operations.{Open, limited_key, used_key}
 use Rattle.rule_model.specs.Settling.{counts, is_faulted, is_kept, is_system_error, is_unsettled, verdict_before}
@@ -39,7 +39,7 @@ use Rattle.rule_model.specs.Setup.{Setup}
 use Rattle.rule_model.specs.StepFacts.{has_ended}
 use Rattle.rule_model.specs.Stored.{May, MayWhere}
 use Rattle.rule_model.specs.Uses.{HasLimit, Stood, one_if, used_by, uses_made}
-use Rattle.rule_model.proofs.Admitted.{IsEntered, admitted_by_rules, entered}
+use Rattle.rule_model.proofs.Admitted.{IsEntered, admitted_by_rules, answered_done, entered}
 use Rattle.rule_model.proofs.Bounds.{Bounded, Goes, TakesNext, goes_counted, goes_on, has_limit_within}
 use Rattle.rule_model.proofs.Kept.{changes_kept, denied_kept, none_changed}
 
@@ -158,9 +158,11 @@ carried : (setup : Setup) (past : History) (entry : Entry) (id before : ℕ) (Kn
 carried setup past entry id before Known part later holds goes new = record { limit = goes.limit_now; bounded = goes.bounded; known = known } where
   old : (l : ℕ) → (l ≡ holds.limit) × (id < part.next_key) → (l ≡ goes.limit_now) × (id < later.next_key)
   old l both = (both.0 ∙ sym (goes.same both.1), omega (arith, both.1, goes.grows))
+
   newest : (l : ℕ) → (HasLimit (kept setup past) id l) ⊎ (HasLimit later id l) → (l ≡ goes.limit_now) × (id < later.next_key)
   newest l (inl has) = old l (holds.known l (inr (stood_now setup past id l has)))
   newest l (inr has) = has_limit_within id (uses_made setup (entry ∷ past) id + before) goes.limit_now l later goes.bounded has
+
   known : (l : ℕ) → Known l ⊎ Stood setup (entry ∷ past) id l → (l ≡ goes.limit_now) × (id < later.next_key)
   known l (inl was) = old l (holds.known l (inl was))
   known l (inr (inl has)) = newest l (new l has)
@@ -248,14 +250,16 @@ done_settled setup past event drawn fields id before Known settled done both =
       sure = sure_now;
       later = subst (Holds setup (Acted event drawn (Done fields) ∷ past) id before Known) (sym (settled_same setup (Some Kept) (Acted event drawn (Done fields) ∷ past) settled)) sure_now;
     } where
-  Used : Option ℕ
-  Used = used_by (open_of setup past) event.act
-  goes : Goes id both.sure.limit (one_if (gives Used id) (uses_made setup past id) + before) (kept setup past) (kept setup (Acted event drawn (Done fields) ∷ past))
-  goes = subst (λ made. Goes id both.sure.limit made (kept setup past) (kept setup (Acted event drawn (Done fields) ∷ past))) (one_more_before (gives Used id) (uses_made setup past id) before)
-      (goes_admitted id (uses_made setup past id + before) both.sure.limit event.act (device_at setup past) setup.policy (kept setup past) (open_of setup past) (caller_of past event) drawn
-      (λ is. live_used setup past (caller_of past event) drawn event.act id (admitted_by_rules setup past event drawn done) is) both.sure.bounded)
-  sure_now : Holds setup (Acted event drawn (Done fields) ∷ past) id before Known (kept setup (Acted event drawn (Done fields) ∷ past))
-  sure_now = carried setup past (Acted event drawn (Done fields)) id before Known (kept setup past) (kept setup (Acted event drawn (Done fields) ∷ past)) both.sure goes (λ l has. inr has)
+      Used : Option ℕ
+      Used = used_by (open_of setup past) event.act
+
+      goes : Goes id both.sure.limit (one_if (gives Used id) (uses_made setup past id) + before) (kept setup past) (kept setup (Acted event drawn (Done fields) ∷ past))
+      goes = subst (λ made. Goes id both.sure.limit made (kept setup past) (kept setup (Acted event drawn (Done fields) ∷ past))) (one_more_before (gives Used id) (uses_made setup past id) before)
+          (goes_admitted id (uses_made setup past id + before) both.sure.limit event.act (device_at setup past) setup.policy (kept setup past) (open_of setup past) (caller_of past event) drawn
+          (λ is. live_used setup past (caller_of past event) drawn event.act id (admitted_by_rules setup past event drawn done) is) both.sure.bounded)
+
+      sure_now : Holds setup (Acted event drawn (Done fields) ∷ past) id before Known (kept setup (Acted event drawn (Done fields) ∷ past))
+      sure_now = carried setup past (Acted event drawn (Done fields)) id before Known (kept setup past) (kept setup (Acted event drawn (Done fields) ∷ past)) both.sure goes (λ l has. inr has)
 
 done_waiting : (setup : Setup) (past : History) (event : Event) (drawn : List ℕ) (fields : Fields) (id before : ℕ) (Known : ℕ → Type 0) → changes_kept event.act ≡ false
     → HoldBoth setup past id before Known → HoldBoth setup (Acted event drawn (Done fields) ∷ past) id before Known
@@ -263,6 +267,7 @@ done_waiting setup past event drawn fields id before Known none both = record { 
   keeps : (verdict : Option Settled) → kept_settled setup verdict (Acted event drawn (Done fields) ∷ past) ≡ kept_settled setup verdict past
   keeps verdict = ap (λ change. after_change change (kept_settled setup verdict past))
       (none_changed event.act (device_at setup past) setup.policy (kept_settled setup verdict past) (open_of setup past) (caller_of past event) drawn none)
+
   over : (verdict : Option Settled) → Holds setup past id before Known (kept_settled setup verdict past) → Holds setup (Acted event drawn (Done fields) ∷ past) id before Known (kept_settled setup verdict (Acted event drawn (Done fields) ∷ past))
   over verdict holds = subst (Holds setup (Acted event drawn (Done fields) ∷ past) id before Known) (sym (keeps verdict))
       (quiet setup past (Acted event drawn (Done fields)) id before Known (kept_settled setup verdict past)
@@ -281,17 +286,14 @@ done_is_none fields code e = cc
 
 done_both : (setup : Setup) (past : History) (event : Event) (drawn : List ℕ) (fields : Fields) (id before : ℕ) (Known : ℕ → Type 0) → MayFollow setup past event drawn (Done fields)
     → HoldBoth setup past id before Known → HoldBoth setup (Acted event drawn (Done fields) ∷ past) id before Known
-done_both setup past event drawn fields id before Known (Answered is) both = by_waiting (is_unsettled past) refl (fixed_for event.act).settles refl is.ready where
-  by_waiting : (waits : Bool) → is_unsettled past ≡ waits → (settles : Bool) → (fixed_for event.act).settles ≡ settles → IsTrue (not waits || not settles)
-      → HoldBoth setup (Acted event drawn (Done fields) ∷ past) id before Known
-  by_waiting false waits settles e ready = done_settled setup past event drawn fields id before Known waits (ap is_done (sym is.is_answer)) both
-  by_waiting true waits false e ready = done_waiting setup past event drawn fields id before Known (settles_none event.act e) both
-  by_waiting true waits true e ready = let never : false ≡ true = ready in cc
-done_both setup past event drawn fields id before Known (WithoutMemory is) both = absurd (done_is_none fields _ is.is_want)
-done_both setup past event drawn fields id before Known (WithoutEntropy is) both = absurd (done_is_none fields _ is.is_fault)
-done_both setup past event drawn fields id before Known (Faulted is) both = absurd (done_is_none fields _ is.is_fault)
-done_both setup past event drawn fields id before Known (NotSettled is) both = absurd (done_is_none fields _ is.is_fault)
-done_both setup past event drawn fields id before Known (NotRestarted code is) both = absurd (done_is_none fields _ is.is_refusal)
+done_both setup past event drawn fields id before Known may both =
+    by_waiting (is_unsettled past) refl (fixed_for event.act).settles refl (answered_done setup past event drawn fields may).ready where
+      by_waiting : (waits : Bool) → is_unsettled past ≡ waits → (settles : Bool) → (fixed_for event.act).settles ≡ settles → IsTrue (not waits || not settles)
+          → HoldBoth setup (Acted event drawn (Done fields) ∷ past) id before Known
+      by_waiting false waits settles e ready =
+          done_settled setup past event drawn fields id before Known waits (ap is_done (sym (answered_done setup past event drawn fields may).is_answer)) both
+      by_waiting true waits false e ready = done_waiting setup past event drawn fields id before Known (settles_none event.act e) both
+      by_waiting true waits true e ready = let never : false ≡ true = ready in cc
 
 acted_both : (setup : Setup) (past : History) (event : Event) (drawn : List ℕ) (reply : Reply) (id before : ℕ) (Known : ℕ → Type 0) → MayFollow setup past event drawn reply
     → HoldBoth setup past id before Known → HoldBoth setup (Acted event drawn reply ∷ past) id before Known
@@ -304,6 +306,7 @@ settled_both setup past settled id before Known both = record { sure = now settl
   over : (s : Settled) → Holds setup past id before Known (kept_settled setup (Some s) past) → Holds setup (Settling s ∷ past) id before Known (kept_settled setup (Some s) past)
   over s holds = carried setup past (Settling s) id before Known (kept_settled setup (Some s) past) (kept_settled setup (Some s) past) holds
       (stays id (uses_made setup past id + before) holds.limit (kept_settled setup (Some s) past) holds.bounded) (λ l has. inr has)
+
   now : (s : Settled) → Holds setup (Settling s ∷ past) id before Known (kept_settled setup (Some s) past)
   now Kept = over Kept both.later
   now Lost = over Lost (subst (Holds setup past id before Known) (sym (lost_same setup past)) both.sure)
@@ -335,6 +338,7 @@ pub holds_at : (setup : Setup) (past : History) (id before : ℕ) (Known : ℕ �
 holds_at setup past id before Known part may both = by_waiting (is_unsettled past) may where
   from : (other : Lasting) → part ≡ other → Holds setup past id before Known other → HoldsAt id (uses_made setup past id + before) (λ l. Stood setup past id l ⊎ Known l) part
   from other is holds = subst (HoldsAt id (uses_made setup past id + before) (λ l. Stood setup past id l ⊎ Known l)) (sym is) (record { limit = holds.limit; bounded = holds.bounded; known = λ l known. turned setup past id before Known other l holds known })
+
   by_waiting : (waits : Bool) → MayWhere waits setup past part → HoldsAt id (uses_made setup past id + before) (λ l. Stood setup past id l ⊎ Known l) part
   by_waiting true (inl is) = from (kept_settled setup (Some Lost) past) is (subst (Holds setup past id before Known) (sym (lost_same setup past)) both.sure)
   by_waiting true (inr is) = from (kept_settled setup (Some Kept) past) is both.later

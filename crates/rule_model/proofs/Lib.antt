@@ -10,3 +10,4 @@ pub mod Operations
 pub mod Outputs
 pub mod Returned
 pub mod Tickets
+pub mod Uses

@@ -30,10 +30,11 @@ apart_left test (o ∷ opened) apart = by_test (test o) (apart_left test opened 
 
 pub apart_changed : (change : Open → Open) → ((o : Open) → (change o).operation ≡ o.operation) → (opened : List Open) → Apart opened → Apart (map change opened)
 apart_changed change same [] apart = tt
-apart_changed change same (o ∷ opened) apart =
-    (each_changed (Differs o.operation.number) (Differs (change o).operation.number) change
-    (λ p differs is. differs (ap (λ (it : Operation). it.number) (sym (same p)) ∙ is ∙ ap (λ (it : Operation). it.number) (same o))) opened apart.0,
-    apart_changed change same opened apart.1)
+apart_changed change same (o ∷ opened) apart = (
+  each_changed (Differs o.operation.number) (Differs (change o).operation.number) change
+      (λ p differs is. differs (ap (λ (it : Operation). it.number) (sym (same p)) ∙ is ∙ ap (λ (it : Operation). it.number) (same o))) opened apart.0,
+  apart_changed change same opened apart.1,
+)
 
 pub apart_more : (opened : List Open) (o : Open) → Each (Differs o.operation.number) opened → Apart opened → Apart (opened ++ o ∷ [])
 apart_more [] o differs apart = (tt, tt)
@@ -122,6 +123,7 @@ any_ticket_left ticket other [] differs e = e
 any_ticket_left ticket other (t ∷ tickets) differs e = by_both (t == ticket) refl (t == other) refl e (any_ticket_left ticket other tickets differs) where
   Rest : List ℕ
   Rest = filter (λ t. not (t == ticket)) tickets
+
   by_both : (a : Bool) → (t == ticket) ≡ a → (b : Bool) → (t == other) ≡ b → (b || list_any (λ t. t == other) tickets) ≡ true → (list_any (λ t. t == other) tickets ≡ true → list_any (λ t. t == other) Rest ≡ true)
       → list_any (λ t. t == other) (if not a then t ∷ Rest else Rest) ≡ true
   by_both true is true same any rest = absurd (differs (sym (eqb-true t ticket is) ∙ eqb-true t other same))

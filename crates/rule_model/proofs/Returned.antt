@@ -10,6 +10,7 @@ use Rattle.cipher_ops.specs.declared.room.Work.TheVariants.{Aad, Text, Last}
 use Rattle.journal_records.specs.LastingPart.{Lasting}
 use Rattle.step_rules.specs.Table.{ends_operation}
 use Rattle.use_rules.specs.declared.facts.BeginFacts.{BeginFacts}
+use Rattle.use_rules.specs.Table as begin_table
 use Rattle.rule_model.specs.declared.entry.Entry.TheVariants.{Acted, Settling}
 use Rattle.rule_model.specs.declared.event.Act.{Act}
 use Rattle.rule_model.specs.declared.event.Act.TheVariants.{AddAuthToken, Disconnect, CreateOperation, EnterAad, EnterUpdate, EnterFinish, Abort, Leave, Restart}
@@ -18,18 +19,21 @@ use Rattle.rule_model.specs.declared.facts.Caller.{Caller}
 use Rattle.rule_model.specs.declared.reply.Fields.{Fields}
 use Rattle.rule_model.specs.declared.reply.Reply.{Reply}
 use Rattle.rule_model.specs.declared.reply.Reply.TheVariants.{Done, Broken, Stopped}
-use Rattle.rule_model.specs.Acts.{is_begin}
-use Rattle.rule_model.specs.Answer.{answer_by_rules}
+use Rattle.rule_model.specs.Acts.{is_begin, is_built}
+use Rattle.rule_model.specs.Answer.{answer, answer_by_rules, answer_stored, malformed}
 use Rattle.rule_model.specs.BeginFacts.{BeginKey}
 use Rattle.rule_model.specs.Clients.{caller_of}
 use Rattle.rule_model.specs.Entries.{History, count_of, gives, is_done}
 use Rattle.rule_model.specs.Kept.{kept, open_of, operation_at}
 use Rattle.rule_model.specs.Operations.{Open, Operation, OperationChange, SameOperations, Opens, Enters, Returns, Shows, Closes, ClosesOf, ClosesAll, admitted_operation, as_begun, as_entered, as_returned, as_shown, closes, enters, has_number, is_for, is_of, limited_key, open_after, opens, operation_of, operation_on, returns, step_of, stopped_operation, used_key, with_change, without, without_pruned}
+use Rattle.rule_model.specs.Legal.{LegalBefore, MayFollow}
+use Rattle.rule_model.specs.Settling.{is_faulted, is_unsettled}
 use Rattle.rule_model.specs.Setup.{Setup}
+use Rattle.rule_model.specs.Slots.{begin_facts}
 use Rattle.rule_model.specs.Tickets.{Entered, TicketChange, admitted_ticket, goes_out, stopped_ticket, ticket_after, ticket_at}
 use Rattle.rule_model.specs.Tokens.{token_of}
 use Rattle.rule_model.specs.Uses.{finished_by, one_if, output_key, outputs_made, used_by, uses_made}
-use Rattle.rule_model.proofs.Admitted.{IsEntered, entered}
+use Rattle.rule_model.proofs.Admitted.{IsEntered, admitted_by_rules, answered_done, broken_fields, entered}
 use Rattle.rule_model.proofs.Bounds.{Each, each_changed, each_in, each_left, each_more}
 use Rattle.rule_model.proofs.Outputs.{Apart, Differs, IsFew, any_changed, any_from_used, any_left, any_more, any_ticket_left, apart_changed, apart_left, apart_more, left_length, less_length, used_from_any, works_on}
 
@@ -167,12 +171,15 @@ paired_given most opened tickets taken outputs uses id number paired = record {
 } where
   Left : List ℕ
   Left = filter (λ t. not (t == number)) taken
+
   waits : (t op : ℕ) (b : Bool) → (number == t) ≡ b → finishing (if b then None else tickets t) ≡ Some op → list_any (works_on op id) opened ≡ true → list_any (λ it. it == t) Left ≡ true
   waits t op true same is any = cc
   waits t op false same is any = any_ticket_left number t taken (eqb-false number t same) (paired.waits t op is any)
+
   among : (found : Option Entered) → tickets number ≡ found → gives (output_key opened found) id ≡ true → list_any (λ it. it == number) taken ≡ true
   among None is e = cc
   among (Some entered) is e = among_taken most opened tickets taken outputs uses id number entered.op entered.work paired is e
+
   counted : (found : Option Entered) → tickets number ≡ found → (b : Bool) → gives (output_key opened (tickets number)) id ≡ b → one_if b outputs + length Left ≤ uses
   counted found is true e = omega (arith, paired.counted, less_length number taken (among (tickets number) refl e))
   counted found is false e = omega (arith, paired.counted, left_length number taken)
@@ -214,6 +221,7 @@ paired_out most op number work opened later tickets taken outputs uses id less n
   known : (t : ℕ) (b : Bool) → IsKnown most (if b then Some (record { op = op; work = work }) else tickets t)
   known t true = less
   known t false = paired.known t
+
   newest : (t n : ℕ) (work : Work) (b : Bool) → uses_key work op opened id ≡ b → (number == t) ≡ true → finishing (Some (record { op = op; work = work })) ≡ Some n → list_any (works_on n id) opened ≡ true
       → list_any (λ it. it == t) (if b then number ∷ taken else taken) ≡ true
   newest t n (Aad input) b uses same is any = cc
@@ -222,13 +230,16 @@ paired_out most op number work opened later tickets taken outputs uses id less n
   newest t n (Last input signature) false uses same is any =
       let this : op ≡ n = cc in
       let used : gives (used_key op opened) id ≡ true = used_from_any op id opened paired.apart (subst (λ k. list_any (works_on k id) opened ≡ true) (sym this) any) in cc
+
   more : (t : ℕ) (b : Bool) → list_any (λ it. it == t) taken ≡ true → list_any (λ it. it == t) (if b then number ∷ taken else taken) ≡ true
   more t true any = behind (number == t) (list_any (λ it. it == t) taken) any
   more t false any = any
+
   waits : (t n : ℕ) (b : Bool) → (number == t) ≡ b → finishing (if b then Some (record { op = op; work = work }) else tickets t) ≡ Some n → list_any (works_on n id) opened ≡ true
       → list_any (λ it. it == t) (if uses_key work op opened id then number ∷ taken else taken) ≡ true
   waits t n true same is any = newest t n work (uses_key work op opened id) refl same is any
   waits t n false same is any = more t (uses_key work op opened id) (paired.waits t n is any)
+
   counted : (b : Bool) → outputs + length (if b then number ∷ taken else taken) ≤ one_if b uses
   counted true = omega (arith, paired.counted)
   counted false = paired.counted
@@ -240,9 +251,9 @@ paired_enters most step op work (Some ticket) opened tickets taken outputs uses 
     paired_out most op ticket work opened (open_after step (Enters op ticket) opened) tickets taken outputs uses id less (narrow_by id step (Enters op ticket) opened refl) paired
 paired_enters most step op work None opened tickets taken outputs uses id less paired =
     record { few = paired.few; apart = paired.apart; known = paired.known; waits = paired.waits; counted = counted (uses_key work op opened id) } where
-  counted : (b : Bool) → outputs + length taken ≤ one_if b uses
-  counted true = omega (arith, paired.counted)
-  counted false = paired.counted
+      counted : (b : Bool) → outputs + length taken ≤ one_if b uses
+      counted true = omega (arith, paired.counted)
+      counted false = paired.counted
 
 -- ---- over an entry that opens one
 
@@ -275,15 +286,20 @@ paired_opens most step pruned o opened tickets taken outputs uses id next paired
 } where
   Old : List Open
   Old = without_pruned pruned opened
+
   New : Open
   New = as_begun step o
+
   narrow : Narrow id opened Old
   narrow = narrow_pruned id pruned opened
+
   old_few : Each (IsFew most) Old
   old_few = narrow.few most paired.few
+
   which : (t op : ℕ) → finishing (tickets t) ≡ Some op → (list_any (works_on op id) Old ≡ true) ⊎ (works_on op id New ≡ true) → list_any (λ it. it == t) taken ≡ true
   which t op is (inl any) = paired.waits t op is (narrow.any op any)
   which t op is (inr this) = absurd (omega (arith, known_op most op (tickets t) (paired.known t) is, number_of_any op id New this, next))
+
   waits : (t op : ℕ) → finishing (tickets t) ≡ Some op → list_any (works_on op id) (Old ++ New ∷ []) ≡ true → list_any (λ it. it == t) taken ≡ true
   waits t op is any = which t op is (any_more (works_on op id) Old New any)
 
@@ -347,3 +363,41 @@ paired_done setup past event drawn fields id Disconnect done number paired =
 paired_done setup past event drawn fields id (Restart root) done number paired =
     record { few = tt; apart = tt; known = λ t. tt; waits = λ t op is any. cc; counted = paired.counted }
 paired_done setup past event drawn fields id _ done number paired = paired
+
+-- ---- over a legal history
+
+begun_number : (setup : Setup) (past : History) (caller : Caller) (drawn : List ℕ) (fields : Fields) (act : Act) → is_begin act ≡ true
+    → Done fields ≡ (if is_built act then answer_stored act setup past caller drawn else malformed) → fields.op ≡ Some (count_of is_begin past + 1)
+begun_number setup past caller drawn fields (CreateOperation key params forced) begins is =
+    ap (λ (f : Fields). f.op) (sym (broken_fields (begin_table.answer (begin_facts setup past caller key params forced)) _ fields (sym is)))
+begun_number setup past caller drawn fields _ begins is = cc
+
+ends_none : (b : Bool) (act : Act) → opens_none (if b then closes (operation_of act) else SameOperations) ≡ true
+ends_none true act = closes_none (operation_of act)
+ends_none false act = refl
+
+paired_stopped : (setup : Setup) (past : History) (id : ℕ) (faulted : Bool) (act : Act) → IsPaired setup past id
+    → Paired (count_of is_begin past) (open_after (step_of past) (stopped_operation faulted act past) (open_of setup past)) (λ t. ticket_after (stopped_ticket act) t (ticket_at past t)) (taken_of setup past id) (outputs_made setup past id) (uses_made setup past id) id
+paired_stopped setup past id faulted (Leave ticket) paired =
+    paired_still (count_of is_begin past) (open_of setup past) _ _ _ _ _ id (narrow_by id (step_of past) (returns (ticket_at past ticket)) (open_of setup past) (returns_none (ticket_at past ticket)))
+    (paired_back (count_of is_begin past) (open_of setup past) (λ t. ticket_at past t) (taken_of setup past id) (outputs_made setup past id) (uses_made setup past id) id ticket paired)
+paired_stopped setup past id true (EnterFinish op input signature) paired =
+    paired_still (count_of is_begin past) (open_of setup past) _ (λ t. ticket_at past t) (taken_of setup past id) (outputs_made setup past id) (uses_made setup past id) id
+    (narrow_by id (step_of past) (Closes op) (open_of setup past) refl) paired
+paired_stopped setup past id false (EnterFinish op input signature) paired = paired
+paired_stopped setup past id faulted _ paired = paired
+
+paired_acted : (setup : Setup) (past : History) (event : Event) (drawn : List ℕ) (reply : Reply) (id : ℕ) → MayFollow setup past event drawn reply → IsPaired setup past id → IsPaired setup (Acted event drawn reply ∷ past) id
+paired_acted setup past event drawn (Done fields) id may paired =
+    let is : Done fields ≡ answer setup past event drawn = (answered_done setup past event drawn fields may).is_answer in
+    paired_done setup past event drawn fields id event.act (admitted_by_rules setup past event drawn (ap is_done (sym is)))
+    (λ begins. begun_number setup past (caller_of past event) drawn fields event.act begins is) paired
+paired_acted setup past event drawn (Broken rule code) id may paired =
+    paired_still (count_of is_begin past) (open_of setup past) _ (λ t. ticket_at past t) (taken_of setup past id) (outputs_made setup past id) (uses_made setup past id) id
+    (narrow_by id (step_of past) (if ends_operation rule then closes (operation_of event.act) else SameOperations) (open_of setup past) (ends_none (ends_operation rule) event.act)) paired
+paired_acted setup past event drawn (Stopped code) id may paired = paired_stopped setup past id (is_faulted (is_unsettled past) event.act (Stopped code)) event.act paired
+
+pub paired_of : (setup : Setup) (next : Option Event) (past : History) (id : ℕ) → LegalBefore setup next past → IsPaired setup past id
+paired_of setup next [] id legal = record { few = tt; apart = tt; known = λ t. tt; waits = λ t op is any. cc; counted = omega arith }
+paired_of setup next (Settling settled ∷ past) id legal = paired_of setup None past id legal.1
+paired_of setup next (Acted event drawn reply ∷ past) id legal = paired_acted setup past event drawn reply id legal.0 (paired_of setup (Some event) past id legal.1)
