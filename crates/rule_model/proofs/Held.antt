@@ -147,7 +147,7 @@ pub record Holds (setup : Setup) (past : History) (id before : ℕ) (Known : ℕ
   pub bounded : Bounded id (uses_made setup past id + before) limit part
   pub known : (l : ℕ) → Known l ⊎ Stood setup past id l → (l ≡ limit) × (id < part.next_key)
 
-stood_now : (setup : Setup) (past : History) (id l : ℕ) → HasLimit (kept setup past) id l → Stood setup past id l
+pub stood_now : (setup : Setup) (past : History) (id l : ℕ) → HasLimit (kept setup past) id l → Stood setup past id l
 stood_now setup [] id l has = has
 stood_now setup (entry ∷ past) id l has = inl has
 

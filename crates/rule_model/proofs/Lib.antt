@@ -11,3 +11,4 @@ pub mod Outputs
 pub mod Returned
 pub mod Tickets
 pub mod Uses
+pub mod UsesMet

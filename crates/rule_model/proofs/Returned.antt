@@ -92,7 +92,7 @@ abbrev pub opens_none : OperationChange → Bool
 opens_none (Opens pruned operation) = false
 opens_none _ = true
 
-one_changed : (b : Bool) (change : Open → Open) (o : Open) → (change o).operation ≡ o.operation → (if b then change o else o).operation ≡ o.operation
+pub one_changed : (b : Bool) (change : Open → Open) (o : Open) → (change o).operation ≡ o.operation → (if b then change o else o).operation ≡ o.operation
 one_changed true change o same = same
 one_changed false change o same = refl
 
@@ -106,13 +106,17 @@ narrow_by id step (Closes op) opened e = narrow_left id (λ o. not (has_number o
 narrow_by id step (ClosesOf client) opened e = narrow_left id (λ o. not (is_of client o)) opened
 narrow_by id step ClosesAll opened e = narrow_none id opened
 
-returns_none : (found : Option Entered) → opens_none (returns found) ≡ true
+pub returns_none : (found : Option Entered) → opens_none (returns found) ≡ true
 returns_none None = refl
 returns_none (Some entered) = by_work entered.work where
   by_work : (work : Work) → opens_none (returns (Some (record { op = entered.op; work = work }))) ≡ true
   by_work (Aad input) = refl
   by_work (Text input) = refl
   by_work (Last input signature) = refl
+
+pub enters_none : (op : ℕ) (ticket : Option ℕ) → opens_none (enters op ticket) ≡ true
+enters_none op None = refl
+enters_none op (Some ticket) = refl
 
 closes_none : (op : Option ℕ) → opens_none (closes op) ≡ true
 closes_none None = refl
@@ -372,7 +376,7 @@ begun_number setup past caller drawn fields (CreateOperation key params forced) 
     ap (λ (f : Fields). f.op) (sym (broken_fields (begin_table.answer (begin_facts setup past caller key params forced)) _ fields (sym is)))
 begun_number setup past caller drawn fields _ begins is = cc
 
-ends_none : (b : Bool) (act : Act) → opens_none (if b then closes (operation_of act) else SameOperations) ≡ true
+pub ends_none : (b : Bool) (act : Act) → opens_none (if b then closes (operation_of act) else SameOperations) ≡ true
 ends_none true act = closes_none (operation_of act)
 ends_none false act = refl
 

@@ -82,10 +82,13 @@ pub record Run : Type 0 where
   pub undone : History
   pub past : History
 
--- A run begins at what its store stands for: what the crash of the one before it may have left, and for the first one what some
--- changes leave.
+-- a lasting part that a store can stand for: what some changes leave, each with its need met
+abbrev pub IsStored : Lasting → Type 0
+IsStored part = (changes : List Change) × (lasting_of changes ≡ Some part)
+
+-- a run begins at what its store stands for: what the crash of the one before it may have left
 abbrev pub BeginsAfter : List Run → Lasting → Type 0
-BeginsAfter [] start = (changes : List Change) × (lasting_of changes ≡ Some start)
+BeginsAfter [] start = IsStored start
 BeginsAfter (before ∷ earlier) start = May before.setup before.past start
 
 -- legal runs, the newest first, each begun at what the one before it may have left
