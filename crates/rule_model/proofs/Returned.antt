@@ -1,15 +1,10 @@
 -- Over a legal history the outputs with a key, and the finishes with it that are out, are no more than its uses.
-use Rattle.std.proofs.Common.{◌≡◌, ◌⊎◌, inl, inr, ℕ, ◌+◌, ◌<◌, ◌≤◌, Bool, true, false, ◌==◌, ◌&&◌, ◌||◌, not, if◌then◌else◌, List, [], ◌∷◌, ◌++◌, map, filter, find, length, Option, Some, None, refl, sym, ap, ◌∙◌, subst, arith}
+use Rattle.std.proofs.Common.{◌≡◌, ◌⊎◌, inl, inr, ℕ, ◌+◌, ◌≤◌, Bool, true, false, ◌==◌, ◌&&◌, ◌||◌, not, if◌then◌else◌, List, [], ◌∷◌, ◌++◌, map, filter, find, length, Option, Some, None, refl, sym, ap, ◌∙◌, subst, arith}
 use Rattle.std.proofs.lemmas.Bool.{eqb-true, eqb-false}
 use Rattle.std.specs.List.{list_any}
-use Rattle.tags.specs.declared.code.Code.{Code}
-use Rattle.tags.specs.declared.rule.Rule.{Rule}
-use Rattle.auth_tokens.specs.declared.token.AuthToken.{AuthToken}
 use Rattle.cipher_ops.specs.declared.room.Work.{Work}
 use Rattle.cipher_ops.specs.declared.room.Work.TheVariants.{Aad, Text, Last}
-use Rattle.journal_records.specs.LastingPart.{Lasting}
 use Rattle.step_rules.specs.Table.{ends_operation}
-use Rattle.use_rules.specs.declared.facts.BeginFacts.{BeginFacts}
 use Rattle.use_rules.specs.Table as begin_table
 use Rattle.rule_model.specs.declared.entry.Entry.TheVariants.{Acted, Settling}
 use Rattle.rule_model.specs.declared.event.Act.{Act}
@@ -21,16 +16,15 @@ use Rattle.rule_model.specs.declared.reply.Reply.{Reply}
 use Rattle.rule_model.specs.declared.reply.Reply.TheVariants.{Done, Broken, Stopped}
 use Rattle.rule_model.specs.Acts.{is_begin, is_built}
 use Rattle.rule_model.specs.Answer.{answer, answer_by_rules, answer_stored, malformed}
-use Rattle.rule_model.specs.BeginFacts.{BeginKey}
 use Rattle.rule_model.specs.Clients.{caller_of}
 use Rattle.rule_model.specs.Entries.{History, count_of, gives, is_done}
-use Rattle.rule_model.specs.Kept.{kept, open_of, operation_at}
-use Rattle.rule_model.specs.Operations.{Open, Operation, OperationChange, SameOperations, Opens, Enters, Returns, Shows, Closes, ClosesOf, ClosesAll, admitted_operation, as_begun, as_entered, as_returned, as_shown, closes, enters, has_number, is_for, is_of, limited_key, open_after, opens, operation_of, operation_on, returns, step_of, stopped_operation, used_key, with_change, without, without_pruned}
+use Rattle.rule_model.specs.Kept.{kept, open_of}
+use Rattle.rule_model.specs.Operations.{Open, Operation, OperationChange, SameOperations, Opens, Enters, Returns, Shows, Closes, ClosesOf, ClosesAll, admitted_operation, as_begun, as_entered, as_returned, as_shown, closes, enters, has_number, is_for, is_of, limited_key, open_after, operation_of, returns, step_of, stopped_operation, used_key, without_pruned}
 use Rattle.rule_model.specs.Legal.{LegalBefore, MayFollow}
 use Rattle.rule_model.specs.Settling.{is_faulted, is_unsettled}
 use Rattle.rule_model.specs.Setup.{Setup}
 use Rattle.rule_model.specs.Slots.{begin_facts}
-use Rattle.rule_model.specs.Tickets.{Entered, TicketChange, admitted_ticket, goes_out, stopped_ticket, ticket_after, ticket_at}
+use Rattle.rule_model.specs.Tickets.{Entered, admitted_ticket, goes_out, stopped_ticket, ticket_after, ticket_at}
 use Rattle.rule_model.specs.Tokens.{token_of}
 use Rattle.rule_model.specs.Uses.{finished_by, one_if, output_key, outputs_made, used_by, uses_made}
 use Rattle.rule_model.proofs.Admitted.{IsEntered, admitted_by_rules, answered_done, broken_fields, entered}

@@ -1,6 +1,5 @@
 -- The law of uses.
-use Rattle.std.proofs.Common.{◌≡◌, ◌⊎◌, inl, inr, ℕ, ◌+◌, ◌≤◌, Bool, true, false, not, List, [], ◌∷◌, ◌++◌, Option, Some, None, refl, sym, ap, ◌∙◌, subst, arith}
-use Rattle.journal_records.specs.declared.change.Change.{Change}
+use Rattle.std.proofs.Common.{◌≡◌, inl, inr, ℕ, ◌+◌, ◌≤◌, Bool, true, false, not, List, [], ◌∷◌, ◌++◌, Option, Some, None, refl, sym, ap, ◌∙◌, subst, arith}
 use Rattle.journal_records.specs.LastingPart.{Lasting}
 use Rattle.rule_model.specs.declared.entry.Entry.TheVariants.{Acted, Settling}
 use Rattle.rule_model.specs.declared.event.Event.{Event}
@@ -13,7 +12,7 @@ use Rattle.rule_model.specs.Legal.{Legal, LegalBefore}
 use Rattle.rule_model.specs.Operations.{Open, operation_of}
 use Rattle.rule_model.specs.Setup.{Setup}
 use Rattle.rule_model.specs.StepFacts.{has_ended}
-use Rattle.rule_model.specs.Uses.{AreRuns, BeginsAfter, HasEnded, HasStood, KeepsLimit, Run, Stood, UsesLaw, outputs_in, outputs_made, uses_in, uses_made}
+use Rattle.rule_model.specs.Uses.{AreRuns, BeginsAfter, HasEnded, HasStood, Run, UsesLaw, outputs_in, uses_in, uses_made}
 use Rattle.rule_model.proofs.Admitted.{IsEntered, admitted_by_rules, entered}
 use Rattle.rule_model.proofs.Bounds.{Bounded, bounded_from, live_within}
 use Rattle.rule_model.proofs.Held.{HoldBoth, Holds, HoldsAt, hold_both, holds_at}
