@@ -1,7 +1,9 @@
 -- When a database and a disk hold something.
-use Rattle.std.specs.Prelude.{◌≡◌, ◌≤◌, ℕ, List, ◌∷◌, ◌++◌, Bool, true, false, Some, Result, Ok, Err, length, ⊤}
+use Rattle.std.specs.Prelude.{◌≡◌, ◌≤◌, ℕ, List, ◌∷◌, ◌++◌, ◌+◌, ◌-◌, Bool, true, false, Option, Some, None, Result, Ok, Err, length, ⊤}
 use Rattle.ks_outside.specs.declared.disk.Disk.{Ghosts}
 use Rattle.ks_outside.specs.Faults.{Rises}
+use Rattle.tags.specs.declared.settled.Settled.{Settled}
+use Rattle.tags.specs.declared.settled.Settled.TheVariants.{Kept, Lost}
 use Rattle.journal_records.specs.declared.change.Change.{Change}
 use Rattle.journal_records.specs.declared.fault.StoreFault.{StoreFault}
 use Rattle.journal_records.specs.declared.fault.StoreFault.TheVariants as faults
@@ -40,11 +42,26 @@ change_bytes change = length (closed_of change)
 abbrev pub bytes_after : {T : Type 0} → Change → Result T StoreFault → ℕ → ℕ
 bytes_after change result bytes = end_after (change_bytes change) result bytes
 
+-- the change that waits to be settled, where there is one
+abbrev pub pending_of : KeyDatabase → Option Change
+pending_of database = database.pending
+
+-- the change that waits after the call that makes one, by its answer
+abbrev pub waiting_after : {T : Type 0} → Change → Result T StoreFault → Option Change
+waiting_after change (Err faults.Device) = Some change
+waiting_after change _ = None
+
 -- the same lasting part in the same journal, where the same change waits; the room may be another
 pub record SameStore (old new : KeyDatabase) : Type 0 where
   pub lasting_is : lasting new ≡ lasting old
   pub journal_is : new.journal ≡ old.journal
   pub pending_is : new.pending ≡ old.pending
+
+-- what a settling makes of a change that waits, by its answer: it is made, or not
+abbrev pub SettledBy : Change → Result Settled StoreFault → KeyDatabase → KeyDatabase → Type 0
+SettledBy change (Ok Kept) old new = (lasting new ≡ after (lasting old) change) × (store_bytes new ≡ store_bytes old + (change_bytes change - 1)) × (pending_of new ≡ None)
+SettledBy change (Ok Lost) old new = (lasting new ≡ lasting old) × (store_bytes new ≡ store_bytes old) × (pending_of new ≡ None)
+SettledBy change (Err fault) old new = ⊤
 
 -- sure of this lasting part: each image is a journal of the same changes, which leave it
 pub record IsSure {D : Type 0} (g : Ghosts D) (database : KeyDatabase) (disk : D) (part : Lasting) : Type 0 where

@@ -1,7 +1,7 @@
 //! The lasting part over a journal.
 
-ghost use Rattle.std.specs.Prelude.{◌≡◌, ◌⊎◌, ◌<◌, ◌≤◌, ◌+◌, ℕ, List, length, true, false, is_some, IsErrOf, OnOk, OnErr, IfOk, is_err, not, ◌↔◌};
-ghost use Rattle.std.specs.Option.{ForSome};
+ghost use Rattle.std.specs.Prelude.{◌≡◌, ◌⊎◌, ◌<◌, ◌≤◌, ◌+◌, ◌-◌, ℕ, List, length, true, false, None, Some, IsErrOf, OnOk, OnErr, IfOk, is_err, not, ◌↔◌};
+ghost use Rattle.std.specs.Option.{ForSome, option_map};
 ghost use Rattle.ks_outside.specs.Images.{AllImages, Passes, TornFrom, tells};
 ghost use Rattle.journal_records.specs.declared.change.Change.{Change};
 ghost use Rattle.journal_records.specs.LastingPart.{Lasting, empty_lasting};
@@ -9,7 +9,7 @@ ghost use Rattle.journal_records.specs.Needs.{is_met};
 ghost use Rattle.journal_records.specs.Effects.{after};
 ghost use Rattle.journal_records.specs.Holding.{Holding, Sure, after_apply, after_settle};
 ghost use Rattle.journal_records.specs.Spelling.{closed_of};
-ghost use Rattle.use_journal.specs.Holding.{is_waiting, waits_after, AppendCause, FormatCause, OpenCause};
+ghost use Rattle.use_journal.specs.Holding.{end_of, end_with, is_waiting, waits_after, AppendCause, FormatCause, OpenCause};
 ghost use Rattle.key_database.specs.Held.{CanMake, HasRoomForGrant, HasRoomForKey, KeepsRoom, takes_memory};
 ghost use Rattle.key_database.specs.Store.{MayBe, Between, StandsFor};
 
@@ -30,17 +30,18 @@ pub struct KeyDatabase {
     pub(crate) journal: Journal,
     pub(crate) table: LastingTable,
     pending: Option<Change>,
-    ghost same: { is_waiting journal ≡ is_some pending },
+    ghost same: { end_with journal ≡ option_map (λ change. end_of journal + (length (closed_of change) - 1)) pending },
     ghost waits: { ForSome pending (λ change. CanMake table change) },
 }
 
 impl KeyDatabase {
-    ghost use Rattle.key_database.specs.Stands.{lasting, table_of, is_unsettled, store_bytes, change_bytes, bytes_after, Holds, IsReadAgain, Rereads, SameStore, ReadsStore, FindsStore, ApplyCause};
+    ghost use Rattle.key_database.specs.Stands.{lasting, table_of, is_unsettled, pending_of, waiting_after, SettledBy, store_bytes, change_bytes, bytes_after, Holds, IsReadAgain, Rereads, SameStore, ReadsStore, FindsStore, ApplyCause};
 
     /// Syncs, reads the store that the disk holds, and tests the need of each change. Corrupted has the place of what
     /// is wrong first: of what is no journal, and where it is one of the first change whose need is not met.
     pub fn open<D: Disk>(alloc: Global, disk: &mut D) -> Result<KeyDatabase, StoreFault>
         ensures holds { IfOk result (λ database. Holds D.Disk database disk.new (Sure (lasting database))) }
+        ensures idle { IfOk result (λ database. pending_of database ≡ None) }
         ensures reads { AllImages D.Disk disk.new (λ image. ReadsStore image result) }
         ensures stands { (part : Lasting) → AllImages D.Disk disk.old (StandsFor part)
             → tells D.Disk disk.old ≡ true → FindsStore part result }
@@ -120,6 +121,7 @@ impl KeyDatabase {
         ensures kept { OnErr result (lasting self.new ≡ lasting self.old) }
         ensures waiting { is_unsettled self.new ≡ waits_after result }
         ensures bytes { store_bytes self.new ≡ bytes_after change result (store_bytes self.old) }
+        ensures pending { pending_of self.new ≡ waiting_after change result }
         ensures full { IsErrOf result StoreFault.Full ↔ (268435456 < store_bytes self.old + change_bytes change) }
         ensures same { IsErrOf result StoreFault.Full → (disk.new ≡ disk.old) × SameStore self.old self.new }
         ensures sure { D.is_sure disk.old → D.is_sure disk.new }
@@ -156,6 +158,7 @@ impl KeyDatabase {
         ensures kept { OnErr result (lasting self.new ≡ lasting self.old) }
         ensures waiting { is_unsettled self.new ≡ waits_after result }
         ensures bytes { store_bytes self.new ≡ bytes_after change result (store_bytes self.old) }
+        ensures pending { pending_of self.new ≡ waiting_after change result }
         ensures memory { IsErrOf result StoreFault.Memory → (takes_memory change ≡ true) × (disk.new ≡ disk.old) }
         ensures full { IsErrOf result StoreFault.Full
             → (268435456 < store_bytes self.old + change_bytes change) × (disk.new ≡ disk.old) }
@@ -210,7 +213,8 @@ impl KeyDatabase {
         ensures passes { (before : Holding) → Holds D.Disk self.old disk.old before
             → Passes D.Disk disk.old disk.new (MayBe before) }
         ensures images { AllImages D.Disk disk.new (D.images disk.old) }
-        ensures kept { OnErr result (lasting self.new ≡ lasting self.old) }
+        ensures kept { OnErr result (SameStore self.old self.new) }
+        ensures settled { (change : Change) → pending_of self.old ≡ Some change → SettledBy change result self.old self.new }
         ensures waiting { is_unsettled self.new ≡ is_err result }
         ensures sure { D.is_sure disk.old → D.is_sure disk.new }
         ensures telling { tells D.Disk disk.new ≡ tells D.Disk disk.old }

@@ -1,3 +1,4 @@
+pub mod Ready
 pub mod KeyTable
 pub mod Listings
 pub mod Drawn

@@ -9,10 +9,12 @@ mod built;
 mod entry;
 mod event;
 mod facts;
+mod law;
 mod reply;
 
 pub use act_kind::{ActKind, ActRow};
 pub use entry::{Entry, Stepped};
 pub use event::{Act, Event, Line, Reading};
 pub use facts::{Brought, Caller, Conditions, NO_PIECES, Pieces};
+pub use law::uses_law;
 pub use reply::{Entries, Fields, NO_FIELDS, Reply};
