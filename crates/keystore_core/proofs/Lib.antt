@@ -9,6 +9,7 @@ pub mod Booted
 pub mod Standing
 pub mod Written
 pub mod Storing
+pub mod Settled
 pub mod Reading
 pub mod Making
 pub mod Begun

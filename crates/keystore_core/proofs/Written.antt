@@ -48,7 +48,7 @@ use Rattle.keystore_core.specs.Writing.{Full, HasMade, IsTorn, IsWritten, IsWrit
 
 -- ---- a change that is written
 
-closed_length : (change : Change) → change_bytes change ≡ record_bytes change + 1
+pub closed_length : (change : Change) → change_bytes change ≡ record_bytes change + 1
 closed_length change = omega (arith, length-append (tail_of change) (0 ∷ []))
 
 pub room_left : (bytes : ℕ) (change : Change) → (268435456 < bytes + change_bytes change → ⊥) → has_record_room bytes change ≡ true
