@@ -132,6 +132,7 @@ fn a_listener_in_memory(rt: HostRuntime) -> Result<(), Fail> {
 }
 
 /// Clocks with these times in milliseconds; the wall's may be one that cannot be read.
+#[derive(Drop)]
 struct Stub {
     boot: u64,
     wall: Option<u64>,

@@ -20,7 +20,7 @@ pub struct PortListener {
 
 /// Listens on 127.0.0.1 at the port; at port 0 the system chooses one that is free. Where the port cannot be had, each call of `next` fails;
 /// none has failed so far.
-pub fn listen<R: Net<Listener = TcpListener>>(rt: &R, port: u16) -> PortListener
+pub fn listen<R: Net<Listener = TcpListener, Stream = TcpStream>>(rt: &R, port: u16) -> PortListener
     ensures faults { result.faults.count ≡ 0 }
     ensures given { result.given ≡ 0 }
     ensures ended { result.ended ≡ 0 }

@@ -41,7 +41,8 @@ size_exact a m is = record { exact = λ lt. is; great = λ le. omega (arith, is,
 
 pub size_six : (a b c d e f m n o p q r l : ℕ) → IsSize a m → IsSize b n → IsSize c o → IsSize d p → IsSize e q → IsSize f r → l ≡ m + n + o + p + q + r → IsSize (a + b + c + d + e + f) l
 size_six a b c d e f m n o p q r l s t u v w x is =
-    let three = size_three 0 a b c m n o (m + n + o) s t u (omega arith) in
+    let two = size_sum a b m n (m + n) s t (omega arith) in
+    let three = size_sum (a + b) c (m + n) o (m + n + o) two u (omega arith) in
     let four = size_sum (a + b + c) d (m + n + o) p (m + n + o + p) three v (omega arith) in
     let five = size_sum (a + b + c + d) e (m + n + o + p) q (m + n + o + p + q) four w (omega arith) in
     size_sum (a + b + c + d + e) f (m + n + o + p + q) r l five x is
