@@ -1,8 +1,7 @@
 -- Entries that leave the keys and grants as they are.
-use Rattle.std.proofs.Common.{◌≡◌, ℕ, Bool, true, false, ◌&&◌, if◌then◌else◌, List, ◌∷◌, Option, None, refl, ap}
+use Rattle.std.proofs.Common.{◌≡◌, ℕ, Bool, true, false, ◌&&◌, if◌then◌else◌, List, ◌∷◌, None, refl, ap}
 use Rattle.tags.specs.declared.policy.PolicyRow.{PolicyRow}
 use Rattle.tags.specs.declared.secrets.DeviceSecrets.{DeviceSecrets}
-use Rattle.tags.specs.declared.settled.Settled.{Settled}
 use Rattle.journal_records.specs.LastingPart.{Lasting}
 use Rattle.rule_model.specs.declared.entry.Entry.TheVariants.{Acted}
 use Rattle.rule_model.specs.declared.event.Act.{Act}
@@ -15,7 +14,7 @@ use Rattle.rule_model.specs.Blobs.{device_at, root_given, root_of}
 use Rattle.rule_model.specs.Changes.{after_change, change_of}
 use Rattle.rule_model.specs.Clients.{caller_of}
 use Rattle.rule_model.specs.Entries.{History, is_done}
-use Rattle.rule_model.specs.Kept.{kept, kept_after, kept_settled}
+use Rattle.rule_model.specs.Kept.{kept, kept_settled}
 use Rattle.rule_model.specs.Settling.{is_faulted, is_unsettled}
 use Rattle.rule_model.specs.Setup.{Setup}
 
