@@ -1,4 +1,3 @@
-use Rattle.std.proofs.Common.{◌≡◌}
 use Rattle.wire_frames.specs.Replies.{long_field}
 use Rattle.wire_frames.proofs.Adding.{lengths_four}
 use Rattle.wire_frames.proofs.writing.reply_sizes.calls_size.Goals as goal

@@ -1,4 +1,4 @@
-use Rattle.std.proofs.Common.{ℕ, ◌≤◌, length, take, flat_map}
+use Rattle.std.proofs.Common.{◌≤◌, length, take, flat_map}
 use Rattle.wire_frames.specs.Replies.{entry_of}
 use Rattle.wire_frames.specs.Sizes.{IsSize}
 use Rattle.wire_frames.proofs.writing.reply_sizes.entries_size.Given as goal

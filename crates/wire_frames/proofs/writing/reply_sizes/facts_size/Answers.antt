@@ -1,4 +1,3 @@
-use Rattle.std.proofs.Common.{◌≡◌}
 use Rattle.wire_frames.specs.Replies.{long_field, short_field}
 use Rattle.wire_frames.proofs.Adding.{lengths_three}
 use Rattle.wire_frames.proofs.writing.reply_sizes.facts_size.Goals as goal

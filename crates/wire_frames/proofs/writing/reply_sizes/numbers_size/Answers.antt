@@ -1,4 +1,3 @@
-use Rattle.std.proofs.Common.{◌≡◌}
 use Rattle.wire_frames.specs.Replies.{begins_of, calls_of, facts_of}
 use Rattle.wire_frames.proofs.Adding.{lengths_three}
 use Rattle.wire_frames.proofs.writing.reply_sizes.numbers_size.Goals as goal

@@ -1,4 +1,4 @@
-use Rattle.std.proofs.Common.{◌≡◌, ◌++◌, arith, length, length-append}
+use Rattle.std.proofs.Common.{arith, length, length-append}
 use Rattle.wire_frames.specs.Replies.{numbers_of, texts_of, reply_body}
 use Rattle.wire_frames.proofs.Adding.{size_two, size_exact}
 use Rattle.wire_frames.proofs.writing.reply_sizes.reply_size.Goals as goal
