@@ -18,7 +18,9 @@ fn is_finish(act: &Act) -> bool {
             op,
             input,
             signature: Some(signature),
-        } => *op == 9 && input.as_slice() == b"text" && signature.as_slice() == b"\x5a",
+        } => *op == 9
+            && input.as_slice() == b"text".as_slice()
+            && signature.as_slice() == b"\x5a".as_slice(),
         _ => false,
     }
 }
