@@ -86,6 +86,17 @@ fn output(alloc: Global, act: &Act) -> Result<Reply, NoMemory>
     }))
 }
 
+/// A call that was stopped.
+#[tactic(auto, unfolding(wire_frames::specs::Replies::reply_body))]
+fn stopped() -> Reply
+    ensures fits { Fits (sizes_of (Leave 1) 0) result }
+    ensures short { length (reply_body result) < 2 ^ 32 }
+{
+    Reply::Stopped {
+        code: Code::NoTicket,
+    }
+}
+
 #[test]
 fn replies_are_copied(rt: HostRuntime) -> Result<(), Fail> {
     let alloc = rt.alloc();
@@ -97,9 +108,6 @@ fn replies_are_copied(rt: HostRuntime) -> Result<(), Fail> {
     assert!(&rt; is_copied(alloc, &list, 0, &listing(alloc, &list)?)?);
     let leave = Act::Leave { ticket: 1 };
     assert!(&rt; is_copied(alloc, &leave, 4, &output(alloc, &leave)?)?);
-    let stopped = Reply::Stopped {
-        code: Code::NoTicket,
-    };
-    assert!(&rt; is_copied(alloc, &leave, 0, &stopped)?);
+    assert!(&rt; is_copied(alloc, &leave, 0, &stopped())?);
     Ok(())
 }
