@@ -3,6 +3,7 @@
 and their ratio.
 
 The look-ups, a use, a rebinding and an opening go over a disk in memory that keeps no write, and count the least time of a round.
+`open_walk` is the part of an opening that reads the records, and `open_ordered` an opening of keys whose aliases come in their order.
 `open_KiB` is an opening of 64 keys in 5,193 bytes and in 1,024 times as many, for each KiB. `use_synced` and `rebind_synced` are
 changes with their disk, over two files in FOLDER (else where temporary files stand), by turns; they count the middle time.
 
@@ -16,7 +17,7 @@ import sys
 import tempfile
 
 TOP = os.path.dirname(os.path.dirname(os.path.realpath(__file__)))
-USED = "ks_outside tags grants journal_records key_database"
+USED = "ks_outside tags grants journal_records use_journal key_database"
 
 
 def crates():
@@ -48,7 +49,7 @@ def said(place):
     return subprocess.run(["rt", "run"], cwd=crate, stdin=subprocess.DEVNULL, capture_output=True, text=True, check=False).stdout
 
 
-PARTS = ("by_name", "by_id", "next_name", "count", "use", "rebind", "open", "open_KiB", "use_synced", "rebind_synced")
+PARTS = ("by_name", "by_id", "next_name", "count", "use", "rebind", "open", "open_walk", "open_ordered", "open_KiB", "use_synced", "rebind_synced")
 
 
 def main():

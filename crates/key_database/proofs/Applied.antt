@@ -18,7 +18,7 @@ use Rattle.key_database.specs.declared.database.KeyDatabase.{KeyDatabase}
 pub left_after : (past : List Change) (change : Change) (part : Lasting) → lasting_of past ≡ Some part → is_met part change ≡ true → lasting_of (change ∷ past) ≡ Some (after part change)
 left_after past change part left met = rw (left, met) refl
 
-before_stands : (past : List Change) (part : Lasting) (c : List ℕ) → AreChanges past → lasting_of past ≡ Some part → IsJournal past c → StandsFor part c
+pub before_stands : (past : List Change) (part : Lasting) (c : List ℕ) → AreChanges past → lasting_of past ≡ Some part → IsJournal past c → StandsFor part c
 before_stands past part c changes left j = record { past = past; changes = changes; journal = j; lasting = left }
 
 after_stands : (past : List Change) (change : Change) (part : Lasting) (c : List ℕ) → AreChanges (change ∷ past) → lasting_of past ≡ Some part → is_met part change ≡ true → IsJournal (change ∷ past) c → StandsFor (after part change) c

@@ -226,6 +226,14 @@ place_new domain nspace count alias part t e none =
     let same : count ≡ length (filter (λ key. not (is_named domain nspace alias key)) part.keys) = omega (arith, e, (rw none at left)) in
     ap (λ n. nat_lt n 65536) same
 
+-- fewer keys than there may be
+pub place_few : (domain nspace count : ℕ) (alias : List ℕ) (part : Lasting) → AreRows part.keys → count ≡ length part.keys → count < 65536 → true ≡ has_place_for domain nspace alias part
+place_few domain nspace count alias part t e few =
+    by_held (is_some (find (is_named domain nspace alias) part.keys)) refl where
+      by_held : (held : Bool) → is_some (find (is_named domain nspace alias) part.keys) ≡ held → true ≡ has_place_for domain nspace alias part
+      by_held true held = sym (le-leb count 65536 (omega (arith, few))) ∙ place_rebound domain nspace count alias part t e held
+      by_held false none = sym (lt-ltb count 65536 few) ∙ place_new domain nspace count alias part t e none
+
 -- ---- a key that is found, and what is left of the others
 
 pub fewer : (id : ℕ) (rows : List KeyRecord) → is_some (find (has_id id) rows) ≡ true → length (filter (λ key. not (has_id id key)) rows) < length rows

@@ -14,3 +14,4 @@ pub mod Opened
 pub mod Lockstep
 pub mod Afters
 pub mod Listing
+pub mod Rereading

@@ -1,7 +1,9 @@
 -- When a database and a disk hold something.
-use Rattle.std.specs.Prelude.{◌≡◌, ◌≤◌, ℕ, List, ◌∷◌, ◌++◌, Bool, true, false, Some, Result, Ok, Err, length, ⊤}
+use Rattle.std.specs.Prelude.{◌≡◌, ◌≤◌, ℕ, List, ◌∷◌, ◌++◌, ◌+◌, ◌-◌, Bool, true, false, Option, Some, None, Result, Ok, Err, length, ⊤}
 use Rattle.ks_outside.specs.declared.disk.Disk.{Ghosts}
 use Rattle.ks_outside.specs.Faults.{Rises}
+use Rattle.tags.specs.declared.settled.Settled.{Settled}
+use Rattle.tags.specs.declared.settled.Settled.TheVariants.{Kept, Lost}
 use Rattle.journal_records.specs.declared.change.Change.{Change}
 use Rattle.journal_records.specs.declared.fault.StoreFault.{StoreFault}
 use Rattle.journal_records.specs.declared.fault.StoreFault.TheVariants as faults
@@ -11,7 +13,7 @@ use Rattle.journal_records.specs.Effects.{after, lasting_of}
 use Rattle.journal_records.specs.Holding.{Holding, Sure, Unsure}
 use Rattle.journal_records.specs.Spelling.{closed_of}
 use Rattle.use_journal.specs.Journal.{past_of}
-use Rattle.use_journal.specs.Holding.{is_waiting, end_of, IsSettledOn, IsUnsettledOn}
+use Rattle.use_journal.specs.Holding.{is_waiting, end_after, end_of, IsSettledOn, IsUnsettledOn}
 use Rattle.key_database.specs.declared.database.KeyDatabase.{KeyDatabase}
 use Rattle.key_database.specs.Held.{Held, lasting_in}
 use Rattle.key_database.specs.Store.{StandsFor, IsBadStore}
@@ -19,6 +21,10 @@ use Rattle.key_database.specs.Store.{StandsFor, IsBadStore}
 -- the lasting part that its look-ups tell
 abbrev pub lasting : KeyDatabase → Lasting
 lasting database = lasting_in database.table
+
+-- the table of its keys and grants, with its room
+abbrev pub table_of : KeyDatabase → Held
+table_of database = database.table
 
 -- whether a change waits to be settled
 abbrev pub is_unsettled : KeyDatabase → Bool
@@ -31,6 +37,31 @@ store_bytes database = end_of database.journal
 -- how many bytes of the store a change takes: its record and the byte behind it
 abbrev pub change_bytes : Change → ℕ
 change_bytes change = length (closed_of change)
+
+-- how many bytes they have after a change, by the answer of the call that makes it
+abbrev pub bytes_after : {T : Type 0} → Change → Result T StoreFault → ℕ → ℕ
+bytes_after change result bytes = end_after (change_bytes change) result bytes
+
+-- the change that waits to be settled, where there is one
+abbrev pub pending_of : KeyDatabase → Option Change
+pending_of database = database.pending
+
+-- the change that waits after the call that makes one, by its answer
+abbrev pub waiting_after : {T : Type 0} → Change → Result T StoreFault → Option Change
+waiting_after change (Err faults.Device) = Some change
+waiting_after change _ = None
+
+-- the same lasting part in the same journal, where the same change waits; the room may be another
+pub record SameStore (old new : KeyDatabase) : Type 0 where
+  pub lasting_is : lasting new ≡ lasting old
+  pub journal_is : new.journal ≡ old.journal
+  pub pending_is : new.pending ≡ old.pending
+
+-- what a settling makes of a change that waits, by its answer: it is made, or not
+abbrev pub SettledBy : Change → Result Settled StoreFault → KeyDatabase → KeyDatabase → Type 0
+SettledBy change (Ok Kept) old new = (lasting new ≡ after (lasting old) change) × (store_bytes new ≡ store_bytes old + (change_bytes change - 1)) × (pending_of new ≡ None)
+SettledBy change (Ok Lost) old new = (lasting new ≡ lasting old) × (store_bytes new ≡ store_bytes old) × (pending_of new ≡ None)
+SettledBy change (Err fault) old new = ⊤
 
 -- sure of this lasting part: each image is a journal of the same changes, which leave it
 pub record IsSure {D : Type 0} (g : Ghosts D) (database : KeyDatabase) (disk : D) (part : Lasting) : Type 0 where
@@ -70,6 +101,23 @@ FindsStore part (Err faults.Device) = ⊤
 FindsStore part (Err (faults.Corrupted offset)) = ⊥
 FindsStore part (Err faults.Full) = ⊥
 FindsStore part (Err faults.Memory) = ⊤
+
+-- what reading a store again answers where the bytes are told: they stand for what was held
+abbrev pub IsReadAgain : Result Bool StoreFault → Type 0
+IsReadAgain (Ok same) = same ≡ true
+IsReadAgain (Err faults.Device) = ⊤
+IsReadAgain (Err (faults.Corrupted offset)) = ⊥
+IsReadAgain (Err faults.Full) = ⊥
+IsReadAgain (Err faults.Memory) = ⊤
+
+-- what it read of these bytes, by its answer
+abbrev pub Rereads : Lasting → List ℕ → Result Bool StoreFault → Type 0
+Rereads part image (Ok true) = StandsFor part image
+Rereads part image (Ok false) = ⊤
+Rereads part image (Err faults.Device) = ⊤
+Rereads part image (Err (faults.Corrupted offset)) = IsBadStore image offset
+Rereads part image (Err faults.Full) = ⊥
+Rereads part image (Err faults.Memory) = ⊤
 
 -- a change of the list whose need is not met stands at this place, and the needs of those before it are met
 pub record IsUnmetAt (changes : List (ℕ × Change)) (offset : ℕ) : Type 0 where

@@ -5,7 +5,7 @@ ghost use Rattle.ks_outside.specs.Images.{AllImages, Passes, tells};
 ghost use Rattle.journal_records.specs.declared.change.Change.{Change};
 ghost use Rattle.journal_records.specs.Spelling.{closed_of, IsShort, IsChange};
 ghost use Rattle.use_journal.specs.Journal.{IsJournal, IsBeforeOrAfter};
-ghost use Rattle.use_journal.specs.Holding.{is_waiting, end_of, IsSettledOn, Appended, waits_after, AppendCause};
+ghost use Rattle.use_journal.specs.Holding.{is_waiting, end_after, end_of, end_with, pending_after, IsSettledOn, Appended, waits_after, AppendCause};
 
 use journal_records::{Change, StoreFault, frame_into};
 use ks_outside::Disk;
@@ -30,6 +30,8 @@ pub(crate) fn append_change<D: Disk>(
     ensures nothing { (past : List Change) → IsSettledOn D.Disk journal.old disk.old past
         → D.is_sure disk.old → OnErr result (AllImages D.Disk disk.new (IsJournal past)) }
     ensures waiting { is_waiting journal.new ≡ waits_after result }
+    ensures end { end_of journal.new ≡ end_after (length (closed_of change.now)) result (end_of journal.old) }
+    ensures pending { end_with journal.new ≡ pending_after (length (closed_of change.now)) result (end_of journal.old) }
     ensures full { IsErrOf result StoreFault.Full ↔ (268435456 < end_of journal.old + length (closed_of change.now)) }
     ensures same { IsErrOf result StoreFault.Full → (disk.new ≡ disk.old) × (journal.new ≡ journal.old) }
     ensures sure { D.is_sure disk.old → D.is_sure disk.new }

@@ -1,16 +1,16 @@
 //! The lasting part over a journal.
 
-ghost use Rattle.std.specs.Prelude.{◌≡◌, ◌⊎◌, ◌<◌, ◌≤◌, ◌+◌, ℕ, List, length, true, false, is_some, IsErrOf, IfSome, OnOk, OnErr, IfOk, is_err, not};
-ghost use Rattle.std.specs.Option.{ForSome};
-ghost use Rattle.ks_outside.specs.Images.{AllImages, Passes, tells};
+ghost use Rattle.std.specs.Prelude.{◌≡◌, ◌⊎◌, ◌<◌, ◌≤◌, ◌+◌, ◌-◌, ℕ, List, length, true, false, None, Some, IsErrOf, OnOk, OnErr, IfOk, is_err, not, ◌↔◌};
+ghost use Rattle.std.specs.Option.{ForSome, option_map};
+ghost use Rattle.ks_outside.specs.Images.{AllImages, Passes, TornFrom, tells};
 ghost use Rattle.journal_records.specs.declared.change.Change.{Change};
-ghost use Rattle.journal_records.specs.LastingPart.{Lasting, has_id, is_named, is_owned};
+ghost use Rattle.journal_records.specs.LastingPart.{Lasting, empty_lasting};
 ghost use Rattle.journal_records.specs.Needs.{is_met};
 ghost use Rattle.journal_records.specs.Effects.{after};
 ghost use Rattle.journal_records.specs.Holding.{Holding, Sure, after_apply, after_settle};
 ghost use Rattle.journal_records.specs.Spelling.{closed_of};
-ghost use Rattle.use_journal.specs.Holding.{is_waiting, waits_after, FormatCause, OpenCause};
-ghost use Rattle.key_database.specs.Held.{CanMake, takes_memory};
+ghost use Rattle.use_journal.specs.Holding.{end_of, end_with, is_waiting, waits_after, AppendCause, FormatCause, OpenCause};
+ghost use Rattle.key_database.specs.Held.{CanMake, HasRoomForGrant, HasRoomForKey, KeepsRoom, takes_memory};
 ghost use Rattle.key_database.specs.Store.{MayBe, Between, StandsFor};
 
 use crate::appending::append_change;
@@ -20,27 +20,28 @@ use crate::opening::replay;
 use journal_records::{Change, StoreFault};
 use ks_outside::Disk;
 use std::alloc::Global;
-use tags::Settled;
-use use_journal::Journal;
+use tags::{NoMemory, Settled};
+use use_journal::{Journal, one_reading};
 
 /// The keys and grants that last, and the journal that they lie in. While a change whose writing failed waits to be
 /// settled, also that change, with the room for it.
 #[derive(Drop)]
 pub struct KeyDatabase {
-    journal: Journal,
+    pub(crate) journal: Journal,
     pub(crate) table: LastingTable,
     pending: Option<Change>,
-    ghost same: { is_waiting journal ≡ is_some pending },
+    ghost same: { end_with journal ≡ option_map (λ change. end_of journal + (length (closed_of change) - 1)) pending },
     ghost waits: { ForSome pending (λ change. CanMake table change) },
 }
 
 impl KeyDatabase {
-    ghost use Rattle.key_database.specs.Stands.{lasting, is_unsettled, store_bytes, change_bytes, Holds, ReadsStore, FindsStore, ApplyCause};
+    ghost use Rattle.key_database.specs.Stands.{lasting, table_of, is_unsettled, pending_of, waiting_after, SettledBy, store_bytes, change_bytes, bytes_after, Holds, IsReadAgain, Rereads, SameStore, ReadsStore, FindsStore, ApplyCause};
 
     /// Syncs, reads the store that the disk holds, and tests the need of each change. Corrupted has the place of what
     /// is wrong first: of what is no journal, and where it is one of the first change whose need is not met.
     pub fn open<D: Disk>(alloc: Global, disk: &mut D) -> Result<KeyDatabase, StoreFault>
         ensures holds { IfOk result (λ database. Holds D.Disk database disk.new (Sure (lasting database))) }
+        ensures idle { IfOk result (λ database. pending_of database ≡ None) }
         ensures reads { AllImages D.Disk disk.new (λ image. ReadsStore image result) }
         ensures stands { (part : Lasting) → AllImages D.Disk disk.old (StandsFor part)
             → tells D.Disk disk.old ≡ true → FindsStore part result }
@@ -71,15 +72,45 @@ impl KeyDatabase {
         self.journal.is_settled()
     }
 
-    /// Makes a change on the disk, and then here. At each moment each image stands for the lasting part before, or for
-    /// that with the change.
+    /// Writes an empty store, and syncs. Device alone is its refusal. It takes no memory.
+    pub fn format<D: Disk>(disk: &mut D) -> Result<(), StoreFault>
+        ensures formatted { OnOk result (AllImages D.Disk disk.new (StandsFor empty_lasting)) }
+        ensures passes { Passes D.Disk disk.old disk.new (TornFrom D.Disk disk.old 0 9) }
+        ensures torn { AllImages D.Disk disk.new (TornFrom D.Disk disk.old 0 9) }
+        ensures nothing { D.is_sure disk.old → OnErr result (AllImages D.Disk disk.new (D.images disk.old)) }
+        ensures sure { D.is_sure disk.old → D.is_sure disk.new }
+        ensures telling { tells D.Disk disk.new ≡ tells D.Disk disk.old }
+        ensures cause { FormatCause (D.fault_count disk.old) (D.fault_count disk.new) result }
+    {
+        Journal::format(disk)
+    }
+
+    /// Makes room for one more key, so that `commit` of one takes no memory.
+    pub fn reserve_key(&mut self) -> Result<(), NoMemory>
+        ensures room { OnOk result (HasRoomForKey (table_of self.new)) }
+        ensures kept { KeepsRoom (table_of self.old) (table_of self.new) }
+        ensures same { SameStore self.old self.new }
+    {
+        self.table.reserve_key()
+    }
+
+    /// Makes room for one more grant, so that `commit` of one takes no memory.
+    pub fn reserve_grant(&mut self) -> Result<(), NoMemory>
+        ensures room { OnOk result (HasRoomForGrant (table_of self.new)) }
+        ensures kept { KeepsRoom (table_of self.old) (table_of self.new) }
+        ensures same { SameStore self.old self.new }
+    {
+        self.table.reserve_grant()
+    }
+
+    /// Makes a change on the disk, and then here; there is room for it. At each moment each image stands for the lasting
+    /// part before, or for that with the change. It takes no memory.
     ///
-    /// Memory comes before the first call of the disk, and only at a change that makes a key or a grant. Full comes
-    /// where the record and its closing byte would pass the journal's end, and no call is made then. After Device the
-    /// database is unsettled, and tells what it told before.
-    pub fn apply<D: Disk>(&mut self, disk: &mut D, change: Change) -> Result<(), StoreFault>
+    /// Full comes where the record and its closing byte would pass the journal's end, and no call is made then. After
+    /// Device the database is unsettled, and tells what it told before. There is no other refusal.
+    pub fn commit<D: Disk>(&mut self, disk: &mut D, change: Change) -> Result<(), StoreFault>
         requires settled { is_unsettled self.old ≡ false }
-        requires met { is_met (lasting self.old) change ≡ true }
+        requires can { CanMake (table_of self.old) change }
         ensures holds { (before : Holding) → Holds D.Disk self.old disk.old before
             → Holds D.Disk self.new disk.new (after_apply change result before) }
         ensures passes { (before : Holding) → Holds D.Disk self.old disk.old before
@@ -89,18 +120,14 @@ impl KeyDatabase {
         ensures made { OnOk result (lasting self.new ≡ after (lasting self.old) change) }
         ensures kept { OnErr result (lasting self.new ≡ lasting self.old) }
         ensures waiting { is_unsettled self.new ≡ waits_after result }
-        ensures memory { IsErrOf result StoreFault.Memory → (takes_memory change ≡ true) × (disk.new ≡ disk.old) }
-        ensures full { IsErrOf result StoreFault.Full
-            → (268435456 < store_bytes self.old + change_bytes change) × (disk.new ≡ disk.old) }
-        ensures past { 268435456 < store_bytes self.old + change_bytes change
-            → IsErrOf result StoreFault.Full ⊎ IsErrOf result StoreFault.Memory }
+        ensures bytes { store_bytes self.new ≡ bytes_after change result (store_bytes self.old) }
+        ensures pending { pending_of self.new ≡ waiting_after change result }
+        ensures full { IsErrOf result StoreFault.Full ↔ (268435456 < store_bytes self.old + change_bytes change) }
+        ensures same { IsErrOf result StoreFault.Full → (disk.new ≡ disk.old) × SameStore self.old self.new }
         ensures sure { D.is_sure disk.old → D.is_sure disk.new }
         ensures telling { tells D.Disk disk.new ≡ tells D.Disk disk.old }
-        ensures cause { ApplyCause (D.fault_count disk.old) (D.fault_count disk.new) result }
+        ensures cause { AppendCause (D.fault_count disk.old) (D.fault_count disk.new) result }
     {
-        let Ok(()) = self.table.reserve(&change) else {
-            return Err(StoreFault::Memory);
-        };
         match append_change(&mut self.journal, disk, &change) {
             Ok(()) => {
                 self.table.make(change);
@@ -115,6 +142,68 @@ impl KeyDatabase {
         }
     }
 
+    /// Takes memory for a change, and makes it as `commit` does.
+    ///
+    /// Memory comes before the first call of the disk, and only at a change that makes a key or a grant.
+    pub fn apply<D: Disk>(&mut self, disk: &mut D, change: Change) -> Result<(), StoreFault>
+        requires settled { is_unsettled self.old ≡ false }
+        requires met { is_met (lasting self.old) change ≡ true }
+        ensures holds { (before : Holding) → Holds D.Disk self.old disk.old before
+            → Holds D.Disk self.new disk.new (after_apply change result before) }
+        ensures passes { (before : Holding) → Holds D.Disk self.old disk.old before
+            → Passes D.Disk disk.old disk.new (Between before (after_apply change result before)) }
+        ensures nothing { (before : Holding) → Holds D.Disk self.old disk.old before → D.is_sure disk.old
+            → OnErr result (AllImages D.Disk disk.new (MayBe before)) }
+        ensures made { OnOk result (lasting self.new ≡ after (lasting self.old) change) }
+        ensures kept { OnErr result (lasting self.new ≡ lasting self.old) }
+        ensures waiting { is_unsettled self.new ≡ waits_after result }
+        ensures bytes { store_bytes self.new ≡ bytes_after change result (store_bytes self.old) }
+        ensures pending { pending_of self.new ≡ waiting_after change result }
+        ensures memory { IsErrOf result StoreFault.Memory → (takes_memory change ≡ true) × (disk.new ≡ disk.old) }
+        ensures full { IsErrOf result StoreFault.Full
+            → (268435456 < store_bytes self.old + change_bytes change) × (disk.new ≡ disk.old) }
+        ensures past { 268435456 < store_bytes self.old + change_bytes change
+            → IsErrOf result StoreFault.Full ⊎ IsErrOf result StoreFault.Memory }
+        ensures sure { D.is_sure disk.old → D.is_sure disk.new }
+        ensures telling { tells D.Disk disk.new ≡ tells D.Disk disk.old }
+        ensures cause { ApplyCause (D.fault_count disk.old) (D.fault_count disk.new) result }
+    {
+        let Ok(()) = self.table.reserve(&change) else {
+            return Err(StoreFault::Memory);
+        };
+        self.commit(disk, change)
+    }
+
+    /// Whether both hold the same lasting part, in as many bytes.
+    fn same_store(&self, other: &KeyDatabase) -> bool
+        ensures yes { result ≡ true → lasting self.now ≡ lasting other.now }
+        ensures no { lasting self.now ≡ lasting other.now → store_bytes self.now ≡ store_bytes other.now → result ≡ true }
+    {
+        self.journal.end() == other.journal.end() && self.table.same(&other.table)
+    }
+
+    /// Reads the store again, and tells whether it is the same lasting part in as many bytes. Over a disk that tells its
+    /// bytes it answers neither false nor Corrupted.
+    pub fn read_again<D: Disk>(&self, alloc: Global, disk: &mut D) -> Result<bool, StoreFault>
+        requires { is_unsettled self.now ≡ false }
+        ensures holds { (held : Holding) → Holds D.Disk self.now disk.old held → Holds D.Disk self.now disk.new held }
+        ensures passes { (held : Holding) → Holds D.Disk self.now disk.old held
+            → Passes D.Disk disk.old disk.new (MayBe held) }
+        ensures same { (held : Holding) → Holds D.Disk self.now disk.old held → tells D.Disk disk.old ≡ true
+            → IsReadAgain result }
+        ensures reads { AllImages D.Disk disk.new (λ image. Rereads (lasting self.now) image result) }
+        ensures images { AllImages D.Disk disk.new (D.images disk.old) }
+        ensures sure { D.is_sure disk.old → D.is_sure disk.new }
+        ensures telling { tells D.Disk disk.new ≡ tells D.Disk disk.old }
+        ensures cause { OpenCause (D.fault_count disk.old) (D.fault_count disk.new) result }
+    {
+        one_reading();
+        match KeyDatabase::open(alloc, disk) {
+            Ok(read) => Ok(self.same_store(&read)),
+            Err(fault) => Err(fault),
+        }
+    }
+
     /// Finds out what became of a change that waits, and makes it here where the disk has it. Device alone is its
     /// refusal, and the database stays unsettled then. It takes no memory.
     pub fn settle<D: Disk>(&mut self, disk: &mut D) -> Result<Settled, StoreFault>
@@ -124,7 +213,8 @@ impl KeyDatabase {
         ensures passes { (before : Holding) → Holds D.Disk self.old disk.old before
             → Passes D.Disk disk.old disk.new (MayBe before) }
         ensures images { AllImages D.Disk disk.new (D.images disk.old) }
-        ensures kept { OnErr result (lasting self.new ≡ lasting self.old) }
+        ensures kept { OnErr result (SameStore self.old self.new) }
+        ensures settled { (change : Change) → pending_of self.old ≡ Some change → SettledBy change result self.old self.new }
         ensures waiting { is_unsettled self.new ≡ is_err result }
         ensures sure { D.is_sure disk.old → D.is_sure disk.new }
         ensures telling { tells D.Disk disk.new ≡ tells D.Disk disk.old }

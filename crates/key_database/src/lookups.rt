@@ -2,9 +2,10 @@
 
 ghost use Rattle.std.specs.Prelude.{◌≡◌, ℕ, true};
 ghost use Rattle.std.specs.Option.{option_copied};
-ghost use Rattle.journal_records.specs.Needs.{is_met};
+ghost use Rattle.journal_records.specs.LastingPart.{some_has_id};
+ghost use Rattle.journal_records.specs.Needs.{has_place_for, is_met};
 ghost use Rattle.journal_records.specs.Lookups.{key_of_id, key_of_name, key_count, next_key, named_in, numbered_in, granted_in, shared_in};
-ghost use Rattle.key_database.specs.Stands.{lasting};
+ghost use Rattle.key_database.specs.Stands.{lasting, store_bytes};
 
 use crate::database::KeyDatabase;
 use crate::lasting_table::LastingTable;
@@ -35,6 +36,20 @@ impl KeyDatabase {
         self.table.next_name(domain, nspace, past)
     }
 
+    /// Whether a key of this number is live.
+    pub fn is_live(&self, id: u64) -> bool
+        ensures { result ≡ some_has_id id (lasting self.now).keys }
+    {
+        self.table.is_live(id)
+    }
+
+    /// Whether there is a place for one more key of an owner under an alias: the key under that name makes place.
+    pub fn has_place_for(&self, domain: u8, nspace: u64, alias: &[u8]) -> bool
+        ensures { result ≡ has_place_for domain nspace alias.now (lasting self.now) }
+    {
+        self.table.has_place_for(domain, nspace, alias)
+    }
+
     /// How many live keys an owner has.
     pub fn count(&self, domain: u8, nspace: u64) -> u64
         ensures { result ≡ key_count (lasting self.now) domain nspace }
@@ -62,6 +77,13 @@ impl KeyDatabase {
         ensures { result.now.rows ≡ (lasting self.now).grants }
     {
         self.table.grants()
+    }
+
+    /// How many bytes the store's header and records have.
+    pub fn store_bytes(&self) -> u64
+        ensures { result ≡ store_bytes self.now }
+    {
+        self.journal.end()
     }
 
     /// The numbers that the next key and the next grant take.

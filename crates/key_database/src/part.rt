@@ -79,12 +79,12 @@ impl Part {
     pub(crate) fn has_place_for(&self, domain: u8, nspace: u64, alias: &[u8]) -> bool
         ensures { result ≡ has_place_for domain nspace alias.now (part_of self.now) }
     {
-        let rebound = self.keys.named(domain, nspace, alias).is_some();
         let count = self.keys.len();
-        if rebound {
-            return count <= MOST;
+        if count < MOST {
+            return true;
         }
-        count < MOST
+        let rebound = self.keys.named(domain, nspace, alias).is_some();
+        rebound && count <= MOST
     }
 
     /// Whether a grant has the number that it must have.

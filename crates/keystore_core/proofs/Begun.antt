@@ -42,6 +42,7 @@ use Rattle.rule_model.specs.Access.{access_by, id_of, key_in, owner_of}
 use Rattle.rule_model.specs.Kept.{access_at, begin_key_at, kept, key_found}
 use Rattle.rule_model.specs.Legal.{MayFollow, Answered, WithoutMemory, WithoutEntropy}
 use Rattle.rule_model.specs.Operations.{Open, OperationChange, Opens, SameOperations, as_begun, challenge_of, has_number, facts_of_begin, is_busy, nonce_of, nonce_size, open_after, open_of, operation_at, operation_change, operation_on, opens, step_of, without, without_pruned}
+use Rattle.rule_model.proofs.Kept.{quiet_stored}
 use Rattle.rule_model.specs.Setup.{Setup}
 use Rattle.rule_model.specs.Slots.{begin_facts, conditions_on, facts_of_open, has_free, has_room, pruned_for}
 use Rattle.rule_model.specs.Jobs.{Stays}
@@ -60,7 +61,7 @@ use Rattle.keystore_core.specs.Device.{early_in, unlocked_in}
 use Rattle.keystore_core.specs.Tokens.{token_key_in, tokens_in}
 use Rattle.keystore_core.specs.Beginning.{IsBeginKey, IsNewRow, MakesWay, OpensOne}
 use Rattle.keystore_core.specs.declared.beginning.BeginKey.{BeginKey as OwnKey}
-use Rattle.key_database.specs.Held.{lasting_in}
+use Rattle.key_database.specs.Stands.{lasting}
 use Rattle.keystore_core.specs.Keys.{SameKeys}
 use Rattle.keystore_core.specs.Operations.{IsRow, has_row, operations_given, rows_in}
 use Rattle.keystore_core.specs.Slots.{IsKept, IsSlot}
@@ -153,18 +154,18 @@ module _ (setup : Setup) (past : History) (tables : Tables) (caller : Caller) (k
   same = called past tables caller (CreateOperation key params forced) stands.clients is_caller
 
   -- what the tables find is what the history says
-  pub access_is : access_by tables.policy (lasting_in tables.keys) caller key ≡ access_at setup past caller key
+  pub access_is : access_by tables.policy (lasting tables.keys) caller key ≡ access_at setup past caller key
   access_is = rw (stands.keys.policy_is, stands.keys.lasting_is) refl
 
-  pub found_key : (access : Access) → access ≡ access_by tables.policy (lasting_in tables.keys) caller key → key_in (lasting_in tables.keys) access ≡ key_found setup past caller key
+  pub found_key : (access : Access) → access ≡ access_by tables.policy (lasting tables.keys) caller key → key_in (lasting tables.keys) access ≡ key_found setup past caller key
   found_key access is = ap (λ part. key_in part access) stands.keys.lasting_is ∙ ap (key_in (kept setup past)) (is ∙ access_is)
 
   -- the key of the begin
   abbrev pub Key : BeginKey
   Key = begin_key_at setup past caller key params
 
-  pub key_is : (own : OwnKey) (access : Access) (stored : Option KeyRecord) (told : Result (List Param) Code) → access ≡ access_by tables.policy (lasting_in tables.keys) caller key
-      → stored ≡ key_in (lasting_in tables.keys) access → told ≡ asked params → IsBeginKey own (begin_key tables.device access stored key told) → IsBeginKey own Key
+  pub key_is : (own : OwnKey) (access : Access) (stored : Option KeyRecord) (told : Result (List Param) Code) → access ≡ access_by tables.policy (lasting tables.keys) caller key
+      → stored ≡ key_in (lasting tables.keys) access → told ≡ asked params → IsBeginKey own (begin_key tables.device access stored key told) → IsBeginKey own Key
   key_is own access stored told at is same_list own_is =
       subst (IsBeginKey own)
       (ap (λ d. begin_key d access stored key told) stands.keys.device_is
@@ -175,7 +176,7 @@ module _ (setup : Setup) (past : History) (tables : Tables) (caller : Caller) (k
 
   -- what the rules read is that of the history
   pub facts_are : (own : OwnKey) (access : Access) (room : Bool) (told : Result (List Param) Code) (conditions : Conditions) → IsBeginKey own Key
-      → access ≡ access_by tables.policy (lasting_in tables.keys) caller key → told ≡ asked params → room ≡ has_room setup past (owner_of caller) forced
+      → access ≡ access_by tables.policy (lasting tables.keys) caller key → told ≡ asked params → room ≡ has_room setup past (owner_of caller) forced
       → conditions ≡ conditions_in tables.boot caller own.opened.list own.id room
       → facts_by tables.policy own.found own.opened.list own.opened.fits access caller key told forced conditions ≡ Facts
   facts_are own access room told conditions is at same_list has met_told =
@@ -209,7 +210,7 @@ module _ (setup : Setup) (past : History) (tables : Tables) (caller : Caller) (k
         follows = answered [] (Broken rule code)
             (sym (ap (λ found. size_of (wanted_by_begin found Facts)) e))
             (sym (ap (λ found. broken_or found (Admitted [])) e));
-        stands = denied_tables setup past Beginning [] (Broken rule code) tables tables stands (same_tables tables) refl none refl;
+        stands = denied_tables setup past Beginning [] (Broken rule code) tables tables stands (same_tables tables) refl refl none refl;
         has_job = refl;
         stays = stays_same setup past Beginning [] (Broken rule code) none;
       } where
@@ -232,7 +233,7 @@ module _ (setup : Setup) (past : History) (tables : Tables) (caller : Caller) (k
       drew = subst (λ c. length drawn < size_of (wanted_by_rules (CreateOperation key params forced) setup past c)) same (subst (λ n. length drawn < n) (sym (wanted_is begin may)) few);
       is_fault = refl;
     });
-    stands = denied_tables setup past Beginning drawn (Stopped EntropyFault) tables new stands still refl refl refl;
+    stands = denied_tables setup past Beginning drawn (Stopped EntropyFault) tables new stands still refl refl refl refl;
     has_job = refl;
     stays = stays_same setup past Beginning drawn (Stopped EntropyFault) refl;
   }
@@ -246,7 +247,7 @@ module _ (setup : Setup) (past : History) (tables : Tables) (caller : Caller) (k
       takes = refl;
       is_want = refl;
     });
-    stands = denied_tables setup past Beginning drawn (Stopped MemoryAllocationFailed) tables new stands still refl refl refl;
+    stands = denied_tables setup past Beginning drawn (Stopped MemoryAllocationFailed) tables new stands still refl refl refl refl;
     has_job = refl;
     stays = stays_same setup past Beginning drawn (Stopped MemoryAllocationFailed) refl;
   }
@@ -334,7 +335,7 @@ module _ (setup : Setup) (past : History) (tables : Tables) (caller : Caller) (k
         stands = record {
           clients = clients_stay setup past Beginning drawn reply tables.clients new.clients stands.clients
               (record { uids = λ client. one.clients.uids client ∙ way.clients.uids client; given = one.clients.given ∙ way.clients.given }) refl refl;
-          keys = keys_stay setup past (Acted Beginning drawn reply ∷ past) tables new stands.keys (same_keys_twice tables one.middle new way.keys one.keys) refl refl;
+          keys = keys_stay setup past (Acted Beginning drawn reply ∷ past) tables new stands.keys (same_keys_twice tables one.middle new way.keys one.keys) (quiet_stored setup past Beginning drawn reply refl refl);
           operations = rows_after setup past Beginning drawn reply (Opens pruned o) new.operations change
               (rw one.rows.rows (alike_more IsRow (rows_in one.middle.operations) (without_pruned pruned (open_of setup past)) row (as_begun (step_of past) o) way.rows (record {
                 number = row_is.number_is;

@@ -13,30 +13,37 @@ use Rattle.grants.specs.Rows.{is_for, is_numbered}
 use Rattle.journal_records.specs.declared.record.KeyRecord.{KeyRecord}
 use Rattle.journal_records.specs.LastingPart.{Lasting, has_id, some_has_id}
 use Rattle.journal_records.specs.Needs.{is_grant_numbered, is_number_left}
+use Rattle.key_database.proofs.Rereading.{one_store_same, same_bytes, same_settled, same_twice}
 use Rattle.rule_model.specs.declared.facts.Caller.{Caller}
 use Rattle.rule_model.specs.Access.{access_by, id_by, id_of, key_in}
 use Rattle.rule_model.specs.Blobs.{device_at}
 use Rattle.rule_model.specs.Changes.{grant_at, grant_number, grant_of}
 use Rattle.rule_model.specs.Places.{has_grant_place}
 use Rattle.rule_model.specs.Entries.{History}
-use Rattle.rule_model.specs.Kept.{kept}
+use Rattle.rule_model.proofs.Kept.{SameStored}
 use Rattle.rule_model.specs.Setup.{Setup}
 use Rattle.keystore_core.specs.declared.tables.Tables.{Tables}
 use Rattle.keystore_core.specs.Keys.{KeysStand, SameKeys}
 
 pub same_keys : (tables : Tables) → SameKeys tables tables
-same_keys tables = record { device_is = refl; policy_is = refl; lasting_is = refl }
+same_keys tables = record { device_is = refl; policy_is = refl; store_is = one_store_same tables.keys }
 
 pub same_keys_twice : (old middle new : Tables) → SameKeys old middle → SameKeys middle new → SameKeys old new
-same_keys_twice old middle new first second = record { device_is = second.device_is ∙ first.device_is; policy_is = second.policy_is ∙ first.policy_is; lasting_is = second.lasting_is ∙ first.lasting_is }
+same_keys_twice old middle new first second = record {
+  device_is = second.device_is ∙ first.device_is;
+  policy_is = second.policy_is ∙ first.policy_is;
+  store_is = same_twice old.keys middle.keys new.keys first.store_is second.store_is;
+}
 
 -- an entry that leaves the keys and grants as they are
-pub keys_stay : (setup : Setup) (past later : History) (old new : Tables) → KeysStand setup old past → SameKeys old new → kept setup later ≡ kept setup past → device_at setup later ≡ device_at setup past
+pub keys_stay : (setup : Setup) (past later : History) (old new : Tables) → KeysStand setup old past → SameKeys old new → SameStored setup past later
     → KeysStand setup new later
-keys_stay setup past later old new stands same is device_is = record {
-  device_is = same.device_is ∙ stands.device_is ∙ sym device_is;
+keys_stay setup past later old new stands same is = record {
+  device_is = same.device_is ∙ stands.device_is ∙ sym is.device_is;
   policy_is = same.policy_is ∙ stands.policy_is;
-  lasting_is = same.lasting_is ∙ stands.lasting_is ∙ sym is;
+  lasting_is = same.store_is.lasting_is ∙ stands.lasting_is ∙ sym is.kept_is;
+  bytes_are = same_bytes old.keys new.keys same.store_is ∙ stands.bytes_are ∙ sym is.bytes_are;
+  settled_is = same_settled old.keys new.keys same.store_is ∙ stands.settled_is ∙ sym is.settled_is;
 }
 
 or_right : (a b : Bool) → b ≡ true → (a || b) ≡ true

@@ -37,7 +37,8 @@ use Rattle.rule_model.specs.Operations.{Closes, ClosesOf, Open, OperationChange,
 use Rattle.rule_model.specs.Setup.{Setup}
 use Rattle.rule_model.specs.StepFacts.{brought_by}
 use Rattle.rule_model.specs.Tickets.{ComesBack, Entered, ticket_after, ticket_at, ticket_change}
-use Rattle.rule_model.proofs.Kept.{same_device, same_kept}
+use Rattle.rule_model.specs.Settling.{is_disk_fault, is_system_error}
+use Rattle.rule_model.proofs.Kept.{quiet_stored}
 use Rattle.keystore_core.specs.declared.operations.Operation.{Operation as Row}
 use Rattle.keystore_core.specs.declared.operations.RowChange.TheVariants.{Returns as RowReturns}
 use Rattle.keystore_core.specs.declared.tables.Tables.{Tables}
@@ -134,6 +135,15 @@ not_back : (before : Option Entered) (b : Bool) (entered : Entered) → (if b th
 not_back before true entered e = cc
 not_back before false entered e = (refl, e)
 
+no_system : (code : Code) → Rattle.cipher_ops.specs.Jobs.is_refusal code ≡ true → is_system_error code ≡ false
+no_system Rattle.tags.specs.declared.code.Code.TheVariants.SystemError e = cc
+no_system _ e = refl
+
+-- no disk is at fault for what a work put out
+no_disk_fault : (work : Work) (result : Result (List ℕ) Code) → IfErr result (λ code. is_refusal code ≡ true) → is_disk_fault (given_or work result) ≡ false
+no_disk_fault work (Ok out) codes = refl
+no_disk_fault work (Err code) codes = no_system code codes
+
 module _ (setup : Setup) (past : History) (old : Tables) (caller : Caller) (ticket : ℕ) (stands : TablesStand setup old past) where
   abbrev Left : Reply → History
   Left reply = Acted (event_by caller (Leave ticket)) [] reply ∷ past
@@ -153,7 +163,7 @@ module _ (setup : Setup) (past : History) (old : Tables) (caller : Caller) (tick
         follows = Answered (record { drew = refl; is_answer = sym (ap (leaving setup past) none) });
         stands = record {
           clients = clients_stay setup past (event_by caller (Leave ticket)) [] (Stopped NoTicket) old.clients old.clients stands.clients (same_tables old).clients refl refl;
-          keys = keys_stay setup past (Left (Stopped NoTicket)) old old stands.keys (same_tables old).keys (same_kept setup past (event_by caller (Leave ticket)) [] (Stopped NoTicket) refl) (same_device setup past (event_by caller (Leave ticket)) [] (Stopped NoTicket) refl);
+          keys = keys_stay setup past (Left (Stopped NoTicket)) old old stands.keys (same_tables old).keys (quiet_stored setup past (event_by caller (Leave ticket)) [] (Stopped NoTicket) refl refl);
           operations = Rattle.keystore_core.proofs.Standing.operations_stay setup past (event_by caller (Leave ticket)) [] (Stopped NoTicket) old.operations old.operations stands.operations (same_tables old).operations same refl;
           slots = Rattle.keystore_core.proofs.Standing.slots_stay setup past (event_by caller (Leave ticket)) [] (Stopped NoTicket) old.slots old.slots stands.slots refl same;
           tickets = record {
@@ -219,7 +229,7 @@ module _ (setup : Setup) (past : History) (old : Tables) (caller : Caller) (tick
           follows = Answered (record { drew = refl; is_answer = ap (given_or entered.work) (came o entered.work back done_is ∙ ap (λ found. output_of found entered.work) (sym is_open)) ∙ sym (ap (leaving setup past) is_out) });
           stands = record {
             clients = clients_stay setup past event [] Reply_of old.clients new.clients stands.clients taken.clients (leave_client caller ticket entered.work back.result) no_connect;
-            keys = keys_stay setup past (Left Reply_of) old new stands.keys taken.keys (same_kept setup past event [] Reply_of refl) (same_device setup past event [] Reply_of refl);
+            keys = keys_stay setup past (Left Reply_of) old new stands.keys taken.keys (quiet_stored setup past event [] Reply_of refl (no_disk_fault entered.work back.result done_is.refuses));
             operations = rows_after setup past event [] Reply_of change new.operations is moved.rows (moved.given ∙ stands.operations.given ∙ sym (uncounted is_begin past event [] Reply_of no_begin));
             slots = slots_after setup past event [] Reply_of change old.slots new.slots stands.slots is moved.slots moved.capacity
                 (λ number l. moved.fresh number (stands.slots.fresh number (let grows = count_grows is_begin past event [] Reply_of in omega (arith, l, grows))))
@@ -372,6 +382,12 @@ no_fault Rattle.step_rules.specs.declared.facts.StepKind.TheVariants.Aad (Ok out
 no_fault _ (Ok out) codes = refl
 no_fault kind (Err code) codes = no_draw code codes
 
+-- nor is the disk
+pub no_disk_fault_of : (kind : Rattle.step_rules.specs.declared.facts.StepKind.StepKind) (result : Result (List ℕ) Code) → IfErr result (λ code. is_refusal code ≡ true) → is_disk_fault (reply_of kind result) ≡ false
+no_disk_fault_of Rattle.step_rules.specs.declared.facts.StepKind.TheVariants.Aad (Ok out) codes = refl
+no_disk_fault_of _ (Ok out) codes = refl
+no_disk_fault_of kind (Err code) codes = no_system code codes
+
 -- a client that goes
 module _ (setup : Setup) (past : History) (old : Tables) (caller : Caller) (stands : TablesStand setup old past) (is_caller : IsCaller old caller) where
   same_caller : caller ≡ caller_of past (event_by caller Disconnect)
@@ -390,7 +406,7 @@ module _ (setup : Setup) (past : History) (old : Tables) (caller : Caller) (stan
       let none : operation_change setup past (event_by caller Disconnect) [] (Broken rule code) ≡ SameOperations = either (Rattle.step_rules.specs.Table.ends_operation rule) in
       record {
         follows = Answered (record { drew = refl; is_answer = sym (ap (λ found. broken_or found (Done no_fields)) e) ∙ ap (λ c. answer_by_rules Disconnect setup past c []) same_caller });
-        stands = denied_tables setup past (event_by caller Disconnect) [] (Broken rule code) old old stands (same_tables old) refl none refl;
+        stands = denied_tables setup past (event_by caller Disconnect) [] (Broken rule code) old old stands (same_tables old) refl refl none refl;
         has_job = refl;
         stays = stays_same setup past (event_by caller Disconnect) [] (Broken rule code) none;
       } where
@@ -412,7 +428,7 @@ module _ (setup : Setup) (past : History) (old : Tables) (caller : Caller) (stan
             uids = λ client. ended.goes client ∙ ap (λ u. Rattle.rule_model.specs.Clients.uid_after (Rattle.rule_model.specs.Clients.Goes caller.client) client u) (stands.clients.uids client);
             given = ended.given ∙ stands.clients.given;
           };
-          keys = keys_stay setup past (Acted event [] reply ∷ past) old new stands.keys ended.keys (same_kept setup past event [] reply refl) (same_device setup past event [] reply refl);
+          keys = keys_stay setup past (Acted event [] reply ∷ past) old new stands.keys ended.keys (quiet_stored setup past event [] reply refl refl);
           operations = rows_after setup past event [] reply (ClosesOf caller.client) new.operations refl
               (rw ended.rows.rows (alike_filter IsRow (λ row. not (is_row_of caller.client row)) (λ o. not (is_of caller.client o)) (λ row o r. ap (λ c. not (c == caller.client)) r.client) (rows_in old.operations) (open_of setup past) stands.operations.rows))
               (ended.rows.given ∙ stands.operations.given);

@@ -6,9 +6,11 @@ pub mod Alike
 pub mod Opened
 pub mod Booted
 pub mod Standing
+pub mod Written
 pub mod Reading
 pub mod Making
 pub mod Begun
+pub mod Restarted
 pub mod Stepped
 pub mod Left
 pub mod Shown

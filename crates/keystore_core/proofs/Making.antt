@@ -14,9 +14,12 @@ use Rattle.tags.specs.Descriptor.{has_alias, has_alias_in, is_alias}
 use Rattle.tags.specs.declared.rule.Rule.{Rule}
 use Rattle.tags.specs.declared.rule.RuleTable.TheVariants.{K}
 use Rattle.tags.specs.Table.{Ruling, first_broken, where_all_hold}
+use Rattle.journal_records.specs.declared.change.Change.{Change}
 use Rattle.journal_records.specs.LastingPart.{Lasting}
 use Rattle.journal_records.specs.Needs.{has_place_for, is_number_left, is_owner}
-use Rattle.key_database.specs.Held.{HasRoomForKey, Held, lasting_in}
+use Rattle.key_database.specs.declared.database.KeyDatabase.{KeyDatabase}
+use Rattle.key_database.specs.Held.{HasRoomForKey}
+use Rattle.key_database.specs.Stands.{lasting, table_of}
 use Rattle.key_rules.specs.declared.facts.NewFacts.{NewFacts}
 use Rattle.key_rules.specs.declared.plan.KeyPlan.{KeyPlan}
 use Rattle.key_rules.specs.Creation.{IsFit, new_key, plan_of}
@@ -31,14 +34,14 @@ use Rattle.rule_model.specs.declared.reply.Reply.TheVariants.{Done, Broken, Stop
 use Rattle.rule_model.specs.declared.event.Event.{Event}
 use Rattle.rule_model.specs.declared.reply.Fields.{Fields}
 use Rattle.rule_model.specs.Access.{owner_of}
-use Rattle.rule_model.specs.Acts.{is_begin, is_connect, is_enter}
-use Rattle.rule_model.specs.Answer.{answer_by_rules, made_in}
+use Rattle.rule_model.specs.Acts.{is_begin, is_connect, is_enter, is_restart}
+use Rattle.rule_model.specs.Answer.{answer, answer_by_rules, answer_stored, made_in}
 use Rattle.rule_model.specs.Replies.{broken_or, no_fields}
-use Rattle.rule_model.specs.Blobs.{device_at}
-use Rattle.rule_model.specs.Changes.{after_change, alias_of, change_of, new_blob, owner_for}
+use Rattle.rule_model.specs.Blobs.{device_at, root_given}
+use Rattle.rule_model.specs.Changes.{alias_of, change_of, new_blob, owner_for}
 use Rattle.rule_model.specs.Boot.{has_early_ended}
 use Rattle.rule_model.specs.Clients.{caller_of}
-use Rattle.rule_model.specs.Drawn.{size_of, wanted_by_key, wanted_by_rules}
+use Rattle.rule_model.specs.Drawn.{size_of, wanted, wanted_by_key, wanted_by_rules}
 use Rattle.rule_model.specs.Entries.{History, is_done}
 use Rattle.rule_model.specs.Jobs.{HasJob}
 use Rattle.rule_model.specs.Kept.{kept}
@@ -46,6 +49,9 @@ use Rattle.rule_model.specs.Legal.{MayFollow, Answered, WithoutEntropy, WithoutM
 use Rattle.rule_model.specs.NewFacts.{new_facts}
 use Rattle.rule_model.specs.Operations.{SameOperations, operation_change}
 use Rattle.rule_model.specs.Places.{has_key_place}
+use Rattle.rule_model.specs.Settling.{is_disk_fault}
+use Rattle.rule_model.specs.Stored.{change_by, stored_bytes, where_stored}
+use Rattle.rule_model.proofs.Kept.{denied_stands}
 use Rattle.rule_model.specs.Setup.{Setup}
 use Rattle.rule_model.specs.Tickets.{SameTickets as NoTickets, ticket_change}
 use Rattle.rule_model.proofs.Boot.{moves_boot, same_boot as same_boot_after}
@@ -55,6 +61,9 @@ use Rattle.rule_model.proofs.Tickets.{moves_tickets, same_tickets}
 use Rattle.keystore_core.specs.declared.creating.Import.{Import}
 use Rattle.keystore_core.specs.declared.tables.Tables.{Tables}
 use Rattle.keystore_core.specs.Creating.{CanKeep, blob_made, facts_of_import, keeping, kept_fields, making}
+use Rattle.keystore_core.specs.Keys.{AreSettled}
+use Rattle.keystore_core.specs.Writing.{IsWrittenIf}
+use Rattle.keystore_core.proofs.Written.{told_follows, told_job, told_keys}
 use Rattle.keystore_core.specs.Tables.{AnswersAfter, IsCaller, SameTables, TablesStand, event_by}
 use Rattle.keystore_core.specs.Device.{early_in}
 use Rattle.keystore_core.proofs.Booted.{boot_stays}
@@ -158,10 +167,10 @@ or_left true b e none = cc
 or_left false b e none = e
 
 -- what is made may be made: its need is met, and there is room for it
-pub may_keep : (policy : List PolicyRow) (caller : Caller) (key : Descriptor) (params : List ℕ) (import : Option Import) (early_ended : Bool) (held : Held) (plan : KeyPlan) (blob list : List ℕ) (limit : ℕ) → HasRoomForKey held → has_key_place (lasting_in held) (owner_of caller) key ≡ true → owner_of caller < 2 ^ 32
-    → IsFit (facts_of policy caller key params import early_ended) plan → length blob ≤ 6319 → length list ≤ 4132 → CanKeep held (owner_of caller) key blob list limit
+pub may_keep : (policy : List PolicyRow) (caller : Caller) (key : Descriptor) (params : List ℕ) (import : Option Import) (early_ended : Bool) (held : KeyDatabase) (plan : KeyPlan) (blob list : List ℕ) (limit : ℕ) → HasRoomForKey (table_of held) → has_key_place (lasting held) (owner_of caller) key ≡ true → owner_of caller < 2 ^ 32
+    → IsFit (facts_of policy caller key params import early_ended) plan → length blob ≤ 6319 → length list ≤ 4132 → CanKeep (table_of held) (owner_of caller) key blob list limit
 may_keep policy caller key params import early_ended held plan blob list limit room place small fit few short = λ stored.
-    let part : Lasting = lasting_in held in
+    let part : Lasting = lasting held in
     let owner : ℕ × ℕ = owner_for (owner_of caller) key.domain key.nspace in
     let placed = and_parts (is_number_left part.next_key) (has_place_for owner.0 owner.1 (alias_of key) part)
     (or_left (key.domain == domain_blob) (is_number_left part.next_key && has_place_for owner.0 owner.1 (alias_of key) part) place stored) in (
@@ -211,19 +220,34 @@ module _ (setup : Setup) (past : History) (tables : Tables) (caller : Caller) (k
       ap (λ early. planned (facts_of setup.policy caller key params import early)) (sym stands.boot.device.early)
       ∙ ap (λ policy. planned (facts_of policy caller key params import (early_in tables.boot.device))) (sym stands.keys.policy_is) ∙ e
 
-  pub place_is : has_key_place (lasting_in tables.keys) (owner_of caller) key ≡ HasPlace
+  pub place_is : has_key_place (lasting tables.keys) (owner_of caller) key ≡ HasPlace
   place_is = ap (λ part. has_key_place part (owner_of caller) key) stands.keys.lasting_is
 
-  built_is : (i : Option Import) (drawn : List ℕ) (reply : Reply) → length drawn ≡ size_of (wanted_by_rules (making key params i) setup past (caller_of past (event_by caller (making key params i))))
-      → reply ≡ answer_by_rules (making key params i) setup past (caller_of past (event_by caller (making key params i))) drawn → MayFollow setup past (event_by caller (making key params i)) drawn reply
-  built_is None drawn reply drew is = Answered (record { drew = drew; is_answer = is })
-  built_is (Some i) drawn reply drew is = Answered (record { drew = drew; is_answer = is })
+  built_is : (i : Option Import) (drawn : List ℕ) (reply : Reply) → reply ≡ answer_stored (making key params i) setup past (caller_of past (event_by caller (making key params i))) drawn
+      → reply ≡ answer setup past (event_by caller (making key params i)) drawn
+  built_is None drawn reply is = is
+  built_is (Some i) drawn reply is = is
 
-  answered : (drawn : List ℕ) (reply : Reply) → length drawn ≡ size_of (wanted_by_rules (making key params import) setup past caller)
+  told_as : (drawn : List ℕ) (reply : Reply) → reply ≡ answer_stored (making key params import) setup past caller drawn → reply ≡ answer setup past Making drawn
+  told_as drawn reply is = built_is import drawn reply (is ∙ ap (λ c. answer_stored (making key params import) setup past c drawn) same)
+
+  drew_is : (i : Option Import) (drawn : List ℕ) → length drawn ≡ size_of (wanted_by_rules (making key params i) setup past (caller_of past (event_by caller (making key params i))))
+      → length drawn ≡ size_of (wanted setup past (event_by caller (making key params i)))
+  drew_is None drawn drew = drew
+  drew_is (Some i) drawn drew = drew
+
+  drew_as : (drawn : List ℕ) → length drawn ≡ size_of (wanted_by_rules (making key params import) setup past caller) → length drawn ≡ size_of (wanted setup past Making)
+  drew_as drawn drew = drew_is import drawn (drew ∙ ap (λ c. size_of (wanted_by_rules (making key params import) setup past c)) same)
+
+  -- an answer that admits nothing
+  answered : (drawn : List ℕ) (reply : Reply) → is_done reply ≡ false → length drawn ≡ size_of (wanted_by_rules (making key params import) setup past caller)
       → reply ≡ answer_by_rules (making key params import) setup past caller drawn → MayFollow setup past Making drawn reply
-  answered drawn reply drew is =
-      built_is import drawn reply (drew ∙ ap (λ c. size_of (wanted_by_rules (making key params import) setup past c)) same)
-      (is ∙ ap (λ c. answer_by_rules (making key params import) setup past c drawn) same)
+  answered drawn reply denied drew is =
+      let change : Option Change = change_of (making key params import) (device_at setup past) setup.policy (kept setup past) caller drawn in
+      Answered (record {
+        drew = drew_as drawn drew;
+        is_answer = told_as drawn reply (sym (denied_stands (stored_bytes setup past) change reply denied) ∙ ap (where_stored (stored_bytes setup past) change) is);
+      })
 
   undrawn_is : (i : Option Import) (drawn : List ℕ) → length drawn < size_of (wanted_by_rules (making key params i) setup past (caller_of past (event_by caller (making key params i))))
       → MayFollow setup past (event_by caller (making key params i)) drawn (Stopped EntropyFault)
@@ -231,11 +255,11 @@ module _ (setup : Setup) (past : History) (tables : Tables) (caller : Caller) (k
   undrawn_is (Some i) drawn few = WithoutEntropy (record { drew = few; is_fault = refl })
 
   -- the answer of a call that leaves all as it is
-  unmade : (new : Tables) (drawn : List ℕ) (reply : Reply) → SameTables tables new → is_done reply ≡ false → MayFollow setup past Making drawn reply
+  unmade : (new : Tables) (drawn : List ℕ) (reply : Reply) → SameTables tables new → is_done reply ≡ false → is_disk_fault reply ≡ false → MayFollow setup past Making drawn reply
       → HasJob setup (Acted Making drawn reply ∷ past) reply None → AnswersAfter setup past new Making (record { reply = reply; job = None; drawn = drawn })
-  unmade new drawn reply still denied follows no_job = record {
+  unmade new drawn reply still denied no_fault follows no_job = record {
     follows = follows;
-    stands = denied_tables setup past Making drawn reply tables new stands still denied (none drawn reply) (unticketed reply);
+    stands = denied_tables setup past Making drawn reply tables new stands still denied no_fault (none drawn reply) (unticketed reply);
     has_job = no_job;
     stays = stays_same setup past Making drawn reply (none drawn reply);
   }
@@ -257,15 +281,15 @@ module _ (setup : Setup) (past : History) (tables : Tables) (caller : Caller) (k
       → AnswersAfter setup past tables Making (record { reply = Broken rule code; job = None; drawn = [] })
   refused rule code e =
       let broken = is_broken Facts rule code e in
-      unmade tables [] (Broken rule code) (same_tables tables) refl
-      (answered [] (Broken rule code) (sym (ap size_of (wanted_is (Err (rule, code)) HasPlace broken refl))) (sym (answer_is (Err (rule, code)) [] broken))) refl
+      unmade tables [] (Broken rule code) (same_tables tables) refl refl
+      (answered [] (Broken rule code) refl (sym (ap size_of (wanted_is (Err (rule, code)) HasPlace broken refl))) (sym (answer_is (Err (rule, code)) [] broken))) refl
 
   -- no place for one more key
   pub full : (plan : NewKey) → planned Facts ≡ Ok plan → HasPlace ≡ false → AnswersAfter setup past tables Making (record { reply = Stopped StoreFull; job = None; drawn = [] })
   full plan e no_place =
       let is = is_planned Facts plan e in
-      unmade tables [] (Stopped StoreFull) (same_tables tables) refl
-      (answered [] (Stopped StoreFull) (sym (ap size_of (wanted_is (Ok (plan_of Facts)) false is.holds no_place)))
+      unmade tables [] (Stopped StoreFull) (same_tables tables) refl refl
+      (answered [] (Stopped StoreFull) refl (sym (ap size_of (wanted_is (Ok (plan_of Facts)) false is.holds no_place)))
       (sym (answer_is (Ok (plan_of Facts)) [] is.holds ∙ ap (λ p. if p then Done (kept_fields (kept setup past) key (Blob [])) else Stopped StoreFull) no_place))) refl
 
   planned_wanted : (plan : NewKey) → IsPlanned Facts plan → HasPlace ≡ true → size_of (wanted_by_rules (making key params import) setup past caller) ≡ plan.plan.size + 12
@@ -278,7 +302,7 @@ module _ (setup : Setup) (past : History) (tables : Tables) (caller : Caller) (k
       → AnswersAfter setup past new Making (record { reply = Stopped EntropyFault; job = None; drawn = drawn })
   without_entropy new plan drawn e place still few =
       let is = is_planned Facts plan e in
-      unmade new drawn (Stopped EntropyFault) still refl
+      unmade new drawn (Stopped EntropyFault) still refl refl
       (undrawn_is import drawn (subst (λ c. length drawn < size_of (wanted_by_rules (making key params import) setup past c)) same (subst (λ n. length drawn < n) (sym (planned_wanted plan is place)) few))) refl
 
   unkept_is : (i : Option Import) (drawn : List ℕ) → length drawn ≤ size_of (wanted_by_rules (making key params i) setup past (caller_of past (event_by caller (making key params i))))
@@ -291,7 +315,7 @@ module _ (setup : Setup) (past : History) (tables : Tables) (caller : Caller) (k
       → AnswersAfter setup past new Making (record { reply = Stopped MemoryAllocationFailed; job = None; drawn = drawn })
   unkept new plan drawn e place still long =
       let is = is_planned Facts plan e in
-      unmade new drawn (Stopped MemoryAllocationFailed) still refl
+      unmade new drawn (Stopped MemoryAllocationFailed) still refl refl
       (unkept_is import drawn (subst (λ c. length drawn ≤ size_of (wanted_by_rules (making key params import) setup past c)) same (omega (arith, long, planned_wanted plan is place)))) refl
 
   -- the blob that was made is that of the history
@@ -307,51 +331,73 @@ module _ (setup : Setup) (past : History) (tables : Tables) (caller : Caller) (k
   made_change None part drawn = refl
   made_change (Some i) part drawn = refl
 
-  -- the keys after one that is made
-  made_kept : (middle new : Held) (plan : NewKey) (drawn : List ℕ) (fields : Fields) → IsPlanned Facts plan → lasting_in middle ≡ kept setup past
-      → lasting_in new ≡ after_change (keeping (lasting_in middle) (owner_of caller) key (blob_made tables.device plan.plan import drawn) plan.list plan.plan.limit) (lasting_in middle)
-      → lasting_in new ≡ kept setup (Acted Making drawn (Done fields) ∷ past)
-  made_kept middle new plan drawn fields is before e =
-      e ∙ ap (λ part. after_change (keeping part (owner_of caller) key (blob_made tables.device plan.plan import drawn) plan.list plan.plan.limit) part) before
-      ∙ ap (λ b. after_change (keeping (kept setup past) (owner_of caller) key b plan.list plan.plan.limit) (kept setup past)) (made_blob plan drawn is)
-      ∙ ap (λ (p : NewKey). after_change (keeping (kept setup past) (owner_of caller) key (Blob drawn) p.list p.plan.limit) (kept setup past)) is.plan_is
-      ∙ ap (λ change. after_change change (kept setup past)) (sym (made_change import (kept setup past) drawn))
-      ∙ ap (λ c. after_change (change_of (making key params import) (device_at setup past) setup.policy (kept setup past) c drawn) (kept setup past)) same
+  restarts_none : (i : Option Import) → is_restart (making key params i) ≡ false
+  restarts_none None = refl
+  restarts_none (Some i) = refl
 
-  made_device : (i : Option Import) (drawn : List ℕ) (fields : Fields) → device_at setup (Acted (event_by caller (making key params i)) drawn (Done fields) ∷ past) ≡ device_at setup past
-  made_device None drawn fields = refl
-  made_device (Some i) drawn fields = refl
+  roots_none : (i : Option Import) (before : List ℕ) → root_given (making key params i) before ≡ before
+  roots_none None before = refl
+  roots_none (Some i) before = refl
 
   no_ticket : (later : History) (handed : Bool) (blob : List ℕ) (number : ℕ)
       → HasJob setup later (Done (if handed then record no_fields { blob = Some blob } else record no_fields { key = Some number })) None
   no_ticket later true blob number = refl
   no_ticket later false blob number = refl
 
-  pub made : (middle : Tables) (new : Held) (plan : NewKey) (drawn : List ℕ) → planned Facts ≡ Ok plan → HasPlace ≡ true
-      → length drawn ≡ plan.plan.size + 12 → SameTables tables middle
-      → lasting_in new ≡ after_change (keeping (lasting_in middle.keys) (owner_of caller) key (blob_made tables.device plan.plan import drawn) plan.list plan.plan.limit) (lasting_in middle.keys)
-      → AnswersAfter setup past (record middle { keys = new }) Making (record { reply = Done (kept_fields (lasting_in middle.keys) key (blob_made tables.device plan.plan import drawn)); job = None; drawn = drawn })
-  made middle new plan drawn e place long still makes =
+  -- the change of a key that is kept, by its plan and the drawn bytes
+  abbrev Change_of : Lasting → NewKey → List ℕ → Option Change
+  Change_of part plan drawn = keeping part (owner_of caller) key (blob_made tables.device plan.plan import drawn) plan.list plan.plan.limit
+
+  abbrev Fields_of : Lasting → NewKey → List ℕ → Fields
+  Fields_of part plan drawn = kept_fields part key (blob_made tables.device plan.plan import drawn)
+
+  is_change : (plan : NewKey) (drawn : List ℕ) → IsPlanned Facts plan → change_by setup past Making drawn ≡ Change_of (kept setup past) plan drawn
+  is_change plan drawn is =
+      ap (λ c. change_of (making key params import) (device_at setup past) setup.policy (kept setup past) c drawn) (sym same)
+      ∙ made_change import (kept setup past) drawn
+      ∙ ap (λ (p : NewKey). keeping (kept setup past) (owner_of caller) key (Blob drawn) p.list p.plan.limit) (sym is.plan_is)
+      ∙ ap (λ b. keeping (kept setup past) (owner_of caller) key b plan.list plan.plan.limit) (sym (made_blob plan drawn is))
+
+  ruled : (plan : NewKey) (drawn : List ℕ) → IsPlanned Facts plan → HasPlace ≡ true → Done (Fields_of (kept setup past) plan drawn) ≡ answer_by_rules (making key params import) setup past caller drawn
+  ruled plan drawn is place =
+      ap (λ b. Done (kept_fields (kept setup past) key b)) (made_blob plan drawn is)
+      ∙ sym (answer_is (Ok (plan_of Facts)) drawn is.holds ∙ ap (λ p. if p then Done (kept_fields (kept setup past) key (Blob drawn)) else Stopped StoreFull) place)
+
+  told : (change : Option Change) (fields : Fields) (drawn : List ℕ) → change_by setup past Making drawn ≡ change → Done fields ≡ answer_by_rules (making key params import) setup past caller drawn
+      → answer setup past Making drawn ≡ where_stored (stored_bytes setup past) change (Done fields)
+  told change fields drawn by is =
+      let own : change_of (making key params import) (device_at setup past) setup.policy (kept setup past) caller drawn ≡ change =
+      ap (λ c. change_of (making key params import) (device_at setup past) setup.policy (kept setup past) c drawn) same ∙ by in
+      sym (told_as drawn (where_stored (stored_bytes setup past) change (Done fields))
+      (ap (λ c. where_stored (stored_bytes setup past) c (Done fields)) (sym own)
+      ∙ ap (where_stored (stored_bytes setup past) (change_of (making key params import) (device_at setup past) setup.policy (kept setup past) caller drawn)) is))
+
+  -- a key that is made where its record has room
+  pub made : (middle : Tables) (new : KeyDatabase) (plan : NewKey) (drawn : List ℕ) (reply : Reply) → planned Facts ≡ Ok plan → HasPlace ≡ true
+      → length drawn ≡ plan.plan.size + 12 → SameTables tables middle → AreSettled tables
+      → IsWrittenIf middle.keys new (Change_of (lasting middle.keys) plan drawn) (Fields_of (lasting middle.keys) plan drawn) reply
+      → AnswersAfter setup past (record middle { keys = new }) Making (record { reply = reply; job = None; drawn = drawn })
+  made middle new plan drawn reply e place long still settled written =
       let is = is_planned Facts plan e in
-      let before : lasting_in middle.keys ≡ kept setup past = still.keys.lasting_is ∙ stands.keys.lasting_is in
-      let reply : Reply = Done (kept_fields (lasting_in middle.keys) key (blob_made tables.device plan.plan import drawn)) in
+      let before : lasting middle.keys ≡ kept setup past = still.keys.store_is.lasting_is ∙ stands.keys.lasting_is in
+      let change : Option Change = Change_of (lasting middle.keys) plan drawn in
+      let fields : Fields = Fields_of (lasting middle.keys) plan drawn in
+      let by : change_by setup past Making drawn ≡ change = is_change plan drawn is ∙ ap (λ part. Change_of part plan drawn) (sym before) in
+      let rules : Done fields ≡ answer_by_rules (making key params import) setup past caller drawn = ap (λ part. Done (Fields_of part plan drawn)) before ∙ ruled plan drawn is place in
       record {
-        follows = answered drawn reply (long ∙ sym (planned_wanted plan is place))
-            (ap (λ (part : Lasting). Done (kept_fields part key (blob_made tables.device plan.plan import drawn))) before
-            ∙ ap (λ b. Done (kept_fields (kept setup past) key b)) (made_blob plan drawn is)
-            ∙ sym (answer_is (Ok (plan_of Facts)) drawn is.holds ∙ ap (λ p. if p then Done (kept_fields (kept setup past) key (Blob drawn)) else Stopped StoreFull) place));
+        follows = told_follows setup past tables middle.keys new Making drawn fields stands.keys still.keys.store_is settled (restarts_none import) (roots_none import) change reply by
+            (drew_as drawn (long ∙ sym (planned_wanted plan is place))) (told change fields drawn by rules) written;
         stands = record {
-          clients = clients_stay setup past Making drawn reply tables.clients middle.clients stands.clients still.clients (same_clients Making reply (moves_none key params import)) (connects_none key params import);
-          keys = record {
-            device_is = still.keys.device_is ∙ stands.keys.device_is ∙ sym (made_device import drawn (kept_fields (lasting_in middle.keys) key (blob_made tables.device plan.plan import drawn)));
-            policy_is = still.keys.policy_is ∙ stands.keys.policy_is;
-            lasting_is = made_kept middle.keys new plan drawn (kept_fields (lasting_in middle.keys) key (blob_made tables.device plan.plan import drawn)) is before makes;
-          };
-          operations = operations_stay setup past Making drawn reply tables.operations middle.operations stands.operations still.operations (none drawn reply) (begins_none key params import);
+          clients = clients_stay setup past Making drawn reply tables.clients middle.clients stands.clients still.clients (same_clients Making reply (moves_none key params import)) (quiet is_connect past Making drawn reply (connects_none key params import));
+          keys =
+              let own = told_keys setup past tables middle.keys new Making drawn fields stands.keys still.keys.store_is settled (restarts_none import) (roots_none import) change reply by written in
+              record { device_is = still.keys.device_is ∙ own.device_is; policy_is = still.keys.policy_is ∙ own.policy_is; lasting_is = own.lasting_is; bytes_are = own.bytes_are; settled_is = own.settled_is };
+          operations = operations_stay setup past Making drawn reply tables.operations middle.operations stands.operations still.operations (none drawn reply) (quiet is_begin past Making drawn reply (begins_none key params import));
           slots = slots_stay setup past Making drawn reply tables.slots middle.slots stands.slots still.slots (none drawn reply);
           tickets = tickets_stay setup past Making drawn reply tables.tickets middle.tickets stands.tickets still.tickets (unticketed reply) (quiet is_enter past Making drawn reply (enters_none key params import)) (stays_same setup past Making drawn reply (none drawn reply));
           boot = boot_stays setup past Making drawn reply tables.boot middle.boot stands.boot still.boot (same_boot_after setup past Making reply (no_boot key params import));
         };
-        has_job = no_ticket (Acted Making drawn reply ∷ past) (key.domain == domain_blob) (blob_made tables.device plan.plan import drawn) (lasting_in middle.keys).next_key;
+        has_job = told_job setup past tables middle.keys new Making drawn fields stands.keys still.keys.store_is settled (restarts_none import) (roots_none import) change reply by
+            (no_ticket (Acted Making drawn (Done fields) ∷ past) (key.domain == domain_blob) (blob_made tables.device plan.plan import drawn) (lasting middle.keys).next_key) written;
         stays = stays_same setup past Making drawn reply (none drawn reply);
       }

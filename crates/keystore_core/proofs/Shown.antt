@@ -1,5 +1,5 @@
 -- A token that the system hands over: its answer, and the tables after it.
-use Rattle.std.proofs.Common.{◌≡◌, ℕ, Bool, true, false, ◌==◌, if◌then◌else◌, List, [], ◌∷◌, length, map, Option, Some, None, Ok, Err, refl, sym, ap, ◌∙◌, arith}
+use Rattle.std.proofs.Common.{◌≡◌, ℕ, Bool, true, false, ◌==◌, if◌then◌else◌, List, [], ◌∷◌, length, map, Option, Some, None, Ok, Err, refl, sym, ap, ◌∙◌, subst, arith}
 use Rattle.tags.specs.declared.code.Code.{Code}
 use Rattle.tags.specs.declared.code.Code.TheVariants.{TokensFull}
 use Rattle.tags.specs.declared.rule.Rule.{Rule}
@@ -9,7 +9,8 @@ use Rattle.call_rules.specs.declared.facts.SystemCallFacts.{SystemCallFacts}
 use Rattle.call_rules.specs.Table.{token_rules}
 use Rattle.auth_tokens.specs.declared.token.AuthToken.{AuthToken}
 use Rattle.cipher_ops.specs.declared.state.CipherState.{CipherState}
-use Rattle.key_database.specs.Held.{lasting_in}
+use Rattle.key_database.specs.Stands.{SameStore}
+use Rattle.key_database.proofs.Rereading.{one_store_same}
 use Rattle.operation_slots.specs.declared.operation.Operation.{Operation as Slot}
 use Rattle.operation_slots.specs.Table.{capacity_of, idle_value, operations_of, stamp_of}
 use Rattle.rule_model.specs.declared.entry.Entry.TheVariants.{Acted}
@@ -27,7 +28,7 @@ use Rattle.rule_model.specs.Legal.{Answered}
 use Rattle.rule_model.specs.Operations.{Open, SameOperations, Shows, as_shown, is_for, open_of, operation_change}
 use Rattle.rule_model.specs.Replies.{broken_or, no_fields}
 use Rattle.rule_model.specs.Setup.{Setup}
-use Rattle.rule_model.proofs.Kept.{same_device, same_kept}
+use Rattle.rule_model.proofs.Kept.{quiet_stored}
 use Rattle.keystore_core.specs.declared.operations.Operation.{Operation}
 use Rattle.keystore_core.specs.declared.tables.Tables.{Tables}
 use Rattle.keystore_core.specs.Alike.{Alike}
@@ -103,7 +104,7 @@ module _ (setup : Setup) (past : History) (tables : Tables) (caller : Caller) (t
           drew = refl;
           is_answer = sym (ap (λ found. broken_or found (accepted_in (last_tokens setup past) token)) e) ∙ ap (λ c. answer_by_rules (adding token) setup past c []) same;
         });
-        stands = denied_tables setup past Adding [] (Broken rule code) tables tables stands (same_tables tables) refl none refl;
+        stands = denied_tables setup past Adding [] (Broken rule code) tables tables stands (same_tables tables) refl refl none refl;
         has_job = refl;
         stays = stays_same setup past Adding [] (Broken rule code) none;
       } where
@@ -121,7 +122,7 @@ module _ (setup : Setup) (past : History) (tables : Tables) (caller : Caller) (t
   refused_same : (new : Tables) → RefusesToken tables new → SameTables tables new
   refused_same new is = record {
     clients = record { uids = λ client. ap (λ c. uid_in c client) is.clients; given = ap clients_given is.clients };
-    keys = record { device_is = is.secrets; policy_is = is.policy; lasting_is = ap lasting_in is.keys };
+    keys = record { device_is = is.secrets; policy_is = is.policy; store_is = subst (λ k. SameStore tables.keys k) (sym is.keys) (one_store_same tables.keys) };
     operations = record { rows = ap rows_in is.operations; given = ap operations_given is.operations };
     slots = is.slots;
     tickets = record { outs = λ ticket. ap (λ t. out_in t ticket) is.tickets; given = ap tickets_given is.tickets };
@@ -132,7 +133,7 @@ module _ (setup : Setup) (past : History) (tables : Tables) (caller : Caller) (t
       → AnswersAfter setup past new Adding (record { reply = Stopped TokensFull; job = None; drawn = [] })
   full new e is still = record {
     follows = Answered (record { drew = refl; is_answer = answer_is true e is });
-    stands = denied_tables setup past Adding [] (Stopped TokensFull) tables new stands (refused_same new still) refl refl refl;
+    stands = denied_tables setup past Adding [] (Stopped TokensFull) tables new stands (refused_same new still) refl refl refl refl;
     has_job = refl;
     stays = stays_same setup past Adding [] (Stopped TokensFull) refl;
   }
@@ -147,7 +148,7 @@ module _ (setup : Setup) (past : History) (tables : Tables) (caller : Caller) (t
         stands = record {
           clients = clients_stay setup past Adding [] reply tables.clients new.clients stands.clients
               (record { uids = λ client. ap (λ c. uid_in c client) takes.clients; given = ap clients_given takes.clients }) refl refl;
-          keys = keys_stay setup past (Acted Adding [] reply ∷ past) tables new stands.keys (record { device_is = takes.secrets; policy_is = takes.policy; lasting_is = ap lasting_in takes.keys }) (same_kept setup past Adding [] reply refl) (same_device setup past Adding [] reply refl);
+          keys = keys_stay setup past (Acted Adding [] reply ∷ past) tables new stands.keys (record { device_is = takes.secrets; policy_is = takes.policy; store_is = subst (λ k. SameStore tables.keys k) (sym takes.keys) (one_store_same tables.keys) }) (quiet_stored setup past Adding [] reply refl refl);
           operations = rows_after setup past Adding [] reply (Shows token) new.operations refl
               (rw takes.rows.rows (alike_change IsRow (is_for_row token) (is_for token) shown as_shown (for_same token) (λ row o r b. row_shown row o r) (rows_in tables.operations) (open_of setup past) stands.operations.rows))
               (takes.rows.given ∙ stands.operations.given);

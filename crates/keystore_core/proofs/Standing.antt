@@ -24,15 +24,17 @@ use Rattle.rule_model.specs.Clients.{SameClients as NoClients, caller_of, client
 use Rattle.rule_model.specs.Entries.{History, admits, count_of, is_done}
 use Rattle.rule_model.specs.Jobs.{Stays, but_shown}
 use Rattle.rule_model.specs.Operations.{Open, OperationChange, SameOperations, open_after, open_of, operation_at, operation_change, step_of, stopped_operation}
+use Rattle.rule_model.specs.Settling.{is_disk_fault}
 use Rattle.rule_model.specs.Setup.{Setup}
 use Rattle.rule_model.specs.Tickets.{Entered, SameTickets as NoTickets, stopped_ticket, ticket_after, ticket_at, ticket_change}
 use Rattle.rule_model.proofs.Boot.{begins_few}
 use Rattle.rule_model.proofs.Counting.{count_few}
-use Rattle.rule_model.proofs.Kept.{denied_device, denied_kept}
+use Rattle.rule_model.proofs.Kept.{denied_stored, same_stored}
 use Rattle.keystore_core.specs.declared.answered.Answered.{Answered}
 use Rattle.keystore_core.specs.declared.begins.Begins.{Begins}
 use Rattle.keystore_core.specs.declared.clients.Clients.{Clients}
-use Rattle.key_database.specs.Held.{Held, lasting_in}
+use Rattle.key_database.specs.declared.database.KeyDatabase.{KeyDatabase}
+use Rattle.key_database.specs.Stands.{SameStore}
 use Rattle.keystore_core.specs.declared.operations.Operations.{Operations}
 use Rattle.keystore_core.specs.declared.tables.Tables.{Tables}
 use Rattle.keystore_core.specs.declared.tickets.Tickets.{Tickets}
@@ -163,11 +165,11 @@ module _ (setup : Setup) (past : History) (event : Event) (drawn : List ℕ) (re
     by_reply (Stopped code) e = refl
 
   -- an event that is not admitted, and changes no operation and no ticket
-  pub denied_tables : (old new : Tables) → TablesStand setup old past → SameTables old new → is_done reply ≡ false
+  pub denied_tables : (old new : Tables) → TablesStand setup old past → SameTables old new → is_done reply ≡ false → is_disk_fault reply ≡ false
       → operation_change setup past event drawn reply ≡ SameOperations → ticket_change event reply ≡ NoTickets → TablesStand setup new (Acted event drawn reply ∷ past)
-  denied_tables old new stands same denied none no_ticket = record {
+  denied_tables old new stands same denied no_fault none no_ticket = record {
     clients = clients_stay old.clients new.clients stands.clients same.clients (denied_clients denied) (not_admitted denied is_connect);
-    keys = keys_stay setup past (Acted event drawn reply ∷ past) old new stands.keys same.keys (denied_kept setup past event drawn reply denied) (denied_device setup past event drawn reply denied);
+    keys = keys_stay setup past (Acted event drawn reply ∷ past) old new stands.keys same.keys (denied_stored setup past event drawn reply denied no_fault);
     operations = operations_stay old.operations new.operations stands.operations same.operations none (not_admitted denied is_begin);
     slots = slots_stay old.slots new.slots stands.slots same.slots none;
     tickets = tickets_stay old.tickets new.tickets stands.tickets same.tickets no_ticket (not_admitted denied is_enter) (stays_same setup past event drawn reply none);
@@ -181,7 +183,7 @@ still setup past old new stands same = record {
     uids = λ client. same.clients.uids client ∙ stands.clients.uids client;
     given = same.clients.given ∙ stands.clients.given;
   };
-  keys = keys_stay setup past past old new stands.keys same.keys refl refl;
+  keys = keys_stay setup past past old new stands.keys same.keys (same_stored setup past);
   operations = record { rows = rw same.operations.rows stands.operations.rows; given = same.operations.given ∙ stands.operations.given };
   slots = rw same.slots stands.slots;
   tickets = record {
@@ -232,10 +234,10 @@ pub at_later : (tables : Tables) (step : ℕ) (act : Act) (back : Option JobDone
 at_later tables step act back at = ∥∥₁_elim at (IsLater-prop tables.slots step) (λ t. t.stands.tables_stand.slots.later step (omega (arith, t.stands.step_is)))
 
 -- tables in which one part is another that answers the same
-pub same_but_keys : (tables : Tables) (new : Held) → lasting_in new ≡ lasting_in tables.keys → SameTables tables (record tables { keys = new })
+pub same_but_keys : (tables : Tables) (new : KeyDatabase) → SameStore tables.keys new → SameTables tables (record tables { keys = new })
 same_but_keys tables new same = record {
   clients = record { uids = λ client. refl; given = refl };
-  keys = record { device_is = refl; policy_is = refl; lasting_is = same };
+  keys = record { device_is = refl; policy_is = refl; store_is = same };
   operations = record { rows = refl; given = refl };
   slots = refl;
   tickets = record { outs = λ ticket. refl; given = refl };
@@ -247,7 +249,7 @@ pub same_but_begun : (tables : Tables) (rows : Operations) (begins : Begins) →
     → SameTables tables (record tables { operations = rows; boot = record tables.boot { begins = begins } })
 same_but_begun tables rows begins same_rows same_begins = record {
   clients = record { uids = λ client. refl; given = refl };
-  keys = record { device_is = refl; policy_is = refl; lasting_is = refl };
+  keys = same_keys tables;
   operations = same_rows;
   slots = refl;
   tickets = record { outs = λ ticket. refl; given = refl };
@@ -257,7 +259,7 @@ same_but_begun tables rows begins same_rows same_begins = record {
 pub same_but_tickets : (tables : Tables) (tickets : Tickets) → SameTickets tables.tickets tickets → SameTables tables (record tables { tickets = tickets })
 same_but_tickets tables tickets same = record {
   clients = record { uids = λ client. refl; given = refl };
-  keys = record { device_is = refl; policy_is = refl; lasting_is = refl };
+  keys = same_keys tables;
   operations = record { rows = refl; given = refl };
   slots = refl;
   tickets = same;
@@ -292,4 +294,4 @@ pub without_memory : (setup : Setup) (past : History) (old new : Tables) (event 
     → TablesStand setup new (Acted event drawn (Stopped MemoryAllocationFailed) ∷ past) × Stays setup past (Acted event drawn (Stopped MemoryAllocationFailed) ∷ past)
 without_memory setup past old new event drawn stands takes same =
     let none = takes_memory event.act past takes in
-    (denied_tables setup past event drawn (Stopped MemoryAllocationFailed) old new stands same refl none.0 none.1, stays_same setup past event drawn (Stopped MemoryAllocationFailed) none.0)
+    (denied_tables setup past event drawn (Stopped MemoryAllocationFailed) old new stands same refl refl none.0 none.1, stays_same setup past event drawn (Stopped MemoryAllocationFailed) none.0)

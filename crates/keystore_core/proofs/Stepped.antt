@@ -43,7 +43,8 @@ use Rattle.rule_model.specs.Operations.{Closes, Enters as EntersOne, Open, SameO
 use Rattle.rule_model.specs.Setup.{Setup}
 use Rattle.rule_model.specs.StepFacts.{brought_by, brought_by_abort, facts_of, has_ended, step_facts}
 use Rattle.rule_model.specs.Tickets.{Entered, GoesOut, SameTickets as NoTickets, next_ticket, ticket_after, ticket_at, ticket_change}
-use Rattle.rule_model.proofs.Kept.{changes_kept, same_device, same_kept}
+use Rattle.rule_model.specs.Settling.{is_disk_fault}
+use Rattle.rule_model.proofs.Kept.{changes_kept, quiet_stored}
 use Rattle.keystore_core.specs.declared.operations.Operation.{Operation as Row}
 use Rattle.keystore_core.specs.declared.operations.RowChange.TheVariants.{Enters as RowEnters}
 use Rattle.keystore_core.specs.declared.tables.Tables.{Tables}
@@ -285,14 +286,14 @@ module _ (setup : Setup) (past : History) (event : Event) (drawn : List ℕ) (re
   -- an entry that closes one operation, and touches nothing else
   pub closed_tables : (op : ℕ) (old new : Tables) → TablesStand setup old past → ClosesOne op old new → operation_change setup past event drawn reply ≡ Closes op
       → client_change event reply ≡ NoClients → ticket_change event reply ≡ NoTickets → admits is_connect (Acted event drawn reply) ≡ false → admits is_begin (Acted event drawn reply) ≡ false
-      → admits is_enter (Acted event drawn reply) ≡ false → changes_kept event.act ≡ false → boot_change setup past event reply ≡ NoBoot → ((x : Open) → operation_at setup past op ≡ Some x → is_busy x ≡ false)
+      → admits is_enter (Acted event drawn reply) ≡ false → changes_kept event.act ≡ false → is_disk_fault reply ≡ false → boot_change setup past event reply ≡ NoBoot → ((x : Open) → operation_at setup past op ≡ Some x → is_busy x ≡ false)
       → TablesStand setup new (Acted event drawn reply ∷ past) × Stays setup past (Acted event drawn reply ∷ past)
-  closed_tables op old new stands closed is no_client no_ticket no_connect no_begin no_enter no_key no_boot idle =
+  closed_tables op old new stands closed is no_client no_ticket no_connect no_begin no_enter no_key no_fault no_boot idle =
       let stays : Stays setup past (Acted event drawn reply ∷ past) = stays_by setup past event drawn reply (Closes op) is stands.tickets.busy
       (λ ticket entered o after named busy found. without_keeps op (open_of setup past) entered.op o (is_other op entered.op (open_of setup past) o idle found busy) found) in (
         record {
           clients = clients_stay setup past event drawn reply old.clients new.clients stands.clients closed.clients no_client no_connect;
-          keys = keys_stay setup past (Acted event drawn reply ∷ past) old new stands.keys closed.keys (same_kept setup past event drawn reply no_key) (same_device setup past event drawn reply no_key);
+          keys = keys_stay setup past (Acted event drawn reply ∷ past) old new stands.keys closed.keys (quiet_stored setup past event drawn reply no_key no_fault);
           operations = rows_after setup past event drawn reply (Closes op) new.operations is
               (rw closed.rows.rows (alike_filter IsRow (λ row. not (has_row op row)) (λ o. not (has_number op o)) (λ row o r. ap not (row_named op row o r)) (rows_in old.operations) (open_of setup past) stands.operations.rows))
               (closed.rows.given ∙ stands.operations.given ∙ sym (uncounted is_begin past event drawn reply no_begin));
@@ -317,11 +318,11 @@ module _ (setup : Setup) (past : History) (tables : Tables) (caller : Caller) (o
         → TablesStand setup new (Acted (event_by caller act) [] (Broken rule code) ∷ past) × Stays setup past (Acted (event_by caller act) [] (Broken rule code) ∷ past)
     by_rule true e closed =
         closed_tables setup past (event_by caller act) [] (Broken rule code) op tables new stands closed
-        (ap (λ b. if b then closes (operation_of act) else SameOperations) e ∙ ap closes names) no_client refl refl refl refl no_key refl (idle e)
+        (ap (λ b. if b then closes (operation_of act) else SameOperations) e ∙ ap closes names) no_client refl refl refl refl no_key refl refl (idle e)
     by_rule false e same =
         let none : operation_change setup past (event_by caller act) [] (Broken rule code) ≡ SameOperations = ap (λ b. if b then closes (operation_of act) else SameOperations) e in (
           subst (λ t. TablesStand setup t (Acted (event_by caller act) [] (Broken rule code) ∷ past)) (sym same)
-              (denied_tables setup past (event_by caller act) [] (Broken rule code) tables tables stands (same_tables tables) refl none refl),
+              (denied_tables setup past (event_by caller act) [] (Broken rule code) tables tables stands (same_tables tables) refl refl none refl),
           stays_same setup past (event_by caller act) [] (Broken rule code) none,
         )
 
@@ -363,7 +364,7 @@ module _ (setup : Setup) (past : History) (tables : Tables) (caller : Caller) (o
   pub aborted : (new : Tables) → step_table.answer (step_facts setup past caller op brought_by_abort) ≡ Ok tt → (step_facts setup past caller op brought_by_abort).busy ≡ false
       → ClosesOne op tables new → AnswersAfter setup past new (event_by caller (Abort op)) (record { reply = Done no_fields; job = None; drawn = [] })
   aborted new e idle closed =
-      let tables_after = closed_tables setup past (event_by caller (Abort op)) [] (Done no_fields) op tables new stands closed refl refl refl refl refl refl refl refl
+      let tables_after = closed_tables setup past (event_by caller (Abort op)) [] (Done no_fields) op tables new stands closed refl refl refl refl refl refl refl refl refl
       (is_idle (is_live setup past) caller (operation_at setup past op) brought_by_abort idle) in
       record {
         follows = Answered (record {
@@ -476,7 +477,7 @@ module _ (setup : Setup) (past : History) (tables : Tables) (caller : Caller) (o
         stands = record {
           clients = clients_stay setup past Entering [] reply tables.clients new.clients stands.clients
               (record { uids = λ client. sent.clients.uids client ∙ still.clients.uids client; given = sent.clients.given ∙ still.clients.given }) (enter_clients caller op work reply) no_connect;
-          keys = keys_stay setup past later start new now.keys sent.keys (same_kept setup past Entering [] reply (enter_keys op work)) (same_device setup past Entering [] reply (enter_keys op work));
+          keys = keys_stay setup past later start new now.keys sent.keys (quiet_stored setup past Entering [] reply (enter_keys op work) refl);
           operations = rows_after setup past Entering [] reply (EntersOne op ticket) new.operations is
               (rw sent.rows.rows (alike_change IsRow (has_row op) (has_number op) (changed RowEnters) (as_entered (step_of past) ticket) (row_named op)
               (λ row x r named. record { number = r.number; client = r.client; key = r.key; plan = r.plan; limited = r.limited; aad_is = r.aad_is; text_is = r.text_is; busy_is = refl; challenge_is = r.challenge_is; shown_is = r.shown_is; list_is = r.list_is })

@@ -10,9 +10,10 @@ use Rattle.rule_model.specs.Access.{user_of}
 use Rattle.rule_model.specs.Entries.{History}
 use Rattle.rule_model.specs.Setup.{Setup}
 use Rattle.keystore_core.specs.declared.boot.Boot.{Boot}
-use Rattle.keystore_core.specs.Begins.{BeginsStand, SameBegins, begins_in}
-use Rattle.keystore_core.specs.Device.{DeviceStands, IsStart, early_in, unlocked_in}
-use Rattle.keystore_core.specs.Tokens.{SameTokens, TokensStand, token_key_in, tokens_in}
+use Rattle.rule_model.specs.Boot.{StartsAgain}
+use Rattle.keystore_core.specs.Begins.{BeginsStand, ChangesBegins, SameBegins, begins_in}
+use Rattle.keystore_core.specs.Device.{ChangesDevice, DeviceStands, IsStart, early_in, unlocked_in}
+use Rattle.keystore_core.specs.Tokens.{ChangesTokens, SameTokens, TokensStand, token_key_in, tokens_in}
 
 -- the start of a device with this key for the macs of tokens
 pub record IsStartOf (key : List ℕ) (boot : Boot) : Type 0 where
@@ -25,6 +26,12 @@ pub record SameBoot (old new : Boot) : Type 0 where
   pub device : new.device ≡ old.device
   pub tokens : SameTokens old.tokens new.tokens
   pub begins : SameBegins old.begins new.begins
+
+-- the device starts again
+pub record Restarts (old new : Boot) : Type 0 where
+  pub device : ChangesDevice StartsAgain old.device new.device
+  pub tokens : ChangesTokens StartsAgain old.tokens new.tokens
+  pub begins : ChangesBegins StartsAgain old.begins new.begins
 
 -- the three stand for a history
 pub record BootStands (setup : Setup) (boot : Boot) (past : History) : Type 0 where

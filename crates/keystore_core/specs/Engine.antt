@@ -1,23 +1,76 @@
 -- When an engine stands for a history.
-use Rattle.std.specs.Prelude.{◌≡◌, ℕ, List, length, Option}
+use Rattle.std.specs.Prelude.{◌≡◌, ◌≤◌, ◌⊎◌, ℕ, Bool, List, length, Option, Result, Ok, Err}
 use Rattle.rule_model.specs.Entries.{History}
 use Rattle.tags.specs.declared.policy.PolicyRow.{PolicyRow}
 use Rattle.tags.specs.declared.secrets.DeviceSecrets.{DeviceSecrets}
-use Rattle.journal_records.specs.LastingPart.{empty_lasting}
+use Rattle.ks_outside.specs.declared.disk.Disk.{Ghosts}
+use Rattle.ks_outside.specs.Faults.{Rises}
+use Rattle.journal_records.specs.LastingPart.{Lasting}
+use Rattle.journal_records.specs.declared.fault.StoreFault.{StoreFault}
+use Rattle.journal_records.specs.declared.fault.StoreFault.TheVariants as stores
+use Rattle.key_database.specs.declared.database.KeyDatabase.{KeyDatabase}
+use Rattle.key_database.specs.Stands.{Holds, is_unsettled, lasting, store_bytes}
+use Rattle.key_database.specs.Store.{IsBadStore, MayBe, StandsFor}
+use Rattle.rule_model.specs.Stored.{holding_of}
 use Rattle.rule_model.specs.Setup.{Setup}
 use Rattle.keystore_core.specs.declared.engine.Engine.{Engine}
+use Rattle.keystore_core.specs.declared.engine.OpenFault.{OpenFault}
+use Rattle.keystore_core.specs.declared.engine.OpenFault.TheVariants as faults
 use Rattle.keystore_core.specs.Tables.{TablesStand}
 use Rattle.keystore_core.specs.Tickets.{tickets_given}
 use Rattle.cipher_ops.specs.declared.job.Done.{Done}
 use Rattle.rule_model.specs.declared.event.Act.{Act}
 use Rattle.rule_model.specs.Jobs.{HasDone}
 
--- what is fixed for a fresh store on a device under a policy with so many slots
-pub record IsFresh (setup : Setup) (device : DeviceSecrets) (policy : List PolicyRow) (slots : ℕ) : Type 0 where
-  pub start : setup.start ≡ empty_lasting
+-- what is fixed where the tables of a device begin over a store, under a policy and with so many slots
+pub record IsOver (setup : Setup) (device : DeviceSecrets) (policy : List PolicyRow) (slots : ℕ) (keys : KeyDatabase) : Type 0 where
+  pub start : setup.start ≡ lasting keys
+  pub bytes : setup.bytes ≡ store_bytes keys
   pub device_is : setup.device ≡ device
   pub policy_is : setup.policy ≡ policy
   pub slots_are : setup.slots ≡ slots
+
+-- the lasting part of an engine, how many bytes its store has, and whether a change waits to be settled
+abbrev pub lasting_of : Engine → Lasting
+lasting_of engine = lasting engine.tables.keys
+
+abbrev pub bytes_of : Engine → ℕ
+bytes_of engine = store_bytes engine.tables.keys
+
+abbrev pub waits_in : Engine → Bool
+waits_in engine = is_unsettled engine.tables.keys
+
+-- what is fixed where an engine was opened for a device, under a policy and with so many slots
+abbrev pub IsOpened : Setup → DeviceSecrets → List PolicyRow → ℕ → Engine → Type 0
+IsOpened setup device policy slots engine = IsOver setup device policy slots engine.tables.keys
+
+-- what an opening read of these bytes, by its answer
+abbrev pub OpensStore : List ℕ → Result Engine OpenFault → Type 0
+OpensStore image (Ok engine) = StandsFor (lasting_of engine) image
+OpensStore image (Err faults.Device) = Unit {0}
+OpensStore image (Err (faults.Corrupted offset)) = IsBadStore image offset
+OpensStore image (Err faults.Memory) = Unit {0}
+
+-- what it finds where the bytes stand for a lasting part
+abbrev pub OpensFor : Lasting → Result Engine OpenFault → Type 0
+OpensFor part (Ok engine) = lasting_of engine ≡ part
+OpensFor part (Err faults.Device) = Unit {0}
+OpensFor part (Err (faults.Corrupted offset)) = ⊥
+OpensFor part (Err faults.Memory) = Unit {0}
+
+-- what it says of the disk's count of faults: Device comes where it rose, and any other where it stayed
+abbrev pub OpenFaults : ℕ → ℕ → Result Engine OpenFault → Type 0
+OpenFaults before now (Ok engine) = now ≡ before
+OpenFaults before now (Err faults.Device) = (before ≤ now) × Rises before now
+OpenFaults before now (Err (faults.Corrupted offset)) = now ≡ before
+OpenFaults before now (Err faults.Memory) = now ≡ before
+
+-- why a store was not opened
+abbrev pub fault_of : StoreFault → OpenFault
+fault_of stores.Device = faults.Device
+fault_of (stores.Corrupted offset) = faults.Corrupted offset
+fault_of stores.Full = faults.Memory
+fault_of stores.Memory = faults.Memory
 
 -- how many entries an engine made
 abbrev pub entries_of : Engine → ℕ
@@ -27,6 +80,18 @@ entries_of engine = engine.entries
 pub record Stands (setup : Setup) (engine : Engine) (past : History) : Type 0 where
   pub entries : engine.entries ≡ length past
   pub tables : TablesStand setup engine.tables past
+
+-- the engine's store and the disk hold what is known by a history
+abbrev pub StoreStands : {D : Type 0} → Ghosts D → Setup → Engine → D → History → Type 0
+StoreStands g setup engine disk past = Holds g engine.tables.keys disk (holding_of setup past)
+
+-- an image stands for a lasting part that may be that of a history
+abbrev pub MayHold : Setup → History → List ℕ → Type 0
+MayHold setup past image = MayBe (holding_of setup past) image
+
+-- of one of two histories
+abbrev pub MayHoldEither : Setup → History → History → List ℕ → Type 0
+MayHoldEither setup past later image = MayHold setup past image ⊎ MayHold setup later image
 
 -- how many tickets an engine gave
 abbrev pub tickets_of : Engine → ℕ

@@ -1,25 +1,33 @@
 -- The device with its root of trust, the policy, and the keys and grants that the engine holds.
-use Rattle.std.specs.Prelude.{◌≡◌, ℕ, Bool}
+use Rattle.std.specs.Prelude.{◌≡◌, ℕ, Bool, false}
 use Rattle.journal_records.specs.LastingPart.{some_has_id}
-use Rattle.key_database.specs.Held.{lasting_in}
-use Rattle.rule_model.specs.Blobs.{device_at}
+use Rattle.key_database.specs.Stands.{SameStore, is_unsettled, lasting, store_bytes}
 use Rattle.rule_model.specs.Entries.{History}
 use Rattle.rule_model.specs.Kept.{kept}
+use Rattle.rule_model.specs.Blobs.{device_at}
+use Rattle.rule_model.specs.Settling.{is_unsettled as waits}
 use Rattle.rule_model.specs.Setup.{Setup}
+use Rattle.rule_model.specs.Stored.{stored_bytes}
 use Rattle.keystore_core.specs.declared.tables.Tables.{Tables}
 
 -- whether the key of a number has not ended
 abbrev pub live_key : Tables → ℕ → Bool
-live_key tables id = some_has_id id (lasting_in tables.keys).keys
+live_key tables id = some_has_id id (lasting tables.keys).keys
 
--- the same device, policy, keys and grants
+-- no change of the keys and grants waits to be settled
+abbrev pub AreSettled : Tables → Type 0
+AreSettled tables = is_unsettled tables.keys ≡ false
+
+-- the same device and policy, and the same store of keys and grants
 pub record SameKeys (old new : Tables) : Type 0 where
   pub device_is : new.device ≡ old.device
   pub policy_is : new.policy ≡ old.policy
-  pub lasting_is : lasting_in new.keys ≡ lasting_in old.keys
+  pub store_is : SameStore old.keys new.keys
 
 -- they are those of a history
 pub record KeysStand (setup : Setup) (tables : Tables) (past : History) : Type 0 where
   pub device_is : tables.device ≡ device_at setup past
   pub policy_is : tables.policy ≡ setup.policy
-  pub lasting_is : lasting_in tables.keys ≡ kept setup past
+  pub lasting_is : lasting tables.keys ≡ kept setup past
+  pub bytes_are : store_bytes tables.keys ≡ stored_bytes setup past
+  pub settled_is : is_unsettled tables.keys ≡ waits past

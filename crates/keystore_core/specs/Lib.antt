@@ -4,6 +4,7 @@ pub mod Tokens
 pub mod Begins
 pub mod Boot
 pub mod Keys
+pub mod Writing
 pub mod Alike
 pub mod Operations
 pub mod Slots
@@ -14,6 +15,7 @@ pub mod Creating
 pub mod Tables
 pub mod Leaving
 pub mod TokenCalls
+pub mod Restarting
 pub mod Beginning
 pub mod Stepping
 pub mod Engine

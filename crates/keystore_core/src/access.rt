@@ -2,18 +2,18 @@
 
 ghost use Rattle.std.specs.Prelude.{◌≡◌};
 ghost use Rattle.std.specs.Option.{option_copied};
-ghost use Rattle.key_database.specs.Held.{lasting_in};
+ghost use Rattle.key_database.specs.Stands.{lasting};
 ghost use Rattle.rule_model.specs.Access as model;
 
 use journal_records::KeyRecord;
-use key_database::LastingTable;
+use key_database::KeyDatabase;
 use key_domains::{Access, Permissions, find_key};
 use rule_model::Caller;
 use tags::{Descriptor, Policy};
 
 /// What a caller's descriptor finds; one that is not connected finds nothing.
-pub fn access_by(policy: &Policy, keys: &LastingTable, caller: Caller, key: &Descriptor) -> Access
-    ensures { result ≡ model.access_by policy.now (lasting_in keys.now) caller key.now }
+pub fn access_by(policy: &Policy, keys: &KeyDatabase, caller: Caller, key: &Descriptor) -> Access
+    ensures { result ≡ model.access_by policy.now (lasting keys.now) caller key.now }
 {
     match caller.uid {
         Some(uid) => find_key(key, uid, policy, keys),
@@ -21,9 +21,9 @@ pub fn access_by(policy: &Policy, keys: &LastingTable, caller: Caller, key: &Des
     }
 }
 
-/// The stored key that was found.
-pub fn key_in<'a>(keys: &'a LastingTable, access: &Access) -> Option<&'a KeyRecord>
-    ensures { option_copied result ≡ model.key_in (lasting_in keys.now) access.now }
+/// The key that was found.
+pub fn key_in<'a>(keys: &'a KeyDatabase, access: &Access) -> Option<&'a KeyRecord>
+    ensures { option_copied result ≡ model.key_in (lasting keys.now) access.now }
 {
     match access {
         Access::Found { key, bits: _ } => keys.by_id(key.id),

@@ -16,6 +16,7 @@ ghost use Rattle.keystore_core.specs.Beginning as spec;
 ghost use Rattle.keystore_core.specs.Drawn.{DrewForResult};
 ghost use Rattle.keystore_core.specs.Operations.{HasRoomForOperation, operations_given};
 ghost use Rattle.keystore_core.specs.Tables.{IsAt, IsCaller, ServesAt, event_by, state_at};
+ghost use Rattle.keystore_core.specs.Writing.{LeavesStore};
 ghost use Rattle.operation_slots.specs.Table.{IsLater, has_room as is_free, held};
 ghost use Rattle.rule_model.specs.Access as users;
 ghost use Rattle.token_store.specs.Fitting.{opens};
@@ -330,6 +331,7 @@ impl Tables {
         ensures serves { ServesAt step None self.old self.new (event_by caller (acts.CreateOperation key params forced)) result }
         ensures job { IfOk result (λ answered. answered.job ≡ None) }
         ensures drew { DrewForResult N.Entropy entropy.old entropy.new result }
+        ensures store { IfOk result (λ answered. LeavesStore self.old self.new answered) }
     {
         let uid = owner_of(caller);
         let pruned = pruned_for(&self.slots, uid, forced, step);

@@ -1,7 +1,7 @@
 //! How many operations began on each key since the last restart.
 
 ghost use Rattle.std.specs.Prelude.{◌≡◌, ◌^◌, ◌<◌, ℕ, OnOk};
-ghost use Rattle.rule_model.specs.Boot.{BeginsOn};
+ghost use Rattle.rule_model.specs.Boot.{BeginsOn, StartsAgain};
 ghost use Rattle.keystore_core.specs.Begins.{ChangesBegins, HasRoomForBegin, SameBegins, begins_in};
 
 use std::alloc::Global;
@@ -42,6 +42,13 @@ impl Begins {
             self.counts.insert(key, 0)?;
         }
         Ok(())
+    }
+
+    /// Forgets all begins.
+    pub fn clear(&mut self)
+        ensures { ChangesBegins StartsAgain self.old self.new }
+    {
+        self.counts.clear();
     }
 
     /// Counts a begin on a key.

@@ -2,7 +2,7 @@
 
 ghost use Rattle.std.specs.Prelude.{◌≡◌, IfOk};
 ghost use Rattle.rule_model.specs.Setup.{Setup};
-ghost use Rattle.keystore_core.specs.Boot.{IsStartOf};
+ghost use Rattle.keystore_core.specs.Boot.{IsStartOf, Restarts};
 
 use crate::begins::Begins;
 use crate::device::Device;
@@ -28,5 +28,14 @@ impl Boot {
             tokens: Tokens::with_room(alloc, token_key)?,
             begins: Begins::new(alloc),
         })
+    }
+
+    /// The device starts again: all users are locked, early boot begins, and tokens and begins are forgotten.
+    pub fn restart(&mut self)
+        ensures { Restarts self.old self.new }
+    {
+        self.device.restart();
+        self.tokens.clear();
+        self.begins.clear();
     }
 }

@@ -2,7 +2,7 @@
 
 ghost use Rattle.std.specs.Prelude.{◌≡◌, None, Ok, true, IfOk};
 ghost use Rattle.std.specs.Option.{option_copied};
-ghost use Rattle.key_database.specs.Held.{lasting_in};
+ghost use Rattle.key_database.specs.Stands.{lasting};
 ghost use Rattle.rule_model.specs.declared.event.Act.TheVariants as acts;
 ghost use Rattle.call_rules.specs.Rules.{is_owned};
 ghost use Rattle.rule_model.specs.Access.{id_by};
@@ -10,13 +10,16 @@ ghost use Rattle.rule_model.specs.Calls as model;
 ghost use Rattle.rule_model.specs.Changes.{grant_number, grant_of};
 ghost use Rattle.rule_model.specs.Places.{has_grant_place};
 ghost use Rattle.keystore_core.specs.Drawn.{IsUndrawn};
+ghost use Rattle.keystore_core.specs.Keys.{AreSettled};
 ghost use Rattle.keystore_core.specs.Tables.{IsCaller, ServesAfter, event_by};
+ghost use Rattle.keystore_core.specs.Writing.{LeavesStore, StoreGoesAfter, StoreGoesFor};
 
 use crate::access::{access_by, bits_in, key_in, owner_of, row_for};
 use crate::answered::Answered;
 use crate::descriptors::owner_for;
 use crate::listing::listed;
 use crate::tables::Tables;
+use crate::writing::write_change;
 use call_rules::{
     KeyCallFacts, SystemCallFacts, check_clear_namespace, check_delete_key, check_get_key_entry,
     check_grant, check_listing, check_ungrant, check_user_call,
@@ -24,6 +27,7 @@ use call_rules::{
 use grants::GrantRow;
 use journal_records::{Change, KeyRecord};
 use key_domains::{Access, Permissions};
+use ks_outside::Disk;
 use rule_model::{Caller, Fields, NO_FIELDS, Reply};
 use std::alloc::Global;
 use tags::{Bytes, Code, Descriptor, NoMemory, Policy};
@@ -107,8 +111,8 @@ fn owner_domain(domain: u32) -> u8
 impl Tables {
     /// What the rules read of a call on a key, and the key's number where it is found.
     fn key_call(&self, caller: Caller, key: &Descriptor) -> (Option<u64>, KeyCallFacts)
-        ensures id { result.0 ≡ id_by self.now.policy (lasting_in self.now.keys) caller key.now }
-        ensures facts { result.1 ≡ model.key_facts self.now.policy (lasting_in self.now.keys) caller key.now }
+        ensures id { result.0 ≡ id_by self.now.policy (lasting self.now.keys) caller key.now }
+        ensures facts { result.1 ≡ model.key_facts self.now.policy (lasting self.now.keys) caller key.now }
     {
         let access = access_by(&self.policy, &self.keys, caller, key);
         let found = key_in(&self.keys, &access);
@@ -130,6 +134,7 @@ impl Tables {
         ensures serves { ServesAfter self.now self.now (event_by caller (acts.GetKeyEntry key.now)) result }
         ensures job { IfOk result (λ answered. answered.job ≡ None) }
         ensures drew { IfOk result (λ answered. IsUndrawn answered) }
+        ensures store { IfOk result (λ answered. LeavesStore self.now self.now answered) }
     {
         let access = access_by(&self.policy, &self.keys, caller, key);
         let found = key_in(&self.keys, &access);
@@ -143,24 +148,32 @@ impl Tables {
     }
 
     /// A client ends a key.
-    pub fn delete_key(&mut self, alloc: Global, caller: Caller, key: &Descriptor) -> Answered
-        requires { IsCaller self.old caller }
+    pub fn delete_key<D: Disk>(
+        &mut self,
+        alloc: Global,
+        disk: &mut D,
+        caller: Caller,
+        key: &Descriptor,
+    ) -> Answered
+        requires caller { IsCaller self.old caller }
+        requires settled { AreSettled self.old }
         ensures serves { ServesAfter self.old self.new (event_by caller (acts.DeleteKey key.now)) (Ok result) }
         ensures job { result.job ≡ None }
         ensures drew { IsUndrawn result }
+        ensures store { StoreGoesFor D.Disk self.old self.new disk.old disk.new caller (acts.DeleteKey key.now) result }
     {
         let (id, facts) = self.key_call(caller, key);
         if let Err((rule, code)) = check_delete_key(key, &facts) {
             return Answered::refused(alloc, rule, code);
         }
         let Some(id) = id else { unreachable!() };
-        self.keys.make(Change::Delete { id });
-        Answered::undrawn(alloc, Reply::Done(NO_FIELDS))
+        let reply = write_change(&mut self.keys, disk, Change::Delete { id }, NO_FIELDS);
+        Answered::undrawn(alloc, reply)
     }
 
     /// Whether there is a place for a grant of a key to a uid: one that both have takes none.
     fn has_grant_place(&self, key: u64, uid: u32) -> bool
-        ensures { result ≡ has_grant_place (lasting_in self.now.keys) key uid }
+        ensures { result ≡ has_grant_place (lasting self.now.keys) key uid }
     {
         let grants = self.keys.grants();
         if grants.of_key(key, uid).is_some() {
@@ -171,7 +184,7 @@ impl Tables {
 
     /// The number that a grant of a key to a uid takes: that of the one that both have, or the next one.
     fn grant_number(&self, key: u64, uid: u32) -> u64
-        ensures { result ≡ grant_number (lasting_in self.now.keys) key uid }
+        ensures { result ≡ grant_number (lasting self.now.keys) key uid }
     {
         match self.keys.grants().of_key(key, uid) {
             Some(held) => held.grant,
@@ -180,18 +193,21 @@ impl Tables {
     }
 
     /// A client shares a key with a uid, or gives its grant other permissions.
-    pub fn grant(
+    pub fn grant<D: Disk>(
         &mut self,
         alloc: Global,
+        disk: &mut D,
         caller: Caller,
         key: &Descriptor,
         uid: u32,
         bits: u32,
     ) -> Result<Answered, NoMemory>
-        requires { IsCaller self.old caller }
+        requires caller { IsCaller self.old caller }
+        requires settled { AreSettled self.old }
         ensures serves { ServesAfter self.old self.new (event_by caller (acts.Grant key.now uid bits)) result }
         ensures job { IfOk result (λ answered. answered.job ≡ None) }
         ensures drew { IfOk result (λ answered. IsUndrawn answered) }
+        ensures store { StoreGoesAfter D.Disk self.old self.new disk.old disk.new caller (acts.Grant key.now uid bits) result }
     {
         let bits = Permissions::of_bits(bits);
         let (id, facts) = self.key_call(caller, key);
@@ -210,17 +226,17 @@ impl Tables {
             uid,
             bits,
         };
-        self.keys.make(Change::Grant { row });
         let fields = Fields {
             grant: Some(grant),
             ..NO_FIELDS
         };
-        Ok(Answered::undrawn(alloc, Reply::Done(fields)))
+        let reply = write_change(&mut self.keys, disk, Change::Grant { row }, fields);
+        Ok(Answered::undrawn(alloc, reply))
     }
 
     /// The number of the grant of a key, where it is found, to a uid.
     fn grant_to(&self, key: Option<u64>, uid: u32) -> Option<u64>
-        ensures { result ≡ grant_of (lasting_in self.now.keys) key uid }
+        ensures { result ≡ grant_of (lasting self.now.keys) key uid }
     {
         match self.keys.grants().of_key(key?, uid) {
             Some(row) => Some(row.grant),
@@ -229,11 +245,20 @@ impl Tables {
     }
 
     /// A client takes a grant back.
-    pub fn ungrant(&mut self, alloc: Global, caller: Caller, key: &Descriptor, uid: u32) -> Answered
-        requires { IsCaller self.old caller }
+    pub fn ungrant<D: Disk>(
+        &mut self,
+        alloc: Global,
+        disk: &mut D,
+        caller: Caller,
+        key: &Descriptor,
+        uid: u32,
+    ) -> Answered
+        requires caller { IsCaller self.old caller }
+        requires settled { AreSettled self.old }
         ensures serves { ServesAfter self.old self.new (event_by caller (acts.Ungrant key.now uid)) (Ok result) }
         ensures job { result.job ≡ None }
         ensures drew { IsUndrawn result }
+        ensures store { StoreGoesFor D.Disk self.old self.new disk.old disk.new caller (acts.Ungrant key.now uid) result }
     {
         let (id, facts) = self.key_call(caller, key);
         let grant = self.grant_to(id, uid);
@@ -241,8 +266,8 @@ impl Tables {
             return Answered::refused(alloc, rule, code);
         }
         let Some(grant) = grant else { unreachable!() };
-        self.keys.make(Change::Ungrant { grant });
-        Answered::undrawn(alloc, Reply::Done(NO_FIELDS))
+        let reply = write_change(&mut self.keys, disk, Change::Ungrant { grant }, NO_FIELDS);
+        Answered::undrawn(alloc, reply)
     }
 
     /// A client counts its keys, or those of a namespace.
@@ -257,6 +282,7 @@ impl Tables {
         ensures serves { ServesAfter self.now self.now (event_by caller (acts.GetNumberOfEntries domain nspace)) (Ok result) }
         ensures job { result.job ≡ None }
         ensures drew { IsUndrawn result }
+        ensures store { LeavesStore self.now self.now result }
     {
         let row = row_for(&self.policy, caller, nspace);
         if let Err((rule, code)) = check_listing(caller.uid.is_some(), domain, row) {
@@ -283,6 +309,7 @@ impl Tables {
         ensures serves { ServesAfter self.now self.now (event_by caller (acts.ListEntriesBatched domain nspace past.now)) result }
         ensures job { IfOk result (λ answered. answered.job ≡ None) }
         ensures drew { IfOk result (λ answered. IsUndrawn answered) }
+        ensures store { IfOk result (λ answered. LeavesStore self.now self.now answered) }
     {
         let row = row_for(&self.policy, caller, nspace);
         if let Err((rule, code)) = check_listing(caller.uid.is_some(), domain, row) {
@@ -297,39 +324,51 @@ impl Tables {
     }
 
     /// The system ends all keys of an owner.
-    pub fn clear_namespace(
+    pub fn clear_namespace<D: Disk>(
         &mut self,
         alloc: Global,
+        disk: &mut D,
         caller: Caller,
         domain: u32,
         nspace: u64,
     ) -> Answered
-        requires { IsCaller self.old caller }
+        requires caller { IsCaller self.old caller }
+        requires settled { AreSettled self.old }
         ensures serves { ServesAfter self.old self.new (event_by caller (acts.ClearNamespace domain nspace)) (Ok result) }
         ensures job { result.job ≡ None }
         ensures drew { IsUndrawn result }
+        ensures store { StoreGoesFor D.Disk self.old self.new disk.old disk.new caller (acts.ClearNamespace domain nspace) result }
     {
         let facts = system_facts(caller);
         if let Err((rule, code)) = check_clear_namespace(domain, nspace, &facts) {
             return Answered::refused(alloc, rule, code);
         }
         let domain = owner_domain(domain);
-        self.keys.make(Change::Clear { domain, nspace });
-        Answered::undrawn(alloc, Reply::Done(NO_FIELDS))
+        let change = Change::Clear { domain, nspace };
+        let reply = write_change(&mut self.keys, disk, change, NO_FIELDS);
+        Answered::undrawn(alloc, reply)
     }
 
     /// The system ends all app keys of a user.
-    pub fn user_removed(&mut self, alloc: Global, caller: Caller, user: u32) -> Answered
-        requires { IsCaller self.old caller }
+    pub fn user_removed<D: Disk>(
+        &mut self,
+        alloc: Global,
+        disk: &mut D,
+        caller: Caller,
+        user: u32,
+    ) -> Answered
+        requires caller { IsCaller self.old caller }
+        requires settled { AreSettled self.old }
         ensures serves { ServesAfter self.old self.new (event_by caller (acts.UserRemoved user)) (Ok result) }
         ensures job { result.job ≡ None }
         ensures drew { IsUndrawn result }
+        ensures store { StoreGoesFor D.Disk self.old self.new disk.old disk.new caller (acts.UserRemoved user) result }
     {
         let facts = system_facts(caller);
         if let Err((rule, code)) = check_user_call(user, &facts) {
             return Answered::refused(alloc, rule, code);
         }
-        self.keys.make(Change::Removed { user });
-        Answered::undrawn(alloc, Reply::Done(NO_FIELDS))
+        let reply = write_change(&mut self.keys, disk, Change::Removed { user }, NO_FIELDS);
+        Answered::undrawn(alloc, reply)
     }
 }

@@ -1,7 +1,7 @@
 //! The connected clients.
 
 ghost use Rattle.std.specs.Prelude.{◌≡◌, ◌+◌, ◌^◌, ◌<◌, IfOk, OnErr, None, ℕ};
-ghost use Rattle.rule_model.specs.Clients.{Comes, Goes};
+ghost use Rattle.rule_model.specs.Clients.{AllGo, Comes, Goes};
 ghost use Rattle.keystore_core.specs.Clients.{ChangesClients, SameClients, clients_given, uid_in};
 
 use std::alloc::Global;
@@ -45,6 +45,14 @@ impl Clients {
         self.uids.insert(client, uid)?;
         self.made = client;
         Ok(client)
+    }
+
+    /// Lets all clients go.
+    pub fn clear(&mut self)
+        ensures goes { ChangesClients AllGo self.old self.new }
+        ensures given { clients_given self.new ≡ clients_given self.old }
+    {
+        self.uids.clear();
     }
 
     /// Lets a client go, where it is connected.

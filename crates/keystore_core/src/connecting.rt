@@ -6,6 +6,7 @@ ghost use Rattle.keystore_core.specs.Drawn.{IsUndrawn};
 ghost use Rattle.keystore_core.specs.Leaving.{EndsClient};
 ghost use Rattle.keystore_core.specs.Operations.{has_busy_row};
 ghost use Rattle.keystore_core.specs.Tables.{IsCaller, IsTables, ServesAfter, event_by};
+ghost use Rattle.keystore_core.specs.Writing.{LeavesStore};
 
 use crate::answered::Answered;
 use crate::tables::Tables;
@@ -26,6 +27,7 @@ impl Tables {
         ensures serves { ServesAfter self.old self.new (event_by _caller (acts.Connect uid)) result }
         ensures job { IfOk result (λ answered. answered.job ≡ None) }
         ensures drew { IfOk result (λ answered. IsUndrawn answered) }
+        ensures store { IfOk result (λ answered. LeavesStore self.old self.new answered) }
     {
         let client = self.clients.connect(uid)?;
         let fields = Fields {
@@ -50,6 +52,7 @@ impl Tables {
         ensures serves { ServesAfter self.old self.new (event_by caller acts.Disconnect) (Ok result) }
         ensures job { result.job ≡ None }
         ensures drew { IsUndrawn result }
+        ensures store { LeavesStore self.old self.new result }
     {
         let busy = self.operations.has_busy(caller.client);
         if let Err((rule, code)) = check_disconnect(caller.uid.is_some(), busy) {

@@ -2,14 +2,15 @@
 
 ghost use Rattle.std.specs.Prelude.{◌≡◌, ◌+◌, length, None, IfOk};
 ghost use Rattle.std.specs.Option.{option_map};
-ghost use Rattle.key_database.specs.Held.{lasting_in};
+ghost use Rattle.key_database.specs.Stands.{is_unsettled, lasting, table_of};
 ghost use Rattle.rule_model.specs.NewFacts as model;
-ghost use Rattle.rule_model.specs.Changes.{after_change};
 ghost use Rattle.rule_model.specs.Places.{has_key_place};
 ghost use Rattle.keystore_core.specs.Creating as spec;
 ghost use Rattle.keystore_core.specs.Drawn.{DrewForResult};
+ghost use Rattle.keystore_core.specs.Keys.{AreSettled};
 ghost use Rattle.keystore_core.specs.Room.{room_in};
 ghost use Rattle.keystore_core.specs.Tables.{IsCaller, ServesAfter, event_by};
+ghost use Rattle.keystore_core.specs.Writing.{IsWrittenIf, StoreGoes, StoreGoesAfter};
 
 use crate::access::{owner_of, row_for};
 use crate::answered::Answered;
@@ -17,11 +18,12 @@ use crate::descriptors::{alias_bytes, into_alias, owner_for};
 use crate::draw_room::DrawRoom;
 use crate::room::Room;
 use crate::tables::Tables;
+use crate::writing::write_change;
 use journal_records::Change;
-use key_database::LastingTable;
+use key_database::KeyDatabase;
 use key_rules::{ImportFacts, NewFacts, NewFault};
 use keymint_ops::{NewKey, plan_key, seal_key};
-use ks_outside::Entropy;
+use ks_outside::{Disk, Entropy};
 use rule_model::{Caller, Fields, NO_FIELDS, Pieces, Reply};
 use std::alloc::Global;
 use tags::{Bytes, Code, DOMAIN_BLOB, Descriptor, NoMemory, Policy};
@@ -125,37 +127,39 @@ fn stored_key(
 }
 
 /// Keeps a new key of a uid in its blob, or hands the blob out where it is made in BLOB.
-fn keep(
+fn keep<D: Disk>(
     alloc: Global,
-    keys: &mut LastingTable,
+    keys: &mut KeyDatabase,
+    disk: &mut D,
     uid: u32,
     key: Descriptor,
     blob: Bytes,
     list: Bytes,
     limit: u32,
-) -> Fields
-    requires { spec.CanKeep keys.old uid key blob list limit }
-    ensures fields { result ≡ spec.kept_fields (lasting_in keys.old) key blob }
-    ensures lasting { lasting_in keys.new ≡ after_change (spec.keeping (lasting_in keys.old) uid key blob list limit) (lasting_in keys.old) }
+) -> Reply
+    requires settled { is_unsettled keys.old ≡ false }
+    requires can { spec.CanKeep (table_of keys.old) uid key blob list limit }
+    ensures written { IsWrittenIf keys.old keys.new (spec.keeping (lasting keys.old) uid key blob list limit) (spec.kept_fields (lasting keys.old) key blob) result }
+    ensures store { StoreGoes D.Disk keys.old keys.new disk.old disk.new false (spec.keeping (lasting keys.old) uid key blob list limit) result }
 {
     if key.domain == DOMAIN_BLOB {
-        return Fields {
+        return Reply::Done(Fields {
             blob: Some(blob),
             ..NO_FIELDS
-        };
+        });
     }
     let id = keys.next_numbers().0;
-    keys.make(stored_key(alloc, id, uid, key, blob, list, limit));
-    Fields {
+    let fields = Fields {
         key: Some(id),
         ..NO_FIELDS
-    }
+    };
+    write_change(keys, disk, stored_key(alloc, id, uid, key, blob, list, limit), fields)
 }
 
 impl Tables {
     /// Whether there is a place for one more key of a uid: the key under its name makes place, and a blob takes none.
     fn has_key_place(&self, uid: u32, key: &Descriptor) -> bool
-        ensures { result ≡ has_key_place (lasting_in self.now.keys) uid key.now }
+        ensures { result ≡ has_key_place (lasting self.now.keys) uid key.now }
     {
         if key.domain == DOMAIN_BLOB {
             return true;
@@ -166,9 +170,10 @@ impl Tables {
     }
 
     /// A client makes a key: an imported one, or else a generated one.
-    pub fn make_key<N: Entropy>(
+    pub fn make_key<D: Disk, N: Entropy>(
         &mut self,
         alloc: Global,
+        disk: &mut D,
         entropy: &mut N,
         caller: Caller,
         key: Descriptor,
@@ -176,9 +181,11 @@ impl Tables {
         import: Option<Import>,
     ) -> Result<Answered, NoMemory>
         requires caller { IsCaller self.old caller }
+        requires settled { AreSettled self.old }
         ensures serves { ServesAfter self.old self.new (event_by caller (spec.making key params import)) result }
         ensures job { IfOk result (λ answered. answered.job ≡ None) }
         ensures drew { DrewForResult N.Entropy entropy.old entropy.new result }
+        ensures store { StoreGoesAfter D.Disk self.old self.new disk.old disk.new caller (spec.making key params import) result }
     {
         let early_ended = self.boot.device.has_early_ended();
         let facts = new_facts(&self.policy, caller, key, params, &import, early_ended);
@@ -210,9 +217,10 @@ impl Tables {
         let Ok(blob) = seal_key(alloc, &self.device, nonce_in(back), plan, material) else {
             return Ok(Answered::without_memory(drawn));
         };
-        let fields = keep(
+        let reply = keep(
             alloc,
             &mut self.keys,
+            disk,
             uid,
             facts.descriptor,
             blob,
@@ -220,7 +228,7 @@ impl Tables {
             limit,
         );
         Ok(Answered {
-            reply: Reply::Done(fields),
+            reply,
             job: None,
             drawn,
         })

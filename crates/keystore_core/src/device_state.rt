@@ -1,7 +1,7 @@
 //! The state of the device: which users are unlocked, and whether early boot has ended.
 
 ghost use Rattle.std.specs.Prelude.{◌≡◌, ◌≤◌, IfOk, replicate, false, if◌then◌else◌};
-ghost use Rattle.rule_model.specs.Boot.{EndsEarlyBoot, Locks, Unlocks};
+ghost use Rattle.rule_model.specs.Boot.{EndsEarlyBoot, Locks, StartsAgain, Unlocks};
 ghost use Rattle.keystore_core.specs.Device.{ChangesDevice, IsStart, early_in, unlocked_in};
 
 use crate::device::Device;
@@ -52,6 +52,14 @@ impl Device {
         ensures { ChangesDevice (if unlocked then Unlocks user else Locks user) self.old self.new }
     {
         self.unlocked[user as usize] = unlocked;
+    }
+
+    /// Locks every user, and lets early boot begin.
+    pub fn restart(&mut self)
+        ensures { ChangesDevice StartsAgain self.old self.new }
+    {
+        self.unlocked.fill(false);
+        self.early_ended = false;
     }
 
     /// Ends early boot.

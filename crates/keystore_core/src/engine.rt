@@ -1,6 +1,6 @@
 //! The engine's step.
 
-ghost use Rattle.std.specs.Prelude.{◌≡◌, ℕ, ◌+◌, ◌^◌, ◌<◌, ◌≤◌, [], None, IfOk, IfSome};
+ghost use Rattle.std.specs.Prelude.{◌≡◌, ℕ, ◌+◌, ◌^◌, ◌<◌, ◌≤◌, [], List, None, true, false, not, IfOk, IfSome, OnOk};
 ghost use Rattle.cipher_ops.specs.Jobs.{ticket_of};
 ghost use Rattle.ks_outside.specs.Shown.{Drew};
 ghost use Rattle.rule_model.specs.Drawn.{is_entropy_fault};
@@ -8,11 +8,21 @@ ghost use Rattle.rule_model.specs.Entries.{History, after_step};
 ghost use Rattle.rule_model.specs.Jobs.{HasDone, HasJob, Stays};
 ghost use Rattle.rule_model.specs.Legal.{MayStep};
 ghost use Rattle.rule_model.specs.Setup.{Setup};
+ghost use Rattle.rule_model.specs.Acts.{is_restart};
+ghost use Rattle.rule_model.specs.Settling.{is_disk_fault};
+ghost use Rattle.journal_records.specs.LastingPart.{Lasting, empty_lasting};
+ghost use Rattle.key_database.specs.Store.{StandsFor};
+ghost use Rattle.ks_outside.specs.Faults.{CountsFaults, HasCause};
+ghost use Rattle.ks_outside.specs.Images.{AllImages, Passes, TornFrom, tells};
+ghost use Rattle.keystore_core.specs.Restarting.{is_other_store};
+ghost use Rattle.keystore_core.specs.Engine.{fault_of};
 ghost use Rattle.keystore_core.specs.Tables.{IsTables};
 
 use crate::tables::Tables;
 use cipher_ops::Done;
-use ks_outside::{Disk, Entropy};
+use journal_records::StoreFault;
+use key_database::KeyDatabase;
+use ks_outside::{Disk, Entropy, Failed};
 use rule_model::{Event, Stepped};
 use std::alloc::Global;
 use tags::{DeviceSecrets, NoMemory, Policy};
@@ -24,6 +34,29 @@ pub struct Engine {
     /// how many entries were made
     entries: u64,
     tables: Tables,
+}
+
+/// Why a store was not opened.
+#[derive(Clone, Copy, Debug, PartialEq, Eq)]
+pub enum OpenFault {
+    /// a call of the disk failed
+    Device,
+    /// the bytes stand for no lasting part; the place, in bytes, of what is wrong first
+    Corrupted { offset: u64 },
+    /// memory was wanting
+    Memory,
+}
+
+/// The same of an opening that was refused.
+fn open_fault(fault: StoreFault) -> OpenFault
+    ensures { result ≡ fault_of fault }
+{
+    match fault {
+        StoreFault::Device => OpenFault::Device,
+        StoreFault::Corrupted { offset } => OpenFault::Corrupted { offset },
+        StoreFault::Memory => OpenFault::Memory,
+        StoreFault::Full => OpenFault::Memory,
+    }
 }
 
 /// The same policy once more.
@@ -39,26 +72,67 @@ fn copied(alloc: Global, policy: &Policy) -> Result<Policy, NoMemory>
 }
 
 impl Engine {
-    ghost use Rattle.keystore_core.specs.Engine.{IsFresh, MayTake, Stands, StandsForSome, entries_of, tickets_of};
+    ghost use Rattle.keystore_core.specs.Engine.{IsOpened, MayHoldEither, MayTake, OpensFor, OpensStore, OpenFaults, Stands, StandsForSome, StoreStands, entries_of, tickets_of, waits_in};
 
-    /// An engine of a device that starts, under a policy without keys, clients and operations, with 1 to 64 slots: it stands
-    /// for the empty history over the empty lasting part. It takes the room of the slots, of 256 tokens and of all users.
-    pub fn fresh(
+    /// Writes an empty store, and syncs. It takes no memory.
+    pub fn format<D: Disk>(disk: &mut D) -> Result<(), Failed>
+        ensures formatted { OnOk result (AllImages D.Disk disk.new (StandsFor empty_lasting)) }
+        ensures passes { Passes D.Disk disk.old disk.new (TornFrom D.Disk disk.old 0 9) }
+        ensures sure { D.is_sure disk.old → D.is_sure disk.new }
+        ensures telling { tells D.Disk disk.new ≡ tells D.Disk disk.old }
+        ensures cause { HasCause (D.fault_count disk.old) (D.fault_count disk.new) result }
+    {
+        match KeyDatabase::format(disk) {
+            Ok(()) => Ok(()),
+            Err(_) => Err(Failed),
+        }
+    }
+
+    /// Reads the store that the disk holds, for an engine under a policy, without clients and operations, with 1 to 64
+    /// slots: it stands for the empty history over the lasting part that the bytes stand for. Corrupted has the place of
+    /// what is wrong first in them.
+    pub fn open<D: Disk>(
         alloc: Global,
         device: &DeviceSecrets,
         policy: &Policy,
         slots: usize,
-    ) -> Result<Engine, NoMemory>
+        disk: &mut D,
+    ) -> Result<Engine, OpenFault>
         requires some { 0 < slots }
         requires few { slots ≤ 64 }
-        ensures stands { IfOk result (λ engine. (setup : Setup) → IsFresh setup device.now policy.now slots → Stands setup engine []) }
+        ensures stands { IfOk result (λ engine. (setup : Setup) → IsOpened setup device.now policy.now slots engine → Stands setup engine []) }
+        ensures holds { IfOk result (λ engine. (setup : Setup) → IsOpened setup device.now policy.now slots engine → StoreStands D.Disk setup engine disk.new []) }
+        ensures reads { AllImages D.Disk disk.new (λ image. OpensStore image result) }
+        ensures finds { (part : Lasting) → AllImages D.Disk disk.old (StandsFor part) → tells D.Disk disk.old ≡ true → OpensFor part result }
         ensures entries { IfOk result (λ engine. entries_of engine ≡ 0) }
+        ensures images { AllImages D.Disk disk.new (D.images disk.old) }
+        ensures passes { Passes D.Disk disk.old disk.new (D.images disk.old) }
+        ensures sure { D.is_sure disk.old → D.is_sure disk.new }
+        ensures telling { tells D.Disk disk.new ≡ tells D.Disk disk.old }
+        ensures cause { OpenFaults (D.fault_count disk.old) (D.fault_count disk.new) result }
     {
-        Ok(Engine {
-            alloc,
-            entries: 0,
-            tables: Tables::new(alloc, device, copied(alloc, policy)?, slots)?,
-        })
+        let keys = match KeyDatabase::open(alloc, disk) {
+            Ok(keys) => keys,
+            Err(fault) => return Err(open_fault(fault)),
+        };
+        let Ok(policy) = copied(alloc, policy) else {
+            return Err(OpenFault::Memory);
+        };
+        match Tables::new(alloc, device, policy, slots, keys) {
+            Ok(tables) => Ok(Engine {
+                alloc,
+                entries: 0,
+                tables,
+            }),
+            Err(NoMemory) => Err(OpenFault::Memory),
+        }
+    }
+
+    /// Whether no change waits to be settled. It takes no memory.
+    pub fn is_settled(&self) -> bool
+        ensures { result ≡ not (waits_in self.now) }
+    {
+        self.tables.keys.is_settled()
     }
 
     /// The number that the next ticket takes.
@@ -77,12 +151,13 @@ impl Engine {
     /// exactly where the reply says so.
     pub fn step<D: Disk, N: Entropy>(
         &mut self,
-        _disk: &mut D,
+        disk: &mut D,
         entropy: &mut N,
         event: Event,
         done: Option<Done>,
     ) -> Stepped
         requires few { entries_of self.old < 2 ^ 62 }
+        requires settled { waits_in self.old ≡ false }
         requires takes { ∥ MayTake self.old event.act done ∥₁ }
         ensures stands { (setup : Setup) (past : History) → Stands setup self.old past → HasDone setup past event.act done →
             Stands setup self.new (after_step result.settled event result.drawn result.reply past) }
@@ -95,11 +170,21 @@ impl Engine {
         ensures number { IfSome result.job (λ job. ticket_of job ≡ tickets_of self.old + 1) }
         ensures settled { result.settled ≡ None }
         ensures entries { entries_of self.new ≡ entries_of self.old + 1 }
-        ensures disk { _disk.new ≡ _disk.old }
+        ensures store { (setup : Setup) (past : History) → Stands setup self.old past → StoreStands D.Disk setup self.old disk.old past →
+            StoreStands D.Disk setup self.new disk.new (after_step result.settled event result.drawn result.reply past) }
+        ensures passes { (setup : Setup) (past : History) → Stands setup self.old past → StoreStands D.Disk setup self.old disk.old past →
+            Passes D.Disk disk.old disk.new (MayHoldEither setup past (after_step result.settled event result.drawn result.reply past)) }
+        ensures same { (setup : Setup) (past : History) → Stands setup self.old past → StoreStands D.Disk setup self.old disk.old past →
+            tells D.Disk disk.old ≡ true → is_restart event.act ≡ true → is_other_store result.reply ≡ false }
+        ensures sure { D.is_sure disk.old → D.is_sure disk.new }
+        ensures telling { tells D.Disk disk.new ≡ tells D.Disk disk.old }
+        ensures cause { CountsFaults (D.fault_count disk.old) (D.fault_count disk.new) (is_disk_fault result.reply) }
         ensures drew { Drew N.Entropy entropy.old entropy.new result.drawn (is_entropy_fault result.reply) }
     {
         let step = self.entries + 1;
-        let answered = self.tables.answer(self.alloc, entropy, step, event, done);
+        let answered = self
+            .tables
+            .answer(self.alloc, disk, entropy, step, event, done);
         self.entries = step;
         Stepped {
             settled: None,

@@ -6,6 +6,7 @@ ghost use Rattle.rule_model.specs.declared.event.Act.TheVariants as acts;
 ghost use Rattle.keystore_core.specs.Drawn.{IsUndrawn};
 ghost use Rattle.keystore_core.specs.Stepping as spec;
 ghost use Rattle.keystore_core.specs.Tables.{IsAt, ServesAt, event_by};
+ghost use Rattle.keystore_core.specs.Writing.{LeavesStore};
 
 use crate::answered::Answered;
 use crate::operations::{Added, RowChange};
@@ -82,6 +83,7 @@ impl Tables {
         ensures serves { ServesAt step done self.old self.new (event_by caller (acts.Leave ticket)) (Ok result) }
         ensures job { result.job ≡ None }
         ensures drew { IsUndrawn result }
+        ensures store { LeavesStore self.old self.new result }
     {
         let Some(out) = self.tickets.get(ticket) else {
             let code = Code::NoTicket;

@@ -22,6 +22,7 @@ mod engine;
 mod leaving;
 mod listing;
 mod operations;
+mod restarting;
 mod room;
 mod stepping;
 mod tables;
@@ -29,5 +30,6 @@ mod tickets;
 mod token_calls;
 mod tokens;
 mod victims;
+mod writing;
 
-pub use engine::Engine;
+pub use engine::{Engine, OpenFault};

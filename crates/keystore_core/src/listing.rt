@@ -2,10 +2,10 @@
 
 ghost use Rattle.std.specs.Prelude.{◌≡◌, IfOk};
 ghost use Rattle.std.specs.Option.{option_copied};
-ghost use Rattle.key_database.specs.Held.{lasting_in};
+ghost use Rattle.key_database.specs.Stands.{lasting};
 ghost use Rattle.rule_model.specs.Listing.{listing};
 
-use key_database::LastingTable;
+use key_database::KeyDatabase;
 use rule_model::Entries;
 use std::alloc::Global;
 use tags::{Bytes, NoMemory};
@@ -26,12 +26,12 @@ fn alias_past(past: &Option<Bytes>) -> Option<&[u8]>
 /// Of an owner's keys whose alias is greater than `past`, the first by their aliases, with their numbers.
 pub fn listed(
     alloc: Global,
-    keys: &LastingTable,
+    keys: &KeyDatabase,
     domain: u8,
     nspace: u64,
     past: &Option<Bytes>,
 ) -> Result<Entries, NoMemory>
-    ensures { IfOk result (λ entries. entries ≡ listing (lasting_in keys.now) domain nspace past.now) }
+    ensures { IfOk result (λ entries. entries ≡ listing (lasting keys.now) domain nspace past.now) }
 {
     let mut entries = Vec::new(alloc);
     let mut last = alias_past(past);

@@ -218,4 +218,12 @@ impl Operations {
     {
         drop_rows_of(&mut self.rows, client);
     }
+
+    /// Closes all operations.
+    pub fn clear(&mut self)
+        ensures rows { rows_in self.new ≡ [] }
+        ensures given { operations_given self.new ≡ operations_given self.old }
+    {
+        self.rows.clear();
+    }
 }

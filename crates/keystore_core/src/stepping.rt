@@ -15,6 +15,7 @@ ghost use Rattle.keystore_core.specs.Operations.{HasRoomForOperation};
 ghost use Rattle.keystore_core.specs.Stepping as spec;
 ghost use Rattle.keystore_core.specs.Keys.{live_key};
 ghost use Rattle.keystore_core.specs.Tables.{IsCaller, IsTables, ServesAfter, TablesStand, event_by, row_at, state_at};
+ghost use Rattle.keystore_core.specs.Writing.{LeavesStore};
 ghost use Rattle.keystore_core.specs.Tickets.{HasRoomForTicket, tickets_given};
 
 use crate::answered::Answered;
@@ -187,6 +188,7 @@ impl Tables {
         ensures serves { ServesAfter self.old self.new (event_by caller (spec.entering op work)) result }
         ensures number { IfOk result (λ answered. IfSome answered.job (λ job. ticket_of job ≡ tickets_given self.old.tickets + 1)) }
         ensures drew { IfOk result (λ answered. IsUndrawn answered) }
+        ensures store { IfOk result (λ answered. LeavesStore self.old self.new answered) }
     {
         let brought = brought_by(&work);
         let facts = self.step_facts(caller, op, brought);
@@ -207,6 +209,7 @@ impl Tables {
         ensures serves { ServesAfter self.old self.new (event_by caller (acts.Abort op)) (Ok result) }
         ensures job { result.job ≡ None }
         ensures drew { IsUndrawn result }
+        ensures store { LeavesStore self.old self.new result }
     {
         let facts = self.step_facts(caller, op, ABORT);
         if let Err((rule, code)) = check_step(&facts) {

@@ -1,13 +1,19 @@
 //! What the engine knows, and how an event is answered from it.
 
-ghost use Rattle.std.specs.Prelude.{◌≡◌, ◌+◌, ◌^◌, ◌≤◌, IfOk, IfSome, IsTrue, OnErr};
+ghost use Rattle.std.specs.Prelude.{◌≡◌, ◌+◌, ◌^◌, ◌≤◌, true, false, IfOk, IfSome, IsTrue, OnErr};
 ghost use Rattle.cipher_ops.specs.Jobs.{ticket_of};
 ghost use Rattle.keystore_core.specs.Tickets.{tickets_given};
-ghost use Rattle.rule_model.specs.Acts.{fixed_for, is_built as is_event};
+ghost use Rattle.rule_model.specs.Acts.{fixed_for, is_built as is_event, is_restart};
 ghost use Rattle.rule_model.specs.Setup.{Setup};
 ghost use Rattle.keystore_core.specs.Drawn.{DrewFor, DrewForResult};
 ghost use Rattle.keystore_core.specs.Tables.{AnswersAt, IsAt, IsCaller, ServesAt, TablesStand, event_by};
-ghost use Rattle.keystore_core.specs.Engine.{IsFresh};
+ghost use Rattle.ks_outside.specs.Images.{tells};
+ghost use Rattle.journal_records.specs.Holding.{Holding};
+ghost use Rattle.key_database.specs.Stands.{Holds, is_unsettled};
+ghost use Rattle.keystore_core.specs.Engine.{IsOver};
+ghost use Rattle.keystore_core.specs.Keys.{AreSettled};
+ghost use Rattle.keystore_core.specs.Restarting.{is_other_store};
+ghost use Rattle.keystore_core.specs.Writing.{StoreAnswers, StoreGoesAfter};
 
 use crate::answered::Answered;
 use crate::boot::Boot;
@@ -17,21 +23,22 @@ use crate::operations::Operations;
 use crate::tickets::Tickets;
 use auth_tokens::AuthToken;
 use cipher_ops::{CipherState, Done, Work};
-use key_database::LastingTable;
-use ks_outside::Entropy;
+use key_database::KeyDatabase;
+use ks_outside::{Disk, Entropy};
 use operation_slots::Slots;
 use rule_model::{Act, Caller, Event, Reading};
 use std::alloc::Global;
 use tags::{Bytes, Code, DeviceSecrets, NoMemory, Policy, Rule, RuleTable};
 
-/// What the engine knows: the device's secrets with its root of trust, the policy, the connected clients, the keys and grants, the open operations with what the rules
-/// read of them, the slots with their cipher states, the works that are out, and what lasts until the next restart.
+/// What the engine knows: the device's secrets with its root of trust, the policy, the connected clients, the keys and
+/// grants with the store that they lie in, the open operations with what the rules read of them, the slots with their
+/// cipher states, the works that are out, and what lasts until the next restart.
 #[derive(Drop)]
 pub struct Tables {
     pub(crate) device: DeviceSecrets,
     pub(crate) policy: Policy,
     pub(crate) clients: Clients,
-    pub(crate) keys: LastingTable,
+    pub(crate) keys: KeyDatabase,
     pub(crate) operations: Operations,
     pub(crate) slots: Slots<CipherState>,
     pub(crate) tickets: Tickets,
@@ -47,22 +54,25 @@ const MALFORMED: Rule = Rule {
 impl Tables {
     ghost use Rattle.std.specs.Prelude.{[], ◌<◌};
 
-    /// Tables of a device that starts, under a policy without clients, keys and operations, with so many slots.
+    /// Tables of a device that starts over a store, under a policy, without clients and operations, with so many slots.
     pub fn new(
         alloc: Global,
         device: &DeviceSecrets,
         policy: Policy,
         slots: usize,
+        keys: KeyDatabase,
     ) -> Result<Tables, NoMemory>
         requires some { 0 < slots }
         requires few { slots ≤ 64 }
-        ensures { IfOk result (λ tables. (setup : Setup) → IsFresh setup device.now policy slots → TablesStand setup tables []) }
+        requires settled { is_unsettled keys ≡ false }
+        ensures stands { IfOk result (λ tables. (setup : Setup) → IsOver setup device.now policy slots keys → TablesStand setup tables []) }
+        ensures keys { IfOk result (λ tables. tables.keys ≡ keys) }
     {
         Ok(Tables {
             device: *device,
             policy,
             clients: Clients::new(alloc),
-            keys: LastingTable::empty(alloc),
+            keys,
             operations: Operations::new(alloc),
             slots: Slots::with_capacity(alloc, slots)?,
             tickets: Tickets::new(alloc),
@@ -84,9 +94,10 @@ impl Tables {
     }
 
     /// Serves an act that is built, by the rules.
-    fn serve<N: Entropy>(
+    fn serve<D: Disk, N: Entropy>(
         &mut self,
         alloc: Global,
+        disk: &mut D,
         entropy: &mut N,
         caller: Caller,
         step: u64,
@@ -97,16 +108,20 @@ impl Tables {
         requires few { step ≤ 2 ^ 62 }
         requires caller { IsCaller self.old caller }
         requires built { IsTrue (is_event act) }
+        requires settled { AreSettled self.old }
         ensures serves { ServesAt step done self.old self.new (event_by caller act) result }
         ensures number { IfOk result (λ answered. IfSome answered.job (λ job. ticket_of job ≡ tickets_given self.old.tickets + 1)) }
         ensures memory { OnErr result (IsTrue (fixed_for act).takes_memory) }
         ensures drew { DrewForResult N.Entropy entropy.old entropy.new result }
+        ensures store { StoreGoesAfter D.Disk self.old self.new disk.old disk.new caller act result }
+        ensures same { (held : Holding) → Holds D.Disk self.old.keys disk.old held → tells D.Disk disk.old ≡ true
+            → is_restart act ≡ true → IfOk result (λ answered. is_other_store answered.reply ≡ false) }
     {
         match act {
             Act::Connect { uid } => self.connect(alloc, caller, uid),
             Act::Disconnect => Ok(self.disconnect(alloc, caller)),
             Act::GenerateKey { key, params } => {
-                self.make_key(alloc, entropy, caller, key, params, None)
+                self.make_key(alloc, disk, entropy, caller, key, params, None)
             }
             Act::ImportKey {
                 key,
@@ -115,7 +130,7 @@ impl Tables {
                 material,
             } => {
                 let import = Some(Import { format, material });
-                self.make_key(alloc, entropy, caller, key, params, import)
+                self.make_key(alloc, disk, entropy, caller, key, params, import)
             }
             Act::CreateOperation {
                 key,
@@ -131,9 +146,9 @@ impl Tables {
             } => self.enter(alloc, caller, op, Work::Last { input, signature }),
             Act::Abort { op } => Ok(self.abort(alloc, caller, op)),
             Act::GetKeyEntry { key } => self.get_key_entry(alloc, caller, &key),
-            Act::DeleteKey { key } => Ok(self.delete_key(alloc, caller, &key)),
-            Act::Grant { key, uid, bits } => self.grant(alloc, caller, &key, uid, bits),
-            Act::Ungrant { key, uid } => Ok(self.ungrant(alloc, caller, &key, uid)),
+            Act::DeleteKey { key } => Ok(self.delete_key(alloc, disk, caller, &key)),
+            Act::Grant { key, uid, bits } => self.grant(alloc, disk, caller, &key, uid, bits),
+            Act::Ungrant { key, uid } => Ok(self.ungrant(alloc, disk, caller, &key, uid)),
             Act::GetNumberOfEntries { domain, nspace } => {
                 Ok(self.get_number_of_entries(alloc, caller, domain, nspace))
             }
@@ -143,9 +158,9 @@ impl Tables {
                 past,
             } => self.list_entries_batched(alloc, caller, domain, nspace, &past),
             Act::ClearNamespace { domain, nspace } => {
-                Ok(self.clear_namespace(alloc, caller, domain, nspace))
+                Ok(self.clear_namespace(alloc, disk, caller, domain, nspace))
             }
-            Act::UserRemoved { user } => Ok(self.user_removed(alloc, caller, user)),
+            Act::UserRemoved { user } => Ok(self.user_removed(alloc, disk, caller, user)),
             Act::AddAuthToken {
                 challenge,
                 user,
@@ -168,14 +183,15 @@ impl Tables {
             Act::DeviceUnlocked { user } => Ok(self.device_unlocked(alloc, caller, user)),
             Act::EarlyBootEnded => Ok(self.early_boot_ended(alloc, caller)),
             Act::Leave { ticket } => Ok(self.leave(alloc, caller, step, ticket, done)),
-            _ => unreachable!(),
+            Act::Restart { root } => self.restart(alloc, disk, caller, root),
         }
     }
 
     /// Answers an event: by the rules, as a malformed line where its act is not built, or with want of memory.
-    pub fn answer<N: Entropy>(
+    pub fn answer<D: Disk, N: Entropy>(
         &mut self,
         alloc: Global,
+        disk: &mut D,
         entropy: &mut N,
         step: u64,
         event: Event,
@@ -183,9 +199,13 @@ impl Tables {
     ) -> Answered
         requires at { ∥ IsAt self.old step event.act done ∥₁ }
         requires few { step ≤ 2 ^ 62 }
+        requires settled { AreSettled self.old }
         ensures answers { AnswersAt step done self.old self.new event result }
         ensures number { IfSome result.job (λ job. ticket_of job ≡ tickets_given self.old.tickets + 1) }
         ensures drew { DrewFor N.Entropy entropy.old entropy.new result }
+        ensures store { StoreAnswers D.Disk self.old self.new disk.old disk.new event result }
+        ensures same { (held : Holding) → Holds D.Disk self.old.keys disk.old held → tells D.Disk disk.old ≡ true
+            → is_restart event.act ≡ true → is_other_store result.reply ≡ false }
     {
         let Event {
             reading,
@@ -196,7 +216,7 @@ impl Tables {
             return Answered::refused(alloc, MALFORMED, Code::InvalidArgument);
         }
         let caller = self.caller(reading, client);
-        match self.serve(alloc, entropy, caller, step, act, done) {
+        match self.serve(alloc, disk, entropy, caller, step, act, done) {
             Ok(answered) => answered,
             Err(NoMemory) => Answered::without_memory(Bytes::empty(alloc)),
         }

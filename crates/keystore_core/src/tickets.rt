@@ -78,6 +78,14 @@ impl Tickets {
         self.given = number;
     }
 
+    /// Takes all tickets away.
+    pub fn clear(&mut self)
+        ensures outs { (ticket : ℕ) → out_in self.new ticket ≡ None }
+        ensures given { tickets_given self.new ≡ tickets_given self.old }
+    {
+        self.places.clear();
+    }
+
     /// Takes a ticket away, where it is out.
     pub fn take(&mut self, ticket: u64)
         ensures { TakesTicket ticket self.old self.new }

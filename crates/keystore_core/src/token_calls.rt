@@ -7,6 +7,7 @@ ghost use Rattle.keystore_core.specs.Drawn.{IsUndrawn};
 ghost use Rattle.keystore_core.specs.Tables.{IsCaller, ServesAfter, event_by};
 ghost use Rattle.keystore_core.specs.TokenCalls as spec;
 ghost use Rattle.keystore_core.specs.Tokens.{tokens_in};
+ghost use Rattle.keystore_core.specs.Writing.{LeavesStore};
 
 use crate::answered::Answered;
 use crate::calls::system_facts;
@@ -36,6 +37,7 @@ impl Tables {
         ensures serves { ServesAfter self.old self.new (event_by caller (spec.adding token)) (Ok result) }
         ensures job { result.job ≡ None }
         ensures drew { IsUndrawn result }
+        ensures store { LeavesStore self.old self.new result }
     {
         let is_right = self.boot.tokens.has_right_mac(&token);
         if let Err((rule, code)) = check_token(is_right, &system_facts(caller)) {
@@ -53,6 +55,7 @@ impl Tables {
         ensures serves { ServesAfter self.old self.new (event_by caller (acts.DeviceLocked user)) (Ok result) }
         ensures job { result.job ≡ None }
         ensures drew { IsUndrawn result }
+        ensures store { LeavesStore self.old self.new result }
     {
         if let Err((rule, code)) = check_user_call(user, &system_facts(caller)) {
             return Answered::refused(alloc, rule, code);
@@ -67,6 +70,7 @@ impl Tables {
         ensures serves { ServesAfter self.old self.new (event_by caller (acts.DeviceUnlocked user)) (Ok result) }
         ensures job { result.job ≡ None }
         ensures drew { IsUndrawn result }
+        ensures store { LeavesStore self.old self.new result }
     {
         if let Err((rule, code)) = check_user_call(user, &system_facts(caller)) {
             return Answered::refused(alloc, rule, code);
@@ -81,6 +85,7 @@ impl Tables {
         ensures serves { ServesAfter self.old self.new (event_by caller acts.EarlyBootEnded) (Ok result) }
         ensures job { result.job ≡ None }
         ensures drew { IsUndrawn result }
+        ensures store { LeavesStore self.old self.new result }
     {
         if let Err((rule, code)) = check_system_call(&system_facts(caller)) {
             return Answered::refused(alloc, rule, code);

@@ -3,7 +3,7 @@
 ghost use Rattle.std.specs.Prelude.{◌≡◌, ◌==◌, [], length, is_err, IfOk, OnErr, OnOk};
 ghost use Rattle.std.specs.List.{list_any};
 ghost use Rattle.token_store.specs.Fitting.{opens};
-ghost use Rattle.rule_model.specs.Boot.{Accepts, other_triples};
+ghost use Rattle.rule_model.specs.Boot.{Accepts, StartsAgain, other_triples};
 ghost use Rattle.rule_model.specs.Calls.{has_right_mac as has_right_mac_in};
 ghost use Rattle.keystore_core.specs.Tokens.{ChangesTokens, SameTokens, token_key_in, tokens_in};
 
@@ -47,6 +47,13 @@ impl Tokens {
         ensures same { OnErr result (SameTokens self.old self.new) }
     {
         self.store.add(token)
+    }
+
+    /// Forgets all tokens.
+    pub fn clear(&mut self)
+        ensures { ChangesTokens StartsAgain self.old self.new }
+    {
+        self.store.clear();
     }
 
     /// Whether one of the last tokens fits the key of a list and is no older than its AUTH_TIMEOUT at the reading `boot`, in

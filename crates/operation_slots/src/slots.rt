@@ -50,6 +50,16 @@ impl<T> Slots<T> {
         })
     }
 
+    /// Takes out all operations, idle and busy.
+    pub fn clear(&mut self)
+    where
+        T: Drop,
+        ensures empty { IsEmpty self.new (capacity_of self.old) }
+        ensures later { (next : ℕ) → IsLater self.new next }
+    {
+        self.operations.clear();
+    }
+
     /// Whether a slot is free.
     pub fn has_room(&self) -> bool
         ensures { result ≡ room_in self.now }

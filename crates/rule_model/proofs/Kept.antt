@@ -1,25 +1,33 @@
 -- Entries that leave the keys and grants as they are.
-use Rattle.std.proofs.Common.{◌≡◌, ℕ, Bool, true, false, ◌&&◌, if◌then◌else◌, List, ◌∷◌, Option, None, refl, ap}
+use Rattle.std.proofs.Common.{◌≡◌, ℕ, ◌+◌, Bool, true, false, ◌&&◌, not, if◌then◌else◌, List, ◌∷◌, Option, Some, None, refl, sym, ap, ◌∙◌}
 use Rattle.tags.specs.declared.policy.PolicyRow.{PolicyRow}
 use Rattle.tags.specs.declared.secrets.DeviceSecrets.{DeviceSecrets}
 use Rattle.tags.specs.declared.settled.Settled.{Settled}
+use Rattle.tags.specs.declared.code.Code.{Code}
+use Rattle.tags.specs.declared.code.Code.TheVariants.{SystemError}
+use Rattle.journal_records.specs.declared.change.Change.{Change}
+use Rattle.journal_records.specs.Effects.{after}
+use Rattle.journal_records.specs.Holding.{Sure, Unsure}
 use Rattle.journal_records.specs.LastingPart.{Lasting}
 use Rattle.rule_model.specs.declared.entry.Entry.TheVariants.{Acted}
 use Rattle.rule_model.specs.declared.event.Act.{Act}
 use Rattle.rule_model.specs.declared.event.Act.TheVariants.{GenerateKey, ImportKey, DeleteKey, Grant, Ungrant, ClearNamespace, UserRemoved, Restart}
 use Rattle.rule_model.specs.declared.event.Event.{Event}
 use Rattle.rule_model.specs.declared.facts.Caller.{Caller}
+use Rattle.rule_model.specs.declared.reply.Fields.{Fields}
 use Rattle.rule_model.specs.declared.reply.Reply.{Reply}
 use Rattle.rule_model.specs.declared.reply.Reply.TheVariants.{Done, Broken, Stopped}
+use Rattle.rule_model.specs.Acts.{is_restart}
 use Rattle.rule_model.specs.Blobs.{device_at, root_given, root_of}
 use Rattle.rule_model.specs.Changes.{after_change, change_of}
 use Rattle.rule_model.specs.Clients.{caller_of}
 use Rattle.rule_model.specs.Entries.{History, is_done}
 use Rattle.rule_model.specs.Kept.{kept, kept_after, kept_settled}
-use Rattle.rule_model.specs.Settling.{is_faulted, is_unsettled}
+use Rattle.rule_model.specs.Settling.{is_disk_fault, is_faulted, is_system_error, is_unsettled}
 use Rattle.rule_model.specs.Setup.{Setup}
+use Rattle.rule_model.specs.Stored.{after_reply, bytes_if, bytes_settled, bytes_with, change_by, holding_of, made_by, record_bytes, stored_bytes, torn_by, where_stored}
 
--- the acts that change the keys and grants, or the root of trust, where they are admitted
+-- the acts that change the keys, the grants or the root of trust where they are admitted
 abbrev pub changes_kept : Act → Bool
 changes_kept (GenerateKey key params) = true
 changes_kept (ImportKey key params format material) = true
@@ -31,7 +39,7 @@ changes_kept (UserRemoved user) = true
 changes_kept (Restart root) = true
 changes_kept _ = false
 
-none_changed : (act : Act) (device : DeviceSecrets) (policy : List PolicyRow) (part : Lasting) (caller : Caller) (drawn : List ℕ) → changes_kept act ≡ false → change_of act device policy part caller drawn ≡ None
+pub none_changed : (act : Act) (device : DeviceSecrets) (policy : List PolicyRow) (part : Lasting) (caller : Caller) (drawn : List ℕ) → changes_kept act ≡ false → change_of act device policy part caller drawn ≡ None
 none_changed (GenerateKey key params) device policy part caller drawn e = cc
 none_changed (ImportKey key params format material) device policy part caller drawn e = cc
 none_changed (DeleteKey key) device policy part caller drawn e = cc
@@ -41,6 +49,10 @@ none_changed (ClearNamespace domain nspace) device policy part caller drawn e = 
 none_changed (UserRemoved user) device policy part caller drawn e = cc
 none_changed (Restart root) device policy part caller drawn e = cc
 none_changed _ device policy part caller drawn e = refl
+
+none_given : (act : Act) (before : List ℕ) → changes_kept act ≡ false → root_given act before ≡ before
+none_given (Restart root) before e = cc
+none_given _ before e = refl
 
 -- an entry that is not admitted and was not settled counts for nothing
 uncounted : (faulted : Bool) (setup : Setup) (past : History) (change : Lasting → Lasting)
@@ -65,10 +77,6 @@ same_kept setup past event drawn (Done fields) e =
 same_kept setup past event drawn (Broken rule code) e = denied_kept setup past event drawn (Broken rule code) refl
 same_kept setup past event drawn (Stopped code) e = denied_kept setup past event drawn (Stopped code) refl
 
-none_given : (act : Act) (before : List ℕ) → changes_kept act ≡ false → root_given act before ≡ before
-none_given (Restart root) before e = cc
-none_given _ before e = refl
-
 same_root : (setup : Setup) (past : History) (event : Event) (drawn : List ℕ) (reply : Reply) → changes_kept event.act ≡ false
     → root_of setup (Acted event drawn reply ∷ past) ≡ root_of setup past
 same_root setup past event drawn (Done fields) e = none_given event.act (root_of setup past) e
@@ -92,3 +100,116 @@ same_device setup past event drawn reply e = with_root setup (Acted event drawn 
 pub denied_device : (setup : Setup) (past : History) (event : Event) (drawn : List ℕ) (reply : Reply) → is_done reply ≡ false
     → device_at setup (Acted event drawn reply ∷ past) ≡ device_at setup past
 denied_device setup past event drawn reply e = with_root setup (Acted event drawn reply ∷ past) past (denied_root setup past event drawn reply e)
+
+-- the same of its bytes
+uncounted_bytes : (faulted : Bool) (setup : Setup) (past : History) (change : Option Change)
+    → bytes_if (faulted && false) change (bytes_settled setup (if faulted then None else None) past) ≡ stored_bytes setup past
+uncounted_bytes true setup past change = refl
+uncounted_bytes false setup past change = refl
+
+-- a later history keeps what an earlier one does, in as many bytes and with the same root of trust, and neither or both wait to be settled
+pub record SameStored (setup : Setup) (past later : History) : Type 0 where
+  pub kept_is : kept setup later ≡ kept setup past
+  pub bytes_are : stored_bytes setup later ≡ stored_bytes setup past
+  pub settled_is : is_unsettled later ≡ is_unsettled past
+  pub device_is : device_at setup later ≡ device_at setup past
+
+pub same_stored : (setup : Setup) (past : History) → SameStored setup past past
+same_stored setup past = record { kept_is = refl; bytes_are = refl; settled_is = refl; device_is = refl }
+
+-- an entry that is not admitted, and of which no device call failed
+pub denied_stored : (setup : Setup) (past : History) (event : Event) (drawn : List ℕ) (reply : Reply) → is_done reply ≡ false → is_disk_fault reply ≡ false
+    → SameStored setup past (Acted event drawn reply ∷ past)
+denied_stored setup past event drawn (Done fields) e f = cc
+denied_stored setup past event drawn (Broken rule code) e f = record { kept_is = refl; bytes_are = refl; settled_is = refl; device_is = refl }
+denied_stored setup past event drawn (Stopped code) e f = record {
+  kept_is = denied_kept setup past event drawn (Stopped code) refl;
+  bytes_are = uncounted_bytes (is_faulted (is_unsettled past) event.act (Stopped code)) setup past
+      (change_of event.act (device_at setup past) setup.policy (kept_settled setup (if is_faulted (is_unsettled past) event.act (Stopped code) then None else None) past) (caller_of past event) drawn);
+  settled_is = rw f refl;
+  device_is = refl;
+}
+
+-- an entry whose act changes none
+pub quiet_stored : (setup : Setup) (past : History) (event : Event) (drawn : List ℕ) (reply : Reply) → changes_kept event.act ≡ false → is_disk_fault reply ≡ false
+    → SameStored setup past (Acted event drawn reply ∷ past)
+quiet_stored setup past event drawn (Done fields) e f = record {
+  kept_is = same_kept setup past event drawn (Done fields) e;
+  bytes_are = ap (λ change. bytes_with change (stored_bytes setup past)) (none_changed event.act (device_at setup past) setup.policy (kept setup past) (caller_of past event) drawn e);
+  settled_is = refl;
+  device_is = same_device setup past event drawn (Done fields) e;
+}
+quiet_stored setup past event drawn (Broken rule code) e f = denied_stored setup past event drawn (Broken rule code) refl f
+quiet_stored setup past event drawn (Stopped code) e f = denied_stored setup past event drawn (Stopped code) refl f
+
+-- a later history keeps what an earlier one does with a change, in so many bytes more
+pub record MadeStored (setup : Setup) (past later : History) (change : Change) : Type 0 where
+  pub kept_is : kept setup later ≡ after (kept setup past) change
+  pub bytes_are : stored_bytes setup later ≡ stored_bytes setup past + record_bytes change
+  pub settled_is : is_unsettled later ≡ is_unsettled past
+  pub device_is : device_at setup later ≡ device_at setup past
+
+pub made_stored : (setup : Setup) (past : History) (event : Event) (drawn : List ℕ) (fields : Fields) (change : Change) → ((before : List ℕ) → root_given event.act before ≡ before) → change_by setup past event drawn ≡ Some change
+    → MadeStored setup past (Acted event drawn (Done fields) ∷ past) change
+made_stored setup past event drawn fields change root is = record {
+  kept_is = ap (λ c. after_change c (kept setup past)) is;
+  bytes_are = ap (λ c. bytes_with c (stored_bytes setup past)) is;
+  settled_is = refl;
+  device_is = ap (λ given. record setup.device { root = given }) (root (root_of setup past));
+}
+
+-- a later history keeps what an earlier one does, and its last change waits to be settled
+pub record TornStored (setup : Setup) (past later : History) : Type 0 where
+  pub kept_is : kept setup later ≡ kept setup past
+  pub bytes_are : stored_bytes setup later ≡ stored_bytes setup past
+  pub waits : is_unsettled later ≡ true
+  pub device_is : device_at setup later ≡ device_at setup past
+
+pub torn_stored : (setup : Setup) (past : History) (event : Event) (drawn : List ℕ) → is_unsettled past ≡ false → is_restart event.act ≡ false
+    → TornStored setup past (Acted event drawn (Stopped SystemError) ∷ past)
+torn_stored setup past event drawn e stays = record {
+  kept_is = denied_kept setup past event drawn (Stopped SystemError) refl;
+  bytes_are = uncounted_bytes (is_faulted (is_unsettled past) event.act (Stopped SystemError)) setup past
+      (change_of event.act (device_at setup past) setup.policy (kept_settled setup (if is_faulted (is_unsettled past) event.act (Stopped SystemError) then None else None) past) (caller_of past event) drawn);
+  waits = rw (stays, e) refl;
+  device_is = refl;
+}
+
+-- an answer that admits nothing needs no room in the store
+pub denied_stands : (bytes : ℕ) (change : Option Change) (reply : Reply) → is_done reply ≡ false → where_stored bytes change reply ≡ reply
+denied_stands bytes None reply e = refl
+denied_stands bytes (Some change) (Done fields) e = cc
+denied_stands bytes (Some change) (Broken rule code) e = refl
+denied_stands bytes (Some change) (Stopped code) e = refl
+
+-- ---- how what is known of the store goes on over an entry
+
+-- where nothing waits
+pub settled_holding : (setup : Setup) (past : History) → is_unsettled past ≡ false → holding_of setup past ≡ Sure (kept setup past)
+settled_holding setup past e = rw e refl
+
+-- over an entry after which something waits, or nothing does
+waiting_holding : (setup : Setup) (past : History) (event : Event) (drawn : List ℕ) (code : Code) (faulted : Bool) → is_unsettled past ≡ false → is_faulted (is_unsettled past) event.act (Stopped code) ≡ faulted
+    → holding_of setup (Acted event drawn (Stopped code) ∷ past) ≡ (if faulted then torn_by (change_by setup past event drawn) (holding_of setup past) else holding_of setup past)
+waiting_holding setup past event drawn code true e f = rw (f, e) (by_change (change_by setup past event drawn)) where
+  by_change : (change : Option Change) → Unsure (kept setup past) (after_change change (kept setup past)) ≡ torn_by change (Sure (kept setup past))
+  by_change None = refl
+  by_change (Some change) = refl
+waiting_holding setup past event drawn code false e f = rw (f, e) refl
+
+made_holding : (setup : Setup) (past : History) (event : Event) (drawn : List ℕ) (fields : Fields) (change : Option Change) → is_unsettled past ≡ false → change_by setup past event drawn ≡ change
+    → holding_of setup (Acted event drawn (Done fields) ∷ past) ≡ made_by change (holding_of setup past)
+made_holding setup past event drawn fields None e is = rw (e, is) refl
+made_holding setup past event drawn fields (Some change) e is = rw (e, is) refl
+
+-- over any entry, where nothing waited
+pub next_holding : (setup : Setup) (past : History) (event : Event) (drawn : List ℕ) (reply : Reply) → is_unsettled past ≡ false
+    → holding_of setup (Acted event drawn reply ∷ past) ≡ after_reply (is_restart event.act) (change_by setup past event drawn) reply (holding_of setup past)
+next_holding setup past event drawn (Done fields) e = made_holding setup past event drawn fields (change_by setup past event drawn) e refl
+next_holding setup past event drawn (Broken rule code) e = rw e refl
+next_holding setup past event drawn (Stopped code) e =
+    waiting_holding setup past event drawn code (is_system_error code && not (is_restart event.act)) e (faults (is_system_error code) (is_restart event.act)) where
+      faults : (system restarts : Bool) → (system && (not restarts && not (is_unsettled past))) ≡ (system && not restarts)
+      faults true true = refl
+      faults true false = rw e refl
+      faults false restarts = refl

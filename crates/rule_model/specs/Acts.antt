@@ -36,7 +36,7 @@ row_of kinds.EarlyBootEnded = record (call 19) { takes_memory = false; is_built 
 row_of kinds.ClearNamespace = record (call 20) { is_built = true }
 row_of kinds.UserRemoved = record (call 21) { is_built = true }
 row_of kinds.Leave = record (call 22) { has_client = false; takes_memory = false; settles = false; is_built = true }
-row_of kinds.Restart = record (call 23) { has_client = false }
+row_of kinds.Restart = record (call 23) { has_client = false; is_built = true }
 
 -- the name of each kind, as a script writes it
 abbrev pub text_of : ActKind → List ℕ

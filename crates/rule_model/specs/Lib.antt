@@ -9,6 +9,7 @@ pub mod Changes
 pub mod Settling
 pub mod BeginFacts
 pub mod Kept
+pub mod Stored
 pub mod Places
 pub mod Replies
 pub mod Listing

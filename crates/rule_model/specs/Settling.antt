@@ -16,6 +16,12 @@ abbrev pub is_system_error : Code → Bool
 is_system_error SystemError = true
 is_system_error _ = false
 
+-- whether a reply says that a device call failed
+abbrev pub is_disk_fault : Reply → Bool
+is_disk_fault (Done fields) = false
+is_disk_fault (Broken rule code) = false
+is_disk_fault (Stopped code) = is_system_error code
+
 -- an entry is faulted where its reply is that one, its act is no restart, and nothing faulted before it waits to be settled
 abbrev pub is_faulted : Bool → Act → Reply → Bool
 is_faulted waits act (Done fields) = false

@@ -181,7 +181,7 @@ impl ActKind {
                 .without_memory()
                 .settling_nothing()
                 .built(),
-            ActKind::Restart => call(23).of_no_client(),
+            ActKind::Restart => call(23).of_no_client().built(),
         }
     }
 

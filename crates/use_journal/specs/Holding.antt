@@ -1,5 +1,5 @@
 -- When a journal and a disk hold a list of changes, and what each call leaves.
-use Rattle.std.specs.Prelude.{◌≡◌, ◌≤◌, ℕ, List, ◌∷◌, length, Bool, true, false, Option, Some, is_some, Result, Ok, Err, ⊤}
+use Rattle.std.specs.Prelude.{◌≡◌, ◌≤◌, ◌+◌, ◌-◌, ℕ, List, ◌∷◌, length, Bool, true, false, Option, Some, None, is_some, Result, Ok, Err, ⊤}
 use Rattle.ks_outside.specs.declared.disk.Disk.{Ghosts}
 use Rattle.ks_outside.specs.Faults.{Rises}
 use Rattle.ks_outside.specs.Images.{AllImages}
@@ -46,6 +46,21 @@ Appended g journal disk past change (Err faults.Device) = IsUnsettledOn g journa
 Appended g journal disk past change (Err (faults.Corrupted offset)) = ⊥
 Appended g journal disk past change (Err faults.Full) = IsSettledOn g journal disk past
 Appended g journal disk past change (Err faults.Memory) = ⊥
+
+-- where the records end after an append of a record and its closing byte, so many bytes
+abbrev pub end_after : {T : Type 0} → ℕ → Result T StoreFault → ℕ → ℕ
+end_after count (Ok done) end = end + (count - 1)
+end_after count (Err fault) end = end
+
+-- where they end with the change that waits after it
+abbrev pub pending_after : {T : Type 0} → ℕ → Result T StoreFault → ℕ → Option ℕ
+pending_after count (Err faults.Device) end = Some (end + (count - 1))
+pending_after count _ end = None
+
+-- where the records end after a settling, where they ended here with the change that waited
+abbrev pub end_settled : Result Settled StoreFault → Option ℕ → ℕ → ℕ
+end_settled (Ok Kept) (Some next) end = next
+end_settled _ next end = end
 
 -- what a settling leaves, by its answer
 abbrev pub SettlesTo : {D : Type 0} → Ghosts D → Journal → D → List Change → Change → Result Settled StoreFault → Type 0

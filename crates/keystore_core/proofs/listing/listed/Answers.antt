@@ -2,14 +2,14 @@ use Rattle.std.proofs.Common.{◌≡◌, ◌<◌, Some, [], ◌∷◌, length, l
 use Rattle.std.specs.Option.{option_copied}
 use Rattle.journal_records.specs.LastingPart.{Lasting}
 use Rattle.journal_records.specs.Lookups.{next_key}
-use Rattle.key_database.specs.Held.{lasting_in}
+use Rattle.key_database.specs.Stands.{lasting}
 use Rattle.keystore_core.proofs.Listings.{listed_full, listed_more, listed_no_more}
 use Rattle.keystore_core.proofs.listing.listed.Goals as goal
 use Rattle.keystore_core.proofs.listing.listed.Goals.{else-entries-test, then-entries-test+in_default}
 
 pub entries-preserved : goal.entries-preserved
 entries-preserved c =
-    let part : Lasting = lasting_in c.args.keys.now in
+    let part : Lasting = lasting c.args.keys.now in
     let next : next_key part c.args.domain c.args.nspace (option_copied c.entries.last) ≡ Some c.in-Some.key.now = sym c.next_name.ensures ∙ ap option_copied c.in-Some.is in
     let few : length c.entries.entries.items < 256 = omega (arith, c.entries-test.true, c.len.ensures, c.entries.entries.ok) in
     let alias : c.as_slice-alias.result.now ≡ c.in-Some.key.now.alias = c.as_slice-alias.ensures in
@@ -22,9 +22,9 @@ entries-preserved c =
 pub returns : goal.returns
 returns c = c.of.ensures ∙ elim c.entries-test.branch [
   | else-entries-test w ↦
-      listed_full (lasting_in c.args.keys.now) c.args.domain c.args.nspace c.entries.entries.items (option_copied c.entries.last) (λ l. omega (arith, l, w.entries-test.false, c.len.ensures, c.entries.entries.ok))
+      listed_full (lasting c.args.keys.now) c.args.domain c.args.nspace c.entries.entries.items (option_copied c.entries.last) (λ l. omega (arith, l, w.entries-test.false, c.len.ensures, c.entries.entries.ok))
       ∙ c.entries.invariant.going
   | then-entries-test+in_default w ↦
-      listed_no_more (lasting_in c.args.keys.now) c.args.domain c.args.nspace c.entries.entries.items (option_copied c.entries.last) (sym w.next_name.ensures ∙ ap option_copied w.in_default.is)
+      listed_no_more (lasting c.args.keys.now) c.args.domain c.args.nspace c.entries.entries.items (option_copied c.entries.last) (sym w.next_name.ensures ∙ ap option_copied w.in_default.is)
       ∙ c.entries.invariant.going
 ]

@@ -1,14 +1,14 @@
 use Rattle.std.proofs.Common.{◌≡◌, ◌++◌, ◌-◌, ◌≤◌, length}
 use Rattle.std.specs.Option.{option_copied}
-use Rattle.key_database.specs.Held.{lasting_in}
+use Rattle.key_database.specs.Stands.{lasting}
 use Rattle.rule_model.specs.Listing.{listed_from, listing}
 use Rattle.keystore_core.proofs.listing.listed.Given as goal
 
 abbrev pub invariant-entries : goal.invariant-entries
 invariant-entries l = record {
   few : length l.entries.items ≤ 256;
-  going : l.entries.items ++ listed_from (256 - length l.entries.items) (lasting_in l.fn.keys) l.fn.domain l.fn.nspace (option_copied l.last)
-      ≡ listing (lasting_in l.fn.keys) l.fn.domain l.fn.nspace l.fn.past;
+  going : l.entries.items ++ listed_from (256 - length l.entries.items) (lasting l.fn.keys) l.fn.domain l.fn.nspace (option_copied l.last)
+      ≡ listing (lasting l.fn.keys) l.fn.domain l.fn.nspace l.fn.past;
 }
 
 abbrev pub decreases-entries : goal.decreases-entries

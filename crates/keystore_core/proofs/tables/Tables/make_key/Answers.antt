@@ -1,5 +1,5 @@
-use Rattle.std.proofs.Common.{◌≡◌, ◌+◌, ◌<◌, ◌^◌, true, length, ap, sym, ◌∙◌, arith}
-use Rattle.key_database.specs.Held.{lasting_in}
+use Rattle.std.proofs.Common.{◌≡◌, ℕ, ◌+◌, ◌<◌, ◌^◌, true, length, ap, sym, ◌∙◌, arith}
+use Rattle.key_database.specs.Stands.{lasting}
 use Rattle.key_rules.specs.declared.facts.NewFacts.{NewFacts}
 use Rattle.keymint_ops.specs.Creation.{planned}
 use Rattle.rule_model.specs.Access.{owner_of}
@@ -53,11 +53,11 @@ returns-in_default-clause-serves g c = λ setup past stands.
     (unkept setup past c.args.self.now c.args.caller c.args.key c.args.params c.args.import stands c.requires.caller _ c.in-Ok.new c.in-Ok-draw.drawn plan place
     (same_but_keys c.args.self.now c.reserve_key.new.self c.in_ok-reserve_key.ensures.same) long)
 
-pub keep-fields-requires : goal.keep-fields-requires
-keep-fields-requires g c =
+pub keep-reply-requires-clause-can : goal.keep-reply-requires-clause-can
+keep-reply-requires-clause-can g c =
     let told = rw (c.owner_of-uid.ensures, ap (λ (f : NewFacts). f.descriptor) c.new_facts-facts.ensures) at c.has_key_place.ensures in
-    let place : has_key_place (lasting_in c.reserve_key.new.self) (owner_of c.args.caller) c.args.key ≡ true =
-    ap (λ part. has_key_place part (owner_of c.args.caller) c.args.key) c.in_ok-reserve_key.ensures.same ∙ sym told ∙ c.if-not-has_key_place.false in
+    let place : has_key_place (lasting c.reserve_key.new.self) (owner_of c.args.caller) c.args.key ≡ true =
+    ap (λ part. has_key_place part (owner_of c.args.caller) c.args.key) c.in_ok-reserve_key.ensures.same.lasting_is ∙ sym told ∙ c.if-not-has_key_place.false in
     let small : owner_of c.args.caller < 2 ^ 32 = rw c.owner_of-uid.ensures at c.owner_of-uid.type_inv in
     rw (c.owner_of-uid.ensures, ap (λ (f : NewFacts). f.descriptor) c.new_facts-facts.ensures)
     (may_keep c.args.self.now.policy c.args.caller c.args.key c.args.params c.args.import _ c.reserve_key.new.self c.in-Ok.new.plan _ _ c.in-Ok.new.plan.limit c.in_ok-reserve_key.ensures.room place small
@@ -73,7 +73,6 @@ returns-clause-serves g c = λ setup past stands.
     ∙ c.if-not-has_key_place.false in
     let long : length c.in-Ok-draw.drawn ≡ c.in-Ok.new.plan.size + 12 = omega (arith, c.in-Ok-draw.ensures.whole, c.in_ok-draws.ensures) in
     let blob = rw (c.nonce_in.ensures, c.split_at.ensures.back, c.material_of-material.ensures, c.split_at.ensures.front, c.as_slice.ensures) at c.in-Ok-seal_key.ensures.blob in
-    rw (c.keep-fields.ensures.fields, ap (λ (f : NewFacts). f.descriptor) facts, blob)
-    (made setup past c.args.self.now c.args.caller c.args.key c.args.params c.args.import stands c.requires.caller (record c.args.self.now { keys = c.reserve_key.new.self }) c.keep-fields.new.keys c.in-Ok.new c.in-Ok-draw.drawn plan place long
-    (same_but_keys c.args.self.now c.reserve_key.new.self c.in_ok-reserve_key.ensures.same)
-    (rw (c.owner_of-uid.ensures, ap (λ (f : NewFacts). f.descriptor) facts, blob) at c.keep-fields.ensures.lasting))
+    (made setup past c.args.self.now c.args.caller c.args.key c.args.params c.args.import stands c.requires.caller (record c.args.self.now { keys = c.reserve_key.new.self }) c.keep.new.keys c.in-Ok.new c.in-Ok-draw.drawn c.keep-reply.result plan place long
+    (same_but_keys c.args.self.now c.reserve_key.new.self c.in_ok-reserve_key.ensures.same) c.requires.settled
+    (rw (c.owner_of-uid.ensures, ap (λ (f : NewFacts). f.descriptor) facts, blob) at c.keep-reply.ensures.written))

@@ -1,13 +1,14 @@
 use Rattle.std.proofs.Common.{refl, subst, ◌∙◌}
 use Rattle.cipher_ops.specs.Running.{GoesOn}
+use Rattle.keystore_core.proofs.KeyTable.{same_keys}
 use Rattle.keystore_core.proofs.Standing.{same_tables}
 use Rattle.keystore_core.proofs.tables.Tables.send.Goals as goal
 
 pub returns : goal.returns
 returns c = record {
   clients = (same_tables c.args.self.now).clients;
-  keys = record { device_is = refl; policy_is = refl; lasting_is = refl };
   boot = (same_tables c.args.self.now).boot;
+  keys = same_keys c.args.self.now;
   rows = c.change.ensures;
   slots = c.in-Found.ensures.takes;
   found = c.in-Found.ensures.found;

@@ -1,6 +1,0 @@
-use Rattle.key_database.specs.Stands.{lasting}
-use Rattle.key_database.proofs.Sizes.{small_record}
-use Rattle.key_database.proofs.database.KeyDatabase.apply.Goals as goal
-
-pub append_change-requires-clause-small : goal.append_change-requires-clause-small
-append_change-requires-clause-small g c = small_record (lasting c.args.self.now) c.args.change c.requires.met

@@ -1,0 +1,123 @@
+-- A restart: the tables after one that is admitted, and after one that has not happened.
+use Rattle.std.proofs.Common.{◌≡◌, inl, ◌⊎◌, ℕ, Bool, true, false, ◌&&◌, not, if◌then◌else◌, List, [], ◌∷◌, Option, Some, None, refl, sym, ap, ◌∙◌, subst}
+use Rattle.tags.specs.declared.code.Code.{Code}
+use Rattle.tags.specs.declared.secrets.DeviceSecrets.{DeviceSecrets}
+use Rattle.tags.specs.declared.code.Code.TheVariants.{SystemError, ValueCorrupted}
+use Rattle.ks_outside.specs.declared.disk.Disk.{Ghosts}
+use Rattle.ks_outside.specs.Faults.{CountsFaults}
+use Rattle.ks_outside.specs.Images.{Passes, tells}
+use Rattle.ks_outside.proofs.Joins.{passes_as}
+use Rattle.journal_records.specs.Holding.{Holding}
+use Rattle.key_database.specs.declared.database.KeyDatabase.{KeyDatabase}
+use Rattle.key_database.specs.Stands.{Holds, is_unsettled, lasting, store_bytes}
+use Rattle.key_database.specs.Store.{Between, MayBe}
+use Rattle.cipher_ops.specs.declared.state.CipherState.{CipherState}
+use Rattle.operation_slots.specs.Table.{SlotTable, has_number, held, operations_of}
+use Rattle.rule_model.specs.declared.entry.Entry.TheVariants.{Acted}
+use Rattle.rule_model.specs.declared.event.Act.TheVariants.{Restart}
+use Rattle.rule_model.specs.declared.event.Event.{Event}
+use Rattle.rule_model.specs.declared.facts.Caller.{Caller}
+use Rattle.rule_model.specs.declared.reply.Reply.{Reply}
+use Rattle.rule_model.specs.declared.reply.Reply.TheVariants.{Done, Broken, Stopped}
+use Rattle.rule_model.specs.Entries.{History}
+use Rattle.rule_model.specs.Legal.{Answered, NotRestarted}
+use Rattle.rule_model.specs.Replies.{no_fields}
+use Rattle.rule_model.specs.Blobs.{root_given}
+use Rattle.rule_model.specs.Boot.{StartsAgain}
+use Rattle.rule_model.specs.Settling.{is_disk_fault, is_system_error}
+use Rattle.rule_model.specs.Setup.{Setup}
+use Rattle.rule_model.specs.Stored.{after_reply}
+use Rattle.rule_model.proofs.Kept.{SameStored}
+use Rattle.keystore_core.specs.declared.tables.Tables.{Tables}
+use Rattle.keystore_core.specs.Restarting.{Forgets}
+use Rattle.keystore_core.specs.Tables.{AnswersAfter, TablesStand, event_by}
+use Rattle.keystore_core.specs.Writing.{StoreGoes}
+use Rattle.keystore_core.proofs.Booted.{boot_after, boot_stays, same_boot}
+use Rattle.keystore_core.proofs.KeyTable.{keys_stay, same_keys}
+use Rattle.keystore_core.proofs.Opened.{stays_same}
+use Rattle.keystore_core.proofs.Standing.{clients_stay, operations_stay, same_tables, slots_stay, tickets_stay}
+
+none_held : (slots : SlotTable CipherState) (number : ℕ) → operations_of slots ≡ [] → held slots number ≡ None
+none_held slots number e = rw e refl
+
+module _ (setup : Setup) (past : History) (old : Tables) (caller : Caller) (root : Option (List ℕ)) (stands : TablesStand setup old past) where
+  abbrev Restarting : Event
+  Restarting = event_by caller (Restart root)
+
+  pub restarted : (new : Tables) → Forgets root old new → AnswersAfter setup past new Restarting (record { reply = Done no_fields; job = None; drawn = [] })
+  restarted new forgets = record {
+    follows = Answered (record { drew = refl; is_answer = refl });
+    stands = record {
+      clients = record { uids = λ client. forgets.goes client; given = forgets.clients_are ∙ stands.clients.given };
+      keys = record {
+        device_is = forgets.device_is ∙ ap (λ (d : DeviceSecrets). record d { root = root_given (Restart root) d.root }) stands.keys.device_is;
+        policy_is = forgets.policy_is ∙ stands.keys.policy_is;
+        lasting_is = ap lasting forgets.keys_are ∙ stands.keys.lasting_is;
+        bytes_are = ap store_bytes forgets.keys_are ∙ stands.keys.bytes_are;
+        settled_is = ap is_unsettled forgets.keys_are ∙ stands.keys.settled_is;
+      };
+      operations = record { rows = rw forgets.rows tt; given = forgets.operations_are ∙ stands.operations.given };
+      slots = record {
+        slots_are = rw forgets.empty.operations tt;
+        capacity_is = forgets.empty.slot_count ∙ stands.slots.capacity_is;
+        fresh = λ number l. none_held new.slots number forgets.empty.operations;
+        later = λ next l. forgets.later next;
+      };
+      tickets = record {
+        outs = λ ticket. rw (forgets.outs ticket) tt;
+        given = forgets.tickets_are ∙ stands.tickets.given;
+        busy = λ ticket entered after. absurd cc;
+      };
+      boot = boot_after setup past Restarting [] (Done no_fields) StartsAgain old.boot new.boot stands.boot refl forgets.boot.device forgets.boot.tokens forgets.boot.begins;
+    };
+    has_job = refl;
+    stays = λ ticket entered before after. absurd cc;
+  }
+
+  refused_as : (code : Code) → SameStored setup past (Acted Restarting [] (Stopped code) ∷ past) → TablesStand setup old (Acted Restarting [] (Stopped code) ∷ past)
+  refused_as code same = record {
+    clients = clients_stay setup past Restarting [] (Stopped code) old.clients old.clients stands.clients (same_tables old).clients refl refl;
+    keys = keys_stay setup past (Acted Restarting [] (Stopped code) ∷ past) old old stands.keys (same_keys old) same;
+    operations = operations_stay setup past Restarting [] (Stopped code) old.operations old.operations stands.operations (same_tables old).operations refl refl;
+    slots = slots_stay setup past Restarting [] (Stopped code) old.slots old.slots stands.slots refl refl;
+    tickets = tickets_stay setup past Restarting [] (Stopped code) old.tickets old.tickets stands.tickets (same_tables old).tickets refl refl (stays_same setup past Restarting [] (Stopped code) refl);
+    boot = boot_stays setup past Restarting [] (Stopped code) old.boot old.boot stands.boot (same_boot old.boot) refl;
+  }
+
+  -- what was read is not what is kept
+  pub other_store : AnswersAfter setup past old Restarting (record { reply = Stopped ValueCorrupted; job = None; drawn = [] })
+  other_store = record {
+    follows = NotRestarted ValueCorrupted (record { drew = refl; restarts = tt; refusal = tt; is_refusal = refl });
+    stands = refused_as ValueCorrupted (record { kept_is = refl; bytes_are = refl; settled_is = refl; device_is = refl });
+    has_job = refl;
+    stays = stays_same setup past Restarting [] (Stopped ValueCorrupted) refl;
+  }
+
+  -- a device call failed
+  pub unread_store : AnswersAfter setup past old Restarting (record { reply = Stopped SystemError; job = None; drawn = [] })
+  unread_store = record {
+    follows = NotRestarted SystemError (record { drew = refl; restarts = tt; refusal = tt; is_refusal = refl });
+    stands = refused_as SystemError (record { kept_is = refl; bytes_are = refl; settled_is = refl; device_is = refl });
+    has_job = refl;
+    stays = stays_same setup past Restarting [] (Stopped SystemError) refl;
+  }
+
+-- what is known of the store stays
+restart_stays : (reply : Reply) (held : Holding) → after_reply true None reply held ≡ held
+restart_stays (Done fields) held = refl
+restart_stays (Broken rule code) held = refl
+restart_stays (Stopped code) held = by_code (is_system_error code) where
+  by_code : (b : Bool) → (if b && false then Rattle.rule_model.specs.Stored.torn_by None held else held) ≡ held
+  by_code true = refl
+  by_code false = refl
+
+pub restart_goes : {D : Type 0} (g : Ghosts D) (old new : KeyDatabase) (disk later : D) (reply : Reply) → new ≡ old → ((held : Holding) → Holds g old disk held → Holds g old later held)
+    → ((held : Holding) → Holds g old disk held → Passes g disk later (MayBe held)) → (g.is_sure disk → g.is_sure later) → tells g later ≡ tells g disk
+    → CountsFaults (g.fault_count disk) (g.fault_count later) (is_disk_fault reply) → StoreGoes g old new disk later true None reply
+restart_goes g old new disk later reply same holds passes sure telling cause = record {
+  holds = λ held h. subst (λ k. Holds g new later k) (sym (restart_stays reply held)) (subst (λ k. Holds g k later held) (sym same) (holds held h));
+  passes = λ held h. passes_as g disk later (MayBe held) (Between held (after_reply true None reply held)) (passes held h) (λ c may. inl may);
+  sure = sure;
+  telling = telling;
+  cause = cause;
+}

@@ -1,0 +1,217 @@
+-- What an act does to the store: the keys after it, and how what is known of the disk goes on.
+use Rattle.std.proofs.Common.{◌≡◌, ◌⊎◌, inl, inr, ℕ, ◌+◌, ◌-◌, ◌<◌, ◌≤◌, Bool, true, false, ◌&&◌, not, if◌then◌else◌, List, [], ◌∷◌, ◌++◌, length, Option, Some, None, Result, Ok, Err, refl, sym, ap, ◌∙◌, subst, arith}
+use Rattle.std.specs.Prelude.{is_some}
+use Rattle.std.proofs.lemmas.Bool.{cases_lt, le-leb, leb-true}
+use Rattle.std.proofs.lemmas.List.{length-append}
+use Rattle.tags.specs.declared.code.Code.{Code}
+use Rattle.tags.specs.declared.code.Code.TheVariants.{JournalFull, MemoryAllocationFailed, SystemError}
+use Rattle.ks_outside.specs.declared.disk.Disk.{Ghosts}
+use Rattle.ks_outside.specs.Faults.{CountsFaults, Rises}
+use Rattle.ks_outside.specs.Images.{Passes, tells}
+use Rattle.ks_outside.proofs.Joins.{passes_none}
+use Rattle.journal_records.specs.declared.change.Change.{Change}
+use Rattle.journal_records.specs.Effects.{after}
+use Rattle.journal_records.specs.Spelling.{tail_of}
+use Rattle.journal_records.specs.Holding.{Holding}
+use Rattle.key_database.specs.declared.database.KeyDatabase.{KeyDatabase}
+use Rattle.key_database.specs.Stands.{Holds, SameStore, change_bytes, is_unsettled, lasting, store_bytes}
+use Rattle.key_database.specs.Store.{Between}
+use Rattle.key_database.proofs.Rereading.{same_bytes, same_holds, same_settled, same_twice}
+use Rattle.rule_model.specs.declared.entry.Entry.TheVariants.{Acted}
+use Rattle.rule_model.specs.declared.event.Act.{Act}
+use Rattle.rule_model.specs.declared.event.Event.{Event}
+use Rattle.rule_model.specs.declared.facts.Caller.{Caller}
+use Rattle.rule_model.specs.declared.reply.Fields.{Fields}
+use Rattle.rule_model.specs.declared.reply.Reply.{Reply}
+use Rattle.rule_model.specs.declared.reply.Reply.TheVariants.{Done, Broken, Stopped}
+use Rattle.rule_model.specs.Acts.{is_restart}
+use Rattle.rule_model.specs.Answer.{answer}
+use Rattle.rule_model.specs.Blobs.{root_of}
+use Rattle.rule_model.specs.Changes.{after_change, change_of}
+use Rattle.rule_model.specs.Drawn.{size_of, wanted}
+use Rattle.rule_model.specs.Entries.{History, is_done}
+use Rattle.rule_model.specs.Jobs.{HasJob}
+use Rattle.rule_model.specs.Kept.{kept}
+use Rattle.rule_model.specs.Legal.{MayFollow, Answered as AnsweredBy, Faulted}
+use Rattle.rule_model.specs.Blobs.{device_at, root_given}
+use Rattle.rule_model.specs.Settling.{is_disk_fault, is_system_error, is_unsettled as waits}
+use Rattle.rule_model.specs.Setup.{Setup}
+use Rattle.rule_model.specs.Stored.{after_reply, bytes_with, change_by, has_record_room, record_bytes, stored_bytes, where_stored}
+use Rattle.rule_model.proofs.Kept.{SameStored, changes_kept, denied_stored, made_stored, none_changed, torn_stored}
+use Rattle.keystore_core.specs.declared.answered.Answered.{Answered}
+use Rattle.keystore_core.specs.declared.tables.Tables.{Tables}
+use Rattle.keystore_core.specs.Keys.{AreSettled, KeysStand, SameKeys}
+use Rattle.keystore_core.proofs.KeyTable.{keys_stay}
+use Rattle.keystore_core.specs.Writing.{Full, HasMade, IsTorn, IsWritten, IsWrittenIf, LeavesStore, Made, StoreGoes, StoreGoesFor, Torn, change_for}
+
+-- ---- a change that is written
+
+closed_length : (change : Change) → change_bytes change ≡ record_bytes change + 1
+closed_length change = omega (arith, length-append (tail_of change) (0 ∷ []))
+
+pub room_left : (bytes : ℕ) (change : Change) → (268435456 < bytes + change_bytes change → ⊥) → has_record_room bytes change ≡ true
+room_left bytes change fits =
+    elim (cases_lt 268435456 (bytes + change_bytes change)) [
+      | inl over ↦ absurd (fits over)
+      | inr within ↦ le-leb (bytes + record_bytes change + 1) 268435456 (omega (arith, closed_length change, within))
+    ]
+
+pub room_none : (bytes : ℕ) (change : Change) → 268435456 < bytes + change_bytes change → has_record_room bytes change ≡ false
+room_none bytes change over = by_test (has_record_room bytes change) refl where
+  by_test : (b : Bool) → has_record_room bytes change ≡ b → b ≡ false
+  by_test true e = absurd (omega (arith, closed_length change, over, leb-true (bytes + record_bytes change + 1) 268435456 e))
+  by_test false e = refl
+
+pub has_made : (old new : KeyDatabase) (change : Change) → lasting new ≡ after (lasting old) change → store_bytes new ≡ store_bytes old + (change_bytes change - 1) → is_unsettled new ≡ false
+    → (268435456 < store_bytes old + change_bytes change → ⊥) → HasMade old new change
+has_made old new change made bytes settled fits = record {
+  lasting_is = made;
+  bytes_are = omega (arith, bytes, closed_length change);
+  settled = settled;
+  room = room_left (store_bytes old) change fits;
+}
+
+pub counts_same : (before now : ℕ) → now ≡ before → CountsFaults before now false
+counts_same before now e = record { later = omega (arith, e); rises = λ no. absurd cc; same = λ no. e }
+
+pub counts_rose : (before now : ℕ) → before ≤ now → Rises before now → CountsFaults before now true
+counts_rose before now later rises = record { later = later; rises = λ yes. rises; same = λ no. absurd cc }
+
+-- ---- the keys, and the answer
+
+module _ (setup : Setup) (past : History) (tables : Tables) (middle new : KeyDatabase) (event : Event) (drawn : List ℕ) (change : Change) (fields : Fields) (stands : KeysStand setup tables past)
+    (still : SameStore tables.keys middle) (settled : AreSettled tables) (no_restart : is_restart event.act ≡ false) (no_root : (before : List ℕ) → root_given event.act before ≡ before) (is : change_by setup past event drawn ≡ Some change) where
+  idle : waits past ≡ false
+  idle = sym stands.settled_is ∙ settled
+
+  bytes_before : store_bytes middle ≡ stored_bytes setup past
+  bytes_before = same_bytes tables.keys middle still ∙ stands.bytes_are
+
+  made_keys : HasMade middle new change → KeysStand setup (record tables { keys = new }) (Acted event drawn (Done fields) ∷ past)
+  made_keys made = let later = made_stored setup past event drawn fields change no_root is in record {
+    policy_is = stands.policy_is;
+    device_is = stands.device_is ∙ sym later.device_is;
+    lasting_is = made.lasting_is ∙ ap (λ part. after part change) (still.lasting_is ∙ stands.lasting_is) ∙ sym later.kept_is;
+    bytes_are = made.bytes_are ∙ ap (λ n. n + record_bytes change) bytes_before ∙ sym later.bytes_are;
+    settled_is = made.settled ∙ sym (later.settled_is ∙ idle);
+  }
+
+  full_keys : SameStore middle new → KeysStand setup (record tables { keys = new }) (Acted event drawn (Stopped JournalFull) ∷ past)
+  full_keys same = let later = denied_stored setup past event drawn (Stopped JournalFull) refl refl in record {
+    policy_is = stands.policy_is;
+    device_is = stands.device_is ∙ sym later.device_is;
+    lasting_is = same.lasting_is ∙ still.lasting_is ∙ stands.lasting_is ∙ sym later.kept_is;
+    bytes_are = same_bytes middle new same ∙ bytes_before ∙ sym later.bytes_are;
+    settled_is = same_settled middle new same ∙ same_settled tables.keys middle still ∙ stands.settled_is ∙ sym later.settled_is;
+  }
+
+  torn_keys : IsTorn middle new change → KeysStand setup (record tables { keys = new }) (Acted event drawn (Stopped SystemError) ∷ past)
+  torn_keys torn = let later = torn_stored setup past event drawn idle no_restart in record {
+    policy_is = stands.policy_is;
+    device_is = stands.device_is ∙ sym later.device_is;
+    lasting_is = torn.lasting_is ∙ still.lasting_is ∙ stands.lasting_is ∙ sym later.kept_is;
+    bytes_are = torn.bytes_are ∙ bytes_before ∙ sym later.bytes_are;
+    settled_is = torn.waits ∙ sym later.waits;
+  }
+
+  pub written_keys : (reply : Reply) → IsWritten middle new change fields reply → KeysStand setup (record tables { keys = new }) (Acted event drawn reply ∷ past)
+  written_keys reply (Made made e) = subst (λ r. KeysStand setup (record tables { keys = new }) (Acted event drawn r ∷ past)) (sym e) (made_keys made)
+  written_keys reply (Full same room e) = subst (λ r. KeysStand setup (record tables { keys = new }) (Acted event drawn r ∷ past)) (sym e) (full_keys same)
+  written_keys reply (Torn torn e) = subst (λ r. KeysStand setup (record tables { keys = new }) (Acted event drawn r ∷ past)) (sym e) (torn_keys torn)
+
+  room_is : (b : Bool) → has_record_room (store_bytes middle) change ≡ b → has_record_room (stored_bytes setup past) change ≡ b
+  room_is b e = ap (λ n. has_record_room n change) (sym bytes_before) ∙ e
+
+  pub written_follows : (reply : Reply) → length drawn ≡ size_of (wanted setup past event) → answer setup past event drawn ≡ where_stored (stored_bytes setup past) (Some change) (Done fields)
+      → IsWritten middle new change fields reply → MayFollow setup past event drawn reply
+  written_follows reply drew told (Made made e) =
+      AnsweredBy (record { drew = drew; is_answer = e ∙ sym (told ∙ ap (λ b. if b then Done fields else Stopped JournalFull) (room_is true made.room)) })
+  written_follows reply drew told (Full same room e) =
+      AnsweredBy (record { drew = drew; is_answer = e ∙ sym (told ∙ ap (λ b. if b then Done fields else Stopped JournalFull) (room_is false room)) })
+  written_follows reply drew told (Torn torn e) =
+      Faulted (record {
+        drew = drew;
+        admitted = ap is_done (told ∙ ap (λ b. if b then Done fields else Stopped JournalFull) (room_is true torn.room));
+        writes = ap is_some is;
+        is_fault = e;
+      })
+
+  pub written_job : (reply : Reply) → HasJob setup (Acted event drawn (Done fields) ∷ past) (Done fields) None → IsWritten middle new change fields reply
+      → HasJob setup (Acted event drawn reply ∷ past) reply None
+  written_job reply job (Made made e) = subst (λ r. HasJob setup (Acted event drawn r ∷ past) r None) (sym e) job
+  written_job reply job (Full same room e) = subst (λ r. HasJob setup (Acted event drawn r ∷ past) r None) (sym e) refl
+  written_job reply job (Torn torn e) = subst (λ r. HasJob setup (Acted event drawn r ∷ past) r None) (sym e) refl
+
+-- the same where there may be no change
+module _ (setup : Setup) (past : History) (tables : Tables) (middle new : KeyDatabase) (event : Event) (drawn : List ℕ) (fields : Fields) (stands : KeysStand setup tables past)
+    (still : SameStore tables.keys middle) (settled : AreSettled tables) (no_restart : is_restart event.act ≡ false) (no_root : (before : List ℕ) → root_given event.act before ≡ before) where
+  unchanged : change_by setup past event drawn ≡ None → SameStored setup past (Acted event drawn (Done fields) ∷ past)
+  unchanged is = record {
+    kept_is = ap (λ c. after_change c (kept setup past)) is;
+    bytes_are = ap (λ c. bytes_with c (stored_bytes setup past)) is;
+    settled_is = refl;
+    device_is = ap (λ root. record setup.device { root = root }) (no_root (root_of setup past));
+  }
+
+  pub told_keys : (change : Option Change) (reply : Reply) → change_by setup past event drawn ≡ change → IsWrittenIf middle new change fields reply → KeysStand setup (record tables { keys = new }) (Acted event drawn reply ∷ past)
+  told_keys None reply is written =
+      subst (λ r. KeysStand setup (record tables { keys = new }) (Acted event drawn r ∷ past)) (sym written.1)
+      (keys_stay setup past (Acted event drawn (Done fields) ∷ past) tables (record tables { keys = new }) stands
+      (record { device_is = refl; policy_is = refl; store_is = same_twice tables.keys middle new still written.0 }) (unchanged is))
+  told_keys (Some change) reply is written = written_keys setup past tables middle new event drawn change fields stands still settled no_restart no_root is reply written
+
+  pub told_follows : (change : Option Change) (reply : Reply) → change_by setup past event drawn ≡ change → length drawn ≡ size_of (wanted setup past event)
+      → answer setup past event drawn ≡ where_stored (stored_bytes setup past) change (Done fields) → IsWrittenIf middle new change fields reply → MayFollow setup past event drawn reply
+  told_follows None reply is drew told written = AnsweredBy (record { drew = drew; is_answer = written.1 ∙ sym told })
+  told_follows (Some change) reply is drew told written = written_follows setup past tables middle new event drawn change fields stands still settled no_restart no_root is reply drew told written
+
+  pub told_job : (change : Option Change) (reply : Reply) → change_by setup past event drawn ≡ change → HasJob setup (Acted event drawn (Done fields) ∷ past) (Done fields) None → IsWrittenIf middle new change fields reply
+      → HasJob setup (Acted event drawn reply ∷ past) reply None
+  told_job None reply is job written = subst (λ r. HasJob setup (Acted event drawn r ∷ past) r None) (sym written.1) job
+  told_job (Some change) reply is job written = written_job setup past tables middle new event drawn change fields stands still settled no_restart no_root is reply job written
+
+-- ---- what is known of the disk
+
+module _ {D : Type 0} (g : Ghosts D) (disk : D) where
+  -- nothing was done to the disk, and what is known stays
+  still_goes : (old new : KeyDatabase) (restarts : Bool) (change : Option Change) (reply : Reply) → SameStore old new → is_disk_fault reply ≡ false → ((held : Holding) → after_reply restarts change reply held ≡ held)
+      → StoreGoes g old new disk disk restarts change reply
+  still_goes old new restarts change reply same no_fault stays = record {
+    holds = λ held h. subst (λ k. Holds g new disk k) (sym (stays held)) (same_holds g old new disk held same h);
+    passes = λ held h. passes_none g disk (Between held (after_reply restarts change reply held));
+    sure = λ s. s;
+    telling = refl;
+    cause = record { later = omega arith; rises = λ e. absurd cc; same = λ e. refl };
+  }
+
+  no_system_stays : (code : Code) (restarts : Bool) (change : Option Change) → is_system_error code ≡ false → (held : Holding) → after_reply restarts change (Stopped code) held ≡ held
+  no_system_stays code restarts change e held = rw e refl
+
+  -- an act that is not admitted
+  pub denied_goes : (old new : KeyDatabase) (restarts : Bool) (change : Option Change) (reply : Reply) → SameStore old new → is_done reply ≡ false → is_disk_fault reply ≡ false
+      → StoreGoes g old new disk disk restarts change reply
+  denied_goes old new restarts change (Done fields) same e f = cc
+  denied_goes old new restarts change (Broken rule code) same e f = still_goes old new restarts change (Broken rule code) same f (λ held. refl)
+  denied_goes old new restarts change (Stopped code) same e f = still_goes old new restarts change (Stopped code) same f (no_system_stays code restarts change f)
+
+  -- an act that changes nothing
+  pub quiet_goes : (old new : KeyDatabase) (restarts : Bool) (reply : Reply) → SameStore old new → is_disk_fault reply ≡ false → StoreGoes g old new disk disk restarts None reply
+  quiet_goes old new restarts (Done fields) same f = still_goes old new restarts None (Done fields) same f (λ held. refl)
+  quiet_goes old new restarts (Broken rule code) same f = denied_goes old new restarts None (Broken rule code) same refl f
+  quiet_goes old new restarts (Stopped code) same f = denied_goes old new restarts None (Stopped code) same refl f
+
+  pub leaves_goes : (old new : Tables) (caller : Caller) (act : Act) (answered : Answered) → LeavesStore old new answered → changes_kept act ≡ false → StoreGoesFor g old new disk disk caller act answered
+  leaves_goes old new caller act answered leaves e =
+      subst (λ c. StoreGoes g old.keys new.keys disk disk (is_restart act) c answered.reply) (sym (none_changed act old.device old.policy (lasting old.keys) caller answered.drawn e))
+      (quiet_goes old.keys new.keys (is_restart act) answered.reply leaves.keys.store_is leaves.no_fault)
+
+-- with other room before
+pub goes_from : {D : Type 0} (g : Ghosts D) (old middle new : KeyDatabase) (disk later : D) (restarts : Bool) (change : Option Change) (reply : Reply) → SameStore old middle → StoreGoes g middle new disk later restarts change reply
+    → StoreGoes g old new disk later restarts change reply
+goes_from g old middle new disk later restarts change reply same goes = record {
+  holds = λ held h. goes.holds held (same_holds g old middle disk held same h);
+  passes = λ held h. goes.passes held (same_holds g old middle disk held same h);
+  sure = goes.sure;
+  telling = goes.telling;
+  cause = goes.cause;
+}
