@@ -14,6 +14,7 @@ impl Request {
     pub fn frame_length(&self) -> u64
         requires short { length (body_of self.now) < 2 ^ 32 }
         ensures length { result ≡ spec.frame_length self.now }
+        ensures small { result < 2 ^ 33 }
     {
         let size = body_size(self.act());
         if size == 0 { 0 } else { 4 + size as u64 }
