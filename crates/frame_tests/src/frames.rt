@@ -9,7 +9,7 @@ use std::alloc::Global;
 use std::process::Abort;
 use std::test::Fail;
 use tags::{Bytes, Code, Descriptor, NoMemory, Rule, RuleTable};
-use wire_frames::{FrameFault, Frames, reply_frame, request_frame};
+use wire_frames::{FrameFault, Frames, Request, reply_frame, reply_length, request_frame};
 
 /// one frame of each act, in the order of their numbers
 static FRAMES: [&[u8]; 20] = [
@@ -108,6 +108,9 @@ fn feed(
                 let Some(bytes) = request_frame(alloc, request)? else {
                     return Err(Fail::from("a request that was read has no frame"));
                 };
+                if request.frame_length() != bytes.len() as u64 {
+                    return Err(Fail::from("the length of a frame is another"));
+                }
                 out.extend_from_slice(bytes.as_slice())?;
             }
             Ok(None)
@@ -380,6 +383,16 @@ fn replies_are_written_as_the_format_says(rt: HostRuntime) -> Result<(), Fail> {
         let reply = reply_at(alloc, place)?;
         let bytes = reply_frame(alloc, &reply)?;
         assert!(&rt; bytes.as_slice() == *wanted);
+        assert!(&rt; reply_length(&reply) == wanted.len() as u64);
     }
     Ok(())
+}
+
+#[test]
+fn a_disconnect_has_no_frame(rt: HostRuntime) {
+    let length = match Request::of(Act::Disconnect) {
+        Some(request) => request.frame_length(),
+        None => 1,
+    };
+    assert!(&rt; length == 0);
 }

@@ -3,7 +3,7 @@ use Rattle.std.specs.Prelude.{◌≡◌, ℕ, Bool, List, [], ◌∷◌, ◌++�
 use Rattle.tags.specs.declared.settled.Settled.{Settled}
 use Rattle.rule_model.specs.declared.event.Act.{Act}
 use Rattle.rule_model.specs.declared.event.Act.TheVariants.{Leave}
-use Rattle.rule_model.specs.declared.event.Reading.{Reading}
+use Rattle.ks_outside.specs.declared.clock.Reading.{Reading}
 use Rattle.rule_model.specs.declared.event.Event.{Event}
 use Rattle.rule_model.specs.declared.event.Line.{Line}
 use Rattle.rule_model.specs.declared.reply.Reply.{Reply}

@@ -1,4 +1,5 @@
 -- Lemmas of the crate.
+pub mod Carried
 pub mod DrawLaws
 pub mod Joins
 pub mod Pairs

@@ -1,7 +1,10 @@
 pub mod Adapters
+pub mod Carried
+pub mod Clocks
 pub mod Draws
 pub mod Faults
 pub mod Images
+pub mod Listening
 pub mod Moments
 pub mod Places
 pub mod Plans

@@ -86,7 +86,7 @@ impl<W> WriterSink<W> {
 }
 
 /// What was taken of a piece of `size` bytes.
-fn taken(answer: Option<usize>, size: usize) -> Result<usize, Failed>
+pub(crate) fn taken(answer: Option<usize>, size: usize) -> Result<usize, Failed>
     ensures { result_ok result ≡ taken_of size answer }
 {
     match answer {

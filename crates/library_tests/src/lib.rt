@@ -13,6 +13,8 @@ mod descriptors;
 #[cfg(test)]
 mod kept_tokens;
 #[cfg(test)]
+mod links;
+#[cfg(test)]
 mod lists;
 #[cfg(test)]
 mod new_keys;

@@ -1,5 +1,6 @@
 pub mod Boot
 pub mod Clients
+pub mod CopyLemmas
 pub mod Counting
 pub mod Kept
 pub mod Legal

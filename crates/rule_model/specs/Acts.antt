@@ -1,5 +1,5 @@
 -- The acts of the service as one table: what is fixed for each kind, and the kind of an act.
-use Rattle.std.specs.Prelude.{ℕ, Bool, true, false, ◌&&◌, not, List, [], ◌∷◌, codes, Option, find}
+use Rattle.std.specs.Prelude.{ℕ, Bool, true, false, List, [], ◌∷◌, codes, Option, find}
 use Rattle.std.specs.Str.{bytes_eq}
 use Rattle.rule_model.specs.declared.act_kind.ActKind.{ActKind}
 use Rattle.rule_model.specs.declared.act_kind.ActKind.TheVariants as kinds

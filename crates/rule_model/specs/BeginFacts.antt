@@ -1,5 +1,5 @@
 -- What the rules of a begin read.
-use Rattle.std.specs.Prelude.{ℕ, Bool, true, false, not, ◌==◌, List, [], Option, Some, None, Result, is_some, unwrap_or}
+use Rattle.std.specs.Prelude.{ℕ, Bool, true, false, not, ◌==◌, List, [], Option, Result, is_some, unwrap_or}
 use Rattle.std.specs.Option.{option_map_or}
 use Rattle.tags.specs.declared.code.Code.{Code}
 use Rattle.tags.specs.declared.descriptor.Descriptor.{Descriptor}
@@ -9,7 +9,7 @@ use Rattle.tags.specs.declared.secrets.DeviceSecrets.{DeviceSecrets}
 use Rattle.tags.specs.declared.tag.Tag.TheVariants.{UsageCountLimit}
 use Rattle.tag_lists.specs.Lookups.{stands}
 use Rattle.key_domains.specs.declared.access.Access.{Access}
-use Rattle.key_domains.specs.declared.access.Access.TheVariants.{Found, Blob, Nothing}
+use Rattle.key_domains.specs.declared.access.Access.TheVariants.{Blob}
 use Rattle.journal_records.specs.declared.record.KeyRecord.{KeyRecord}
 use Rattle.key_blobs.specs.declared.fault.BlobFault.{BlobFault}
 use Rattle.key_blobs.specs.declared.sealed.Opened.{Opened}

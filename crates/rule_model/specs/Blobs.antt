@@ -8,7 +8,7 @@ use Rattle.tags.specs.declared.tag.Tag.TheVariants.{ApplicationId, ApplicationDa
 use Rattle.tags.specs.Table.{first_broken}
 use Rattle.tag_lists.specs.Lookups.{bytes_of}
 use Rattle.key_blobs.specs.declared.fault.BlobFault.{BlobFault}
-use Rattle.key_blobs.specs.declared.fault.BlobFault.TheVariants.{Format, Tag, Root, App, Memory}
+use Rattle.key_blobs.specs.declared.fault.BlobFault.TheVariants.{Root, App}
 use Rattle.key_blobs.specs.declared.sealed.Opened.{Opened}
 use Rattle.key_blobs.specs.Blobs.{blob_of, unsealed}
 use Rattle.key_rules.specs.declared.plan.KeyPlan.{KeyPlan}

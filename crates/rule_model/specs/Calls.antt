@@ -6,7 +6,7 @@ use Rattle.tags.specs.declared.code.Code.TheVariants.{StoreFull, TokensFull}
 use Rattle.tags.specs.declared.descriptor.Descriptor.{Descriptor}
 use Rattle.tags.specs.declared.policy.PolicyRow.{PolicyRow}
 use Rattle.tags.specs.declared.rule.RuleTable.TheVariants.{A}
-use Rattle.tags.specs.Table.{Check, Ruling, first_broken}
+use Rattle.tags.specs.Table.{Ruling, first_broken}
 use Rattle.call_rules.specs.declared.facts.KeyCallFacts.{KeyCallFacts}
 use Rattle.call_rules.specs.declared.facts.SystemCallFacts.{SystemCallFacts}
 use Rattle.call_rules.specs.Table.{clear_namespace_rules, delete_key_rules, disconnect_rules, get_key_entry_rules, grant_rules, listing_rules, system_call_rules, token_rules, ungrant_rules, user_call_rules}

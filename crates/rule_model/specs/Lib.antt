@@ -23,3 +23,5 @@ pub mod StepFacts
 pub mod Drawn
 pub mod Answer
 pub mod Legal
+pub mod Copies
+pub mod ReplyRooms

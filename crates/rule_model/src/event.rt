@@ -1,13 +1,7 @@
 //! The events of the service: a reading of the clocks, a client, and its act with the arguments.
 
+use ks_outside::Reading;
 use tags::{Bytes, Descriptor};
-
-/// What the clock said: milliseconds since the start, and since 1970.
-#[derive(Clone, Copy, Debug, PartialEq, Eq)]
-pub struct Reading {
-    pub boot: u64,
-    pub wall: u64,
-}
 
 /// One call of a client, or what the service makes of it, with the call's arguments. The names are those of
 /// Keystore2's AIDL interfaces; `params` is always the bytes of an encoded authorization list.

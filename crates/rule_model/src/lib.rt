@@ -8,11 +8,17 @@ mod act_kind;
 mod built;
 mod entry;
 mod event;
+mod event_copy;
 mod facts;
+mod field_sizes;
 mod reply;
+mod reply_room;
 
 pub use act_kind::{ActKind, ActRow};
 pub use entry::{Entry, Stepped};
-pub use event::{Act, Event, Line, Reading};
+pub use event::{Act, Event, Line};
 pub use facts::{Brought, Caller, Conditions, NO_PIECES, Pieces};
+pub use field_sizes::{FieldSizes, NO_SIZES};
+pub use ks_outside::Reading;
 pub use reply::{Entries, Fields, NO_FIELDS, Reply};
+pub use reply_room::ReplyRoom;

@@ -3,7 +3,7 @@ use Rattle.std.specs.Prelude.{ℕ, List, [], codes, Bool, false, if◌then◌els
 use Rattle.tags.specs.declared.descriptor.Descriptor.{Descriptor}
 use Rattle.rule_model.specs.declared.event.Act.{Act}
 use Rattle.rule_model.specs.declared.event.Act.TheVariants as acts
-use Rattle.rule_model.specs.declared.event.Reading.{Reading}
+use Rattle.ks_outside.specs.declared.clock.Reading.{Reading}
 use Rattle.rule_model.specs.Acts.{kind_named, row_of}
 use Rattle.serde_json.specs.Data.{Data}
 use Rattle.serde_json.specs.Find.{as_bool, as_str}

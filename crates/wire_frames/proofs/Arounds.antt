@@ -1,7 +1,7 @@
 -- A frame whose input lies apart is read as if it lay in one piece.
-use Rattle.std.proofs.Common.{◌≡◌, ◌⊎◌, ⊎_elim, ℕ, ◌+◌, ◌<◌, ◌≤◌, Bool, true, false, cond, ltb, leb, eqb, List, [], ◌∷◌, ◌++◌, length, take, drop, slice_index, Option, Some, None, Err, refl, sym, ap, subst, ◌∙◌, arith, inl, inr}
+use Rattle.std.proofs.Common.{◌≡◌, ◌⊎◌, ⊎_elim, ℕ, ◌<◌, ◌≤◌, Bool, true, false, cond, ltb, leb, eqb, List, [], ◌∷◌, ◌++◌, length, take, drop, slice_index, Option, Some, None, Err, refl, sym, ap, subst, ◌∙◌, arith, inl, inr}
 use Rattle.std.specs.Option.{option_and_then, option_map}
-use Rattle.std.proofs.lemmas.Bool.{cases_lt, lt-ltb, le-ltb, ltb-true, leb-true, and_parts}
+use Rattle.std.proofs.lemmas.Bool.{cases_lt, lt-ltb, le-ltb, leb-true, and_parts}
 use Rattle.std.proofs.lemmas.List.{length-append, length-drop, drop-append-le, drop-drop, drop_more, nil_from_length}
 use Rattle.byteorder.specs.Endian.{big_number}
 use Rattle.byteorder.specs.Numbers.{big_from-append}
@@ -10,7 +10,7 @@ use Rattle.rule_model.specs.declared.event.Act.TheVariants.{EnterAad, EnterUpdat
 use Rattle.wire_frames.specs.declared.fault.BodyFault.{BodyFault}
 use Rattle.wire_frames.specs.declared.fault.BodyFault.TheVariants.{Bad, Memory}
 use Rattle.wire_frames.specs.declared.held.giving.Kept.{Kept}
-use Rattle.wire_frames.specs.Reading.{Says, byte_at, number_at, front_at, counted_at, optional_at, both, ended, fields_in, act_in}
+use Rattle.wire_frames.specs.Reading.{Says, byte_at, number_at, front_at, counted_at, optional_at, ended, fields_in, act_in}
 use Rattle.wire_frames.specs.Apart.{has_input, HasInput, with_input, around}
 use Rattle.wire_frames.proofs.Filling.{behind, behind_is}
 

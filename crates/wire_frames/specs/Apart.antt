@@ -1,7 +1,5 @@
 -- How a frame is held whose act has an input: what comes behind the input's length lies apart.
-use Rattle.std.specs.Prelude.{◌≡◌, ℕ, ◌+◌, ◌-◌, ◌<◌, ◌≤◌, Bool, true, ◌&&◌, nat_le, nat_lt, ◌==◌, if◌then◌else◌, List, [], ◌++◌, length, take, drop, slice_index, Option, Some, None}
-use Rattle.byteorder.specs.Endian.{big_number}
-use Rattle.tags.specs.declared.descriptor.Descriptor.{Descriptor}
+use Rattle.std.specs.Prelude.{◌≡◌, ℕ, ◌<◌, Bool, true, ◌&&◌, nat_le, ◌==◌, if◌then◌else◌, List, [], length, slice_index, Option, Some}
 use Rattle.rule_model.specs.declared.event.Act.{Act}
 use Rattle.rule_model.specs.declared.event.Act.TheVariants.{EnterAad, EnterUpdate, EnterFinish}
 use Rattle.wire_frames.specs.Reading.{optional_at, ended}

@@ -14,7 +14,8 @@ use tags::{Bytes, NoMemory};
 mod acts;
 mod fields;
 mod replies;
-mod sizes;
+mod reply_sizes;
+pub(crate) mod sizes;
 
 /// The frame of a request. `None` says that it has none: a disconnect, and what a body of 262,144 bytes cannot hold.
 #[tactic(auto, unfolding(crate::specs::Spelling::frame_of))]
@@ -32,6 +33,14 @@ pub fn request_frame(alloc: Global, request: &Request) -> Result<Option<Bytes>, 
     acts::put_body(&mut out, act)?;
     BigEndian::write_u32(&mut out, size as u32);
     Ok(Some(Bytes::of(out)))
+}
+
+/// The length in bytes of a reply's whole frame. Its body has fewer than 2^32 bytes. It takes no memory.
+pub fn reply_length(reply: &Reply) -> u64
+    requires short { length (reply_body reply.now) < 2 ^ 32 }
+    ensures length { result ≡ length (reply_of reply.now) }
+{
+    4 + reply_sizes::reply_size(reply) as u64
 }
 
 /// The frame of a reply. Its body has fewer than 2^32 bytes.

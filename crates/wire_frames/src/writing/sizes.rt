@@ -1,21 +1,23 @@
-//! How long bodies are, as far as a frame can hold them.
+//! How long bodies are, as far as the four bytes of a length can name it.
 
 ghost use Rattle.std.specs.Prelude.{◌≡◌, ℕ, ◌≤◌, ◌<◌, length};
 ghost use Rattle.wire_frames.specs.Spelling as spec;
 ghost use Rattle.wire_frames.specs.Spelling.{body_of};
 ghost use Rattle.wire_frames.specs.Sizes.{IsSize};
 
-use crate::front::MOST;
 use rule_model::Act;
 use tags::{Bytes, Descriptor};
 
+/// The least size that four bytes cannot name.
+pub(super) const TOO_LONG: usize = 1 << 32;
+
 /// The size of counted bytes.
-fn counted_size(bytes: &Bytes) -> usize
+pub(super) fn counted_size(bytes: &Bytes) -> usize
     ensures size { IsSize result (length (spec.counted bytes.now)) }
-    ensures small { result ≤ 262148 }
+    ensures small { result ≤ 4294967300 }
 {
-    if bytes.len() > MOST {
-        MOST + 1
+    if bytes.len() >= TOO_LONG {
+        TOO_LONG
     } else {
         4 + bytes.len()
     }
@@ -24,7 +26,7 @@ fn counted_size(bytes: &Bytes) -> usize
 /// The size of bytes that may be given.
 fn optional_size(bytes: &Option<Bytes>) -> usize
     ensures size { IsSize result (length (spec.optional bytes.now)) }
-    ensures small { result ≤ 262149 }
+    ensures small { result ≤ 4294967301 }
 {
     match bytes {
         None => 1,
@@ -35,13 +37,13 @@ fn optional_size(bytes: &Option<Bytes>) -> usize
 /// The size of a descriptor.
 fn key_size(key: &Descriptor) -> usize
     ensures size { IsSize result (length (spec.key_of key.now)) }
-    ensures small { result ≤ 524310 }
+    ensures small { result ≤ 8589934614 }
 {
     12 + optional_size(&key.alias) + optional_size(&key.blob)
 }
 
 /// The size of a body, which is none where the act has no frame.
-pub(super) fn body_size(act: &Act) -> usize
+pub(crate) fn body_size(act: &Act) -> usize
     ensures { IsSize result (length (body_of act.now)) }
 {
     match act {

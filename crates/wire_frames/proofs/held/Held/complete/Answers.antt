@@ -1,5 +1,4 @@
-use Rattle.std.proofs.Common.{rules, ◌≡◌, ◌+◌, ◌-◌, ◌≤◌, ◌++◌, length, take, drop, ap, sym, ◌∙◌, arith, length-take, length-drop}
-use Rattle.wire_frames.specs.Streams.{needed}
+use Rattle.std.proofs.Common.{rules, ◌≡◌, ◌+◌, ◌-◌, ◌≤◌, ◌++◌, length, take, drop, ap, ◌∙◌, arith, length-take}
 use Rattle.wire_frames.specs.Kept.{bytes_in}
 use Rattle.wire_frames.proofs.Filling.{still_enough, taken_more}
 use Rattle.wire_frames.proofs.held.Held.complete.Goals as goal

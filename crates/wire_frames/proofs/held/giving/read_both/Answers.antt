@@ -1,4 +1,4 @@
-use Rattle.std.proofs.Common.{rules, ◌≡◌, ◌+◌, ◌∷◌, length, drop, None, Some, true, false, refl, sym, ap, ◌∙◌, arith}
+use Rattle.std.proofs.Common.{rules, ◌≡◌, ◌+◌, ◌∷◌, length, drop, None, Some, true, false, refl, ap, ◌∙◌, arith}
 use Rattle.wire_frames.specs.Spelling.{is_asked}
 use Rattle.wire_frames.specs.Streams.{whole_in}
 use Rattle.wire_frames.specs.Reading.{act_in}

@@ -1,4 +1,4 @@
-use Rattle.std.proofs.Common.{rules, ◌≡◌, ◌<◌, ◌++◌, false, leb, length, subst, sym, ◌∙◌, arith}
+use Rattle.std.proofs.Common.{rules, ◌≡◌, ◌<◌, false, leb, length, subst}
 use Rattle.std.proofs.lemmas.Bool.{leb-false}
 use Rattle.wire_frames.specs.Streams.{needed}
 use Rattle.wire_frames.specs.Kept.{bytes_in}

@@ -1,0 +1,12 @@
+//! The edge to the network: a listener on a port of this machine, whose connections are links.
+//!
+//! Its contract is that of a listener of `ks_outside`: what it answers, with its three counts. What the system does with a connection
+//! no clause says; its tests over loopback show it.
+#![tactic(auto)]
+
+mod closing;
+mod listener;
+#[cfg(test)]
+mod tests;
+
+pub use listener::{PortListener, listen};

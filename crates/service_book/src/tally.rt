@@ -1,0 +1,161 @@
+//! What the limits of a run ask of a book, counted entry by entry.
+
+ghost use Rattle.std.specs.Prelude.{◌≡◌, ◌+◌, ◌<◌, ◌≤◌, ◌^◌, [], ◌∷◌, List, length};
+ghost use Rattle.rule_model.specs.Acts.{is_connect, is_enter};
+ghost use Rattle.rule_model.specs.Entries.{is_done};
+ghost use Rattle.wire_frames.specs.Spelling.{body_of};
+ghost use Rattle.service_book.specs.declared.entry.BookEntry.{BookEntry};
+ghost use Rattle.service_book.specs.Limits.{bytes_of, is_disconnect, is_leave, need_of, passes_limit, MOST_ENTRIES, MOST_BYTES, CALL_BYTES};
+
+use rule_model::{Act, Entry, Reply};
+use wire_frames::Request;
+
+/// The most entries of a book.
+const MOST_ENTRIES: u64 = 1_048_576;
+
+/// The most bytes of requests and replies that a book records.
+const MOST_BYTES: u64 = 536_870_912;
+
+/// The bytes that are set aside for the replies of a call.
+const CALL_BYTES: u64 = 1_114_112;
+
+/// How many entries a book has and how many bytes it records, and how many of its entries bring a client, end one, give a
+/// ticket out and bring one back.
+#[derive(Clone, Copy, Debug, PartialEq, Eq)]
+pub struct Tally {
+    entries: u64,
+    bytes: u64,
+    connects: u64,
+    disconnects: u64,
+    enters: u64,
+    leaves: u64,
+    ghost few_connects: { connects ≤ entries },
+    ghost few_disconnects: { disconnects ≤ entries },
+    ghost few_enters: { enters ≤ entries },
+    ghost few_leaves: { leaves ≤ entries },
+}
+
+/// Whether an event was admitted.
+fn is_admitted(reply: &Reply) -> bool
+    ensures { result ≡ is_done reply.now }
+{
+    match reply {
+        Reply::Done(_) => true,
+        _ => false,
+    }
+}
+
+fn is_connect(act: &Act) -> bool
+    ensures { result ≡ is_connect act.now }
+{
+    match act {
+        Act::Connect { .. } => true,
+        _ => false,
+    }
+}
+
+fn is_disconnect(act: &Act) -> bool
+    ensures { result ≡ is_disconnect act.now }
+{
+    match act {
+        Act::Disconnect => true,
+        _ => false,
+    }
+}
+
+fn is_enter(act: &Act) -> bool
+    ensures { result ≡ is_enter act.now }
+{
+    match act {
+        Act::EnterAad { .. } => true,
+        Act::EnterUpdate { .. } => true,
+        Act::EnterFinish { .. } => true,
+        _ => false,
+    }
+}
+
+fn is_leave(act: &Act) -> bool
+    ensures { result ≡ is_leave act.now }
+{
+    match act {
+        Act::Leave { .. } => true,
+        _ => false,
+    }
+}
+
+/// The most entries of a call.
+fn need_of(act: &Act) -> u64
+    ensures need { result ≡ need_of act.now }
+    ensures small { result ≤ 3 }
+{
+    match act {
+        Act::Connect { .. } => 3,
+        Act::EnterAad { .. } => 3,
+        Act::EnterUpdate { .. } => 3,
+        Act::EnterFinish { .. } => 3,
+        Act::Disconnect => 1,
+        _ => 2,
+    }
+}
+
+impl Tally {
+    ghost use Rattle.service_book.specs.Tallies.{IsTally, bytes_in, entries_in};
+
+    /// That of the empty book.
+    pub fn new() -> Tally
+        ensures { IsTally [] result }
+    {
+        Tally {
+            entries: 0,
+            bytes: 0,
+            connects: 0,
+            disconnects: 0,
+            enters: 0,
+            leaves: 0,
+        }
+    }
+
+    /// Counts one entry more, which records so many bytes.
+    pub fn add(&mut self, entry: &Entry, bytes: u64)
+        requires recorded { bytes ≡ bytes_of entry.now }
+        requires few { entries_in self.old < 2 ^ 62 }
+        requires small { bytes_in self.old + bytes < 2 ^ 62 }
+        ensures tally { (log : List BookEntry) (e : BookEntry) → e.entry ≡ entry.now → IsTally log self.old → IsTally (e ∷ log) self.new }
+        ensures entries { entries_in self.new ≡ entries_in self.old + 1 }
+        ensures bytes { bytes_in self.new ≡ bytes_in self.old + bytes }
+    {
+        self.entries += 1;
+        self.bytes += bytes;
+        let Entry::Acted { event, reply, .. } = entry else {
+            return;
+        };
+        let admitted = is_admitted(reply);
+        if admitted && is_connect(&event.act) {
+            self.connects += 1;
+        }
+        if admitted && is_disconnect(&event.act) {
+            self.disconnects += 1;
+        }
+        if admitted && is_enter(&event.act) {
+            self.enters += 1;
+        }
+        if is_leave(&event.act) {
+            self.leaves += 1;
+        }
+    }
+
+    /// Whether a call passes a limit: with it, with the disconnect of each client and with the leave of each ticket that is out,
+    /// the book would have more than 1,048,576 entries, or record more than 536,870,912 bytes.
+    pub fn is_full(&self, request: &Request) -> bool
+        requires short { length (body_of request.now) < 2 ^ 32 }
+        requires few { entries_in self.now ≤ 2 ^ 32 }
+        requires small { bytes_in self.now ≤ 2 ^ 62 }
+        ensures { (log : List BookEntry) → IsTally log self.now → result ≡ passes_limit request.now log }
+    {
+        let clients = self.connects.saturating_sub(self.disconnects);
+        let tickets = self.enters.saturating_sub(self.leaves);
+        let entries = self.entries + clients + tickets + need_of(request.act());
+        let bytes = self.bytes + request.frame_length() + CALL_BYTES + CALL_BYTES * tickets;
+        MOST_ENTRIES < entries || MOST_BYTES < bytes
+    }
+}
