@@ -1,6 +1,6 @@
 //! Taking pieces of a stream.
 
-ghost use Rattle.std.specs.Prelude.{◌≡◌, ◌↔◌, ℕ, ◌+◌, ◌^◌, ◌<◌, ◌≤◌, false, true, List, [], ◌++◌, length, IfOk, IfErr, IsTrue, Err};
+ghost use Rattle.std.specs.Prelude.{◌≡◌, ◌↔◌, ℕ, ◌+◌, ◌^◌, ◌<◌, ◌≤◌, false, true, List, [], ◌++◌, length, IfOk, IfErr, IsTrue, Err, Some, None, if◌then◌else◌};
 ghost use Rattle.rule_model.specs.declared.event.Act.{Act};
 ghost use Rattle.wire_frames.specs.declared.fault.FrameFault.TheVariants.{Bad};
 ghost use Rattle.wire_frames.specs.Streams.{stream_of};
@@ -64,6 +64,13 @@ impl Frames {
             return Err(FrameFault::Bad { offset: self.start });
         }
         Ok(requests)
+    }
+
+    /// The offset of the bad frame's first byte, where the stream so far has one.
+    pub fn bad_offset(&self) -> Option<u64>
+        ensures { result ≡ (if is_shut self.now then Some (start_of self.now) else None) }
+    {
+        if self.shut { Some(self.start) } else { None }
     }
 
     /// Whether the stream so far ends with a frame's end.
