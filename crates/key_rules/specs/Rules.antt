@@ -161,7 +161,3 @@ has_own_counts domain list = implies (domain == domain_blob) (not (counts_uses l
 -- EARLY_BOOT_ONLY: early boot has not ended
 abbrev pub is_early : List Param → Bool → Bool
 is_early list early_ended = implies (stands tags.EarlyBootOnly list) (not early_ended)
-
--- the list has no USAGE_COUNT_LIMIT, which no rule enforces yet
-abbrev pub has_no_limit : List Param → Bool
-has_no_limit list = not (stands tags.UsageCountLimit list)

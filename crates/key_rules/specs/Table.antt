@@ -7,7 +7,7 @@ use Rattle.tags.specs.Values.{RAW}
 use Rattle.tag_lists.specs.Reading.{listed}
 use Rattle.key_rules.specs.declared.facts.ImportFacts.{ImportFacts}
 use Rattle.key_rules.specs.declared.facts.NewFacts.{NewFacts}
-use Rattle.key_rules.specs.Rules.{has_allowed_size, has_fit_length, has_known_modes, has_known_paddings, has_least_length, has_no_limit, has_one_authority, has_one_digest, has_own_counts, has_own_purposes, has_own_size, has_short_ids, has_some_uses, is_early, list_in, may_make, names_algorithm, names_new_key, reading_code, takes_format}
+use Rattle.key_rules.specs.Rules.{has_allowed_size, has_fit_length, has_known_modes, has_known_paddings, has_least_length, has_one_authority, has_one_digest, has_own_counts, has_own_purposes, has_own_size, has_short_ids, has_some_uses, is_early, list_in, may_make, names_algorithm, names_new_key, reading_code, takes_format}
 
 -- the rule of an encoded list
 abbrev pub bytes_rules : List ℕ → List Check
@@ -37,7 +37,6 @@ last_rules domain early_ended list =
     check 14 InvalidKeyArgument (has_some_uses list) ∷  -- a use limit allows a use
     check 14 UnsupportedTag (has_own_counts domain list) ∷  -- BLOB: no count that only a stored key has
     check 15 EarlyBootEnded (is_early list early_ended) ∷  -- a key of early boot alone is made in it
-    check 16 UnsupportedTag (has_no_limit list) ∷  -- no use limit, which is not built yet
     []
 
 -- the rules that read the list

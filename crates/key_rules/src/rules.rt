@@ -245,10 +245,3 @@ pub(crate) fn is_early(list: &AuthList, early_ended: bool) -> bool
 {
     !list.stands(Tag::EarlyBootOnly) || !early_ended
 }
-
-/// Whether no use limit is there, which no rule enforces yet.
-pub(crate) fn has_no_limit(list: &AuthList) -> bool
-    ensures { result ≡ spec.has_no_limit list.now }
-{
-    !list.stands(Tag::UsageCountLimit)
-}

@@ -12,7 +12,7 @@ ghost use Rattle.key_rules.specs.Table as spec;
 
 use crate::rules::{
     has_allowed_size, has_fit_length, has_known_modes, has_known_paddings, has_least_length,
-    has_no_limit, has_one_authority, has_one_digest, has_own_counts, has_own_purposes,
+    has_one_authority, has_one_digest, has_own_counts, has_own_purposes,
     has_own_size, has_short_ids, has_some_uses, is_early, list_code, may_make, names_algorithm,
     names_new_key, takes_format,
 };
@@ -102,8 +102,7 @@ fn check_last(domain: u32, early_ended: bool, list: &AuthList) -> Ruling
     check(rule(13), Code::InvalidKeyArgument, has_one_authority(list))?;
     check(rule(14), Code::InvalidKeyArgument, has_some_uses(list))?;
     check(rule(14), Code::UnsupportedTag, has_own_counts(domain, list))?;
-    check(rule(15), Code::EarlyBootEnded, is_early(list, early_ended))?;
-    check(rule(16), Code::UnsupportedTag, has_no_limit(list))
+    check(rule(15), Code::EarlyBootEnded, is_early(list, early_ended))
 }
 
 /// The rules of the cipher and those behind them.

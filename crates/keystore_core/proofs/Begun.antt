@@ -39,9 +39,9 @@ use Rattle.rule_model.specs.Clients.{caller_of}
 use Rattle.rule_model.specs.Drawn.{size_of, wanted_by_begin, wanted_by_rules}
 use Rattle.rule_model.specs.Entries.{History, count_of}
 use Rattle.rule_model.specs.Access.{access_by, id_of, key_in, owner_of}
-use Rattle.rule_model.specs.Kept.{access_at, begin_key_at, kept, key_found}
-use Rattle.rule_model.specs.Legal.{MayFollow, Answered, WithoutMemory, WithoutEntropy}
-use Rattle.rule_model.specs.Operations.{Open, OperationChange, Opens, SameOperations, as_begun, challenge_of, has_number, facts_of_begin, is_busy, nonce_of, nonce_size, open_after, open_of, operation_at, operation_change, operation_on, opens, step_of, without, without_pruned}
+use Rattle.rule_model.specs.Kept.{access_at, begin_key_at, facts_of_begin, kept, key_found, open_of, operation_at, operation_change}
+use Rattle.rule_model.specs.Legal.{MayFollow, is_ready, Answered, WithoutMemory, WithoutEntropy}
+use Rattle.rule_model.specs.Operations.{Open, OperationChange, Opens, SameOperations, as_begun, challenge_of, has_number, is_busy, nonce_of, nonce_size, open_after, operation_on, opens, step_of, without, without_pruned}
 use Rattle.rule_model.proofs.Kept.{quiet_stored}
 use Rattle.rule_model.specs.Setup.{Setup}
 use Rattle.rule_model.specs.Slots.{begin_facts, conditions_on, facts_of_open, has_free, has_room, pruned_for}
@@ -69,6 +69,7 @@ use Rattle.keystore_core.specs.Tables.{AnswersAfter, IsCaller, SameTables, Table
 use Rattle.keystore_core.proofs.Alike.{alike_filter, alike_images, alike_length, alike_more}
 use Rattle.keystore_core.proofs.Booted.{begun_early, begun_tokens, begun_users, boot_after, boot_still, conditions_are, same_boot_twice}
 use Rattle.keystore_core.proofs.KeyTable.{keys_stay, same_keys, same_keys_twice}
+use Rattle.keystore_core.proofs.Ready.{ready_settled}
 use Rattle.keystore_core.proofs.Opened.{found_more, is_other, stays_by, stays_same, without_keeps}
 use Rattle.keystore_core.proofs.Standing.{called, clients_stay, denied_tables, rows_after, same_tables, slots_after, still, tickets_stay}
 use Rattle.keystore_core.proofs.Stepped.{idle_there, row_named, slot_found, slot_named}
@@ -196,8 +197,9 @@ module _ (setup : Setup) (past : History) (tables : Tables) (caller : Caller) (k
       ∙ ap (facts_by setup.policy Key.found (list_read Key.opened) (fits_key Key.opened) (access_at setup past caller key) caller key (asked params) forced) met
 
   answered : (drawn : List ℕ) (reply : Reply) → length drawn ≡ size_of (wanted_by_begin Answer Facts)
-      → reply ≡ answer_by_rules (CreateOperation key params forced) setup past caller drawn → MayFollow setup past Beginning drawn reply
-  answered drawn reply drew is = Answered (record {
+      → reply ≡ answer_by_rules (CreateOperation key params forced) setup past caller drawn → IsTrue (is_ready past (CreateOperation key params forced)) → MayFollow setup past Beginning drawn reply
+  answered drawn reply drew is ready = Answered (record {
+    ready = ready;
     drew = drew ∙ ap (λ c. size_of (wanted_by_rules (CreateOperation key params forced) setup past c)) same;
     is_answer = is ∙ ap (λ c. answer_by_rules (CreateOperation key params forced) setup past c drawn) same;
   })
@@ -234,7 +236,8 @@ module _ (setup : Setup) (past : History) (tables : Tables) (caller : Caller) (k
   pub without_entropy : (new : Tables) (begin : Begin) (drawn : List ℕ) → MayBegin begin Facts → SameTables tables new → length drawn < Size begin
       → AnswersAfter setup past new Beginning (record { reply = Stopped EntropyFault; job = None; drawn = drawn })
   without_entropy new begin drawn may still few = record {
-    follows = WithoutEntropy (record {
+    follows = λ ready. WithoutEntropy (record {
+      ready = ready_settled past (CreateOperation key params forced) refl ready;
       drew = subst (λ c. length drawn < size_of (wanted_by_rules (CreateOperation key params forced) setup past c)) same (subst (λ n. length drawn < n) (sym (wanted_is begin may)) few);
       is_fault = refl;
     });
@@ -247,7 +250,8 @@ module _ (setup : Setup) (past : History) (tables : Tables) (caller : Caller) (k
   pub unkept : (new : Tables) (begin : Begin) (drawn : List ℕ) → MayBegin begin Facts → SameTables tables new → length drawn ≡ Size begin
       → AnswersAfter setup past new Beginning (record { reply = Stopped MemoryAllocationFailed; job = None; drawn = drawn })
   unkept new begin drawn may still long = record {
-    follows = WithoutMemory (record {
+    follows = λ ready. WithoutMemory (record {
+      ready = inr (ready_settled past (CreateOperation key params forced) refl ready);
       drew = subst (λ c. length drawn ≤ size_of (wanted_by_rules (CreateOperation key params forced) setup past c)) same (omega (arith, long, wanted_is begin may));
       takes = refl;
       is_want = refl;

@@ -14,6 +14,7 @@ use Rattle.cipher_ops.specs.declared.state.CipherState.{CipherState}
 use Rattle.operation_slots.specs.declared.operation.Operation.{Operation as Slot}
 use Rattle.operation_slots.specs.Table as table
 use Rattle.operation_slots.specs.Table.{AllDiffer, FindsChanged, Gives, IsLater, KeepsLaterThan, SlotTable, given_back, held, numbers_of, operations_of}
+use Rattle.rule_model.specs.Kept.{has_busy, open_of, operation_at, operation_change}
 use Rattle.rule_model.specs.declared.entry.Entry.TheVariants.{Acted}
 use Rattle.rule_model.specs.declared.event.Act.TheVariants.{Disconnect, Leave}
 use Rattle.rule_model.specs.declared.event.Event.{Event}
@@ -33,7 +34,7 @@ use Rattle.rule_model.specs.Entries.{History, admits}
 use Rattle.rule_model.specs.Boot.{SameBoot as NoBoot, boot_change}
 use Rattle.rule_model.specs.Jobs.{HasJob, IsDoneOn, IsDoneOut, Stays}
 use Rattle.rule_model.specs.Legal.{Answered}
-use Rattle.rule_model.specs.Operations.{Closes, ClosesOf, Open, OperationChange, Returns, SameOperations, as_returned, has_busy, has_number, is_busy, is_of, open_after, open_of, operation_at, operation_change, output_of, returns, step_of}
+use Rattle.rule_model.specs.Operations.{Closes, ClosesOf, Open, OperationChange, Returns, SameOperations, as_returned, has_number, is_busy, is_of, open_after, output_of, returns, step_of}
 use Rattle.rule_model.specs.Setup.{Setup}
 use Rattle.rule_model.specs.StepFacts.{brought_by}
 use Rattle.rule_model.specs.Tickets.{ComesBack, Entered, ticket_after, ticket_at, ticket_change}
@@ -160,7 +161,7 @@ module _ (setup : Setup) (past : History) (old : Tables) (caller : Caller) (tick
       let same : operation_change setup past (event_by caller (Leave ticket)) [] (Stopped NoTicket) ≡ SameOperations = ap returns none in
       let stays : Stays setup past (Left (Stopped NoTicket)) = stays_same setup past (event_by caller (Leave ticket)) [] (Stopped NoTicket) same in
       record {
-        follows = Answered (record { drew = refl; is_answer = sym (ap (leaving setup past) none) });
+        follows = λ ready. Answered (record { ready = ready; drew = refl; is_answer = sym (ap (leaving setup past) none) });
         stands = record {
           clients = clients_stay setup past (event_by caller (Leave ticket)) [] (Stopped NoTicket) old.clients old.clients stands.clients (same_tables old).clients refl refl;
           keys = keys_stay setup past (Left (Stopped NoTicket)) old old stands.keys (same_tables old).keys (quiet_stored setup past (event_by caller (Leave ticket)) [] (Stopped NoTicket) refl refl);
@@ -226,7 +227,7 @@ module _ (setup : Setup) (past : History) (old : Tables) (caller : Caller) (tick
         let stays : Stays setup past (Left Reply_of) = stays_by setup past event [] Reply_of change is stands.tickets.busy
         (λ t e x after named b found. moved.keeps e.op x (other_op t e x after named found) found) in
         record {
-          follows = Answered (record { drew = refl; is_answer = ap (given_or entered.work) (came o entered.work back done_is ∙ ap (λ found. output_of found entered.work) (sym is_open)) ∙ sym (ap (leaving setup past) is_out) });
+          follows = λ ready. Answered (record { ready = ready; drew = refl; is_answer = ap (given_or entered.work) (came o entered.work back done_is ∙ ap (λ found. output_of found entered.work) (sym is_open)) ∙ sym (ap (leaving setup past) is_out) });
           stands = record {
             clients = clients_stay setup past event [] Reply_of old.clients new.clients stands.clients taken.clients (leave_client caller ticket entered.work back.result) no_connect;
             keys = keys_stay setup past (Left Reply_of) old new stands.keys taken.keys (quiet_stored setup past event [] Reply_of refl (no_disk_fault entered.work back.result done_is.refuses));
@@ -405,7 +406,7 @@ module _ (setup : Setup) (past : History) (old : Tables) (caller : Caller) (stan
   stays_connected rule code e =
       let none : operation_change setup past (event_by caller Disconnect) [] (Broken rule code) ≡ SameOperations = either (Rattle.step_rules.specs.Table.ends_operation rule) in
       record {
-        follows = Answered (record { drew = refl; is_answer = sym (ap (λ found. broken_or found (Done no_fields)) e) ∙ ap (λ c. answer_by_rules Disconnect setup past c []) same_caller });
+        follows = λ ready. Answered (record { ready = ready; drew = refl; is_answer = sym (ap (λ found. broken_or found (Done no_fields)) e) ∙ ap (λ c. answer_by_rules Disconnect setup past c []) same_caller });
         stands = denied_tables setup past (event_by caller Disconnect) [] (Broken rule code) old old stands (same_tables old) refl refl none refl;
         has_job = refl;
         stays = stays_same setup past (event_by caller Disconnect) [] (Broken rule code) none;
@@ -422,7 +423,7 @@ module _ (setup : Setup) (past : History) (old : Tables) (caller : Caller) (stan
       let stays : Stays setup past (Acted event [] reply ∷ past) = stays_by setup past event [] reply (ClosesOf caller.client) refl stands.tickets.busy
       (λ t entered x after named b found. without_client caller.client (open_of setup past) idle entered.op x found b) in
       record {
-        follows = Answered (record { drew = refl; is_answer = sym (ap (λ found. broken_or found (Done no_fields)) e) ∙ ap (λ c. answer_by_rules Disconnect setup past c []) same_caller });
+        follows = λ ready. Answered (record { ready = ready; drew = refl; is_answer = sym (ap (λ found. broken_or found (Done no_fields)) e) ∙ ap (λ c. answer_by_rules Disconnect setup past c []) same_caller });
         stands = record {
           clients = record {
             uids = λ client. ended.goes client ∙ ap (λ u. Rattle.rule_model.specs.Clients.uid_after (Rattle.rule_model.specs.Clients.Goes caller.client) client u) (stands.clients.uids client);

@@ -1,3 +1,4 @@
+pub mod Ready
 pub mod KeyTable
 pub mod Listings
 pub mod Drawn
@@ -8,6 +9,7 @@ pub mod Booted
 pub mod Standing
 pub mod Written
 pub mod Storing
+pub mod Settled
 pub mod Reading
 pub mod Making
 pub mod Begun

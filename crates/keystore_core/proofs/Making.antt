@@ -1,5 +1,5 @@
 -- A new key: its answer, and the tables after it.
-use Rattle.std.proofs.Common.{◌≡◌, ℕ, ◌+◌, ◌<◌, ◌≤◌, Bool, true, false, ◌&&◌, ◌||◌, List, [], ◌∷◌, length, Option, Some, None, Result, Ok, Err, if◌then◌else◌, ◌==◌, ◌^◌, arith, refl, sym, ap, ◌∙◌, subst}
+use Rattle.std.proofs.Common.{◌≡◌, ℕ, ◌+◌, ◌<◌, ◌≤◌, Bool, true, false, ◌&&◌, ◌||◌, IsTrue, inr, List, [], ◌∷◌, length, Option, Some, None, Result, Ok, Err, if◌then◌else◌, ◌==◌, ◌^◌, arith, refl, sym, ap, ◌∙◌, subst}
 use Rattle.std.specs.Option.{option_map}
 use Rattle.std.specs.Prelude.{is_none, unwrap_or}
 use Rattle.std.proofs.lemmas.Bool.{and_parts, eq-eqb, le-leb, lt-ltb}
@@ -45,10 +45,10 @@ use Rattle.rule_model.specs.Clients.{caller_of}
 use Rattle.rule_model.specs.Drawn.{size_of, wanted, wanted_by_key, wanted_by_rules}
 use Rattle.rule_model.specs.Entries.{History, is_done}
 use Rattle.rule_model.specs.Jobs.{HasJob}
-use Rattle.rule_model.specs.Kept.{kept}
-use Rattle.rule_model.specs.Legal.{MayFollow, Answered, WithoutEntropy, WithoutMemory}
+use Rattle.rule_model.specs.Kept.{kept, open_of, operation_change}
+use Rattle.rule_model.specs.Legal.{MayFollow, is_ready, Answered, WithoutEntropy, WithoutMemory}
 use Rattle.rule_model.specs.NewFacts.{new_facts}
-use Rattle.rule_model.specs.Operations.{SameOperations, operation_change}
+use Rattle.rule_model.specs.Operations.{SameOperations}
 use Rattle.rule_model.specs.Places.{has_key_place}
 use Rattle.rule_model.specs.Settling.{is_disk_fault}
 use Rattle.rule_model.specs.Stored.{change_by, stored_bytes, where_stored}
@@ -68,6 +68,7 @@ use Rattle.keystore_core.proofs.Written.{goes_from, told_follows, told_job, told
 use Rattle.keystore_core.specs.Tables.{AnswersAfter, IsCaller, SameTables, TablesStand, event_by}
 use Rattle.keystore_core.specs.Device.{early_in}
 use Rattle.keystore_core.proofs.Booted.{boot_stays}
+use Rattle.keystore_core.proofs.Ready.{ready_settled}
 use Rattle.keystore_core.proofs.Opened.{stays_same}
 use Rattle.keystore_core.proofs.Standing.{called, clients_stay, denied_tables, operations_stay, quiet, same_tables, slots_stay, tickets_stay}
 
@@ -267,21 +268,22 @@ module _ (setup : Setup) (past : History) (tables : Tables) (caller : Caller) (k
 
   -- an answer that admits nothing
   answered : (drawn : List ℕ) (reply : Reply) → is_done reply ≡ false → length drawn ≡ size_of (wanted_by_rules (making key params import) setup past caller)
-      → reply ≡ answer_by_rules (making key params import) setup past caller drawn → MayFollow setup past Making drawn reply
-  answered drawn reply denied drew is =
-      let change : Option Change = change_of (making key params import) (device_at setup past) setup.policy (kept setup past) caller drawn in
+      → reply ≡ answer_by_rules (making key params import) setup past caller drawn → IsTrue (is_ready past (making key params import)) → MayFollow setup past Making drawn reply
+  answered drawn reply denied drew is ready =
+      let change : Option Change = change_of (making key params import) (device_at setup past) setup.policy (kept setup past) (open_of setup past) caller drawn in
       Answered (record {
+        ready = ready;
         drew = drew_as drawn drew;
         is_answer = told_as drawn reply (sym (denied_stands (stored_bytes setup past) change reply denied) ∙ ap (where_stored (stored_bytes setup past) change) is);
       })
 
   undrawn_is : (i : Option Import) (drawn : List ℕ) → length drawn < size_of (wanted_by_rules (making key params i) setup past (caller_of past (event_by caller (making key params i))))
-      → MayFollow setup past (event_by caller (making key params i)) drawn (Stopped EntropyFault)
-  undrawn_is None drawn few = WithoutEntropy (record { drew = few; is_fault = refl })
-  undrawn_is (Some i) drawn few = WithoutEntropy (record { drew = few; is_fault = refl })
+      → IsTrue (is_ready past (making key params i)) → MayFollow setup past (event_by caller (making key params i)) drawn (Stopped EntropyFault)
+  undrawn_is None drawn few ready = WithoutEntropy (record { ready = ready_settled past (making key params None) refl ready; drew = few; is_fault = refl })
+  undrawn_is (Some i) drawn few ready = WithoutEntropy (record { ready = ready_settled past (making key params (Some i)) refl ready; drew = few; is_fault = refl })
 
   -- the answer of a call that leaves all as it is
-  unmade : (new : Tables) (drawn : List ℕ) (reply : Reply) → SameTables tables new → is_done reply ≡ false → is_disk_fault reply ≡ false → MayFollow setup past Making drawn reply
+  unmade : (new : Tables) (drawn : List ℕ) (reply : Reply) → SameTables tables new → is_done reply ≡ false → is_disk_fault reply ≡ false → (IsTrue (is_ready past (making key params import)) → MayFollow setup past Making drawn reply)
       → HasJob setup (Acted Making drawn reply ∷ past) reply None → AnswersAfter setup past new Making (record { reply = reply; job = None; drawn = drawn })
   unmade new drawn reply still denied no_fault follows no_job = record {
     follows = follows;
@@ -332,9 +334,9 @@ module _ (setup : Setup) (past : History) (tables : Tables) (caller : Caller) (k
       (undrawn_is import drawn (subst (λ c. length drawn < size_of (wanted_by_rules (making key params import) setup past c)) same (subst (λ n. length drawn < n) (sym (planned_wanted plan is place)) few))) refl
 
   unkept_is : (i : Option Import) (drawn : List ℕ) → length drawn ≤ size_of (wanted_by_rules (making key params i) setup past (caller_of past (event_by caller (making key params i))))
-      → MayFollow setup past (event_by caller (making key params i)) drawn (Stopped MemoryAllocationFailed)
-  unkept_is None drawn few = WithoutMemory (record { drew = few; takes = refl; is_want = refl })
-  unkept_is (Some i) drawn few = WithoutMemory (record { drew = few; takes = refl; is_want = refl })
+      → IsTrue (is_ready past (making key params i)) → MayFollow setup past (event_by caller (making key params i)) drawn (Stopped MemoryAllocationFailed)
+  unkept_is None drawn few ready = WithoutMemory (record { ready = inr (ready_settled past (making key params None) refl ready); drew = few; takes = refl; is_want = refl })
+  unkept_is (Some i) drawn few ready = WithoutMemory (record { ready = inr (ready_settled past (making key params (Some i)) refl ready); drew = few; takes = refl; is_want = refl })
 
   -- want of memory for the blob
   pub unkept : (new : Tables) (plan : NewKey) (drawn : List ℕ) → planned Facts ≡ Ok plan → HasPlace ≡ true → SameTables tables new → length drawn ≡ plan.plan.size + 12
@@ -351,7 +353,7 @@ module _ (setup : Setup) (past : History) (tables : Tables) (caller : Caller) (k
 
   -- the change of an entry that makes a key
   made_change : (i : Option Import) (part : Lasting) (drawn : List ℕ)
-      → change_of (making key params i) (device_at setup past) setup.policy part caller drawn
+      → change_of (making key params i) (device_at setup past) setup.policy part (open_of setup past) caller drawn
       ≡ keeping part (owner_of caller) key (blob_made (device_at setup past) (plan_of (facts_of setup.policy caller key params i (has_early_ended setup past))) i drawn)
       (spelling (plan_of (facts_of setup.policy caller key params i (has_early_ended setup past))).list) (plan_of (facts_of setup.policy caller key params i (has_early_ended setup past))).limit
   made_change None part drawn = refl
@@ -379,7 +381,7 @@ module _ (setup : Setup) (past : History) (tables : Tables) (caller : Caller) (k
 
   is_change : (plan : NewKey) (drawn : List ℕ) → IsPlanned Facts plan → change_by setup past Making drawn ≡ Change_of (kept setup past) plan drawn
   is_change plan drawn is =
-      ap (λ c. change_of (making key params import) (device_at setup past) setup.policy (kept setup past) c drawn) (sym same)
+      ap (λ c. change_of (making key params import) (device_at setup past) setup.policy (kept setup past) (open_of setup past) c drawn) (sym same)
       ∙ made_change import (kept setup past) drawn
       ∙ ap (λ (p : NewKey). keeping (kept setup past) (owner_of caller) key (Blob drawn) p.list p.plan.limit) (sym is.plan_is)
       ∙ ap (λ b. keeping (kept setup past) (owner_of caller) key b plan.list plan.plan.limit) (sym (made_blob plan drawn is))
@@ -392,11 +394,11 @@ module _ (setup : Setup) (past : History) (tables : Tables) (caller : Caller) (k
   told : (change : Option Change) (fields : Fields) (drawn : List ℕ) → change_by setup past Making drawn ≡ change → Done fields ≡ answer_by_rules (making key params import) setup past caller drawn
       → answer setup past Making drawn ≡ where_stored (stored_bytes setup past) change (Done fields)
   told change fields drawn by is =
-      let own : change_of (making key params import) (device_at setup past) setup.policy (kept setup past) caller drawn ≡ change =
-      ap (λ c. change_of (making key params import) (device_at setup past) setup.policy (kept setup past) c drawn) same ∙ by in
+      let own : change_of (making key params import) (device_at setup past) setup.policy (kept setup past) (open_of setup past) caller drawn ≡ change =
+      ap (λ c. change_of (making key params import) (device_at setup past) setup.policy (kept setup past) (open_of setup past) c drawn) same ∙ by in
       sym (told_as drawn (where_stored (stored_bytes setup past) change (Done fields))
       (ap (λ c. where_stored (stored_bytes setup past) c (Done fields)) (sym own)
-      ∙ ap (where_stored (stored_bytes setup past) (change_of (making key params import) (device_at setup past) setup.policy (kept setup past) caller drawn)) is))
+      ∙ ap (where_stored (stored_bytes setup past) (change_of (making key params import) (device_at setup past) setup.policy (kept setup past) (open_of setup past) caller drawn)) is))
 
   -- a key that is made where its record has room
   pub made : (middle : Tables) (new : KeyDatabase) (plan : NewKey) (drawn : List ℕ) (reply : Reply) → planned Facts ≡ Ok plan → HasPlace ≡ true
@@ -411,7 +413,7 @@ module _ (setup : Setup) (past : History) (tables : Tables) (caller : Caller) (k
       let by : change_by setup past Making drawn ≡ change = is_change plan drawn is ∙ ap (λ part. Change_of part plan drawn) (sym before) in
       let rules : Done fields ≡ answer_by_rules (making key params import) setup past caller drawn = ap (λ part. Done (Fields_of part plan drawn)) before ∙ ruled plan drawn is place in
       record {
-        follows = told_follows setup past tables middle.keys new Making drawn fields stands.keys still.keys.store_is settled (restarts_none import) (roots_none import) change reply by
+        follows = λ ready. told_follows setup past tables middle.keys new Making drawn fields stands.keys still.keys.store_is settled (restarts_none import) (roots_none import) change reply by
             (drew_as drawn (long ∙ sym (planned_wanted plan is place))) (told change fields drawn by rules) written;
         stands = record {
           clients = clients_stay setup past Making drawn reply tables.clients middle.clients stands.clients still.clients (same_clients Making reply (moves_none key params import)) (quiet is_connect past Making drawn reply (connects_none key params import));

@@ -5,12 +5,13 @@ use Rattle.std.specs.Option.{option_or}
 use Rattle.std.proofs.lemmas.List.Folds.{find-append}
 use Rattle.std.proofs.lemmas.Bool.{cases_Bool, eqb-true, eq-eqb}
 use Rattle.auth_tokens.specs.declared.token.AuthToken.{AuthToken}
+use Rattle.rule_model.specs.Kept.{open_of, operation_at, operation_change}
 use Rattle.rule_model.specs.declared.entry.Entry.TheVariants.{Acted}
 use Rattle.rule_model.specs.declared.event.Event.{Event}
 use Rattle.rule_model.specs.declared.reply.Reply.{Reply}
 use Rattle.rule_model.specs.Entries.{History}
 use Rattle.rule_model.specs.Jobs.{Stays, but_shown}
-use Rattle.rule_model.specs.Operations.{Open, OperationChange, SameOperations, Shows, as_shown, has_number, is_busy, is_for, is_of, open_after, open_of, operation_at, operation_change, step_of, with_change, without}
+use Rattle.rule_model.specs.Operations.{Open, OperationChange, SameOperations, Shows, as_shown, has_number, is_busy, is_for, is_of, open_after, step_of, with_change, without}
 use Rattle.rule_model.specs.Setup.{Setup}
 use Rattle.rule_model.specs.Tickets.{Entered, ticket_at}
 use Rattle.keystore_core.specs.Tickets.{BusyWith}

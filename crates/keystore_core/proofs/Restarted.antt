@@ -32,6 +32,7 @@ use Rattle.keystore_core.specs.declared.tables.Tables.{Tables}
 use Rattle.keystore_core.specs.Restarting.{Forgets}
 use Rattle.keystore_core.specs.Tables.{AnswersAfter, TablesStand, event_by}
 use Rattle.keystore_core.specs.Writing.{StoreGoes}
+use Rattle.keystore_core.proofs.Ready.{ready_settled}
 use Rattle.keystore_core.proofs.Booted.{boot_after, boot_stays, same_boot}
 use Rattle.keystore_core.proofs.KeyTable.{keys_stay, same_keys}
 use Rattle.keystore_core.proofs.Opened.{stays_same}
@@ -46,7 +47,7 @@ module _ (setup : Setup) (past : History) (old : Tables) (caller : Caller) (root
 
   pub restarted : (new : Tables) → Forgets root old new → AnswersAfter setup past new Restarting (record { reply = Done no_fields; job = None; drawn = [] })
   restarted new forgets = record {
-    follows = Answered (record { drew = refl; is_answer = refl });
+    follows = λ ready. Answered (record { ready = ready; drew = refl; is_answer = refl });
     stands = record {
       clients = record { uids = λ client. forgets.goes client; given = forgets.clients_are ∙ stands.clients.given };
       keys = record {
@@ -87,7 +88,7 @@ module _ (setup : Setup) (past : History) (old : Tables) (caller : Caller) (root
   -- what was read is not what is kept
   pub other_store : AnswersAfter setup past old Restarting (record { reply = Stopped ValueCorrupted; job = None; drawn = [] })
   other_store = record {
-    follows = NotRestarted ValueCorrupted (record { drew = refl; restarts = refl; refusal = refl; is_refusal = refl });
+    follows = λ ready. NotRestarted ValueCorrupted (record { ready = ready_settled past (Restart root) refl ready; drew = refl; restarts = refl; refusal = refl; is_refusal = refl });
     stands = refused_as ValueCorrupted (record { kept_is = refl; bytes_are = refl; settled_is = refl; device_is = refl });
     has_job = refl;
     stays = stays_same setup past Restarting [] (Stopped ValueCorrupted) refl;
@@ -96,7 +97,7 @@ module _ (setup : Setup) (past : History) (old : Tables) (caller : Caller) (root
   -- a device call failed
   pub unread_store : AnswersAfter setup past old Restarting (record { reply = Stopped SystemError; job = None; drawn = [] })
   unread_store = record {
-    follows = NotRestarted SystemError (record { drew = refl; restarts = refl; refusal = refl; is_refusal = refl });
+    follows = λ ready. NotRestarted SystemError (record { ready = ready_settled past (Restart root) refl ready; drew = refl; restarts = refl; refusal = refl; is_refusal = refl });
     stands = refused_as SystemError (record { kept_is = refl; bytes_are = refl; settled_is = refl; device_is = refl });
     has_job = refl;
     stays = stays_same setup past Restarting [] (Stopped SystemError) refl;

@@ -11,6 +11,7 @@ use Rattle.auth_tokens.specs.declared.token.AuthToken.{AuthToken}
 use Rattle.cipher_ops.specs.declared.state.CipherState.{CipherState}
 use Rattle.operation_slots.specs.declared.operation.Operation.{Operation as Slot}
 use Rattle.operation_slots.specs.Table.{capacity_of, idle_value, operations_of, stamp_of}
+use Rattle.rule_model.specs.Kept.{open_of, operation_change}
 use Rattle.rule_model.specs.declared.entry.Entry.TheVariants.{Acted}
 use Rattle.rule_model.specs.declared.event.Event.{Event}
 use Rattle.rule_model.specs.declared.facts.Caller.{Caller}
@@ -23,7 +24,7 @@ use Rattle.rule_model.specs.Clients.{caller_of}
 use Rattle.rule_model.specs.Entries.{History}
 use Rattle.rule_model.specs.Jobs.{Stays}
 use Rattle.rule_model.specs.Legal.{Answered}
-use Rattle.rule_model.specs.Operations.{Open, SameOperations, Shows, as_shown, is_for, open_of, operation_change}
+use Rattle.rule_model.specs.Operations.{Open, SameOperations, Shows, as_shown, is_for}
 use Rattle.rule_model.specs.Replies.{broken_or, no_fields}
 use Rattle.rule_model.specs.Setup.{Setup}
 use Rattle.rule_model.proofs.Kept.{quiet_stored}
@@ -98,7 +99,8 @@ module _ (setup : Setup) (past : History) (tables : Tables) (caller : Caller) (t
   refused rule code e =
       let none : operation_change setup past Adding [] (Broken rule code) ≡ SameOperations = either (Rattle.step_rules.specs.Table.ends_operation rule) in
       record {
-        follows = Answered (record {
+        follows = λ ready. Answered (record {
+          ready = ready;
           drew = refl;
           is_answer = sym (ap (λ found. broken_or found (accepted_in (last_tokens setup past) token)) e) ∙ ap (λ c. answer_by_rules (adding token) setup past c []) same;
         });
@@ -130,7 +132,7 @@ module _ (setup : Setup) (past : History) (tables : Tables) (caller : Caller) (t
   pub full : (new : Tables) → add_auth_token_ruling setup.device.token caller token ≡ Ok tt → true ≡ (length (other_triples token (tokens_in tables.boot.tokens)) == 256) → RefusesToken tables new
       → AnswersAfter setup past new Adding (record { reply = Stopped TokensFull; job = None; drawn = [] })
   full new e is still = record {
-    follows = Answered (record { drew = refl; is_answer = answer_is true e is });
+    follows = λ ready. Answered (record { ready = ready; drew = refl; is_answer = answer_is true e is });
     stands = denied_tables setup past Adding [] (Stopped TokensFull) tables new stands (refused_same new still) refl refl refl refl;
     has_job = refl;
     stays = stays_same setup past Adding [] (Stopped TokensFull) refl;
@@ -142,7 +144,7 @@ module _ (setup : Setup) (past : History) (tables : Tables) (caller : Caller) (t
       let reply : Reply = Done no_fields in
       let stays : Stays setup past (Acted Adding [] reply ∷ past) = stays_shown setup past Adding [] reply token refl in
       record {
-        follows = Answered (record { drew = refl; is_answer = answer_is false e is });
+        follows = λ ready. Answered (record { ready = ready; drew = refl; is_answer = answer_is false e is });
         stands = record {
           clients = clients_stay setup past Adding [] reply tables.clients new.clients stands.clients
               (record { uids = λ client. ap (λ c. uid_in c client) takes.clients; given = ap clients_given takes.clients }) refl refl;

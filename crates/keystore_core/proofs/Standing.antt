@@ -11,6 +11,7 @@ use Rattle.cipher_ops.specs.declared.job.Done.{Done as JobDone}
 use Rattle.cipher_ops.specs.declared.room.Work.{Work}
 use Rattle.cipher_ops.specs.declared.state.CipherState.{CipherState}
 use Rattle.operation_slots.specs.Table.{IsLater, SlotTable, capacity_of, held, operations_of}
+use Rattle.rule_model.specs.Kept.{open_of, operation_at, operation_change}
 use Rattle.rule_model.specs.declared.entry.Entry.TheVariants.{Acted}
 use Rattle.rule_model.specs.declared.event.Act.{Act}
 use Rattle.rule_model.specs.declared.event.Act.TheVariants.{CreateOperation, Leave}
@@ -23,7 +24,7 @@ use Rattle.rule_model.specs.Boot.{SameBoot as NoBoot, boot_change}
 use Rattle.rule_model.specs.Clients.{SameClients as NoClients, caller_of, client_change, uid_after, uid_of}
 use Rattle.rule_model.specs.Entries.{History, admits, count_of, is_done}
 use Rattle.rule_model.specs.Jobs.{Stays, but_shown}
-use Rattle.rule_model.specs.Operations.{Open, OperationChange, SameOperations, open_after, open_of, operation_at, operation_change, step_of, stopped_operation}
+use Rattle.rule_model.specs.Operations.{Open, OperationChange, SameOperations, open_after, step_of, stopped_operation}
 use Rattle.rule_model.specs.Settling.{is_disk_fault}
 use Rattle.rule_model.specs.Setup.{Setup}
 use Rattle.rule_model.specs.Tickets.{Entered, SameTickets as NoTickets, stopped_ticket, ticket_after, ticket_at, ticket_change}

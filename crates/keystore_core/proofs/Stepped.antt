@@ -36,10 +36,10 @@ use Rattle.rule_model.specs.Replies.{broken_or, no_fields}
 use Rattle.rule_model.specs.Clients.{SameClients as NoClients, caller_of, client_change}
 use Rattle.rule_model.specs.Entries.{History, admits, count_of}
 use Rattle.rule_model.specs.Jobs.{HasJob, IsJobOn, IsJobOut, Stays}
-use Rattle.rule_model.specs.Kept.{is_live}
+use Rattle.rule_model.specs.Kept.{is_live, open_of, operation_at, operation_change}
 use Rattle.rule_model.specs.Boot.{SameBoot as NoBoot, boot_change}
 use Rattle.rule_model.specs.Legal.{MayFollow, Answered}
-use Rattle.rule_model.specs.Operations.{Closes, Enters as EntersOne, Open, SameOperations, as_entered, closes, has_number, is_busy, open_after, open_of, operation_at, operation_change, operation_of, step_of}
+use Rattle.rule_model.specs.Operations.{Closes, Enters as EntersOne, Open, SameOperations, as_entered, closes, has_number, is_busy, open_after, operation_of, step_of}
 use Rattle.rule_model.specs.Setup.{Setup}
 use Rattle.rule_model.specs.StepFacts.{brought_by, brought_by_abort, facts_of, has_ended, step_facts}
 use Rattle.rule_model.specs.Tickets.{Entered, GoesOut, SameTickets as NoTickets, next_ticket, ticket_after, ticket_at, ticket_change}

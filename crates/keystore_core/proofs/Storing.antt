@@ -72,6 +72,16 @@ malformed_goes g disk keys restarts change rule code = denied_goes g disk keys k
 
 -- ---- a step
 
+same_use : (row : Option Row) (o : Option Open) → BothFound IsRow row o → option_or (option_map changes.Use (used_of row)) None ≡ option_map changes.Use (option_and_then limited_key o)
+same_use None None both = refl
+same_use (Some row) (Some o) r = rw (r.limited, r.key) (either o.operation.limited o.operation.key) where
+  either : (b : Bool) (key : Option ℕ) → option_or (option_map changes.Use (if b then key else None)) None ≡ option_map changes.Use (if b then key else None)
+  either true None = refl
+  either true (Some id) = refl
+  either false key = refl
+same_use None (Some o) both = absurd both
+same_use (Some row) None both = absurd both
+
 module _ {D : Type 0} (g : Ghosts D) (setup : Setup) (past : History) (old new : Tables) (disk later : D) (event : Event) (answered : Answered) (stands : TablesStand setup old past)
     (settled : is_unsettled old.keys ≡ false) (goes : StoreAnswers g old new disk later event answered) where
   idle : waits past ≡ false
@@ -80,12 +90,19 @@ module _ {D : Type 0} (g : Ghosts D) (setup : Setup) (past : History) (old new :
   caller_is : caller_by old event ≡ caller_of past event
   caller_is = ap (λ uid. record { reading = event.reading; client = event.client; uid = uid }) (stands.clients.uids event.client)
 
+  -- what a finish uses is told by the operation's row
+  use_is : (act : Act) (device : DeviceSecrets) (policy : List PolicyRow) (part : Lasting) (caller : Caller) (drawn : List ℕ)
+      → option_or (use_by old act) (change_of act device policy part [] caller drawn) ≡ change_of act device policy part (open_of setup past) caller drawn
+  use_is (EnterFinish op input signature) device policy part caller drawn = same_use (operation_in old.operations op) (operation_at setup past op) (row_found setup past old op stands)
+  use_is _ device policy part caller drawn = refl
+
   change_is : change_for old (caller_by old event) event.act answered ≡ change_by setup past event answered.drawn
   change_is =
-      ap (λ d. change_of event.act d old.policy (lasting old.keys) (caller_by old event) answered.drawn) stands.keys.device_is
-      ∙ ap (λ p. change_of event.act (device_at setup past) p (lasting old.keys) (caller_by old event) answered.drawn) stands.keys.policy_is
-      ∙ ap (λ part. change_of event.act (device_at setup past) setup.policy part (caller_by old event) answered.drawn) stands.keys.lasting_is
-      ∙ ap (λ c. change_of event.act (device_at setup past) setup.policy (kept setup past) c answered.drawn) caller_is
+      use_is event.act old.device old.policy (lasting old.keys) (caller_by old event) answered.drawn
+      ∙ ap (λ d. change_of event.act d old.policy (lasting old.keys) (open_of setup past) (caller_by old event) answered.drawn) stands.keys.device_is
+      ∙ ap (λ p. change_of event.act (device_at setup past) p (lasting old.keys) (open_of setup past) (caller_by old event) answered.drawn) stands.keys.policy_is
+      ∙ ap (λ part. change_of event.act (device_at setup past) setup.policy part (open_of setup past) (caller_by old event) answered.drawn) stands.keys.lasting_is
+      ∙ ap (λ c. change_of event.act (device_at setup past) setup.policy (kept setup past) (open_of setup past) c answered.drawn) caller_is
 
   next : after_reply (is_restart event.act) (change_for old (caller_by old event) event.act answered) answered.reply (holding_of setup past)
       ≡ holding_of setup (Acted event answered.drawn answered.reply ∷ past)

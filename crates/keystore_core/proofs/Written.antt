@@ -19,6 +19,7 @@ use Rattle.key_database.specs.Store.{Between}
 use Rattle.key_database.proofs.Rereading.{same_bytes, same_holds, same_settled, same_twice}
 use Rattle.rule_model.specs.declared.entry.Entry.TheVariants.{Acted}
 use Rattle.rule_model.specs.declared.event.Act.{Act}
+use Rattle.rule_model.specs.declared.event.Act.TheVariants.{EnterFinish}
 use Rattle.rule_model.specs.declared.event.Event.{Event}
 use Rattle.rule_model.specs.declared.facts.Caller.{Caller}
 use Rattle.rule_model.specs.declared.reply.Fields.{Fields}
@@ -42,11 +43,12 @@ use Rattle.keystore_core.specs.declared.answered.Answered.{Answered}
 use Rattle.keystore_core.specs.declared.tables.Tables.{Tables}
 use Rattle.keystore_core.specs.Keys.{AreSettled, KeysStand, SameKeys}
 use Rattle.keystore_core.proofs.KeyTable.{keys_stay}
-use Rattle.keystore_core.specs.Writing.{Full, HasMade, IsTorn, IsWritten, IsWrittenIf, LeavesStore, Made, StoreGoes, StoreGoesFor, Torn, change_for}
+use Rattle.keystore_core.proofs.Ready.{idle_ready, idle_settled}
+use Rattle.keystore_core.specs.Writing.{Full, HasMade, IsTorn, IsWritten, IsWrittenIf, LeavesStore, Made, StoreGoes, StoreGoesFor, Torn, change_for, use_by}
 
 -- ---- a change that is written
 
-closed_length : (change : Change) → change_bytes change ≡ record_bytes change + 1
+pub closed_length : (change : Change) → change_bytes change ≡ record_bytes change + 1
 closed_length change = omega (arith, length-append (tail_of change) (0 ∷ []))
 
 pub room_left : (bytes : ℕ) (change : Change) → (268435456 < bytes + change_bytes change → ⊥) → has_record_room bytes change ≡ true
@@ -125,11 +127,12 @@ module _ (setup : Setup) (past : History) (tables : Tables) (middle new : KeyDat
   pub written_follows : (reply : Reply) → length drawn ≡ size_of (wanted setup past event) → answer setup past event drawn ≡ where_stored (stored_bytes setup past) (Some change) (Done fields)
       → IsWritten middle new change fields reply → MayFollow setup past event drawn reply
   written_follows reply drew told (Made made e) =
-      AnsweredBy (record { drew = drew; is_answer = e ∙ sym (told ∙ ap (λ b. if b then Done fields else Stopped JournalFull) (room_is true made.room)) })
+      AnsweredBy (record { ready = idle_ready past event.act idle; drew = drew; is_answer = e ∙ sym (told ∙ ap (λ b. if b then Done fields else Stopped JournalFull) (room_is true made.room)) })
   written_follows reply drew told (Full same room e) =
-      AnsweredBy (record { drew = drew; is_answer = e ∙ sym (told ∙ ap (λ b. if b then Done fields else Stopped JournalFull) (room_is false room)) })
+      AnsweredBy (record { ready = idle_ready past event.act idle; drew = drew; is_answer = e ∙ sym (told ∙ ap (λ b. if b then Done fields else Stopped JournalFull) (room_is false room)) })
   written_follows reply drew told (Torn torn e) =
       Faulted (record {
+        ready = idle_settled past idle;
         drew = drew;
         admitted = ap is_done (told ∙ ap (λ b. if b then Done fields else Stopped JournalFull) (room_is true torn.room));
         writes = ap is_some is;
@@ -162,7 +165,7 @@ module _ (setup : Setup) (past : History) (tables : Tables) (middle new : KeyDat
 
   pub told_follows : (change : Option Change) (reply : Reply) → change_by setup past event drawn ≡ change → length drawn ≡ size_of (wanted setup past event)
       → answer setup past event drawn ≡ where_stored (stored_bytes setup past) change (Done fields) → IsWrittenIf middle new change fields reply → MayFollow setup past event drawn reply
-  told_follows None reply is drew told written = AnsweredBy (record { drew = drew; is_answer = written.1 ∙ sym told })
+  told_follows None reply is drew told written = AnsweredBy (record { ready = idle_ready past event.act (sym stands.settled_is ∙ settled); drew = drew; is_answer = written.1 ∙ sym told })
   told_follows (Some change) reply is drew told written = written_follows setup past tables middle new event drawn change fields stands still settled no_restart no_root is reply drew told written
 
   pub told_job : (change : Option Change) (reply : Reply) → change_by setup past event drawn ≡ change → HasJob setup (Acted event drawn (Done fields) ∷ past) (Done fields) None → IsWrittenIf middle new change fields reply
@@ -200,9 +203,16 @@ module _ {D : Type 0} (g : Ghosts D) (disk : D) where
   quiet_goes old new restarts (Broken rule code) same f = denied_goes old new restarts None (Broken rule code) same refl f
   quiet_goes old new restarts (Stopped code) same f = denied_goes old new restarts None (Stopped code) same refl f
 
+  no_use : (tables : Tables) (act : Act) → changes_kept act ≡ false → use_by tables act ≡ None
+  no_use tables (EnterFinish op input signature) e = cc
+  no_use tables _ e = refl
+
+  no_change_for : (tables : Tables) (caller : Caller) (act : Act) (answered : Answered) → changes_kept act ≡ false → change_for tables caller act answered ≡ None
+  no_change_for tables caller act answered e = rw (no_use tables act e) (none_changed act tables.device tables.policy (lasting tables.keys) [] caller answered.drawn e)
+
   pub leaves_goes : (old new : Tables) (caller : Caller) (act : Act) (answered : Answered) → LeavesStore old new answered → changes_kept act ≡ false → StoreGoesFor g old new disk disk caller act answered
   leaves_goes old new caller act answered leaves e =
-      subst (λ c. StoreGoes g old.keys new.keys disk disk (is_restart act) c answered.reply) (sym (none_changed act old.device old.policy (lasting old.keys) caller answered.drawn e))
+      subst (λ c. StoreGoes g old.keys new.keys disk disk (is_restart act) c answered.reply) (sym (no_change_for old caller act answered e))
       (quiet_goes old.keys new.keys (is_restart act) answered.reply leaves.keys.store_is leaves.no_fault)
 
 -- with other room before

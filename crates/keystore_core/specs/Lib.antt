@@ -16,6 +16,7 @@ pub mod Tables
 pub mod Leaving
 pub mod TokenCalls
 pub mod Restarting
+pub mod Settling
 pub mod Beginning
 pub mod Stepping
 pub mod Engine

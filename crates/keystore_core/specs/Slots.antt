@@ -4,9 +4,10 @@ use Rattle.cipher_ops.specs.declared.state.CipherState.{CipherState}
 use Rattle.cipher_ops.specs.Standing.{StandsFor}
 use Rattle.operation_slots.specs.declared.operation.Operation.{Operation}
 use Rattle.operation_slots.specs.Table.{IsLater, SlotTable, capacity_of, client_of, held, idle_value, number_of, operations_of, stamp_of, uid_of}
+use Rattle.rule_model.specs.Kept.{open_of}
 use Rattle.rule_model.specs.Acts.{is_begin}
 use Rattle.rule_model.specs.Entries.{History, count_of}
-use Rattle.rule_model.specs.Operations.{Open, open_of}
+use Rattle.rule_model.specs.Operations.{Open}
 use Rattle.rule_model.specs.Setup.{Setup}
 use Rattle.keystore_core.specs.Alike.{Alike}
 

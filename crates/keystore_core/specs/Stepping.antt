@@ -1,5 +1,5 @@
 -- The steps of an open operation.
-use Rattle.std.specs.Prelude.{◌≡◌, ℕ, ◌+◌, ◌≤◌, Bool, true, false, List, length, Option, Some, None, Result, Ok, Err}
+use Rattle.std.specs.Prelude.{◌≡◌, ℕ, ◌+◌, ◌≤◌, Bool, true, false, List, length, Option, Some, None, option_map, Result, Ok, Err}
 use Rattle.tags.specs.declared.code.Code.{Code}
 use Rattle.tags.specs.declared.plan.Plan.{Plan}
 use Rattle.tags.specs.declared.rule.Rule.{Rule}
@@ -16,6 +16,11 @@ use Rattle.cipher_ops.specs.Jobs.{JobFor, ticket_of}
 use Rattle.cipher_ops.specs.Running.{CanRun, GoesOn, IsRoom, MayCome}
 use Rattle.cipher_ops.specs.Sizes.{own_text}
 use Rattle.operation_slots.specs.Table.{FindsChanged, FindsNoMore, Gives, IsSound, KeepsLater, KeepsLaterThan, Takes, TakesOut, given_back, made_busy}
+use Rattle.journal_records.specs.declared.change.Change.{Change}
+use Rattle.journal_records.specs.declared.change.Change.TheVariants as changes
+use Rattle.key_database.specs.Held.{CanMake}
+use Rattle.key_database.specs.Stands.{table_of}
+use Rattle.keystore_core.specs.Writing.{used_of}
 use Rattle.rule_model.specs.declared.event.Act.{Act}
 use Rattle.rule_model.specs.declared.event.Act.TheVariants.{EnterAad, EnterUpdate, EnterFinish}
 use Rattle.rule_model.specs.declared.facts.Brought.{Brought}
@@ -31,7 +36,7 @@ use Rattle.keystore_core.specs.Boot.{SameBoot}
 use Rattle.keystore_core.specs.Clients.{SameClients}
 use Rattle.keystore_core.specs.Keys.{SameKeys}
 use Rattle.keystore_core.specs.Leaving.{ClosesOne}
-use Rattle.keystore_core.specs.Operations.{ChangesRow, DropsRow}
+use Rattle.keystore_core.specs.Operations.{ChangesRow, DropsRow, operation_in}
 use Rattle.keystore_core.specs.Tables.{state_at}
 use Rattle.keystore_core.specs.Tickets.{GivesTicket, TakesTicket, tickets_given}
 
@@ -47,6 +52,21 @@ added_for _ input = record { aad = 0; text = input }
 
 abbrev pub added_by : Brought → Added
 added_by brought = added_for brought.kind brought.input
+
+-- the stored key that a finish on an operation uses once, and that change
+abbrev pub used_for : StepKind → Tables → ℕ → Option ℕ
+used_for kinds.Finish tables op = used_of (operation_in tables.operations op)
+used_for _ tables op = None
+
+abbrev pub used_in : Tables → ℕ → StepKind → Option ℕ
+used_in tables op kind = used_for kind tables op
+
+abbrev pub spent : Tables → ℕ → StepKind → Option Change
+spent tables op kind = option_map changes.Use (used_in tables op kind)
+
+-- it may be made
+abbrev pub CanSpend : Tables → ℕ → StepKind → Type 0
+CanSpend tables op kind = (id : ℕ) → used_in tables op kind ≡ Some id → CanMake (table_of tables.keys) (changes.Use id)
 
 -- additional data puts out nothing
 abbrev pub reply_of : StepKind → Result (List ℕ) Code → Reply

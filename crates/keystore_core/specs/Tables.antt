@@ -1,5 +1,5 @@
 -- When the engine's tables stand for a history, and what an act makes of them.
-use Rattle.std.specs.Prelude.{◌≡◌, ℕ, ◌≤◌, ◌∷◌, length, Option, Result, Ok, Err}
+use Rattle.std.specs.Prelude.{◌≡◌, ℕ, ◌≤◌, IsTrue, ◌∷◌, length, Option, Result, Ok, Err}
 use Rattle.tags.specs.declared.bytes.NoMemory.{NoMemory}
 use Rattle.cipher_ops.specs.declared.job.Done.{Done}
 use Rattle.cipher_ops.specs.declared.state.CipherState.{CipherState}
@@ -10,7 +10,7 @@ use Rattle.rule_model.specs.declared.event.Act.{Act}
 use Rattle.rule_model.specs.declared.facts.Caller.{Caller}
 use Rattle.rule_model.specs.Entries.{History}
 use Rattle.rule_model.specs.Jobs.{HasDone, HasJob, Stays}
-use Rattle.rule_model.specs.Legal.{MayFollow}
+use Rattle.rule_model.specs.Legal.{MayFollow, is_ready}
 use Rattle.rule_model.specs.Operations.{step_of}
 use Rattle.rule_model.specs.Setup.{Setup}
 use Rattle.keystore_core.specs.declared.answered.Answered.{Answered}
@@ -76,10 +76,10 @@ IsCaller tables caller = caller.uid ≡ uid_in tables.clients caller.client
 abbrev pub event_by : Caller → Act → Event
 event_by caller act = record { reading = caller.reading; client = caller.client; act = act }
 
--- An answer may follow a history, and the tables stand for the history with its entry. It has a job where it gives a ticket,
--- and the operations of the works that are out stay.
+-- An answer may follow a history after which its act may come, and the tables stand for the history with its entry. It has a job
+-- where it gives a ticket, and the operations of the works that are out stay.
 pub record AnswersAfter (setup : Setup) (past : History) (new : Tables) (event : Event) (answered : Answered) : Type 0 where
-  pub follows : MayFollow setup past event answered.drawn answered.reply
+  pub follows : IsTrue (is_ready past event.act) → MayFollow setup past event answered.drawn answered.reply
   pub stands : TablesStand setup new (Acted event answered.drawn answered.reply ∷ past)
   pub has_job : HasJob setup (Acted event answered.drawn answered.reply ∷ past) answered.reply answered.job
   pub stays : Stays setup past (Acted event answered.drawn answered.reply ∷ past)

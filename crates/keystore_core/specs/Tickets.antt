@@ -5,9 +5,10 @@ use Rattle.std.specs.Option.{option_flatten}
 use Rattle.std.specs.Ordering.{nat_cmp}
 use Rattle.tags.specs.Plan.{OPERATION_BYTES}
 use Rattle.cipher_ops.specs.declared.room.Work.{Work}
+use Rattle.rule_model.specs.Kept.{operation_at}
 use Rattle.rule_model.specs.Acts.{is_enter}
 use Rattle.rule_model.specs.Entries.{History, count_of}
-use Rattle.rule_model.specs.Operations.{Open, operation_at}
+use Rattle.rule_model.specs.Operations.{Open}
 use Rattle.rule_model.specs.Setup.{Setup}
 use Rattle.rule_model.specs.StepFacts.{brought_by, input_of}
 use Rattle.rule_model.specs.Tickets.{Entered, ticket_at}

@@ -1,17 +1,19 @@
 -- What an act does to the store.
-use Rattle.std.specs.Prelude.{◌≡◌, ℕ, ◌+◌, Bool, true, false, Option, Some, None, Result, Ok, Err}
+use Rattle.std.specs.Prelude.{◌≡◌, ℕ, ◌+◌, Bool, true, false, [], Option, Some, None, option_map, option_or, if◌then◌else◌, Result, Ok, Err}
 use Rattle.tags.specs.declared.bytes.NoMemory.{NoMemory}
 use Rattle.tags.specs.declared.code.Code.TheVariants.{JournalFull, MemoryAllocationFailed, SystemError}
 use Rattle.ks_outside.specs.declared.disk.Disk.{Ghosts}
 use Rattle.ks_outside.specs.Faults.{CountsFaults}
 use Rattle.ks_outside.specs.Images.{Passes, tells}
 use Rattle.journal_records.specs.declared.change.Change.{Change}
+use Rattle.journal_records.specs.declared.change.Change.TheVariants as changes
 use Rattle.journal_records.specs.Effects.{after}
 use Rattle.journal_records.specs.Holding.{Holding}
 use Rattle.key_database.specs.declared.database.KeyDatabase.{KeyDatabase}
 use Rattle.key_database.specs.Stands.{Holds, SameStore, is_unsettled, lasting, store_bytes}
 use Rattle.key_database.specs.Store.{Between}
 use Rattle.rule_model.specs.declared.event.Act.{Act}
+use Rattle.rule_model.specs.declared.event.Act.TheVariants.{EnterFinish}
 use Rattle.rule_model.specs.declared.event.Event.{Event}
 use Rattle.rule_model.specs.declared.facts.Caller.{Caller}
 use Rattle.rule_model.specs.declared.reply.Fields.{Fields}
@@ -23,7 +25,9 @@ use Rattle.rule_model.specs.Settling.{is_disk_fault}
 use Rattle.rule_model.specs.Stored.{after_reply, has_record_room, record_bytes}
 use Rattle.keystore_core.specs.declared.answered.Answered.{Answered}
 use Rattle.keystore_core.specs.declared.tables.Tables.{Tables}
+use Rattle.keystore_core.specs.declared.operations.Operation.{Operation}
 use Rattle.keystore_core.specs.Clients.{uid_in}
+use Rattle.keystore_core.specs.Operations.{operation_in}
 use Rattle.keystore_core.specs.Keys.{SameKeys}
 
 -- a change was made, in the store and in what is held
@@ -65,9 +69,18 @@ pub record LeavesStore (old new : Tables) (answered : Answered) : Type 0 where
   pub keys : SameKeys old new
   pub no_fault : is_disk_fault answered.reply ≡ false
 
+-- the stored key with a use limit that a finish on an operation uses once
+abbrev pub used_of : Option Operation → Option ℕ
+used_of None = None
+used_of (Some row) = if row.limited then row.key else None
+
+abbrev pub use_by : Tables → Act → Option Change
+use_by tables (EnterFinish op input signature) = option_map changes.Use (used_of (operation_in tables.operations op))
+use_by tables _ = None
+
 -- the change that an act would make of what the tables hold
 abbrev pub change_for : Tables → Caller → Act → Answered → Option Change
-change_for tables caller act answered = change_of act tables.device tables.policy (lasting tables.keys) caller answered.drawn
+change_for tables caller act answered = option_or (use_by tables act) (change_of act tables.device tables.policy (lasting tables.keys) [] caller answered.drawn)
 
 -- the same of an act, by its answer
 abbrev pub StoreGoesFor : {D : Type 0} → Ghosts D → Tables → Tables → D → D → Caller → Act → Answered → Type 0

@@ -23,9 +23,9 @@ use cipher_ops::Done;
 use journal_records::StoreFault;
 use key_database::KeyDatabase;
 use ks_outside::{Disk, Entropy, Failed};
-use rule_model::{Event, Stepped};
+use rule_model::{Event, Reply, Stepped};
 use std::alloc::Global;
-use tags::{DeviceSecrets, NoMemory, Policy};
+use tags::{Bytes, Code, DeviceSecrets, NoMemory, Policy};
 
 /// The engine of the service.
 #[derive(Drop)]
@@ -144,6 +144,20 @@ impl Engine {
         self.tables.tickets.next()
     }
 
+    /// The step of an act that is not made, since an earlier change could not be settled. It takes no memory.
+    fn not_settled(&mut self) -> Stepped
+    {
+        self.entries += 1;
+        Stepped {
+            settled: None,
+            reply: Reply::Stopped {
+                code: Code::SystemError,
+            },
+            job: None,
+            drawn: Bytes::empty(self.alloc),
+        }
+    }
+
     /// Takes one event; a leave of a ticket that is out with what its job came back with, which no other event looks at. What
     /// the engine stood for goes on by one step: what it settled, and the event with the bytes that were drawn for it and the
     /// reply. There is a job exactly where the reply gives a ticket, which an admitted enter alone does. It is the work of its
@@ -157,7 +171,6 @@ impl Engine {
         done: Option<Done>,
     ) -> Stepped
         requires few { entries_of self.old < 2 ^ 62 }
-        requires settled { waits_in self.old ≡ false }
         requires takes { ∥ MayTake self.old event.act done ∥₁ }
         ensures stands { (setup : Setup) (past : History) → Stands setup self.old past → HasDone setup past event.act done →
             Stands setup self.new (after_step result.settled event result.drawn result.reply past) }
@@ -168,7 +181,6 @@ impl Engine {
         ensures stays { (setup : Setup) (past : History) → Stands setup self.old past → HasDone setup past event.act done →
             Stays setup past (after_step result.settled event result.drawn result.reply past) }
         ensures number { IfSome result.job (λ job. ticket_of job ≡ tickets_of self.old + 1) }
-        ensures settled { result.settled ≡ None }
         ensures entries { entries_of self.new ≡ entries_of self.old + 1 }
         ensures store { (setup : Setup) (past : History) → Stands setup self.old past → StoreStands D.Disk setup self.old disk.old past →
             StoreStands D.Disk setup self.new disk.new (after_step result.settled event result.drawn result.reply past) }
@@ -181,13 +193,20 @@ impl Engine {
         ensures cause { CountsFaults (D.fault_count disk.old) (D.fault_count disk.new) (is_disk_fault result.reply) }
         ensures drew { Drew N.Entropy entropy.old entropy.new result.drawn (is_entropy_fault result.reply) }
     {
+        let settled = match self.tables.settle_first(disk, &event.act) {
+            Ok(settled) => settled,
+            Err(Failed) => return self.not_settled(),
+        };
+        if settled.is_some() {
+            self.entries += 1;
+        }
         let step = self.entries + 1;
         let answered = self
             .tables
             .answer(self.alloc, disk, entropy, step, event, done);
         self.entries = step;
         Stepped {
-            settled: None,
+            settled,
             reply: answered.reply,
             job: answered.job,
             drawn: answered.drawn,

@@ -26,6 +26,7 @@ mod listing;
 mod operations;
 mod restarting;
 mod room;
+mod settling;
 mod stepping;
 mod tables;
 mod tickets;

@@ -1,6 +1,6 @@
 //! The enters of an open operation with additional data, text and the last text, and the abort.
 
-ghost use Rattle.std.specs.Prelude.{◌≡◌, ℕ, ◌+◌, ◌-◌, ◌^◌, ◌<◌, ◌&&◌, not, is_some, [], true, None, Ok, IfOk, IfSome, IsSome};
+ghost use Rattle.std.specs.Prelude.{◌≡◌, ℕ, ◌+◌, ◌-◌, ◌^◌, ◌<◌, ◌&&◌, not, is_some, [], true, false, Some, None, Ok, IfOk, IfSome, IsSome};
 ghost use Rattle.cipher_ops.specs.Jobs.{ticket_of};
 ghost use Rattle.step_rules.specs.Table.{ends_operation as ends};
 ghost use Rattle.operation_slots.specs.Table.{has_room as is_free};
@@ -13,18 +13,22 @@ ghost use Rattle.keystore_core.specs.Drawn.{IsUndrawn};
 ghost use Rattle.keystore_core.specs.Leaving.{ClosesOne};
 ghost use Rattle.keystore_core.specs.Operations.{HasRoomForOperation};
 ghost use Rattle.keystore_core.specs.Stepping as spec;
-ghost use Rattle.keystore_core.specs.Keys.{live_key};
+ghost use Rattle.keystore_core.specs.Keys.{AreSettled, live_key};
+ghost use Rattle.rule_model.specs.Replies.{no_fields};
 ghost use Rattle.keystore_core.specs.Tables.{IsCaller, IsTables, ServesAfter, TablesStand, event_by, row_at, state_at};
-ghost use Rattle.keystore_core.specs.Writing.{LeavesStore};
+ghost use Rattle.keystore_core.specs.Writing.{IsWrittenIf, LeavesStore, StoreGoes, StoreGoesAfter};
 ghost use Rattle.keystore_core.specs.Tickets.{HasRoomForTicket, tickets_given};
 
 use crate::answered::Answered;
 use crate::operations::{Operation, RowChange};
 use crate::tables::Tables;
 use crate::tickets::Out;
+use crate::writing::write_change;
 use cipher_ops::{Job, JobRoom, Work};
+use journal_records::Change;
+use ks_outside::Disk;
 use operation_slots::Taken;
-use rule_model::{Brought, Caller, NO_FIELDS, Reply};
+use rule_model::{Brought, Caller, Fields, NO_FIELDS, Reply};
 use std::alloc::Global;
 use step_rules::{StepFacts, StepKind, check_step, ends_operation};
 use tags::{Code, NoMemory, Plan, Rule};
@@ -175,20 +179,55 @@ impl Tables {
         Job::new(state, ticket, room)
     }
 
-    /// A client enters an operation with a work.
-    pub fn enter(
+    /// The stored key that a finish on an operation uses once: that of an operation with a use limit.
+    fn used_key(&self, op: u64, kind: StepKind) -> Option<u64>
+        ensures { result ≡ spec.used_in self.now op kind }
+    {
+        if kind != StepKind::Finish {
+            return None;
+        }
+        match self.operations.get(op) {
+            Some(operation) if operation.limited => operation.key,
+            _ => None,
+        }
+    }
+
+    /// Uses the key of an operation once, on the disk, where it has a use limit and the work is the last one; the reply gives
+    /// the ticket where nothing stood against it. It takes no memory.
+    fn spend<D: Disk>(&mut self, disk: &mut D, op: u64, kind: StepKind, ticket: u64) -> Reply
+        requires settled { AreSettled self.old }
+        requires can { spec.CanSpend self.old op kind }
+        ensures written { IsWrittenIf self.old.keys self.new.keys (spec.spent self.old op kind) (record no_fields { ticket = Some ticket }) result }
+        ensures store { StoreGoes D.Disk self.old.keys self.new.keys disk.old disk.new false (spec.spent self.old op kind) result }
+        ensures rest { self.new ≡ record self.old { keys = self.new.keys } }
+    {
+        let fields = Fields {
+            ticket: Some(ticket),
+            ..NO_FIELDS
+        };
+        match self.used_key(op, kind) {
+            Some(id) => write_change(&mut self.keys, disk, Change::Use { id }, fields),
+            None => Reply::Done(fields),
+        }
+    }
+
+    /// A client enters an operation with a work. The last work on an operation of a key with a use limit uses the key once,
+    /// on the disk, before it goes out.
+    pub fn enter<D: Disk>(
         &mut self,
         alloc: Global,
+        disk: &mut D,
         caller: Caller,
         op: u64,
         work: Work,
     ) -> Result<Answered, NoMemory>
         requires tables { ∥ IsTables self.old (2 ^ 62 - 1) ∥₁ }
         requires caller { IsCaller self.old caller }
+        requires settled { AreSettled self.old }
         ensures serves { ServesAfter self.old self.new (event_by caller (spec.entering op work)) result }
         ensures number { IfOk result (λ answered. IfSome answered.job (λ job. ticket_of job ≡ tickets_given self.old.tickets + 1)) }
         ensures drew { IfOk result (λ answered. IsUndrawn answered) }
-        ensures store { IfOk result (λ answered. LeavesStore self.old self.new answered) }
+        ensures store { StoreGoesAfter D.Disk self.old self.new disk.old disk.new caller (spec.entering op work) result }
     {
         let brought = brought_by(&work);
         let facts = self.step_facts(caller, op, brought);
@@ -198,8 +237,19 @@ impl Tables {
         let room = self.room(alloc, op, work)?;
         let ticket = self.tickets.next();
         self.tickets.reserve()?;
-        let job = self.send(Out { op, brought }, room);
-        Ok(Answered::entered(alloc, ticket, job))
+        match self.spend(disk, op, brought.kind, ticket) {
+            Reply::Done(_) => {
+                let job = self.send(Out { op, brought }, room);
+                Ok(Answered::entered(alloc, ticket, job))
+            }
+            Reply::Stopped {
+                code: Code::SystemError,
+            } => {
+                self.close(op);
+                Ok(Answered::stopped(alloc, Code::SystemError))
+            }
+            _ => Ok(Answered::stopped(alloc, Code::JournalFull)),
+        }
     }
 
     /// A client gives an operation up.

@@ -329,7 +329,7 @@ static PLACED: [Placed; 19] = [
         Some((14, Code::InvalidKeyArgument)),
     ),
     (0, true, false, None, ONCE_A_BOOT, None),
-    (0, true, false, None, ONCE, Some((16, Code::UnsupportedTag))),
+    (0, true, false, None, ONCE, None),
 ];
 
 /// The facts of an import of 20 bytes to such a place.

@@ -1,17 +1,18 @@
 -- Entries that leave the keys and grants as they are.
-use Rattle.std.proofs.Common.{◌≡◌, ℕ, ◌+◌, Bool, true, false, ◌&&◌, not, if◌then◌else◌, List, ◌∷◌, Option, Some, None, refl, sym, ap, ◌∙◌}
+use Rattle.std.proofs.Common.{◌≡◌, ℕ, ◌+◌, Bool, true, false, ◌&&◌, ◌||◌, not, if◌then◌else◌, List, ◌∷◌, Option, Some, None, refl, sym, ap, ◌∙◌}
 use Rattle.tags.specs.declared.policy.PolicyRow.{PolicyRow}
 use Rattle.tags.specs.declared.secrets.DeviceSecrets.{DeviceSecrets}
 use Rattle.tags.specs.declared.settled.Settled.{Settled}
+use Rattle.tags.specs.declared.settled.Settled.TheVariants.{Kept, Lost}
 use Rattle.tags.specs.declared.code.Code.{Code}
 use Rattle.tags.specs.declared.code.Code.TheVariants.{SystemError}
 use Rattle.journal_records.specs.declared.change.Change.{Change}
 use Rattle.journal_records.specs.Effects.{after}
-use Rattle.journal_records.specs.Holding.{Sure, Unsure}
+use Rattle.journal_records.specs.Holding.{IsMember, Sure, Unsure, settled_in}
 use Rattle.journal_records.specs.LastingPart.{Lasting}
-use Rattle.rule_model.specs.declared.entry.Entry.TheVariants.{Acted}
+use Rattle.rule_model.specs.declared.entry.Entry.TheVariants.{Acted, Settling}
 use Rattle.rule_model.specs.declared.event.Act.{Act}
-use Rattle.rule_model.specs.declared.event.Act.TheVariants.{GenerateKey, ImportKey, DeleteKey, Grant, Ungrant, ClearNamespace, UserRemoved, Restart}
+use Rattle.rule_model.specs.declared.event.Act.TheVariants.{GenerateKey, ImportKey, EnterFinish, DeleteKey, Grant, Ungrant, ClearNamespace, UserRemoved, Restart}
 use Rattle.rule_model.specs.declared.event.Event.{Event}
 use Rattle.rule_model.specs.declared.facts.Caller.{Caller}
 use Rattle.rule_model.specs.declared.reply.Fields.{Fields}
@@ -22,15 +23,17 @@ use Rattle.rule_model.specs.Blobs.{device_at, root_given, root_of}
 use Rattle.rule_model.specs.Changes.{after_change, change_of}
 use Rattle.rule_model.specs.Clients.{caller_of}
 use Rattle.rule_model.specs.Entries.{History, is_done}
-use Rattle.rule_model.specs.Kept.{kept, kept_after, kept_settled}
+use Rattle.rule_model.specs.Kept.{kept, kept_after, kept_settled, open_of}
+use Rattle.rule_model.specs.Operations.{Open}
 use Rattle.rule_model.specs.Settling.{is_disk_fault, is_faulted, is_system_error, is_unsettled}
 use Rattle.rule_model.specs.Setup.{Setup}
-use Rattle.rule_model.specs.Stored.{after_reply, bytes_if, bytes_settled, bytes_with, change_by, holding_of, made_by, record_bytes, stored_bytes, torn_by, where_stored}
+use Rattle.rule_model.specs.Stored.{May, MayWhere, after_reply, bytes_if, bytes_settled, bytes_with, change_by, holding_of, made_by, record_bytes, stored_bytes, torn_by, where_stored}
 
 -- the acts that change the keys, the grants or the root of trust where they are admitted
 abbrev pub changes_kept : Act → Bool
 changes_kept (GenerateKey key params) = true
 changes_kept (ImportKey key params format material) = true
+changes_kept (EnterFinish op input signature) = true
 changes_kept (DeleteKey key) = true
 changes_kept (Grant key uid bits) = true
 changes_kept (Ungrant key uid) = true
@@ -39,16 +42,17 @@ changes_kept (UserRemoved user) = true
 changes_kept (Restart root) = true
 changes_kept _ = false
 
-pub none_changed : (act : Act) (device : DeviceSecrets) (policy : List PolicyRow) (part : Lasting) (caller : Caller) (drawn : List ℕ) → changes_kept act ≡ false → change_of act device policy part caller drawn ≡ None
-none_changed (GenerateKey key params) device policy part caller drawn e = cc
-none_changed (ImportKey key params format material) device policy part caller drawn e = cc
-none_changed (DeleteKey key) device policy part caller drawn e = cc
-none_changed (Grant key uid bits) device policy part caller drawn e = cc
-none_changed (Ungrant key uid) device policy part caller drawn e = cc
-none_changed (ClearNamespace domain nspace) device policy part caller drawn e = cc
-none_changed (UserRemoved user) device policy part caller drawn e = cc
-none_changed (Restart root) device policy part caller drawn e = cc
-none_changed _ device policy part caller drawn e = refl
+pub none_changed : (act : Act) (device : DeviceSecrets) (policy : List PolicyRow) (part : Lasting) (opened : List Open) (caller : Caller) (drawn : List ℕ) → changes_kept act ≡ false → change_of act device policy part opened caller drawn ≡ None
+none_changed (GenerateKey key params) device policy part opened caller drawn e = cc
+none_changed (ImportKey key params format material) device policy part opened caller drawn e = cc
+none_changed (EnterFinish op input signature) device policy part opened caller drawn e = cc
+none_changed (DeleteKey key) device policy part opened caller drawn e = cc
+none_changed (Grant key uid bits) device policy part opened caller drawn e = cc
+none_changed (Ungrant key uid) device policy part opened caller drawn e = cc
+none_changed (ClearNamespace domain nspace) device policy part opened caller drawn e = cc
+none_changed (UserRemoved user) device policy part opened caller drawn e = cc
+none_changed (Restart root) device policy part opened caller drawn e = cc
+none_changed _ device policy part opened caller drawn e = refl
 
 none_given : (act : Act) (before : List ℕ) → changes_kept act ≡ false → root_given act before ≡ before
 none_given (Restart root) before e = cc
@@ -67,13 +71,13 @@ denied_kept setup past event drawn (Done fields) e = cc
 denied_kept setup past event drawn (Broken rule code) e = refl
 denied_kept setup past event drawn (Stopped code) e =
     uncounted (is_faulted (is_unsettled past) event.act (Stopped code)) setup past
-    (λ part. after_change (change_of event.act (device_at setup past) setup.policy part (caller_of past event) drawn) part)
+    (λ part. after_change (change_of event.act (device_at setup past) setup.policy part (open_of setup past) (caller_of past event) drawn) part)
 
 -- an entry whose act changes none
 pub same_kept : (setup : Setup) (past : History) (event : Event) (drawn : List ℕ) (reply : Reply) → changes_kept event.act ≡ false
     → kept setup (Acted event drawn reply ∷ past) ≡ kept setup past
 same_kept setup past event drawn (Done fields) e =
-    ap (λ change. after_change change (kept setup past)) (none_changed event.act (device_at setup past) setup.policy (kept setup past) (caller_of past event) drawn e)
+    ap (λ change. after_change change (kept setup past)) (none_changed event.act (device_at setup past) setup.policy (kept setup past) (open_of setup past) (caller_of past event) drawn e)
 same_kept setup past event drawn (Broken rule code) e = denied_kept setup past event drawn (Broken rule code) refl
 same_kept setup past event drawn (Stopped code) e = denied_kept setup past event drawn (Stopped code) refl
 
@@ -125,7 +129,7 @@ denied_stored setup past event drawn (Broken rule code) e f = record { kept_is =
 denied_stored setup past event drawn (Stopped code) e f = record {
   kept_is = denied_kept setup past event drawn (Stopped code) refl;
   bytes_are = uncounted_bytes (is_faulted (is_unsettled past) event.act (Stopped code)) setup past
-      (change_of event.act (device_at setup past) setup.policy (kept_settled setup (if is_faulted (is_unsettled past) event.act (Stopped code) then None else None) past) (caller_of past event) drawn);
+      (change_of event.act (device_at setup past) setup.policy (kept_settled setup (if is_faulted (is_unsettled past) event.act (Stopped code) then None else None) past) (open_of setup past) (caller_of past event) drawn);
   settled_is = rw f refl;
   device_is = refl;
 }
@@ -135,12 +139,24 @@ pub quiet_stored : (setup : Setup) (past : History) (event : Event) (drawn : Lis
     → SameStored setup past (Acted event drawn reply ∷ past)
 quiet_stored setup past event drawn (Done fields) e f = record {
   kept_is = same_kept setup past event drawn (Done fields) e;
-  bytes_are = ap (λ change. bytes_with change (stored_bytes setup past)) (none_changed event.act (device_at setup past) setup.policy (kept setup past) (caller_of past event) drawn e);
+  bytes_are = ap (λ change. bytes_with change (stored_bytes setup past)) (none_changed event.act (device_at setup past) setup.policy (kept setup past) (open_of setup past) (caller_of past event) drawn e);
   settled_is = refl;
   device_is = same_device setup past event drawn (Done fields) e;
 }
 quiet_stored setup past event drawn (Broken rule code) e f = denied_stored setup past event drawn (Broken rule code) refl f
 quiet_stored setup past event drawn (Stopped code) e f = denied_stored setup past event drawn (Stopped code) refl f
+
+-- an entry that would change nothing, and gives no root of trust
+pub unchanged_stored : (setup : Setup) (past : History) (event : Event) (drawn : List ℕ) (reply : Reply) → ((before : List ℕ) → root_given event.act before ≡ before) → change_by setup past event drawn ≡ None → is_disk_fault reply ≡ false
+    → SameStored setup past (Acted event drawn reply ∷ past)
+unchanged_stored setup past event drawn (Done fields) root e f = record {
+  kept_is = ap (λ change. after_change change (kept setup past)) e;
+  bytes_are = ap (λ change. bytes_with change (stored_bytes setup past)) e;
+  settled_is = refl;
+  device_is = ap (λ given. record setup.device { root = given }) (root (root_of setup past));
+}
+unchanged_stored setup past event drawn (Broken rule code) root e f = denied_stored setup past event drawn (Broken rule code) refl f
+unchanged_stored setup past event drawn (Stopped code) root e f = denied_stored setup past event drawn (Stopped code) refl f
 
 -- a later history keeps what an earlier one does with a change, in so many bytes more
 pub record MadeStored (setup : Setup) (past later : History) (change : Change) : Type 0 where
@@ -170,7 +186,7 @@ pub torn_stored : (setup : Setup) (past : History) (event : Event) (drawn : List
 torn_stored setup past event drawn e stays = record {
   kept_is = denied_kept setup past event drawn (Stopped SystemError) refl;
   bytes_are = uncounted_bytes (is_faulted (is_unsettled past) event.act (Stopped SystemError)) setup past
-      (change_of event.act (device_at setup past) setup.policy (kept_settled setup (if is_faulted (is_unsettled past) event.act (Stopped SystemError) then None else None) past) (caller_of past event) drawn);
+      (change_of event.act (device_at setup past) setup.policy (kept_settled setup (if is_faulted (is_unsettled past) event.act (Stopped SystemError) then None else None) past) (open_of setup past) (caller_of past event) drawn);
   waits = rw (stays, e) refl;
   device_is = refl;
 }
@@ -213,3 +229,48 @@ next_holding setup past event drawn (Stopped code) e =
       faults true true = refl
       faults true false = rw e refl
       faults false restarts = refl
+
+-- ---- where a change waits to be settled
+
+-- an entry that changes nothing whatever it is made over leaves what is known as it is: one that is not admitted, or whose act
+-- changes none
+still_kept : (setup : Setup) (past : History) (event : Event) (drawn : List ℕ) (reply : Reply) (settled : Settled) → is_unsettled past ≡ true → changes_kept event.act && is_done reply ≡ false
+    → kept setup (Settling settled ∷ Acted event drawn reply ∷ past) ≡ kept setup (Settling settled ∷ past)
+still_kept setup past event drawn (Done fields) settled waits e =
+    let quiet : changes_kept event.act ≡ false = only_left (changes_kept event.act) e in
+    ap (λ change. after_change change (kept_settled setup (Some settled) past))
+    (none_changed event.act (device_at setup past) setup.policy (kept_settled setup (Some settled) past) (open_of setup past) (caller_of past event) drawn quiet) where
+      only_left : (b : Bool) → b && true ≡ false → b ≡ false
+      only_left true f = f
+      only_left false f = refl
+still_kept setup past event drawn (Broken rule code) settled waits e = refl
+still_kept setup past event drawn (Stopped code) settled waits e = rw (not_again (is_system_error code) (is_restart event.act)) refl where
+  not_again : (system restarts : Bool) → (system && (not restarts && not (is_unsettled past))) ≡ false
+  not_again true true = refl
+  not_again true false = rw waits refl
+  not_again false restarts = refl
+
+-- what is known goes on over such an entry, and a settling ends it
+pub still_holding : (setup : Setup) (past : History) (event : Event) (drawn : List ℕ) (reply : Reply) → is_unsettled past ≡ true → changes_kept event.act && is_done reply ≡ false
+    → holding_of setup (Acted event drawn reply ∷ past) ≡ holding_of setup past
+still_holding setup past event drawn reply waits e =
+    rw (still_waits, waits)
+    (ap (λ part. Unsure part (kept setup (Settling Kept ∷ Acted event drawn reply ∷ past))) (still_kept setup past event drawn reply Lost waits e)
+    ∙ ap (λ part. Unsure (kept setup (Settling Lost ∷ past)) part) (still_kept setup past event drawn reply Kept waits e)) where
+      by_either : (b : Bool) → (b || true) ≡ true
+      by_either true = refl
+      by_either false = refl
+
+      still_waits : (is_faulted (is_unsettled past) event.act reply || is_unsettled past) ≡ true
+      still_waits = rw waits (by_either (is_faulted true event.act reply))
+
+pub settled_holding_is : (setup : Setup) (past : History) (settled : Settled) → is_unsettled past ≡ true → holding_of setup (Settling settled ∷ past) ≡ settled_in settled (holding_of setup past)
+settled_holding_is setup past Kept waits = rw waits refl
+settled_holding_is setup past Lost waits = rw waits refl
+
+-- what the store may stand for is what is known of it
+pub may_is : (setup : Setup) (past : History) (part : Lasting) → May setup past part ≡ IsMember (holding_of setup past) part
+may_is setup past part = by_waiting (is_unsettled past) where
+  by_waiting : (waits : Bool) → MayWhere waits setup past part ≡ IsMember (if waits then Unsure (kept setup (Settling Lost ∷ past)) (kept setup (Settling Kept ∷ past)) else Sure (kept setup past)) part
+  by_waiting true = refl
+  by_waiting false = refl

@@ -16,5 +16,5 @@ goes_on setup next (Acted event drawn reply ∷ past) legal = legal
 
 pub legal_step : (setup : Setup) (past : History) (settled : Option Settled) (event : Event) (drawn : List ℕ) (reply : Reply)
     → Legal setup past → MayStep setup past settled event drawn reply → Legal setup (after_step settled event drawn reply past)
-legal_step setup past None event drawn reply legal may = (may.ready, may.follows, goes_on setup (Some event) past legal)
-legal_step setup past (Some settled) event drawn reply legal may = (may.ready, may.follows, (may.settles, goes_on setup None past legal))
+legal_step setup past None event drawn reply legal may = (may.follows, goes_on setup (Some event) past legal)
+legal_step setup past (Some settled) event drawn reply legal may = (may.follows, (may.settles, goes_on setup None past legal))

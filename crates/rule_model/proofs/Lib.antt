@@ -1,8 +1,15 @@
+pub mod Admitted
 pub mod Boot
+pub mod Bounds
 pub mod Clients
 pub mod CopyLemmas
 pub mod Counting
+pub mod Held
 pub mod Kept
 pub mod Legal
 pub mod Operations
+pub mod Outputs
+pub mod Returned
 pub mod Tickets
+pub mod Uses
+pub mod UsesMet

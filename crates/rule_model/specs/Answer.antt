@@ -19,23 +19,24 @@ use Rattle.rule_model.specs.declared.facts.Caller.{Caller}
 use Rattle.rule_model.specs.declared.reply.Reply.{Reply}
 use Rattle.rule_model.specs.declared.reply.Reply.TheVariants.{Done, Broken, Stopped}
 use Rattle.rule_model.specs.Acts.{is_begin, is_built, is_connect}
-use Rattle.rule_model.specs.Boot.{has_early_ended, last_tokens, token_of}
+use Rattle.rule_model.specs.Boot.{has_early_ended, last_tokens}
 use Rattle.rule_model.specs.Calls.{accepted_in, add_auth_token_ruling, clear_namespace_ruling, counted_in, delete_key_ruling, disconnect_ruling, early_boot_ended_ruling, get_key_entry_ruling, grant_ruling, granted_in, key_entry, listed_in, listing_ruling, ungrant_ruling, user_call_ruling}
 use Rattle.rule_model.specs.Blobs.{device_at}
 use Rattle.rule_model.specs.Changes.{change_of, new_blob, owner_for, planned}
 use Rattle.rule_model.specs.Clients.{caller_of}
 use Rattle.rule_model.specs.Entries.{History, count_of}
 use Rattle.rule_model.specs.Access.{id_by, owner_of}
-use Rattle.rule_model.specs.Kept.{kept, key_found}
+use Rattle.rule_model.specs.Kept.{has_busy, kept, key_found, open_of, operation_at}
 use Rattle.rule_model.specs.Places.{has_key_place}
 use Rattle.rule_model.specs.NewFacts.{import_of, new_facts}
-use Rattle.rule_model.specs.Operations.{challenge_of, has_busy, nonce_size, operation_at, output_of}
+use Rattle.rule_model.specs.Operations.{challenge_of, nonce_size, output_of}
 use Rattle.rule_model.specs.Replies.{broken_or, no_fields}
 use Rattle.rule_model.specs.Setup.{Setup}
 use Rattle.rule_model.specs.Slots.{begin_facts, pruned_for}
 use Rattle.rule_model.specs.Stored.{stored_bytes, where_stored}
 use Rattle.rule_model.specs.StepFacts.{brought_by, brought_by_abort, step_facts}
 use Rattle.rule_model.specs.Tickets.{Entered, next_ticket, ticket_at}
+use Rattle.rule_model.specs.Tokens.{token_of}
 
 -- the nonce that a begin drew
 abbrev pub drawn_nonce : BeginFacts → List ℕ → Option (List ℕ)
@@ -120,7 +121,7 @@ answer_by_rules (Restart root) setup past caller drawn = Done no_fields
 -- the answer of an act that is built: by the rules, where its record has room in the store
 abbrev pub answer_stored : Act → Setup → History → Caller → List ℕ → Reply
 answer_stored act setup past caller drawn =
-    where_stored (stored_bytes setup past) (change_of act (device_at setup past) setup.policy (kept setup past) caller drawn) (answer_by_rules act setup past caller drawn)
+    where_stored (stored_bytes setup past) (change_of act (device_at setup past) setup.policy (kept setup past) (open_of setup past) caller drawn) (answer_by_rules act setup past caller drawn)
 
 -- the answer to an event over the entries before it, with the bytes that were drawn for it
 abbrev pub answer : Setup → History → Event → List ℕ → Reply

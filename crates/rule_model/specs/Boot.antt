@@ -16,11 +16,7 @@ use Rattle.rule_model.specs.Clients.{caller_of}
 use Rattle.rule_model.specs.Entries.{History}
 use Rattle.rule_model.specs.Kept.{key_found}
 use Rattle.rule_model.specs.Setup.{Setup}
-
--- the token of a call (the fields of Android's HardwareAuthToken)
-abbrev pub token_of : ℕ → ℕ → ℕ → ℕ → ℕ → List ℕ → AuthToken
-token_of challenge user authenticator kind time mac =
-    record { challenge = challenge; user = user; authenticator = authenticator; kind = kind; time = time; mac = mac }
+use Rattle.rule_model.specs.Tokens.{token_of}
 
 -- What an entry makes of it: a user is locked or unlocked, early boot ends, a token is accepted, an operation begins on a key,
 -- or the device starts again.

@@ -16,11 +16,12 @@ use Rattle.key_rules.specs.declared.facts.ImportFacts.{ImportFacts}
 use Rattle.key_rules.specs.declared.plan.KeyPlan.{KeyPlan}
 use Rattle.key_rules.specs.Creation.{plan_of}
 use Rattle.rule_model.specs.declared.event.Act.{Act}
-use Rattle.rule_model.specs.declared.event.Act.TheVariants.{GenerateKey, ImportKey, DeleteKey, Grant, Ungrant, ClearNamespace, UserRemoved}
+use Rattle.rule_model.specs.declared.event.Act.TheVariants.{GenerateKey, ImportKey, EnterFinish, DeleteKey, Grant, Ungrant, ClearNamespace, UserRemoved}
 use Rattle.rule_model.specs.declared.facts.Caller.{Caller}
 use Rattle.rule_model.specs.Access.{id_by, owner_of}
 use Rattle.rule_model.specs.Blobs.{kept_as}
 use Rattle.rule_model.specs.NewFacts.{import_of, new_facts}
+use Rattle.rule_model.specs.Operations.{Open, used_key}
 
 abbrev pub alias_of : Descriptor → List ℕ
 alias_of key = unwrap_or key.alias []
@@ -68,19 +69,21 @@ granting part uid bits key = changes.Grant (record { grant = grant_number part k
 abbrev pub planned : List PolicyRow → Caller → Descriptor → List ℕ → Option ImportFacts → KeyPlan
 planned policy caller key params import = plan_of (new_facts policy caller key params import false)
 
--- A key is made by generateKey and importKey outside domain BLOB and ends by deleteKey; a grant is made by grant, and ends by ungrant. Many keys end
--- by clearNamespace and userRemoved. No other act changes what lasts.
-abbrev pub change_of : Act → DeviceSecrets → List PolicyRow → Lasting → Caller → List ℕ → Option Change
-change_of (GenerateKey key params) device policy part caller drawn =
+-- A key is made by generateKey and importKey outside domain BLOB and ends by deleteKey; a grant is made by grant, and ends by
+-- ungrant. Many keys end by clearNamespace and userRemoved. A finish on an operation of a stored key that has a use limit uses it
+-- once. No other act changes what lasts.
+abbrev pub change_of : Act → DeviceSecrets → List PolicyRow → Lasting → List Open → Caller → List ℕ → Option Change
+change_of (GenerateKey key params) device policy part opened caller drawn =
     storing device part (owner_of caller) key (planned policy caller key params None) None drawn
-change_of (ImportKey key params format material) device policy part caller drawn =
+change_of (ImportKey key params format material) device policy part opened caller drawn =
     storing device part (owner_of caller) key (planned policy caller key params (import_of format material)) (Some material) drawn
-change_of (DeleteKey key) device policy part caller drawn = option_map changes.Delete (id_by policy part caller key)
-change_of (Grant key uid bits) device policy part caller drawn = option_map (granting part uid bits) (id_by policy part caller key)
-change_of (Ungrant key uid) device policy part caller drawn = option_map changes.Ungrant (grant_of part (id_by policy part caller key) uid)
-change_of (ClearNamespace domain nspace) device policy part caller drawn = Some (changes.Clear domain nspace)
-change_of (UserRemoved user) device policy part caller drawn = Some (changes.Removed user)
-change_of _ device policy part caller drawn = None
+change_of (EnterFinish op input signature) device policy part opened caller drawn = option_map changes.Use (used_key op opened)
+change_of (DeleteKey key) device policy part opened caller drawn = option_map changes.Delete (id_by policy part caller key)
+change_of (Grant key uid bits) device policy part opened caller drawn = option_map (granting part uid bits) (id_by policy part caller key)
+change_of (Ungrant key uid) device policy part opened caller drawn = option_map changes.Ungrant (grant_of part (id_by policy part caller key) uid)
+change_of (ClearNamespace domain nspace) device policy part opened caller drawn = Some (changes.Clear domain nspace)
+change_of (UserRemoved user) device policy part opened caller drawn = Some (changes.Removed user)
+change_of _ device policy part opened caller drawn = None
 
 -- the lasting part after that change
 abbrev pub after_change : Option Change → Lasting → Lasting

@@ -10,7 +10,8 @@ use Rattle.rule_model.specs.declared.event.Act.TheVariants.{Leave}
 use Rattle.rule_model.specs.declared.reply.Reply.{Reply}
 use Rattle.rule_model.specs.declared.reply.Reply.TheVariants.{Done, Broken, Stopped}
 use Rattle.rule_model.specs.Entries.{History}
-use Rattle.rule_model.specs.Operations.{Open, operation_at}
+use Rattle.rule_model.specs.Kept.{operation_at}
+use Rattle.rule_model.specs.Operations.{Open}
 use Rattle.rule_model.specs.Setup.{Setup}
 use Rattle.rule_model.specs.Tickets.{Entered, ticket_at}
 

@@ -4,18 +4,19 @@ pub mod Clients
 pub mod Setup
 pub mod Access
 pub mod NewFacts
+pub mod Tokens
 pub mod Blobs
-pub mod Changes
 pub mod Settling
 pub mod BeginFacts
+pub mod Tickets
+pub mod Operations
+pub mod Changes
 pub mod Kept
 pub mod Stored
 pub mod Places
 pub mod Replies
 pub mod Listing
 pub mod Boot
-pub mod Tickets
-pub mod Operations
 pub mod Slots
 pub mod Calls
 pub mod Jobs
@@ -25,3 +26,4 @@ pub mod Answer
 pub mod Legal
 pub mod Copies
 pub mod ReplyRooms
+pub mod Uses

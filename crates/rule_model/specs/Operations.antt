@@ -1,11 +1,15 @@
 -- The operations of a history: what began them, what they have taken, which work is out, and what they put out.
 use Rattle.std.specs.Prelude.{ℕ, ◌+◌, Bool, true, false, ◌&&◌, not, ◌==◌, List, [], ◌∷◌, ◌++◌, Option, Some, None, Result, Ok, if◌then◌else◌, unwrap_or, is_some, length, map, filter, find, take, drop}
-use Rattle.std.specs.List.{list_any}
+use Rattle.std.specs.Option.{option_and_then}
 use Rattle.byteorder.specs.Endian.{big_number}
 use Rattle.tags.specs.declared.code.Code.{Code}
 use Rattle.tags.specs.declared.descriptor.Descriptor.{Descriptor}
 use Rattle.tags.specs.declared.param.Param.{Param}
 use Rattle.tags.specs.declared.plan.Plan.{Plan}
+use Rattle.tags.specs.declared.policy.PolicyRow.{PolicyRow}
+use Rattle.tags.specs.declared.secrets.DeviceSecrets.{DeviceSecrets}
+use Rattle.journal_records.specs.LastingPart.{Lasting}
+use Rattle.key_rules.specs.Asked.{asked}
 use Rattle.use_rules.specs.declared.facts.BeginFacts.{BeginFacts}
 use Rattle.use_rules.specs.Plans.{is_per_operation, nonce_given, nonce_wanted, plan_of}
 use Rattle.use_rules.specs.Table.{asked_of, key_of}
@@ -24,15 +28,15 @@ use Rattle.rule_model.specs.declared.facts.Conditions.{Conditions}
 use Rattle.rule_model.specs.declared.reply.Fields.{Fields}
 use Rattle.rule_model.specs.declared.reply.Reply.{Reply}
 use Rattle.rule_model.specs.declared.reply.Reply.TheVariants.{Done, Broken, Stopped}
-use Rattle.rule_model.specs.BeginFacts.{BeginKey, facts_on}
-use Rattle.rule_model.specs.Blobs.{material_read}
+use Rattle.rule_model.specs.BeginFacts.{BeginKey, begin_key, facts_on}
+use Rattle.rule_model.specs.Blobs.{device_at, material_read}
 use Rattle.rule_model.specs.Clients.{caller_of}
-use Rattle.rule_model.specs.Boot.{token_of}
 use Rattle.rule_model.specs.Entries.{History, gives}
-use Rattle.rule_model.specs.Access.{owner_of}
-use Rattle.rule_model.specs.Kept.{access_at, begin_key_at}
+use Rattle.rule_model.specs.Access.{access_by, key_in, owner_of}
+use Rattle.rule_model.specs.Settling.{is_faulted, is_unsettled}
 use Rattle.rule_model.specs.Setup.{Setup}
 use Rattle.rule_model.specs.Tickets.{Entered, ticket_at}
+use Rattle.rule_model.specs.Tokens.{token_of}
 
 -- An operation: its number, its client with the uid, the key's number where the key is stored, the key's material and list as its
 -- begin read them, whether all output comes at the finish, what its work is, from which nonce, and the challenge that a token
@@ -120,9 +124,14 @@ pub data OperationChange : Type 0 where
 abbrev pub no_conditions : Conditions
 no_conditions = record { early_ended = false; unlocked = false; timely = false; begins = 0; room = true }
 
-abbrev pub facts_of_begin : Setup → History → Caller → Descriptor → List ℕ → BeginFacts
-facts_of_begin setup past caller key params =
-    facts_on setup.policy (begin_key_at setup past caller key params) (access_at setup past caller key) caller key params false no_conditions
+-- the key of a caller's begin, among the keys and grants that last
+abbrev pub begin_key_in : DeviceSecrets → List PolicyRow → Lasting → Caller → Descriptor → List ℕ → BeginKey
+begin_key_in device policy part caller key params =
+    begin_key device (access_by policy part caller key) (key_in part (access_by policy part caller key)) key (asked params)
+
+abbrev pub begin_facts_in : DeviceSecrets → List PolicyRow → Lasting → Caller → Descriptor → List ℕ → BeginFacts
+begin_facts_in device policy part caller key params =
+    facts_on policy (begin_key_in device policy part caller key params) (access_by policy part caller key) caller key params false no_conditions
 
 abbrev pub opens : BeginKey → BeginFacts → Caller → Fields → List ℕ → OperationChange
 opens key facts caller fields drawn = opens_as fields.op where
@@ -149,19 +158,20 @@ returns (Some entered) = by_work entered.work where
 
 -- A begin opens the operation whose number its reply gives. An updateAad, an update and a finish enter, and their leave goes
 -- on. A token is shown. An abort, the client's disconnect and a restart close.
-abbrev pub admitted_operation : Act → Setup → History → Event → List ℕ → Fields → OperationChange
-admitted_operation (CreateOperation key params forced) setup past event drawn fields =
-    opens (begin_key_at setup past (caller_of past event) key params) (facts_of_begin setup past (caller_of past event) key params) (caller_of past event) fields drawn
-admitted_operation (EnterAad op input) setup past event drawn fields = enters op fields.ticket
-admitted_operation (EnterUpdate op input) setup past event drawn fields = enters op fields.ticket
-admitted_operation (EnterFinish op input signature) setup past event drawn fields = enters op fields.ticket
-admitted_operation (Abort op) setup past event drawn fields = Closes op
-admitted_operation (Leave ticket) setup past event drawn fields = returns (ticket_at past ticket)
-admitted_operation (AddAuthToken challenge user authenticator kind time mac) setup past event drawn fields =
+abbrev pub admitted_operation : Act → Setup → Lasting → History → Event → List ℕ → Fields → OperationChange
+admitted_operation (CreateOperation key params forced) setup part past event drawn fields =
+    opens (begin_key_in (device_at setup past) setup.policy part (caller_of past event) key params)
+    (begin_facts_in (device_at setup past) setup.policy part (caller_of past event) key params) (caller_of past event) fields drawn
+admitted_operation (EnterAad op input) setup part past event drawn fields = enters op fields.ticket
+admitted_operation (EnterUpdate op input) setup part past event drawn fields = enters op fields.ticket
+admitted_operation (EnterFinish op input signature) setup part past event drawn fields = enters op fields.ticket
+admitted_operation (Abort op) setup part past event drawn fields = Closes op
+admitted_operation (Leave ticket) setup part past event drawn fields = returns (ticket_at past ticket)
+admitted_operation (AddAuthToken challenge user authenticator kind time mac) setup part past event drawn fields =
     Shows (token_of challenge user authenticator kind time mac)
-admitted_operation Disconnect setup past event drawn fields = ClosesOf event.client
-admitted_operation (Restart root) setup past event drawn fields = ClosesAll
-admitted_operation _ setup past event drawn fields = SameOperations
+admitted_operation Disconnect setup part past event drawn fields = ClosesOf event.client
+admitted_operation (Restart root) setup part past event drawn fields = ClosesAll
+admitted_operation _ setup part past event drawn fields = SameOperations
 
 -- the operation that an act names
 abbrev pub operation_of : Act → Option ℕ
@@ -171,16 +181,19 @@ operation_of (EnterFinish op input signature) = Some op
 operation_of (Abort op) = Some op
 operation_of _ = None
 
--- a leave whose output is refused goes on as well
-abbrev pub stopped_operation : Act → History → OperationChange
-stopped_operation (Leave ticket) past = returns (ticket_at past ticket)
-stopped_operation _ past = SameOperations
+-- A leave whose output is refused goes on as well. A finish whose change is faulted closes its operation, whatever the settling says.
+abbrev pub stopped_operation : Bool → Act → History → OperationChange
+stopped_operation faulted (Leave ticket) past = returns (ticket_at past ticket)
+stopped_operation faulted (EnterFinish op input signature) past = if faulted then Closes op else SameOperations
+stopped_operation faulted _ past = SameOperations
 
--- an admitted act changes the operations as said, and a denial that ends the operation closes it
-abbrev pub operation_change : Setup → History → Event → List ℕ → Reply → OperationChange
-operation_change setup past event drawn (Done fields) = admitted_operation event.act setup past event drawn fields
-operation_change setup past event drawn (Broken rule code) = if ends_operation rule then closes (operation_of event.act) else SameOperations
-operation_change setup past event drawn (Stopped code) = stopped_operation event.act past
+-- An admitted act changes the operations as said, over the keys and grants that last then; a denial that ends the operation
+-- closes it.
+abbrev pub operation_change_in : Setup → Lasting → History → Event → List ℕ → Reply → OperationChange
+operation_change_in setup part past event drawn (Done fields) = admitted_operation event.act setup part past event drawn fields
+operation_change_in setup part past event drawn (Broken rule code) = if ends_operation rule then closes (operation_of event.act) else SameOperations
+operation_change_in setup part past event drawn (Stopped code) =
+    stopped_operation (is_faulted (is_unsettled past) event.act (Stopped code)) event.act past
 
 -- the number of the step that makes the next entry
 abbrev pub step_of : History → ℕ
@@ -221,21 +234,13 @@ open_after step (Closes op) opened = without op opened
 open_after step (ClosesOf client) opened = filter (λ o. not (is_of client o)) opened
 open_after step ClosesAll opened = []
 
--- The open operations, in the order of their begins: those of the admitted begins since the last restart which no later entry
--- closed.
-abbrev pub open_of : Setup → History → List Open
-open_of setup [] = []
-open_of setup (Settling settled ∷ past) = open_of setup past
-open_of setup (Acted event drawn reply ∷ past) =
-    open_after (step_of past) (operation_change setup past event drawn reply) (open_of setup past)
+-- the limited key of an operation, where it is stored: a finish on the operation uses it
+abbrev pub limited_key : Open → Option ℕ
+limited_key o = if o.operation.limited then o.operation.key else None
 
--- the open operation of a number
-abbrev pub operation_at : Setup → History → ℕ → Option Open
-operation_at setup past number = find (has_number number) (open_of setup past)
-
--- whether a work on an operation of a client is out
-abbrev pub has_busy : Setup → History → ℕ → Bool
-has_busy setup past client = list_any (λ o. is_of client o && is_busy o) (open_of setup past)
+-- that of the open operation of a number
+abbrev pub used_key : ℕ → List Open → Option ℕ
+used_key number opened = option_and_then limited_key (find (has_number number) opened)
 
 -- What an operation gives for a work: nothing for additional data; for text, the bytes that are out after it and were not
 -- before; for the last, all that is left of the whole output, or the code of its refusal.

@@ -9,8 +9,8 @@ use Rattle.cipher_ops.specs.declared.room.Work.TheVariants.{Aad, Text, Last}
 use Rattle.rule_model.specs.declared.facts.Brought.{Brought}
 use Rattle.rule_model.specs.declared.facts.Caller.{Caller}
 use Rattle.rule_model.specs.Entries.{History}
-use Rattle.rule_model.specs.Kept.{is_live}
-use Rattle.rule_model.specs.Operations.{Open, is_busy, is_waiting, operation_at}
+use Rattle.rule_model.specs.Kept.{is_live, operation_at}
+use Rattle.rule_model.specs.Operations.{Open, is_busy, is_waiting}
 use Rattle.rule_model.specs.Setup.{Setup}
 
 abbrev pub step_kind : Work → StepKind

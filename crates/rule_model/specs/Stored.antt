@@ -1,11 +1,12 @@
 -- What the store of a history is: how many bytes it has, and what is known of the lasting part that it stands for.
-use Rattle.std.specs.Prelude.{ℕ, ◌+◌, Bool, ◌&&◌, not, nat_le, List, [], ◌∷◌, length, Option, Some, None, if◌then◌else◌}
+use Rattle.std.specs.Prelude.{◌≡◌, ◌⊎◌, ℕ, ◌+◌, Bool, true, false, ◌&&◌, not, nat_le, List, [], ◌∷◌, length, Option, Some, None, if◌then◌else◌}
 use Rattle.tags.specs.declared.code.Code.{Code}
 use Rattle.tags.specs.declared.code.Code.TheVariants.{JournalFull}
 use Rattle.tags.specs.declared.settled.Settled.{Settled}
 use Rattle.tags.specs.declared.settled.Settled.TheVariants.{Kept, Lost}
 use Rattle.journal_records.specs.declared.change.Change.{Change}
 use Rattle.journal_records.specs.Holding.{Holding, Sure, Unsure, changed_in, torn_in}
+use Rattle.journal_records.specs.LastingPart.{Lasting}
 use Rattle.journal_records.specs.Spelling.{framed}
 use Rattle.rule_model.specs.declared.entry.Entry.TheVariants.{Acted, Settling}
 use Rattle.rule_model.specs.declared.event.Event.{Event}
@@ -15,13 +16,13 @@ use Rattle.rule_model.specs.Blobs.{device_at}
 use Rattle.rule_model.specs.Changes.{change_of}
 use Rattle.rule_model.specs.Clients.{caller_of}
 use Rattle.rule_model.specs.Entries.{History}
-use Rattle.rule_model.specs.Kept.{kept, kept_settled}
+use Rattle.rule_model.specs.Kept.{kept, kept_settled, open_of}
 use Rattle.rule_model.specs.Settling.{counts, is_system_error, is_unsettled, verdict_before}
 use Rattle.rule_model.specs.Setup.{Setup}
 
 -- the change that an event makes of what a history keeps, where it counts
 abbrev pub change_by : Setup → History → Event → List ℕ → Option Change
-change_by setup past event drawn = change_of event.act (device_at setup past) setup.policy (kept setup past) (caller_of past event) drawn
+change_by setup past event drawn = change_of event.act (device_at setup past) setup.policy (kept setup past) (open_of setup past) (caller_of past event) drawn
 
 -- how many bytes a record has: its gate, the body's length, and the body
 abbrev pub record_bytes : Change → ℕ
@@ -41,7 +42,7 @@ bytes_settled setup verdict [] = setup.bytes
 bytes_settled setup verdict (Settling settled ∷ past) = bytes_settled setup (Some settled) past
 bytes_settled setup verdict (Acted event drawn reply ∷ past) =
     bytes_if (counts verdict past event.act reply)
-    (change_of event.act (device_at setup past) setup.policy (kept_settled setup (verdict_before verdict past event.act reply) past) (caller_of past event) drawn)
+    (change_of event.act (device_at setup past) setup.policy (kept_settled setup (verdict_before verdict past event.act reply) past) (open_of setup past) (caller_of past event) drawn)
     (bytes_settled setup (verdict_before verdict past event.act reply) past)
 
 -- how many bytes the header and the records have
@@ -68,6 +69,15 @@ where_stored bytes (Some change) (Stopped code) = Stopped code
 abbrev pub holding_of : Setup → History → Holding
 holding_of setup past =
     if is_unsettled past then Unsure (kept setup (Settling Lost ∷ past)) (kept setup (Settling Kept ∷ past)) else Sure (kept setup past)
+
+-- What the store may stand for, whenever a crash comes: what the history keeps; where a faulted change waits to be settled, what
+-- is kept where it is lost, or what is where it is kept.
+abbrev pub MayWhere : Bool → Setup → History → Lasting → Type 0
+MayWhere true setup past part = (part ≡ kept setup (Settling Lost ∷ past)) ⊎ (part ≡ kept setup (Settling Kept ∷ past))
+MayWhere false setup past part = part ≡ kept setup past
+
+abbrev pub May : Setup → History → Lasting → Type 0
+May setup past part = MayWhere (is_unsettled past) setup past part
 
 -- what is known where a change, if there is one, was made, and where a device call failed
 abbrev pub made_by : Option Change → Holding → Holding

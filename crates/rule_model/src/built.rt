@@ -1,7 +1,7 @@
-//! The kind of an act, and which acts are events by now.
+//! The kind of an act, and what is fixed for it.
 
 ghost use Rattle.std.specs.Prelude.{◌≡◌};
-ghost use Rattle.rule_model.specs.Acts.{is_built as is_event, kind_of};
+ghost use Rattle.rule_model.specs.Acts.{fixed_for, is_built as is_event, kind_of};
 
 use crate::{Act, ActKind};
 
@@ -42,5 +42,11 @@ impl Act {
         ensures { result ≡ is_event self.now }
     {
         self.kind().row().is_built
+    }
+    /// Whether the act settles first, where an earlier change waits for that.
+    pub fn settles(&self) -> bool
+        ensures { result ≡ (fixed_for self.now).settles }
+    {
+        self.kind().row().settles
     }
 }

@@ -11,6 +11,7 @@ mod event;
 mod event_copy;
 mod facts;
 mod field_sizes;
+mod law;
 mod reply;
 mod reply_room;
 
@@ -20,5 +21,6 @@ pub use event::{Act, Event, Line};
 pub use facts::{Brought, Caller, Conditions, NO_PIECES, Pieces};
 pub use field_sizes::{FieldSizes, NO_SIZES};
 pub use ks_outside::Reading;
+pub use law::uses_law;
 pub use reply::{Entries, Fields, NO_FIELDS, Reply};
 pub use reply_room::ReplyRoom;

@@ -1,4 +1,4 @@
-use Rattle.std.proofs.Common.{[], refl, arith, subst}
+use Rattle.std.proofs.Common.{[], inl, refl, arith, subst}
 use Rattle.rule_model.specs.Legal.{WithoutMemory}
 use Rattle.keystore_core.proofs.Standing.{without_memory}
 use Rattle.keystore_core.specs.Writing.{StoreGoesFor}
@@ -12,7 +12,7 @@ pub returns-in-Err-clause-answers : goal.returns-in-Err-clause-answers
 returns-in-Err-clause-answers g c = λ setup past at.
     let after = without_memory setup past c.args.self.now c.serve.new.self c.args.event [] at.tables_stand c.in-Err.ensures.memory c.in-Err.ensures.serves in
     rw (c.without_memory.ensures.reply, c.without_memory.ensures.job, c.without_memory.ensures.drawn, c.empty.ensures) (record {
-      follows = WithoutMemory (record { drew = omega arith; takes = c.in-Err.ensures.memory; is_want = refl });
+      follows = λ ready. WithoutMemory (record { ready = inl refl; drew = omega arith; takes = c.in-Err.ensures.memory; is_want = refl });
       stands = after.0;
       has_job = refl;
       stays = after.1;

@@ -4,8 +4,7 @@ use denote.Struct.Props.{≡_prop}
 use Rattle.std.specs.Coded.{coded_bool}
 use Rattle.step_rules.specs.Table.{answer}
 use Rattle.operation_slots.specs.Table.{held}
-use Rattle.rule_model.specs.Kept.{is_live}
-use Rattle.rule_model.specs.Operations.{operation_at}
+use Rattle.rule_model.specs.Kept.{is_live, operation_at}
 use Rattle.keystore_core.specs.Tables.{row_at}
 use Rattle.keystore_core.proofs.Standing.{few_tickets, same_but_tickets}
 use Rattle.keystore_core.proofs.Stepped.{CanWork-prop, MayGrow-prop, can_work, ends_idle, entered_after, may_grow, refused, row_found, slot_found, step_enters}

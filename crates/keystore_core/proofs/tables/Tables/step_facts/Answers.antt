@@ -1,8 +1,7 @@
 use Rattle.std.proofs.Common.{sym, ap, ◌∙◌}
 use Rattle.journal_records.specs.LastingPart.{Lasting, some_has_id}
 use Rattle.std.specs.Option.{option_copied}
-use Rattle.rule_model.specs.Kept.{is_live}
-use Rattle.rule_model.specs.Operations.{operation_at}
+use Rattle.rule_model.specs.Kept.{is_live, operation_at}
 use Rattle.keystore_core.specs.Keys.{live_key}
 use Rattle.keystore_core.proofs.Stepped.{none_facts, row_found, some_facts}
 use Rattle.keystore_core.proofs.tables.Tables.step_facts.Goals as goal
