@@ -76,7 +76,7 @@ def ids_in_order(keys, begun):
     kept = list_of([*PARAMS, ["KEY_SIZE", 160], ["CREATION_DATETIME", 1000], ["ORIGIN", 2]])
     entry = {"code": 0, "key": rows.keys, "domain": 0, "nspace": 10001, "alias": "shared", "list": kept.hex()}
     rows.put(call(3, "getKeyEntry", key=numbered(GRANT, 1)), entry)
-    rows.put(made(OWN, named("u"), with_ids([*PARAMS, ["USAGE_COUNT_LIMIT", 1]], "6162", None)), broken(-39, "K16"))
+    rows.put(made(OWN, named("u"), with_ids([*PARAMS, ["USAGE_COUNT_LIMIT", 1]], "6162", None)), {"code": 0, "key": rows.keys + 1})
     return rows.rows
 
 
@@ -106,7 +106,7 @@ def refused_creations():
     yield made(SYSTEM, key, [*PARAMS, ["USAGE_COUNT_LIMIT", 0], ["MAX_USES_PER_BOOT", 1]]), broken(-38, "K14")
     yield made(SYSTEM, key, "00"), broken(-40, "K4")
     yield made(SYSTEM, {**key, "blob": "4b534231"}, "00"), broken(20, "K2")
-    yield made(SYSTEM, named("k", SELINUX, 100), [*PARAMS, ["USAGE_COUNT_LIMIT", 1]]), broken(-39, "K16")
+    yield made(SYSTEM, named("k", SELINUX, 100), [*PARAMS, ["USAGE_COUNT_LIMIT", 0]]), broken(-38, "K14")
 
 
 def made_blobs(rows):

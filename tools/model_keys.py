@@ -1,7 +1,7 @@
 """The keys and grants of second_model.py: which key a descriptor finds, what a caller may do with it, and what ends it."""
 from model_values import (
     APP, APP_BITS, BLOB, DEMO_POLICY, GRANT, KEY_ID, MOST_GRANTS, MOST_KEYS, MOST_LISTED, REQ_FORCED_OP, SELINUX, UIDS_OF_A_USER, Denied,
-    Grant, Key,
+    Grant, Key, one,
 )
 
 # What a caller says of these is not kept.
@@ -98,10 +98,16 @@ class KeyStore:
         old_key = self.live.get((*owner, alias))
         if old_key is not None:
             self.end([old_key])
-        key = Key(len(self.made) + 1, *owner, alias, params, blob)
+        key = Key(len(self.made) + 1, *owner, alias, params, blob, one(params, "USAGE_COUNT_LIMIT"))
         self.made.append(key)
         self.live[*owner, alias] = key
         return key.number
+
+    def use(self, key):
+        """Uses a key that has a limit; its last use ends it."""
+        key.uses -= 1
+        if key.uses == 0:
+            self.end([key])
 
     def grant(self, key, uid, bits):
         """Grants a key to a uid, or changes what it may do with it, and gives the grant's number."""

@@ -1,6 +1,6 @@
-"""The rules of second_model.py that read lists, lengths and the device's state: K4 to K16, B6 to B21 and S4 to S8."""
+"""The rules of second_model.py that read lists, lengths and the device's state: K4 to K15, B6 to B21 and S4 to S8."""
 from model_values import (
-    AES, BLOB, CBC, CTR, DIGEST_BITS, ECB, ENCRYPT, GCM, HMAC, LATER_TAGS, MOST_ID_BYTES, MOST_LIST_BYTES, MOST_OPERATION_BYTES,
+    AES, BLOB, CBC, CTR, DIGEST_BITS, ECB, ENCRYPT, GCM, HMAC, MOST_ID_BYTES, MOST_LIST_BYTES, MOST_OPERATION_BYTES,
     NO_PADDING, NONCE_BYTES, PKCS7, PURPOSES, RAW, SIGN, TAGS_OF_STORED_KEYS, Denied, Plan, one,
 )
 from script_events import ListFault, read_list
@@ -67,7 +67,7 @@ def check_least_mac(algorithm, params):
 
 
 def check_restrictions(params, is_blob, is_early_over):
-    """K13 to K16."""
+    """K13 to K15."""
     if "NO_AUTH_REQUIRED" in params and "USER_SECURE_ID" in params:
         raise Denied(-38, "K13")
     if one(params, "USAGE_COUNT_LIMIT") == 0:
@@ -76,8 +76,6 @@ def check_restrictions(params, is_blob, is_early_over):
         raise Denied(-39, "K14")
     if "EARLY_BOOT_ONLY" in params and is_early_over:
         raise Denied(-73, "K15")
-    if any(name in params for name in LATER_TAGS):
-        raise Denied(-39, "K16")
 
 
 def check_algorithm(params):
@@ -95,7 +93,7 @@ def check_key(params, material):
 
 
 def check_new(event, params, material, is_early_over):
-    """K5 to K16; the material is None for a key that is to be generated."""
+    """K5 to K15; the material is None for a key that is to be generated."""
     check_algorithm(params)
     if material is not None and event["format"] != RAW:
         raise Denied(-17, "K6")

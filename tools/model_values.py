@@ -1,8 +1,6 @@
 """The words of second_model.py: the numbers of the rules, and the keys, grants and operations that a service holds."""
 from dataclasses import dataclass
 
-# The tags whose rules are not built yet.
-LATER_TAGS = ["USAGE_COUNT_LIMIT"]
 # What a key that is kept in a blob alone cannot have.
 TAGS_OF_STORED_KEYS = ["USAGE_COUNT_LIMIT", "MAX_USES_PER_BOOT"]
 
@@ -56,7 +54,8 @@ def one(params, name):
 
 @dataclass
 class Key:
-    """A key that was made: whose it is, the list that is kept with it, and the blob that seals its material."""
+    """A key that was made: whose it is, the list that is kept with it, the blob that seals its material, and how many uses it has left
+    where its list has a limit."""
 
     number: int
     domain: int
@@ -64,6 +63,7 @@ class Key:
     alias: bytes
     params: dict
     blob: bytes
+    uses: int | None
     is_live: bool = True
 
 

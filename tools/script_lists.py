@@ -14,6 +14,7 @@ HMAC_LIST = [
     ["NO_AUTH_REQUIRED", True],
 ]
 FREE = ["NO_AUTH_REQUIRED", True]
+TWICE_LIST = [*HMAC_LIST, ["USAGE_COUNT_LIMIT", 2]]
 WAITING_LIST = [pair for pair in HMAC_LIST if pair != FREE] + [["USER_SECURE_ID", 7]]
 
 # The numbers that are tried for the tags at which the rules look.
@@ -134,8 +135,8 @@ class ListMaker:
     def new_list(self, is_aes):
         """The list of a key of AES or of HMAC, mostly one that can be made."""
         params = self.edited(self.restricted(AES_LIST if is_aes else HMAC_LIST), 0.25)
-        if self.chance(0.02):
-            params = params + [["USAGE_COUNT_LIMIT", self.random.choice([0, 1])]]
+        if self.chance(0.15):
+            params = params + [["USAGE_COUNT_LIMIT", self.random.choice([0, 1, 1, 1, 2, 2, 3, 4294967295])]]
         if self.chance(0.1):
             params = with_value(params, "MIN_MAC_LENGTH", 112)
         return params if is_aes or self.chance(0.5) else with_value(params, "DIGEST", self.random.choice([3, 4, 5, 6]))

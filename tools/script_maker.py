@@ -13,7 +13,7 @@ from model_values import (
     APP, BLOB, DEMO_ROOT, DEMO_SEAL_KEY, DIGEST_BITS, GCM, GRANT, KEY_ID, MOST_OPERATION_BYTES, MOST_STEP_BYTES, SELINUX, Denied,
 )
 from script_events import Malformed, encoded_list, event_of, read_list
-from script_lists import AES_LIST, HMAC_LIST, KINDS, SECURE_IDS, TIMEOUTS, WAITING_LIST, ListMaker
+from script_lists import AES_LIST, HMAC_LIST, KINDS, SECURE_IDS, TIMEOUTS, TWICE_LIST, WAITING_LIST, ListMaker
 from second_model import Service, reply_line
 
 # How many lines are tried for a script.
@@ -108,9 +108,14 @@ class Maker(ListMaker):
             self.outputs = [*self.outputs, output][-MOST_REMEMBERED:]
 
     def script(self):
-        """Puts all lines: clients, a key of AES and two of HMAC, one of which wants tokens, and then anything."""
+        """Puts all lines: clients, a key of AES, three of HMAC, one of which wants tokens and one has two uses, and then anything."""
         self.connect_clients()
-        keys = ((1, "a", AES_LIST, "00" * 16), (2, "a", HMAC_LIST, "0b" * 20), (2, "b", WAITING_LIST, "0b" * 20))
+        keys = (
+            (1, "a", AES_LIST, "00" * 16),
+            (2, "a", HMAC_LIST, "0b" * 20),
+            (2, "b", WAITING_LIST, "0b" * 20),
+            (1, "c", TWICE_LIST, "0b" * 20),
+        )
         for client, alias, params, material in keys:
             members = {"t": [0, 0], "c": client, "do": "importKey", "key": {"domain": 0, "alias": alias}}
             self.put(text_of({**members, "params": params, "format": 3, "material": material}))

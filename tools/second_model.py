@@ -224,7 +224,8 @@ class Service:
     def get_key_entry(self, event):
         key, _ = self.key_of_call(event, is_stored, GET_INFO)
         alias = key.alias.decode()
-        return {"key": key.number, "domain": key.domain, "nspace": key.nspace, "alias": alias, "list": write_list(key.params).hex()}
+        uses = {} if key.uses is None else {"uses": key.uses}
+        return {"key": key.number, "domain": key.domain, "nspace": key.nspace, "alias": alias, "list": write_list(key.params).hex(), **uses}
 
     def delete_key(self, event):
         key, _ = self.key_of_call(event, is_stored, DELETE)
@@ -392,6 +393,8 @@ class Service:
             if denied.rule in ENDING:
                 del self.operations[operation.number]
             raise
+        if event["act"] == "finish" and operation.key is not None and operation.key.uses is not None:
+            self.store.use(operation.key)
         self.tickets += 1
         self.out[self.tickets] = operation
         operation.work = event

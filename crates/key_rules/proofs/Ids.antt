@@ -1,6 +1,6 @@
 -- An id of a list whose ids are short is short.
-use Rattle.std.proofs.Common.{◌≡◌, ◌≤◌, ℕ, Bool, true, ◌&&◌, sym, List, [], ◌∷◌, length, Option, Some, None, subst}
-use Rattle.std.specs.Prelude.{IfSome, nat_le, slice_get}
+use Rattle.std.proofs.Common.{◌≡◌, ◌≤◌, ℕ, true, sym, List, [], ◌∷◌, length, Some, subst}
+use Rattle.std.specs.Prelude.{slice_get}
 use Rattle.std.specs.List.{list_all}
 use Rattle.std.specs.Option.{option_and_then}
 use Rattle.std.proofs.lemmas.Bool.{and_parts, false≢true, leb-true}

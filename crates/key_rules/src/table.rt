@@ -12,9 +12,9 @@ ghost use Rattle.key_rules.specs.Table as spec;
 
 use crate::rules::{
     has_allowed_size, has_fit_length, has_known_modes, has_known_paddings, has_least_length,
-    has_one_authority, has_one_digest, has_own_counts, has_own_purposes,
-    has_own_size, has_short_ids, has_some_uses, is_early, list_code, may_make, names_algorithm,
-    names_new_key, takes_format,
+    has_one_authority, has_one_digest, has_own_counts, has_own_purposes, has_own_size,
+    has_short_ids, has_some_uses, is_early, list_code, may_make, names_algorithm, names_new_key,
+    takes_format,
 };
 use crate::{ImportFacts, NewFacts, NewFault};
 use std::alloc::Global;

@@ -1,5 +1,5 @@
 -- What is known of an entry that the rules admit.
-use Rattle.std.proofs.Common.{◌≡◌, ℕ, ◌+◌, Bool, true, false, ◌&&◌, not, if◌then◌else◌, List, [], ◌++◌, Option, Some, None, Result, Ok, Err, is_ok, refl, sym, ap, ◌∙◌, subst}
+use Rattle.std.proofs.Common.{◌≡◌, ℕ, Bool, true, false, not, if◌then◌else◌, List, [], ◌++◌, Option, Some, None, Result, Ok, Err, is_ok, refl, subst}
 use Rattle.tags.specs.declared.code.Code.{Code}
 use Rattle.tags.specs.declared.rule.Rule.{Rule}
 use Rattle.tags.specs.declared.rule.RuleTable.TheVariants.{S}
@@ -8,7 +8,6 @@ use Rattle.journal_records.specs.declared.change.Change.{Change}
 use Rattle.step_rules.specs.declared.facts.StepFacts.{StepFacts}
 use Rattle.step_rules.specs.Rules.{is_enter as enters_kind}
 use Rattle.step_rules.specs.Table.{answer as answer_of_step, call_rules, enter_rules}
-use Rattle.cipher_ops.specs.declared.room.Work.{Work}
 use Rattle.cipher_ops.specs.declared.room.Work.TheVariants.{Aad, Text, Last}
 use Rattle.rule_model.specs.declared.event.Act.{Act}
 use Rattle.rule_model.specs.declared.event.Act.TheVariants.{EnterAad, EnterUpdate, EnterFinish}
@@ -28,7 +27,7 @@ use Rattle.rule_model.specs.Operations.{Open, operation_of}
 use Rattle.rule_model.specs.Replies.{broken_or}
 use Rattle.rule_model.specs.Setup.{Setup}
 use Rattle.rule_model.specs.StepFacts.{brought_by, facts_of, has_ended}
-use Rattle.rule_model.specs.Stored.{has_record_room, where_stored}
+use Rattle.rule_model.specs.Stored.{where_stored}
 
 -- ---- through the layers of an answer
 

@@ -42,6 +42,13 @@ pub each_more : {X : Type 0} (P : X → Type 0) (xs : List X) (y : X) → Each P
 each_more P [] y each last = (last, tt)
 each_more P (x ∷ xs) y each last = (each.0, each_more P xs y each.1 last)
 
+pub each_found : {X : Type 0} (P : X → Type 0) (test : X → Bool) (xs : List X) (x : X) → Each P xs → find test xs ≡ Some x → P x
+each_found P test [] x each is = cc
+each_found P test (first ∷ xs) x each is = by_test (test first) is (each_found P test xs x each.1) where
+  by_test : (b : Bool) → (if b then Some first else find test xs) ≡ Some x → (find test xs ≡ Some x → P x) → P x
+  by_test true found rest = let this : first ≡ x = cc in subst P this each.0
+  by_test false found rest = rest found
+
 -- ---- the keys of one number
 
 -- a key of this number has this limit, and its uses that are left are within it beside those that were made

@@ -1,5 +1,5 @@
 -- The uses of a key over a legal history, and what each lasting part that it may leave has of it.
-use Rattle.std.proofs.Common.{◌≡◌, ◌⊎◌, inl, inr, ℕ, ◌+◌, ◌<◌, ◌≤◌, Bool, true, false, ◌==◌, ◌&&◌, ◌||◌, not, if◌then◌else◌, List, [], ◌∷◌, find, Option, Some, None, option_map, is_ok, IsTrue, refl, sym, ap, ◌∙◌, subst, arith}
+use Rattle.std.proofs.Common.{◌≡◌, ◌⊎◌, inl, inr, ℕ, ◌+◌, ◌<◌, Bool, true, false, ◌==◌, ◌&&◌, ◌||◌, not, if◌then◌else◌, List, [], ◌∷◌, Option, Some, None, option_map, IsTrue, refl, sym, ap, ◌∙◌, subst, arith}
 use Rattle.std.proofs.lemmas.Bool.{eqb-true}
 use Rattle.std.specs.Option.{option_and_then}
 use Rattle.key_domains.specs.Domains.{domain_blob}
@@ -24,17 +24,17 @@ use Rattle.rule_model.specs.declared.reply.Fields.{Fields}
 use Rattle.rule_model.specs.declared.reply.Reply.{Reply}
 use Rattle.rule_model.specs.declared.reply.Reply.TheVariants.{Done, Broken, Stopped}
 use Rattle.rule_model.specs.Access.{id_by, owner_of}
-use Rattle.rule_model.specs.Acts.{fixed_for, is_restart}
+use Rattle.rule_model.specs.Acts.{fixed_for}
 use Rattle.rule_model.specs.Answer.{answer, answer_by_rules}
 use Rattle.rule_model.specs.Blobs.{device_at}
-use Rattle.rule_model.specs.Changes.{after_change, change_of, creating, grant_of, granting, planned, storing}
+use Rattle.rule_model.specs.Changes.{after_change, change_of, creating, grant_of, granting, planned}
 use Rattle.rule_model.specs.Clients.{caller_of}
 use Rattle.rule_model.specs.Entries.{History, gives, is_done}
-use Rattle.rule_model.specs.Kept.{is_live, kept, kept_after, kept_settled, open_of, operation_at}
+use Rattle.rule_model.specs.Kept.{is_live, kept, kept_after, kept_settled, open_of}
 use Rattle.rule_model.specs.Legal.{LegalBefore, MayFollow}
 use Rattle.rule_model.specs.NewFacts.{import_of}
 use Rattle.rule_model.specs.Operations.{Open, limited_key, used_key}
-use Rattle.rule_model.specs.Settling.{counts, is_faulted, is_kept, is_system_error, is_unsettled, verdict_before}
+use Rattle.rule_model.specs.Settling.{is_faulted, is_kept, is_unsettled}
 use Rattle.rule_model.specs.Setup.{Setup}
 use Rattle.rule_model.specs.StepFacts.{has_ended}
 use Rattle.rule_model.specs.Stored.{May, MayWhere}

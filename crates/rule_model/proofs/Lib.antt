@@ -1,4 +1,5 @@
 pub mod Admitted
+pub mod Begun
 pub mod Boot
 pub mod Bounds
 pub mod Clients

@@ -1,12 +1,11 @@
 -- The finishes that gave output with a key are no more than its uses: each brought back a ticket that went out with a use.
-use Rattle.std.proofs.Common.{◌≡◌, ◌⊎◌, inl, inr, ℕ, ◌+◌, ◌<◌, ◌≤◌, Bool, true, false, ◌==◌, ◌&&◌, ◌||◌, not, if◌then◌else◌, List, [], ◌∷◌, ◌++◌, map, filter, find, length, Option, Some, None, refl, sym, ap, ◌∙◌, subst, arith}
-use Rattle.std.proofs.lemmas.Bool.{eqb-true, eqb-false}
+use Rattle.std.proofs.Common.{◌≡◌, ◌⊎◌, inl, inr, ℕ, ◌+◌, ◌≤◌, Bool, true, false, ◌==◌, ◌&&◌, ◌||◌, not, if◌then◌else◌, List, [], ◌∷◌, ◌++◌, map, filter, find, length, Some, refl, sym, ap, ◌∙◌, subst, arith}
+use Rattle.std.proofs.lemmas.Bool.{eqb-true}
 use Rattle.std.specs.List.{list_any}
 use Rattle.std.specs.Option.{option_and_then}
 use Rattle.rule_model.specs.Entries.{gives}
 use Rattle.rule_model.specs.Operations.{Open, Operation, has_number, limited_key, used_key}
-use Rattle.rule_model.specs.Uses.{one_if}
-use Rattle.rule_model.proofs.Bounds.{Each, each_changed, each_in, each_left, each_more}
+use Rattle.rule_model.proofs.Bounds.{Each, each_changed, each_left, each_more}
 
 -- ---- operations of different numbers
 

@@ -1,15 +1,10 @@
 -- Over a legal history the outputs with a key, and the finishes with it that are out, are no more than its uses.
-use Rattle.std.proofs.Common.{◌≡◌, ◌⊎◌, inl, inr, ℕ, ◌+◌, ◌<◌, ◌≤◌, Bool, true, false, ◌==◌, ◌&&◌, ◌||◌, not, if◌then◌else◌, List, [], ◌∷◌, ◌++◌, map, filter, find, length, Option, Some, None, refl, sym, ap, ◌∙◌, subst, arith}
+use Rattle.std.proofs.Common.{◌≡◌, ◌⊎◌, inl, inr, ℕ, ◌+◌, ◌≤◌, Bool, true, false, ◌==◌, ◌&&◌, ◌||◌, not, if◌then◌else◌, List, [], ◌∷◌, ◌++◌, map, filter, find, length, Option, Some, None, refl, sym, ap, ◌∙◌, subst, arith}
 use Rattle.std.proofs.lemmas.Bool.{eqb-true, eqb-false}
 use Rattle.std.specs.List.{list_any}
-use Rattle.tags.specs.declared.code.Code.{Code}
-use Rattle.tags.specs.declared.rule.Rule.{Rule}
-use Rattle.auth_tokens.specs.declared.token.AuthToken.{AuthToken}
 use Rattle.cipher_ops.specs.declared.room.Work.{Work}
 use Rattle.cipher_ops.specs.declared.room.Work.TheVariants.{Aad, Text, Last}
-use Rattle.journal_records.specs.LastingPart.{Lasting}
 use Rattle.step_rules.specs.Table.{ends_operation}
-use Rattle.use_rules.specs.declared.facts.BeginFacts.{BeginFacts}
 use Rattle.use_rules.specs.Table as begin_table
 use Rattle.rule_model.specs.declared.entry.Entry.TheVariants.{Acted, Settling}
 use Rattle.rule_model.specs.declared.event.Act.{Act}
@@ -21,23 +16,39 @@ use Rattle.rule_model.specs.declared.reply.Reply.{Reply}
 use Rattle.rule_model.specs.declared.reply.Reply.TheVariants.{Done, Broken, Stopped}
 use Rattle.rule_model.specs.Acts.{is_begin, is_built}
 use Rattle.rule_model.specs.Answer.{answer, answer_by_rules, answer_stored, malformed}
-use Rattle.rule_model.specs.BeginFacts.{BeginKey}
 use Rattle.rule_model.specs.Clients.{caller_of}
 use Rattle.rule_model.specs.Entries.{History, count_of, gives, is_done}
-use Rattle.rule_model.specs.Kept.{kept, open_of, operation_at}
-use Rattle.rule_model.specs.Operations.{Open, Operation, OperationChange, SameOperations, Opens, Enters, Returns, Shows, Closes, ClosesOf, ClosesAll, admitted_operation, as_begun, as_entered, as_returned, as_shown, closes, enters, has_number, is_for, is_of, limited_key, open_after, opens, operation_of, operation_on, returns, step_of, stopped_operation, used_key, with_change, without, without_pruned}
+use Rattle.rule_model.specs.Kept.{kept, open_of}
+use Rattle.rule_model.specs.Operations.{Open, Operation, OperationChange, SameOperations, Opens, Enters, Returns, Shows, Closes, ClosesOf, ClosesAll, admitted_operation, as_begun, as_entered, as_returned, as_shown, closes, enters, has_number, is_for, is_of, limited_key, open_after, operation_of, returns, step_of, stopped_operation, used_key, without_pruned}
 use Rattle.rule_model.specs.Legal.{LegalBefore, MayFollow}
 use Rattle.rule_model.specs.Settling.{is_faulted, is_unsettled}
 use Rattle.rule_model.specs.Setup.{Setup}
 use Rattle.rule_model.specs.Slots.{begin_facts}
-use Rattle.rule_model.specs.Tickets.{Entered, TicketChange, admitted_ticket, goes_out, stopped_ticket, ticket_after, ticket_at}
+use Rattle.rule_model.specs.Tickets.{Entered, admitted_ticket, goes_out, stopped_ticket, ticket_after, ticket_at}
 use Rattle.rule_model.specs.Tokens.{token_of}
-use Rattle.rule_model.specs.Uses.{finished_by, one_if, output_key, outputs_made, used_by, uses_made}
+use Rattle.rule_model.specs.Uses.{one_if, used_by, uses_made}
 use Rattle.rule_model.proofs.Admitted.{IsEntered, admitted_by_rules, answered_done, broken_fields, entered}
 use Rattle.rule_model.proofs.Bounds.{Each, each_changed, each_in, each_left, each_more}
 use Rattle.rule_model.proofs.Outputs.{Apart, Differs, IsFew, any_changed, any_from_used, any_left, any_more, any_ticket_left, apart_changed, apart_left, apart_more, left_length, less_length, used_from_any, works_on}
 
--- ---- the tickets of finishes that are out
+-- ---- the finishes with a limited key that are out, and those that gave output
+
+abbrev pub limited_output : List Open → Option Entered → Option ℕ
+limited_output opened None = None
+limited_output opened (Some entered) = by_work entered.work where
+  by_work : Work → Option ℕ
+  by_work (Aad input) = None
+  by_work (Text input) = None
+  by_work (Last input signature) = used_key entered.op opened
+
+abbrev pub finished_with : Setup → History → Act → Option ℕ
+finished_with setup past (Leave ticket) = limited_output (open_of setup past) (ticket_at past ticket)
+finished_with setup past _ = None
+
+abbrev pub limited_made : Setup → History → ℕ → ℕ
+limited_made setup [] id = 0
+limited_made setup (Settling settled ∷ past) id = limited_made setup past id
+limited_made setup (Acted event drawn reply ∷ past) id = one_if (is_done reply && gives (finished_with setup past event.act) id) (limited_made setup past id)
 
 -- the operation of the work that is out, where it is a finish's
 abbrev pub finishing : Option Entered → Option ℕ
@@ -157,7 +168,7 @@ paired_back most opened tickets taken outputs uses id number paired = record {
   waits t op false is any = paired.waits t op is any
 
 among_taken : (most : ℕ) (opened : List Open) (tickets : ℕ → Option Entered) (taken : List ℕ) (outputs uses id number op : ℕ) (work : Work) → Paired most opened tickets taken outputs uses id
-    → tickets number ≡ Some (record { op = op; work = work }) → gives (output_key opened (Some (record { op = op; work = work }))) id ≡ true → list_any (λ it. it == number) taken ≡ true
+    → tickets number ≡ Some (record { op = op; work = work }) → gives (limited_output opened (Some (record { op = op; work = work }))) id ≡ true → list_any (λ it. it == number) taken ≡ true
 among_taken most opened tickets taken outputs uses id number op (Aad input) paired is e = cc
 among_taken most opened tickets taken outputs uses id number op (Text input) paired is e = cc
 among_taken most opened tickets taken outputs uses id number op (Last input signature) paired is e = paired.waits number op (ap finishing is) (any_from_used op id opened e)
@@ -165,13 +176,13 @@ among_taken most opened tickets taken outputs uses id number op (Last input sign
 -- and its output counts, where it is that of a finish with the key
 paired_given : (most : ℕ) (opened : List Open) (tickets : ℕ → Option Entered) (taken : List ℕ) (outputs uses id number : ℕ)
     → Paired most opened tickets taken outputs uses id
-    → Paired most opened (λ t. if number == t then None else tickets t) (filter (λ t. not (t == number)) taken) (one_if (gives (output_key opened (tickets number)) id) outputs) uses id
+    → Paired most opened (λ t. if number == t then None else tickets t) (filter (λ t. not (t == number)) taken) (one_if (gives (limited_output opened (tickets number)) id) outputs) uses id
 paired_given most opened tickets taken outputs uses id number paired = record {
   few = paired.few;
   apart = paired.apart;
   known = λ t. back_known most (number == t) (tickets t) (paired.known t);
   waits = λ t op is any. waits t op (number == t) refl is any;
-  counted = counted (tickets number) refl (gives (output_key opened (tickets number)) id) refl;
+  counted = counted (tickets number) refl (gives (limited_output opened (tickets number)) id) refl;
 } where
   Left : List ℕ
   Left = filter (λ t. not (t == number)) taken
@@ -180,11 +191,11 @@ paired_given most opened tickets taken outputs uses id number paired = record {
   waits t op true same is any = cc
   waits t op false same is any = any_ticket_left number t taken (eqb-false number t same) (paired.waits t op is any)
 
-  among : (found : Option Entered) → tickets number ≡ found → gives (output_key opened found) id ≡ true → list_any (λ it. it == number) taken ≡ true
+  among : (found : Option Entered) → tickets number ≡ found → gives (limited_output opened found) id ≡ true → list_any (λ it. it == number) taken ≡ true
   among None is e = cc
   among (Some entered) is e = among_taken most opened tickets taken outputs uses id number entered.op entered.work paired is e
 
-  counted : (found : Option Entered) → tickets number ≡ found → (b : Bool) → gives (output_key opened (tickets number)) id ≡ b → one_if b outputs + length Left ≤ uses
+  counted : (found : Option Entered) → tickets number ≡ found → (b : Bool) → gives (limited_output opened (tickets number)) id ≡ b → one_if b outputs + length Left ≤ uses
   counted found is true e = omega (arith, paired.counted, less_length number taken (among (tickets number) refl e))
   counted found is false e = omega (arith, paired.counted, left_length number taken)
 
@@ -325,7 +336,7 @@ taken_of setup (Acted event drawn (Stopped code) ∷ past) id = taken_of setup p
 
 -- what is known after a history
 abbrev pub IsPaired : Setup → History → ℕ → Type 0
-IsPaired setup past id = Paired (count_of is_begin past) (open_of setup past) (λ t. ticket_at past t) (taken_of setup past id) (outputs_made setup past id) (uses_made setup past id) id
+IsPaired setup past id = Paired (count_of is_begin past) (open_of setup past) (λ t. ticket_at past t) (taken_of setup past id) (limited_made setup past id) (uses_made setup past id) id
 
 -- and after an admitted act
 abbrev PairedBy : Setup → History → Event → List ℕ → Fields → ℕ → Act → Type 0
@@ -333,7 +344,7 @@ PairedBy setup past event drawn fields id act =
     Paired (if is_begin act then count_of is_begin past + 1 else count_of is_begin past)
     (open_after (step_of past) (admitted_operation act setup (kept setup past) past event drawn fields) (open_of setup past))
     (λ t. ticket_after (admitted_ticket act fields) t (ticket_at past t)) (taken_done act fields (open_of setup past) id (taken_of setup past id))
-    (one_if (gives (finished_by setup past act) id) (outputs_made setup past id)) (one_if (gives (used_by (open_of setup past) act) id) (uses_made setup past id)) id
+    (one_if (gives (finished_with setup past act) id) (limited_made setup past id)) (one_if (gives (used_by (open_of setup past) act) id) (uses_made setup past id)) id
 
 op_few : (setup : Setup) (past : History) (id op : ℕ) → IsPaired setup past id → IsEntered setup past op → op ≤ count_of is_begin past
 op_few setup past id op paired here = found_few (count_of is_begin past) op (open_of setup past) here.operation paired.few here.found
@@ -342,27 +353,27 @@ paired_done : (setup : Setup) (past : History) (event : Event) (drawn : List ℕ
     → (is_begin act ≡ true → fields.op ≡ Some (count_of is_begin past + 1)) → IsPaired setup past id → PairedBy setup past event drawn fields id act
 paired_done setup past event drawn fields id (CreateOperation key params forced) done number paired =
     subst (λ (found : Option ℕ). PairedBy setup past event drawn (record fields { op = found }) id (CreateOperation key params forced)) (sym (number refl))
-    (paired_opens (count_of is_begin past) (step_of past) fields.pruned _ (open_of setup past) (λ t. ticket_at past t) (taken_of setup past id) (outputs_made setup past id) (uses_made setup past id) id refl paired)
+    (paired_opens (count_of is_begin past) (step_of past) fields.pruned _ (open_of setup past) (λ t. ticket_at past t) (taken_of setup past id) (limited_made setup past id) (uses_made setup past id) id refl paired)
 paired_done setup past event drawn fields id (EnterAad op input) done number paired =
-    paired_enters (count_of is_begin past) (step_of past) op (Aad input) fields.ticket (open_of setup past) (λ t. ticket_at past t) (taken_of setup past id) (outputs_made setup past id) (uses_made setup past id) id
+    paired_enters (count_of is_begin past) (step_of past) op (Aad input) fields.ticket (open_of setup past) (λ t. ticket_at past t) (taken_of setup past id) (limited_made setup past id) (uses_made setup past id) id
     (op_few setup past id op paired (entered setup past (caller_of past event) drawn (EnterAad op input) op refl refl done)) paired
 paired_done setup past event drawn fields id (EnterUpdate op input) done number paired =
-    paired_enters (count_of is_begin past) (step_of past) op (Text input) fields.ticket (open_of setup past) (λ t. ticket_at past t) (taken_of setup past id) (outputs_made setup past id) (uses_made setup past id) id
+    paired_enters (count_of is_begin past) (step_of past) op (Text input) fields.ticket (open_of setup past) (λ t. ticket_at past t) (taken_of setup past id) (limited_made setup past id) (uses_made setup past id) id
     (op_few setup past id op paired (entered setup past (caller_of past event) drawn (EnterUpdate op input) op refl refl done)) paired
 paired_done setup past event drawn fields id (EnterFinish op input signature) done number paired =
-    paired_enters (count_of is_begin past) (step_of past) op (Last input signature) fields.ticket (open_of setup past) (λ t. ticket_at past t) (taken_of setup past id) (outputs_made setup past id) (uses_made setup past id) id
+    paired_enters (count_of is_begin past) (step_of past) op (Last input signature) fields.ticket (open_of setup past) (λ t. ticket_at past t) (taken_of setup past id) (limited_made setup past id) (uses_made setup past id) id
     (op_few setup past id op paired (entered setup past (caller_of past event) drawn (EnterFinish op input signature) op refl refl done)) paired
 paired_done setup past event drawn fields id (Abort op) done number paired =
-    paired_still (count_of is_begin past) (open_of setup past) _ (λ t. ticket_at past t) (taken_of setup past id) (outputs_made setup past id) (uses_made setup past id) id
+    paired_still (count_of is_begin past) (open_of setup past) _ (λ t. ticket_at past t) (taken_of setup past id) (limited_made setup past id) (uses_made setup past id) id
     (narrow_by id (step_of past) (Closes op) (open_of setup past) refl) paired
 paired_done setup past event drawn fields id (Leave ticket) done number paired =
     paired_still (count_of is_begin past) (open_of setup past) _ _ _ _ _ id (narrow_by id (step_of past) (returns (ticket_at past ticket)) (open_of setup past) (returns_none (ticket_at past ticket)))
-    (paired_given (count_of is_begin past) (open_of setup past) (λ t. ticket_at past t) (taken_of setup past id) (outputs_made setup past id) (uses_made setup past id) id ticket paired)
+    (paired_given (count_of is_begin past) (open_of setup past) (λ t. ticket_at past t) (taken_of setup past id) (limited_made setup past id) (uses_made setup past id) id ticket paired)
 paired_done setup past event drawn fields id (AddAuthToken challenge user authenticator kind time mac) done number paired =
-    paired_still (count_of is_begin past) (open_of setup past) _ (λ t. ticket_at past t) (taken_of setup past id) (outputs_made setup past id) (uses_made setup past id) id
+    paired_still (count_of is_begin past) (open_of setup past) _ (λ t. ticket_at past t) (taken_of setup past id) (limited_made setup past id) (uses_made setup past id) id
     (narrow_by id (step_of past) (Shows (token_of challenge user authenticator kind time mac)) (open_of setup past) refl) paired
 paired_done setup past event drawn fields id Disconnect done number paired =
-    paired_still (count_of is_begin past) (open_of setup past) _ (λ t. ticket_at past t) (taken_of setup past id) (outputs_made setup past id) (uses_made setup past id) id
+    paired_still (count_of is_begin past) (open_of setup past) _ (λ t. ticket_at past t) (taken_of setup past id) (limited_made setup past id) (uses_made setup past id) id
     (narrow_by id (step_of past) (ClosesOf event.client) (open_of setup past) refl) paired
 paired_done setup past event drawn fields id (Restart root) done number paired =
     record { few = tt; apart = tt; known = λ t. tt; waits = λ t op is any. cc; counted = paired.counted }
@@ -381,12 +392,12 @@ ends_none true act = closes_none (operation_of act)
 ends_none false act = refl
 
 paired_stopped : (setup : Setup) (past : History) (id : ℕ) (faulted : Bool) (act : Act) → IsPaired setup past id
-    → Paired (count_of is_begin past) (open_after (step_of past) (stopped_operation faulted act past) (open_of setup past)) (λ t. ticket_after (stopped_ticket act) t (ticket_at past t)) (taken_of setup past id) (outputs_made setup past id) (uses_made setup past id) id
+    → Paired (count_of is_begin past) (open_after (step_of past) (stopped_operation faulted act past) (open_of setup past)) (λ t. ticket_after (stopped_ticket act) t (ticket_at past t)) (taken_of setup past id) (limited_made setup past id) (uses_made setup past id) id
 paired_stopped setup past id faulted (Leave ticket) paired =
     paired_still (count_of is_begin past) (open_of setup past) _ _ _ _ _ id (narrow_by id (step_of past) (returns (ticket_at past ticket)) (open_of setup past) (returns_none (ticket_at past ticket)))
-    (paired_back (count_of is_begin past) (open_of setup past) (λ t. ticket_at past t) (taken_of setup past id) (outputs_made setup past id) (uses_made setup past id) id ticket paired)
+    (paired_back (count_of is_begin past) (open_of setup past) (λ t. ticket_at past t) (taken_of setup past id) (limited_made setup past id) (uses_made setup past id) id ticket paired)
 paired_stopped setup past id true (EnterFinish op input signature) paired =
-    paired_still (count_of is_begin past) (open_of setup past) _ (λ t. ticket_at past t) (taken_of setup past id) (outputs_made setup past id) (uses_made setup past id) id
+    paired_still (count_of is_begin past) (open_of setup past) _ (λ t. ticket_at past t) (taken_of setup past id) (limited_made setup past id) (uses_made setup past id) id
     (narrow_by id (step_of past) (Closes op) (open_of setup past) refl) paired
 paired_stopped setup past id false (EnterFinish op input signature) paired = paired
 paired_stopped setup past id faulted _ paired = paired
@@ -397,7 +408,7 @@ paired_acted setup past event drawn (Done fields) id may paired =
     paired_done setup past event drawn fields id event.act (admitted_by_rules setup past event drawn (ap is_done (sym is)))
     (λ begins. begun_number setup past (caller_of past event) drawn fields event.act begins is) paired
 paired_acted setup past event drawn (Broken rule code) id may paired =
-    paired_still (count_of is_begin past) (open_of setup past) _ (λ t. ticket_at past t) (taken_of setup past id) (outputs_made setup past id) (uses_made setup past id) id
+    paired_still (count_of is_begin past) (open_of setup past) _ (λ t. ticket_at past t) (taken_of setup past id) (limited_made setup past id) (uses_made setup past id) id
     (narrow_by id (step_of past) (if ends_operation rule then closes (operation_of event.act) else SameOperations) (open_of setup past) (ends_none (ends_operation rule) event.act)) paired
 paired_acted setup past event drawn (Stopped code) id may paired = paired_stopped setup past id (is_faulted (is_unsettled past) event.act (Stopped code)) event.act paired
 

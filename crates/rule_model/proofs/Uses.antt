@@ -1,6 +1,5 @@
 -- The law of uses.
-use Rattle.std.proofs.Common.{◌≡◌, ◌⊎◌, inl, inr, ℕ, ◌+◌, ◌≤◌, Bool, true, false, not, List, [], ◌∷◌, ◌++◌, Option, Some, None, refl, sym, ap, ◌∙◌, subst, arith}
-use Rattle.journal_records.specs.declared.change.Change.{Change}
+use Rattle.std.proofs.Common.{◌≡◌, inl, inr, ℕ, ◌+◌, ◌≤◌, Bool, true, false, not, List, [], ◌∷◌, ◌++◌, Option, Some, None, refl, sym, ap, ◌∙◌, subst, arith}
 use Rattle.journal_records.specs.LastingPart.{Lasting}
 use Rattle.rule_model.specs.declared.entry.Entry.TheVariants.{Acted, Settling}
 use Rattle.rule_model.specs.declared.event.Event.{Event}
@@ -13,8 +12,9 @@ use Rattle.rule_model.specs.Legal.{Legal, LegalBefore}
 use Rattle.rule_model.specs.Operations.{Open, operation_of}
 use Rattle.rule_model.specs.Setup.{Setup}
 use Rattle.rule_model.specs.StepFacts.{has_ended}
-use Rattle.rule_model.specs.Uses.{AreRuns, BeginsAfter, HasEnded, HasStood, KeepsLimit, Run, Stood, UsesLaw, outputs_in, outputs_made, uses_in, uses_made}
+use Rattle.rule_model.specs.Uses.{AreRuns, BeginsAfter, HasEnded, HasStood, Run, UsesLaw, outputs_in, uses_in, uses_made}
 use Rattle.rule_model.proofs.Admitted.{IsEntered, admitted_by_rules, entered}
+use Rattle.rule_model.proofs.Begun.{outputs_limited}
 use Rattle.rule_model.proofs.Bounds.{Bounded, bounded_from, live_within}
 use Rattle.rule_model.proofs.Held.{HoldBoth, Holds, HoldsAt, hold_both, holds_at}
 use Rattle.rule_model.proofs.Returned.{IsPaired, paired_of}
@@ -51,12 +51,12 @@ start_holds (before ∷ more) id start are begins =
     (run_holds before more id are.0 (start_holds more id before.setup.start are.2 are.1))
 
 -- the outputs are no more than the uses
-outputs_few : (runs : List Run) (id : ℕ) → AreRuns runs → outputs_in runs id ≤ uses_in runs id
-outputs_few [] id are = omega arith
-outputs_few (run ∷ earlier) id are =
+outputs_few : (runs : List Run) (id limit : ℕ) → 1 ≤ limit → ((l : ℕ) → HasStood runs id l → l ≡ limit) → AreRuns runs → outputs_in runs id ≤ uses_in runs id
+outputs_few [] id limit limited known are = omega arith
+outputs_few (run ∷ earlier) id limit limited known are =
     let front : LegalFront run.setup run.past = front_of run are.0 in
     let paired : IsPaired run.setup run.past id = paired_of run.setup front.next run.past id front.legal in
-    omega (arith, paired.counted, outputs_few earlier id are.2)
+    omega (arith, paired.counted, outputs_limited run.setup run.past id limit limited (λ l stood. known l (inl stood)), outputs_few earlier id limit limited (λ l stood. known l (inr stood)) are.2)
 
 -- a key that has ended is entered no more
 some_same : (o other : Open) → Some o ≡ Some other → o ≡ other
@@ -97,7 +97,7 @@ law_of_uses (run ∷ earlier) id limit are stood limited =
     let held : Bounded id (uses_made run.setup run.past id + uses_in earlier id) limit (kept run.setup run.past) =
     subst (λ l. Bounded id (uses_made run.setup run.past id + uses_in earlier id) l (kept run.setup run.past)) (sym same) both.sure.bounded in
     record {
-      outputs = outputs_few (run ∷ earlier) id are;
+      outputs = outputs_few (run ∷ earlier) id limit limited (λ l was. stood_limit run earlier id l was both.sure ∙ sym same) are;
       uses = held.within limited;
       ended = λ spent. ended_by run.setup run.past id (uses_made run.setup run.past id + uses_in earlier id) limit held limited spent;
     }

@@ -1,5 +1,6 @@
 -- The law of uses: over any runs on one store, whenever crashes come, a key that has a use limit gives output at most so many times.
-use Rattle.std.specs.Prelude.{◌≡◌, ◌≤◌, ◌⊎◌, ℕ, ◌+◌, Bool, true, false, ◌&&◌, List, [], ◌∷◌, ◌++◌, Option, Some, None, if◌then◌else◌}
+use Rattle.std.specs.Prelude.{◌≡◌, ◌≤◌, ◌⊎◌, ℕ, ◌+◌, Bool, true, false, ◌&&◌, List, [], ◌∷◌, ◌++◌, Option, Some, None, if◌then◌else◌, find}
+use Rattle.std.specs.Option.{option_and_then}
 use Rattle.cipher_ops.specs.declared.room.Work.{Work}
 use Rattle.cipher_ops.specs.declared.room.Work.TheVariants.{Aad, Text, Last}
 use Rattle.journal_records.specs.declared.change.Change.{Change}
@@ -16,7 +17,7 @@ use Rattle.rule_model.specs.Answer.{answer}
 use Rattle.rule_model.specs.Entries.{History, gives, is_done}
 use Rattle.rule_model.specs.Kept.{is_live, kept, open_of, operation_at}
 use Rattle.rule_model.specs.Legal.{Legal}
-use Rattle.rule_model.specs.Operations.{Open, operation_of, used_key}
+use Rattle.rule_model.specs.Operations.{Open, has_number, operation_of, used_key}
 use Rattle.rule_model.specs.Setup.{Setup}
 use Rattle.rule_model.specs.Stored.{May}
 use Rattle.rule_model.specs.Tickets.{Entered, ticket_at}
@@ -37,14 +38,18 @@ uses_made setup [] id = 0
 uses_made setup (Settling settled ∷ past) id = uses_made setup past id
 uses_made setup (Acted event drawn reply ∷ past) id = one_if (is_done reply && gives (used_by (open_of setup past) event.act) id) (uses_made setup past id)
 
--- the limited key with which the work that is out under a ticket gives its output, where it is a finish's
+-- the key of the open operation of a number, where it is stored
+abbrev pub worked_key : ℕ → List Open → Option ℕ
+worked_key number opened = option_and_then (λ (o : Open). o.operation.key) (find (has_number number) opened)
+
+-- the key with which the work that is out under a ticket gives its output, where it is a finish's
 abbrev pub output_key : List Open → Option Entered → Option ℕ
 output_key opened None = None
 output_key opened (Some entered) = by_work entered.work where
   by_work : Work → Option ℕ
   by_work (Aad input) = None
   by_work (Text input) = None
-  by_work (Last input signature) = used_key entered.op opened
+  by_work (Last input signature) = worked_key entered.op opened
 
 abbrev pub finished_by : Setup → History → Act → Option ℕ
 finished_by setup past (Leave ticket) = output_key (open_of setup past) (ticket_at past ticket)

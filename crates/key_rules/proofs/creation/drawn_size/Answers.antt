@@ -1,5 +1,4 @@
 use Rattle.std.proofs.Common.{◌≤◌, sym, subst}
-use Rattle.key_rules.specs.Creation.{material_size}
 use Rattle.key_rules.proofs.Keys.{generated_short}
 use Rattle.key_rules.proofs.creation.drawn_size.Goals as goal
 
