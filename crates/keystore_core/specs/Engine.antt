@@ -1,6 +1,9 @@
 -- When an engine stands for a history.
-use Rattle.std.specs.Prelude.{◌≡◌, ◌≤◌, ◌⊎◌, ℕ, Bool, List, length, Option, Result, Ok, Err}
+use Rattle.std.specs.Prelude.{◌≡◌, ◌≤◌, ◌⊎◌, ℕ, Bool, List, length, Option, Some, None, Result, Ok, Err}
 use Rattle.rule_model.specs.Entries.{History}
+use Rattle.rule_model.specs.Legal.{Legal}
+use Rattle.rule_model.specs.Uses.{IsStored}
+use Rattle.tags.specs.declared.settled.Settled.{Settled}
 use Rattle.tags.specs.declared.policy.PolicyRow.{PolicyRow}
 use Rattle.tags.specs.declared.secrets.DeviceSecrets.{DeviceSecrets}
 use Rattle.ks_outside.specs.declared.disk.Disk.{Ghosts}
@@ -76,10 +79,18 @@ fault_of stores.Memory = faults.Memory
 abbrev pub entries_of : Engine → ℕ
 entries_of engine = engine.entries
 
--- an engine stands for a history: it counted the entries, and its tables answer as the history says
+-- how many entries a step makes
+abbrev pub entries_made : Option Settled → ℕ
+entries_made None = 1
+entries_made (Some settled) = 2
+
+-- An engine stands for a history: it counted the entries, and its tables answer as the history says. The history is legal, and
+-- what lasted at its start is what a store can stand for.
 pub record Stands (setup : Setup) (engine : Engine) (past : History) : Type 0 where
   pub entries : engine.entries ≡ length past
   pub tables : TablesStand setup engine.tables past
+  pub legal : Legal setup past
+  pub stored : IsStored setup.start
 
 -- the engine's store and the disk hold what is known by a history
 abbrev pub StoreStands : {D : Type 0} → Ghosts D → Setup → Engine → D → History → Type 0

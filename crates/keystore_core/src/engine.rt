@@ -8,7 +8,6 @@ ghost use Rattle.rule_model.specs.Entries.{History, after_step};
 ghost use Rattle.rule_model.specs.Jobs.{HasDone, HasJob, Stays};
 ghost use Rattle.rule_model.specs.Legal.{MayStep};
 ghost use Rattle.rule_model.specs.Setup.{Setup};
-ghost use Rattle.rule_model.specs.Acts.{is_restart};
 ghost use Rattle.rule_model.specs.Settling.{is_disk_fault};
 ghost use Rattle.journal_records.specs.LastingPart.{Lasting, empty_lasting};
 ghost use Rattle.key_database.specs.Store.{StandsFor};
@@ -72,7 +71,7 @@ fn copied(alloc: Global, policy: &Policy) -> Result<Policy, NoMemory>
 }
 
 impl Engine {
-    ghost use Rattle.keystore_core.specs.Engine.{IsOpened, MayHoldEither, MayTake, OpensFor, OpensStore, OpenFaults, Stands, StandsForSome, StoreStands, entries_of, tickets_of, waits_in};
+    ghost use Rattle.keystore_core.specs.Engine.{IsOpened, MayHoldEither, MayTake, OpensFor, OpensStore, OpenFaults, Stands, StandsForSome, StoreStands, entries_made, entries_of, tickets_of, waits_in};
 
     /// Writes an empty store, and syncs. It takes no memory.
     pub fn format<D: Disk>(disk: &mut D) -> Result<(), Failed>
@@ -158,9 +157,9 @@ impl Engine {
         }
     }
 
-    /// Takes one event; a leave of a ticket that is out with what its job came back with, which no other event looks at. What
-    /// the engine stood for goes on by one step: what it settled, and the event with the bytes that were drawn for it and the
-    /// reply. There is a job exactly where the reply gives a ticket, which an admitted enter alone does. It is the work of its
+    /// Takes one event; a leave of a ticket that is out with what its job came back with, which no other event looks at. Where
+    /// an earlier change waits to be settled, every act but a leave and a disconnect settles it first. What the engine stood
+    /// for goes on by one step: what it settled, and the event with the bytes that were drawn for it and the reply. There is a job exactly where the reply gives a ticket, which an admitted enter alone does. It is the work of its
     /// operation, and stays so as long as the ticket is out. The bytes are those that the entropy gave, and a draw failed
     /// exactly where the reply says so.
     pub fn step<D: Disk, N: Entropy>(
@@ -181,13 +180,13 @@ impl Engine {
         ensures stays { (setup : Setup) (past : History) → Stands setup self.old past → HasDone setup past event.act done →
             Stays setup past (after_step result.settled event result.drawn result.reply past) }
         ensures number { IfSome result.job (λ job. ticket_of job ≡ tickets_of self.old + 1) }
-        ensures entries { entries_of self.new ≡ entries_of self.old + 1 }
+        ensures entries { entries_of self.new ≡ entries_of self.old + entries_made result.settled }
         ensures store { (setup : Setup) (past : History) → Stands setup self.old past → StoreStands D.Disk setup self.old disk.old past →
             StoreStands D.Disk setup self.new disk.new (after_step result.settled event result.drawn result.reply past) }
         ensures passes { (setup : Setup) (past : History) → Stands setup self.old past → StoreStands D.Disk setup self.old disk.old past →
             Passes D.Disk disk.old disk.new (MayHoldEither setup past (after_step result.settled event result.drawn result.reply past)) }
         ensures same { (setup : Setup) (past : History) → Stands setup self.old past → StoreStands D.Disk setup self.old disk.old past →
-            tells D.Disk disk.old ≡ true → is_restart event.act ≡ true → is_other_store result.reply ≡ false }
+            tells D.Disk disk.old ≡ true → is_other_store result.reply ≡ false }
         ensures sure { D.is_sure disk.old → D.is_sure disk.new }
         ensures telling { tells D.Disk disk.new ≡ tells D.Disk disk.old }
         ensures cause { CountsFaults (D.fault_count disk.old) (D.fault_count disk.new) (is_disk_fault result.reply) }
