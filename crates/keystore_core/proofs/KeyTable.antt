@@ -1,5 +1,5 @@
 -- The keys and grants: what a step leaves of their relation to a history, and that the needs of a change are met.
-use Rattle.std.proofs.Common.{◌≡◌, ℕ, Bool, true, false, ◌&&◌, ◌||◌, if◌then◌else◌, List, [], ◌∷◌, Option, Some, None, length, find, refl, sym, subst, ◌∙◌}
+use Rattle.std.proofs.Common.{◌≡◌, ℕ, ◌+◌, Bool, true, false, ◌&&◌, ◌||◌, if◌then◌else◌, List, [], ◌∷◌, Option, Some, None, length, find, refl, sym, ap, subst, ◌∙◌}
 use Rattle.std.specs.Prelude.{nat_lt}
 use Rattle.std.specs.List.{list_any}
 use Rattle.std.specs.Option.{option_map}
@@ -13,6 +13,10 @@ use Rattle.grants.specs.Rows.{is_for, is_numbered}
 use Rattle.journal_records.specs.declared.record.KeyRecord.{KeyRecord}
 use Rattle.journal_records.specs.LastingPart.{Lasting, has_id, some_has_id}
 use Rattle.journal_records.specs.Needs.{is_grant_numbered, is_number_left}
+use Rattle.journal_records.specs.declared.change.Change.{Change}
+use Rattle.journal_records.specs.Effects.{after}
+use Rattle.tags.specs.declared.settled.Settled.TheVariants.{Kept, Lost}
+use Rattle.key_database.specs.declared.database.KeyDatabase.{KeyDatabase}
 use Rattle.key_database.specs.Stands.{SameStore}
 use Rattle.key_database.proofs.Rereading.{one_store_same, same_bytes, same_settled, same_twice}
 use Rattle.rule_model.specs.declared.facts.Caller.{Caller}
@@ -21,9 +25,11 @@ use Rattle.rule_model.specs.Changes.{grant_at, grant_number, grant_of}
 use Rattle.rule_model.specs.Places.{has_grant_place}
 use Rattle.rule_model.specs.Entries.{History}
 use Rattle.rule_model.proofs.Kept.{SameStored}
+use Rattle.rule_model.specs.Settling.{is_unsettled as waits}
 use Rattle.rule_model.specs.Setup.{Setup}
+use Rattle.rule_model.specs.Stored.{record_bytes}
 use Rattle.keystore_core.specs.declared.tables.Tables.{Tables}
-use Rattle.keystore_core.specs.Keys.{KeysStand, SameKeys}
+use Rattle.keystore_core.specs.Keys.{KeysStand, SameKeys, WaitsFor}
 
 pub same_keys : (tables : Tables) → SameKeys tables tables
 same_keys tables = record { device_is = refl; policy_is = refl; store_is = one_store_same tables.keys }
@@ -39,6 +45,17 @@ same_keys_twice old middle new first second = record {
   store_is = same_twice old.keys middle.keys new.keys first.store_is second.store_is;
 }
 
+-- what waits is the same over the same store, where a settling keeps as much after the later history
+waits_still : (setup : Setup) (past later : History) (old new : KeyDatabase) (change : Change) → SameStore old new → SameStored setup past later → waits past ≡ true → WaitsFor setup old past change
+    → WaitsFor setup new later change
+waits_still setup past later old new change same is waiting before = record {
+  pending_is = same.pending_is ∙ before.pending_is;
+  made_is = ap (λ part. after part change) same.lasting_is ∙ before.made_is ∙ sym (is.waiting_kept Kept waiting);
+  made_bytes = ap (λ bytes. bytes + record_bytes change) (same_bytes old new same) ∙ before.made_bytes ∙ sym (is.waiting_bytes Kept waiting);
+  lost_is = same.lasting_is ∙ before.lost_is ∙ sym (is.waiting_kept Lost waiting);
+  lost_bytes = same_bytes old new same ∙ before.lost_bytes ∙ sym (is.waiting_bytes Lost waiting);
+}
+
 -- an entry that leaves the keys and grants as they are
 pub keys_stay : (setup : Setup) (past later : History) (old new : Tables) → KeysStand setup old past → SameKeys old new → SameStored setup past later
     → KeysStand setup new later
@@ -48,7 +65,18 @@ keys_stay setup past later old new stands same is = record {
   lasting_is = same.store_is.lasting_is ∙ stands.lasting_is ∙ sym is.kept_is;
   bytes_are = same_bytes old.keys new.keys same.store_is ∙ stands.bytes_are ∙ sym is.bytes_are;
   settled_is = same_settled old.keys new.keys same.store_is ∙ stands.settled_is ∙ sym is.settled_is;
+  waiting = λ later_waits.
+      let waiting : waits past ≡ true = sym is.settled_is ∙ later_waits in
+      let before = stands.waiting waiting in
+      (before.0, waits_still setup past later old.keys new.keys before.0 same.store_is is waiting before.1);
 }
+
+-- where nothing waits, nothing is to be said of what does
+pub none_waits : {A : Type 0} (past : History) → waits past ≡ false → waits past ≡ true → A
+none_waits past idle waiting = absurd (apart (waits past) idle waiting) where
+  apart : (b : Bool) → b ≡ false → b ≡ true → ⊥
+  apart true e f = cc
+  apart false e f = cc
 
 or_right : (a b : Bool) → b ≡ true → (a || b) ≡ true
 or_right true b e = refl

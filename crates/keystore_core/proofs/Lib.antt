@@ -15,6 +15,7 @@ pub mod Making
 pub mod Begun
 pub mod Restarted
 pub mod Stepped
+pub mod Entered
 pub mod Left
 pub mod Shown
 pub mod Users

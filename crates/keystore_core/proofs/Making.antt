@@ -419,7 +419,7 @@ module _ (setup : Setup) (past : History) (tables : Tables) (caller : Caller) (k
           clients = clients_stay setup past Making drawn reply tables.clients middle.clients stands.clients still.clients (same_clients Making reply (moves_none key params import)) (quiet is_connect past Making drawn reply (connects_none key params import));
           keys =
               let own = told_keys setup past tables middle.keys new Making drawn fields stands.keys still.keys.store_is settled (restarts_none import) (roots_none import) change reply by written in
-              record { device_is = still.keys.device_is ∙ own.device_is; policy_is = still.keys.policy_is ∙ own.policy_is; lasting_is = own.lasting_is; bytes_are = own.bytes_are; settled_is = own.settled_is };
+              record { device_is = still.keys.device_is ∙ own.device_is; policy_is = still.keys.policy_is ∙ own.policy_is; lasting_is = own.lasting_is; bytes_are = own.bytes_are; settled_is = own.settled_is; waiting = own.waiting };
           operations = operations_stay setup past Making drawn reply tables.operations middle.operations stands.operations still.operations (none drawn reply) (quiet is_begin past Making drawn reply (begins_none key params import));
           slots = slots_stay setup past Making drawn reply tables.slots middle.slots stands.slots still.slots (none drawn reply);
           tickets = tickets_stay setup past Making drawn reply tables.tickets middle.tickets stands.tickets still.tickets (unticketed reply) (quiet is_enter past Making drawn reply (enters_none key params import)) (stays_same setup past Making drawn reply (none drawn reply));

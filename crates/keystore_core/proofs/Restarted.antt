@@ -24,17 +24,17 @@ use Rattle.rule_model.specs.Legal.{Answered, NotRestarted}
 use Rattle.rule_model.specs.Replies.{no_fields}
 use Rattle.rule_model.specs.Blobs.{root_given}
 use Rattle.rule_model.specs.Boot.{StartsAgain}
-use Rattle.rule_model.specs.Settling.{is_disk_fault, is_system_error}
+use Rattle.rule_model.specs.Settling.{is_disk_fault, is_system_error, is_unsettled as waits}
 use Rattle.rule_model.specs.Setup.{Setup}
 use Rattle.rule_model.specs.Stored.{after_reply}
-use Rattle.rule_model.proofs.Kept.{SameStored}
+use Rattle.rule_model.proofs.Kept.{SameStored, denied_stored, unfaulted_stored}
 use Rattle.keystore_core.specs.declared.tables.Tables.{Tables}
 use Rattle.keystore_core.specs.Restarting.{Forgets}
 use Rattle.keystore_core.specs.Tables.{AnswersAfter, TablesStand, event_by}
 use Rattle.keystore_core.specs.Writing.{StoreGoes}
 use Rattle.keystore_core.proofs.Ready.{ready_settled}
 use Rattle.keystore_core.proofs.Booted.{boot_after, boot_stays, same_boot}
-use Rattle.keystore_core.proofs.KeyTable.{keys_stay, same_keys}
+use Rattle.keystore_core.proofs.KeyTable.{keys_stay, none_waits, same_keys}
 use Rattle.keystore_core.proofs.Opened.{stays_same}
 use Rattle.keystore_core.proofs.Standing.{clients_stay, operations_stay, same_tables, slots_stay, tickets_stay}
 
@@ -45,8 +45,8 @@ module _ (setup : Setup) (past : History) (old : Tables) (caller : Caller) (root
   abbrev Restarting : Event
   Restarting = event_by caller (Restart root)
 
-  pub restarted : (new : Tables) → Forgets root old new → AnswersAfter setup past new Restarting (record { reply = Done no_fields; job = None; drawn = [] })
-  restarted new forgets = record {
+  pub restarted : (new : Tables) → waits past ≡ false → Forgets root old new → AnswersAfter setup past new Restarting (record { reply = Done no_fields; job = None; drawn = [] })
+  restarted new idle forgets = record {
     follows = λ ready. Answered (record { ready = ready; drew = refl; is_answer = refl });
     stands = record {
       clients = record { uids = λ client. forgets.goes client; given = forgets.clients_are ∙ stands.clients.given };
@@ -56,6 +56,7 @@ module _ (setup : Setup) (past : History) (old : Tables) (caller : Caller) (root
         lasting_is = ap lasting forgets.keys_are ∙ stands.keys.lasting_is;
         bytes_are = ap store_bytes forgets.keys_are ∙ stands.keys.bytes_are;
         settled_is = ap is_unsettled forgets.keys_are ∙ stands.keys.settled_is;
+        waiting = none_waits (Acted Restarting [] (Done no_fields) ∷ past) idle;
       };
       operations = record { rows = rw forgets.rows tt; given = forgets.operations_are ∙ stands.operations.given };
       slots = record {
@@ -89,7 +90,7 @@ module _ (setup : Setup) (past : History) (old : Tables) (caller : Caller) (root
   pub other_store : AnswersAfter setup past old Restarting (record { reply = Stopped ValueCorrupted; job = None; drawn = [] })
   other_store = record {
     follows = λ ready. NotRestarted ValueCorrupted (record { ready = ready_settled past (Restart root) refl ready; drew = refl; restarts = refl; refusal = refl; is_refusal = refl });
-    stands = refused_as ValueCorrupted (record { kept_is = refl; bytes_are = refl; settled_is = refl; device_is = refl });
+    stands = refused_as ValueCorrupted (denied_stored setup past Restarting [] (Stopped ValueCorrupted) refl refl);
     has_job = refl;
     stays = stays_same setup past Restarting [] (Stopped ValueCorrupted) refl;
   }
@@ -98,7 +99,7 @@ module _ (setup : Setup) (past : History) (old : Tables) (caller : Caller) (root
   pub unread_store : AnswersAfter setup past old Restarting (record { reply = Stopped SystemError; job = None; drawn = [] })
   unread_store = record {
     follows = λ ready. NotRestarted SystemError (record { ready = ready_settled past (Restart root) refl ready; drew = refl; restarts = refl; refusal = refl; is_refusal = refl });
-    stands = refused_as SystemError (record { kept_is = refl; bytes_are = refl; settled_is = refl; device_is = refl });
+    stands = refused_as SystemError (unfaulted_stored setup past Restarting [] (Stopped SystemError) refl refl);
     has_job = refl;
     stays = stays_same setup past Restarting [] (Stopped SystemError) refl;
   }

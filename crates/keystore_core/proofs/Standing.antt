@@ -5,7 +5,7 @@ use Rattle.std.proofs.Math.Bridge.{le_prop}
 use Rattle.std.proofs.Props.{props}
 use mathlib.Core.Logic.{∥∥₁_elim, ∥∥₁_map}
 use Rattle.tags.specs.declared.bytes.NoMemory.{NoMemory}
-use Rattle.tags.specs.declared.code.Code.TheVariants.{MemoryAllocationFailed}
+use Rattle.tags.specs.declared.code.Code.TheVariants.{MemoryAllocationFailed, SystemError}
 use Rattle.tags.specs.declared.descriptor.Descriptor.{Descriptor}
 use Rattle.cipher_ops.specs.declared.job.Done.{Done as JobDone}
 use Rattle.cipher_ops.specs.declared.room.Work.{Work}
@@ -14,23 +14,23 @@ use Rattle.operation_slots.specs.Table.{IsLater, SlotTable, capacity_of, held, o
 use Rattle.rule_model.specs.Kept.{open_of, operation_at, operation_change}
 use Rattle.rule_model.specs.declared.entry.Entry.TheVariants.{Acted}
 use Rattle.rule_model.specs.declared.event.Act.{Act}
-use Rattle.rule_model.specs.declared.event.Act.TheVariants.{CreateOperation, Leave}
+use Rattle.rule_model.specs.declared.event.Act.TheVariants.{CreateOperation, EnterFinish, Leave}
 use Rattle.rule_model.specs.declared.event.Event.{Event}
 use Rattle.rule_model.specs.declared.facts.Caller.{Caller}
 use Rattle.rule_model.specs.declared.reply.Reply.{Reply}
 use Rattle.rule_model.specs.declared.reply.Reply.TheVariants.{Done, Broken, Stopped}
-use Rattle.rule_model.specs.Acts.{fixed_for, is_begin, is_connect, is_enter}
+use Rattle.rule_model.specs.Acts.{fixed_for, is_begin, is_connect, is_enter, is_restart}
 use Rattle.rule_model.specs.Boot.{SameBoot as NoBoot, boot_change}
 use Rattle.rule_model.specs.Clients.{SameClients as NoClients, caller_of, client_change, uid_after, uid_of}
 use Rattle.rule_model.specs.Entries.{History, admits, count_of, is_done}
 use Rattle.rule_model.specs.Jobs.{Stays, but_shown}
 use Rattle.rule_model.specs.Operations.{Open, OperationChange, SameOperations, open_after, step_of, stopped_operation}
-use Rattle.rule_model.specs.Settling.{is_disk_fault}
+use Rattle.rule_model.specs.Settling.{is_faulted, is_unsettled}
 use Rattle.rule_model.specs.Setup.{Setup}
 use Rattle.rule_model.specs.Tickets.{Entered, SameTickets as NoTickets, stopped_ticket, ticket_after, ticket_at, ticket_change}
 use Rattle.rule_model.proofs.Boot.{begins_few}
 use Rattle.rule_model.proofs.Counting.{count_few}
-use Rattle.rule_model.proofs.Kept.{denied_stored, same_stored}
+use Rattle.rule_model.proofs.Kept.{same_stored, unfaulted_stored}
 use Rattle.keystore_core.specs.declared.answered.Answered.{Answered}
 use Rattle.keystore_core.specs.declared.begins.Begins.{Begins}
 use Rattle.keystore_core.specs.declared.clients.Clients.{Clients}
@@ -166,11 +166,11 @@ module _ (setup : Setup) (past : History) (event : Event) (drawn : List ℕ) (re
     by_reply (Stopped code) e = refl
 
   -- an event that is not admitted, and changes no operation and no ticket
-  pub denied_tables : (old new : Tables) → TablesStand setup old past → SameTables old new → is_done reply ≡ false → is_disk_fault reply ≡ false
+  pub denied_tables : (old new : Tables) → TablesStand setup old past → SameTables old new → is_done reply ≡ false → is_faulted (is_unsettled past) event.act reply ≡ false
       → operation_change setup past event drawn reply ≡ SameOperations → ticket_change event reply ≡ NoTickets → TablesStand setup new (Acted event drawn reply ∷ past)
   denied_tables old new stands same denied no_fault none no_ticket = record {
     clients = clients_stay old.clients new.clients stands.clients same.clients (denied_clients denied) (not_admitted denied is_connect);
-    keys = keys_stay setup past (Acted event drawn reply ∷ past) old new stands.keys same.keys (denied_stored setup past event drawn reply denied no_fault);
+    keys = keys_stay setup past (Acted event drawn reply ∷ past) old new stands.keys same.keys (unfaulted_stored setup past event drawn reply denied no_fault);
     operations = operations_stay old.operations new.operations stands.operations same.operations none (not_admitted denied is_begin);
     slots = slots_stay old.slots new.slots stands.slots same.slots none;
     tickets = tickets_stay old.tickets new.tickets stands.tickets same.tickets no_ticket (not_admitted denied is_enter) (stays_same setup past event drawn reply none);
@@ -201,29 +201,30 @@ pub called : (past : History) (tables : Tables) (caller : Caller) (act : Act) �
 called past tables caller act stands is = ap (λ (uid : Option ℕ). record { reading = caller.reading; client = caller.client; uid = uid }) (is ∙ stands.uids caller.client)
 
 -- the numbers that were given are few
-pub few_clients : (tables : Tables) → ∥ IsTables tables (2 ^ 62 - 1) ∥₁ → clients_given tables.clients < 2 ^ 62
+pub few_clients : (tables : Tables) → ∥ IsTables tables (2 ^ 63 - 1) ∥₁ → clients_given tables.clients < 2 ^ 63
 few_clients tables is = ∥∥₁_elim is le_prop (λ t. omega (arith, t.stands.clients.given, count_few is_connect t.past, t.few))
 
-pub few_operations : (tables : Tables) → ∥ IsTables tables (2 ^ 62 - 1) ∥₁ → operations_given tables.operations < 2 ^ 62
+pub few_operations : (tables : Tables) → ∥ IsTables tables (2 ^ 63 - 1) ∥₁ → operations_given tables.operations < 2 ^ 63
 few_operations tables is = ∥∥₁_elim is le_prop (λ t. omega (arith, t.stands.operations.given, count_few is_begin t.past, t.few))
 
-pub few_begins : (tables : Tables) (key : ℕ) → ∥ IsTables tables (2 ^ 62 - 1) ∥₁ → begins_in tables.boot.begins key < 2 ^ 62
+pub few_begins : (tables : Tables) (key : ℕ) → ∥ IsTables tables (2 ^ 63 - 1) ∥₁ → begins_in tables.boot.begins key < 2 ^ 63
 few_begins tables key is = ∥∥₁_elim is le_prop (λ t. omega (arith, t.stands.boot.begins key, begins_few t.setup t.past key, t.few))
 
 -- a begin on a key, stored or not, is counted in a number
-pub few_counted : (tables : Tables) (new : Begins) (id : Option ℕ) → SameBegins tables.boot.begins new → ∥ IsTables tables (2 ^ 62 - 1) ∥₁ → IfSome id (λ key. begins_in new key < 2 ^ 62)
+pub few_counted : (tables : Tables) (new : Begins) (id : Option ℕ) → SameBegins tables.boot.begins new → ∥ IsTables tables (2 ^ 63 - 1) ∥₁ → IfSome id (λ key. begins_in new key < 2 ^ 63)
 few_counted tables new None same is = tt
 few_counted tables new (Some id) same is = omega (arith, same id, few_begins tables id is)
 
-pub few_tickets : (tables : Tables) → ∥ IsTables tables (2 ^ 62 - 1) ∥₁ → tickets_given tables.tickets < 2 ^ 62
+pub few_tickets : (tables : Tables) → ∥ IsTables tables (2 ^ 63 - 1) ∥₁ → tickets_given tables.tickets < 2 ^ 63
 few_tickets tables is = ∥∥₁_elim is le_prop (λ t. omega (arith, t.stands.tickets.given, count_few is_enter t.past, t.few))
 
 -- tables at a step are tables of few entries
-pub at_few : (tables : Tables) (step : ℕ) (act : Act) (back : Option JobDone) → step ≤ 2 ^ 62 → ∥ IsAt tables step act back ∥₁ → ∥ IsTables tables (2 ^ 62 - 1) ∥₁
+pub at_few : (tables : Tables) (step : ℕ) (act : Act) (back : Option JobDone) → step ≤ 2 ^ 63 → ∥ IsAt tables step act back ∥₁ → ∥ IsTables tables (2 ^ 63 - 1) ∥₁
 at_few tables step act back few at = ∥∥₁_map at (λ t. record {
   setup = t.setup;
   past = t.past;
   stands = t.stands.tables_stand;
+  legal = t.legal;
   few = omega (arith, t.stands.step_is, few);
 })
 
@@ -283,7 +284,25 @@ at_begin tables step act back key params forced at = ∥∥₁_map at (λ t. rec
   setup = t.setup;
   past = t.past;
   stands = record { tables_stand = t.stands.tables_stand; step_is = t.stands.step_is; done_is = tt };
+  legal = t.legal;
 })
+
+-- an act that is not made since an earlier change could not be settled: it settles first, and so it is no leave
+settles_first : (act : Act) (past : History) → (fixed_for act).settles ≡ true → (stopped_operation false act past ≡ SameOperations) × (stopped_ticket act ≡ NoTickets)
+settles_first (Leave ticket) past settles = cc
+settles_first (EnterFinish op input signature) past settles = (refl, refl)
+settles_first _ past settles = (refl, refl)
+
+pub not_made : (setup : Setup) (past : History) (old new : Tables) (event : Event) → TablesStand setup old past → SameTables old new → is_unsettled past ≡ true → (fixed_for event.act).settles ≡ true
+    → TablesStand setup new (Acted event [] (Stopped SystemError) ∷ past) × Stays setup past (Acted event [] (Stopped SystemError) ∷ past)
+not_made setup past old new event stands same waiting settles =
+    let none = settles_first event.act past settles in
+    let unfaulted : is_faulted (is_unsettled past) event.act (Stopped SystemError) ≡ false = rw waiting (no_more (is_restart event.act)) in
+    let operations : operation_change setup past event [] (Stopped SystemError) ≡ SameOperations = ap (λ faulted. stopped_operation faulted event.act past) unfaulted ∙ none.0 in
+    (denied_tables setup past event [] (Stopped SystemError) old new stands same refl unfaulted operations none.1, stays_same setup past event [] (Stopped SystemError) operations) where
+      no_more : (restarts : Bool) → (not restarts && false) ≡ false
+      no_more true = refl
+      no_more false = refl
 
 -- an act that takes memory is no leave
 takes_memory : (act : Act) (past : History) → IsTrue (fixed_for act).takes_memory → (stopped_operation act past ≡ SameOperations) × (stopped_ticket act ≡ NoTickets)

@@ -1,6 +1,9 @@
 -- What is known of the store goes on over an act, and over a step.
-use Rattle.std.proofs.Common.{◌≡◌, ◌⊎◌, ℕ, Bool, true, false, List, ◌∷◌, Option, Some, None, Result, Ok, Err, refl, sym, ap, ◌∙◌, subst}
-use Rattle.std.specs.Prelude.{IfOk}
+use Rattle.std.proofs.Common.{◌≡◌, ◌⊎◌, ℕ, Bool, true, false, ◌&&◌, not, if◌then◌else◌, List, [], ◌∷◌, Option, Some, None, option_map, Result, Ok, Err, refl, sym, ap, ◌∙◌, subst}
+use Rattle.std.specs.Prelude.{IfOk, option_or}
+use Rattle.tags.specs.declared.policy.PolicyRow.{PolicyRow}
+use Rattle.tags.specs.declared.secrets.DeviceSecrets.{DeviceSecrets}
+use Rattle.tags.specs.declared.settled.Settled.TheVariants.{Kept, Lost}
 use Rattle.tags.specs.declared.bytes.NoMemory.{NoMemory}
 use Rattle.tags.specs.declared.code.Code.TheVariants.{MemoryAllocationFailed}
 use Rattle.tags.specs.declared.rule.Rule.{Rule}
@@ -8,34 +11,41 @@ use Rattle.tags.specs.declared.code.Code.{Code}
 use Rattle.ks_outside.specs.declared.disk.Disk.{Ghosts}
 use Rattle.ks_outside.specs.Images.{Passes}
 use Rattle.journal_records.specs.declared.change.Change.{Change}
-use Rattle.journal_records.specs.Holding.{Holding}
+use Rattle.journal_records.specs.declared.change.Change.TheVariants as changes
+use Rattle.journal_records.specs.Holding.{Holding, Sure, Unsure}
+use Rattle.journal_records.specs.LastingPart.{Lasting}
 use Rattle.key_database.specs.declared.database.KeyDatabase.{KeyDatabase}
 use Rattle.key_database.specs.Stands.{Holds, SameStore, is_unsettled, lasting}
 use Rattle.key_database.specs.Store.{Between}
 use Rattle.key_database.proofs.Rereading.{one_store_same}
 use Rattle.cipher_ops.specs.declared.job.Done.{Done as JobDone}
-use Rattle.rule_model.specs.declared.entry.Entry.TheVariants.{Acted}
+use Rattle.rule_model.specs.declared.entry.Entry.TheVariants.{Acted, Settling}
 use Rattle.rule_model.specs.declared.event.Act.{Act}
+use Rattle.rule_model.specs.declared.event.Act.TheVariants.{Disconnect, EnterFinish, Leave}
 use Rattle.rule_model.specs.declared.event.Event.{Event}
 use Rattle.rule_model.specs.declared.facts.Caller.{Caller}
 use Rattle.rule_model.specs.declared.reply.Reply.{Reply}
-use Rattle.rule_model.specs.declared.reply.Reply.TheVariants.{Broken, Stopped}
-use Rattle.rule_model.specs.Acts.{is_restart}
+use Rattle.rule_model.specs.declared.reply.Reply.TheVariants.{Done, Broken, Stopped}
+use Rattle.rule_model.specs.Acts.{fixed_for, is_restart}
 use Rattle.rule_model.specs.Blobs.{device_at}
 use Rattle.rule_model.specs.Changes.{change_of}
 use Rattle.rule_model.specs.Clients.{caller_of}
-use Rattle.rule_model.specs.Entries.{History}
-use Rattle.rule_model.specs.Kept.{kept}
-use Rattle.rule_model.specs.Settling.{is_unsettled as waits}
+use Rattle.rule_model.specs.Entries.{History, is_done}
+use Rattle.rule_model.specs.Kept.{kept, open_of, operation_at}
+use Rattle.rule_model.specs.Settling.{is_system_error, is_unsettled as waits}
 use Rattle.rule_model.specs.Setup.{Setup}
-use Rattle.rule_model.specs.Stored.{after_reply, change_by, holding_of}
-use Rattle.rule_model.proofs.Kept.{changes_kept, next_holding}
+use Rattle.rule_model.specs.Stored.{after_reply, change_by, holding_of, torn_by}
+use Rattle.rule_model.proofs.Kept.{changes_kept, next_holding, still_holding}
 use Rattle.keystore_core.specs.declared.answered.Answered.{Answered}
 use Rattle.keystore_core.specs.declared.tables.Tables.{Tables}
 use Rattle.keystore_core.specs.Tables.{IsCaller, ServesAfter, ServesAt, TablesStand, event_by}
 use Rattle.keystore_core.specs.Clients.{uid_in}
-use Rattle.keystore_core.specs.Writing.{LeavesStore, StoreAnswers, StoreGoes, StoreGoesAfter, caller_by, change_for}
-use Rattle.keystore_core.proofs.Written.{denied_goes, leaves_goes, quiet_goes}
+use Rattle.keystore_core.specs.Operations.{operation_in}
+use Rattle.keystore_core.specs.Writing.{LeavesStore, StoreAnswers, StoreGoes, StoreGoesAfter, caller_by, change_for, use_by, used_of}
+use Rattle.keystore_core.proofs.KeyTable.{none_waits}
+use Rattle.keystore_core.proofs.Stepped.{row_found}
+use Rattle.keystore_core.proofs.Entered.{same_used}
+use Rattle.keystore_core.proofs.Written.{denied_goes, leaves_goes, no_change_for, quiet_goes}
 
 -- ---- an act
 
@@ -72,28 +82,43 @@ malformed_goes g disk keys restarts change rule code = denied_goes g disk keys k
 
 -- ---- a step
 
-same_use : (row : Option Row) (o : Option Open) → BothFound IsRow row o → option_or (option_map changes.Use (used_of row)) None ≡ option_map changes.Use (option_and_then limited_key o)
-same_use None None both = refl
-same_use (Some row) (Some o) r = rw (r.limited, r.key) (either o.operation.limited o.operation.key) where
-  either : (b : Bool) (key : Option ℕ) → option_or (option_map changes.Use (if b then key else None)) None ≡ option_map changes.Use (if b then key else None)
-  either true None = refl
-  either true (Some id) = refl
-  either false key = refl
-same_use None (Some o) both = absurd both
-same_use (Some row) None both = absurd both
+-- what a finish uses is told by the operation's row
+use_option : (used : Option ℕ) → option_or (option_map changes.Use used) None ≡ option_map changes.Use used
+use_option None = refl
+use_option (Some id) = refl
+
+abbrev AreTwo : Holding → Type 0
+AreTwo (Sure part) = ⊥
+AreTwo (Unsure part later) = Unit {0}
+
+-- over a history where a change waits, an act that settles nothing leaves what is known as it is
+waiting_stays : (restarts : Bool) (reply : Reply) (held : Holding) → AreTwo held → after_reply restarts None reply held ≡ held
+waiting_stays restarts (Done fields) held unsure = refl
+waiting_stays restarts (Broken rule code) held unsure = refl
+waiting_stays restarts (Stopped code) (Sure part) unsure = absurd unsure
+waiting_stays restarts (Stopped code) (Unsure part later) unsure = by_code (is_system_error code && not restarts) where
+  by_code : (b : Bool) → (if b then torn_by None (Unsure part later) else Unsure part later) ≡ Unsure part later
+  by_code true = refl
+  by_code false = refl
+
+settles_none : (act : Act) → (fixed_for act).settles ≡ false → changes_kept act ≡ false
+settles_none Disconnect e = refl
+settles_none (Leave ticket) e = refl
+settles_none _ e = cc
 
 module _ {D : Type 0} (g : Ghosts D) (setup : Setup) (past : History) (old new : Tables) (disk later : D) (event : Event) (answered : Answered) (stands : TablesStand setup old past)
-    (settled : is_unsettled old.keys ≡ false) (goes : StoreAnswers g old new disk later event answered) where
-  idle : waits past ≡ false
-  idle = sym stands.keys.settled_is ∙ settled
+    (settled : (fixed_for event.act).settles ≡ true → is_unsettled old.keys ≡ false) (goes : StoreAnswers g old new disk later event answered) where
+  abbrev After : History
+  After = Acted event answered.drawn answered.reply ∷ past
 
   caller_is : caller_by old event ≡ caller_of past event
   caller_is = ap (λ uid. record { reading = event.reading; client = event.client; uid = uid }) (stands.clients.uids event.client)
 
-  -- what a finish uses is told by the operation's row
   use_is : (act : Act) (device : DeviceSecrets) (policy : List PolicyRow) (part : Lasting) (caller : Caller) (drawn : List ℕ)
       → option_or (use_by old act) (change_of act device policy part [] caller drawn) ≡ change_of act device policy part (open_of setup past) caller drawn
-  use_is (EnterFinish op input signature) device policy part caller drawn = same_use (operation_in old.operations op) (operation_at setup past op) (row_found setup past old op stands)
+  use_is (EnterFinish op input signature) device policy part caller drawn =
+      use_option (used_of (operation_in old.operations op))
+      ∙ ap (option_map changes.Use) (same_used (operation_in old.operations op) (operation_at setup past op) (row_found setup past old op stands))
   use_is _ device policy part caller drawn = refl
 
   change_is : change_for old (caller_by old event) event.act answered ≡ change_by setup past event answered.drawn
@@ -104,13 +129,33 @@ module _ {D : Type 0} (g : Ghosts D) (setup : Setup) (past : History) (old new :
       ∙ ap (λ part. change_of event.act (device_at setup past) setup.policy part (open_of setup past) (caller_by old event) answered.drawn) stands.keys.lasting_is
       ∙ ap (λ c. change_of event.act (device_at setup past) setup.policy (kept setup past) (open_of setup past) c answered.drawn) caller_is
 
-  next : after_reply (is_restart event.act) (change_for old (caller_by old event) event.act answered) answered.reply (holding_of setup past)
-      ≡ holding_of setup (Acted event answered.drawn answered.reply ∷ past)
-  next = ap (λ c. after_reply (is_restart event.act) c answered.reply (holding_of setup past)) change_is ∙ sym (next_holding setup past event answered.drawn answered.reply idle)
+  -- where none waits, by the change; where one waits, the act settles nothing, and changes nothing
+  idle_next : waits past ≡ false → after_reply (is_restart event.act) (change_for old (caller_by old event) event.act answered) answered.reply (holding_of setup past) ≡ holding_of setup After
+  idle_next idle = ap (λ c. after_reply (is_restart event.act) c answered.reply (holding_of setup past)) change_is ∙ sym (next_holding setup past event answered.drawn answered.reply idle)
 
-  pub store_goes_on : Holds g old.keys disk (holding_of setup past) → Holds g new.keys later (holding_of setup (Acted event answered.drawn answered.reply ∷ past))
+  quiet_act : waits past ≡ true → changes_kept event.act ≡ false
+  quiet_act waiting = settles_none event.act (by_settles (fixed_for event.act).settles refl) where
+    by_settles : (b : Bool) → (fixed_for event.act).settles ≡ b → b ≡ false
+    by_settles true e = absurd (none_waits past (sym stands.keys.settled_is ∙ settled e) waiting)
+    by_settles false e = refl
+
+  two : waits past ≡ true → AreTwo (holding_of setup past)
+  two waiting = subst (λ b. AreTwo (if b then Unsure (kept setup (Settling Lost ∷ past)) (kept setup (Settling Kept ∷ past)) else Sure (kept setup past))) (sym waiting) tt
+
+  waiting_next : waits past ≡ true → after_reply (is_restart event.act) (change_for old (caller_by old event) event.act answered) answered.reply (holding_of setup past) ≡ holding_of setup After
+  waiting_next waiting =
+      ap (λ c. after_reply (is_restart event.act) c answered.reply (holding_of setup past)) (no_change_for g disk old (caller_by old event) event.act answered (quiet_act waiting))
+      ∙ waiting_stays (is_restart event.act) answered.reply (holding_of setup past) (two waiting)
+      ∙ sym (still_holding setup past event answered.drawn answered.reply waiting (ap (λ b. b && is_done answered.reply) (quiet_act waiting)))
+
+  next : after_reply (is_restart event.act) (change_for old (caller_by old event) event.act answered) answered.reply (holding_of setup past) ≡ holding_of setup After
+  next = by_waiting (waits past) refl where
+    by_waiting : (b : Bool) → waits past ≡ b → after_reply (is_restart event.act) (change_for old (caller_by old event) event.act answered) answered.reply (holding_of setup past) ≡ holding_of setup After
+    by_waiting true e = waiting_next e
+    by_waiting false e = idle_next e
+
+  pub store_goes_on : Holds g old.keys disk (holding_of setup past) → Holds g new.keys later (holding_of setup After)
   store_goes_on held = subst (λ h. Holds g new.keys later h) next (goes.holds (holding_of setup past) held)
 
-  pub store_passes : Holds g old.keys disk (holding_of setup past)
-      → Passes g disk later (Between (holding_of setup past) (holding_of setup (Acted event answered.drawn answered.reply ∷ past)))
+  pub store_passes : Holds g old.keys disk (holding_of setup past) → Passes g disk later (Between (holding_of setup past) (holding_of setup After))
   store_passes held = subst (λ h. Passes g disk later (Between (holding_of setup past) h)) next (goes.passes (holding_of setup past) held)

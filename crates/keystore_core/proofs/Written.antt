@@ -38,11 +38,11 @@ use Rattle.rule_model.specs.Blobs.{device_at, root_given}
 use Rattle.rule_model.specs.Settling.{is_disk_fault, is_system_error, is_unsettled as waits}
 use Rattle.rule_model.specs.Setup.{Setup}
 use Rattle.rule_model.specs.Stored.{after_reply, bytes_with, change_by, has_record_room, record_bytes, stored_bytes, where_stored}
-use Rattle.rule_model.proofs.Kept.{SameStored, changes_kept, denied_stored, made_stored, none_changed, torn_stored}
+use Rattle.rule_model.proofs.Kept.{SameStored, changes_kept, denied_stored, made_stored, none_changed, torn_stored, unchanged_stored}
 use Rattle.keystore_core.specs.declared.answered.Answered.{Answered}
 use Rattle.keystore_core.specs.declared.tables.Tables.{Tables}
 use Rattle.keystore_core.specs.Keys.{AreSettled, KeysStand, SameKeys}
-use Rattle.keystore_core.proofs.KeyTable.{keys_stay}
+use Rattle.keystore_core.proofs.KeyTable.{keys_stay, none_waits}
 use Rattle.keystore_core.proofs.Ready.{idle_ready, idle_settled}
 use Rattle.keystore_core.specs.Writing.{Full, HasMade, IsTorn, IsWritten, IsWrittenIf, LeavesStore, Made, StoreGoes, StoreGoesFor, Torn, change_for, use_by}
 
@@ -96,6 +96,7 @@ module _ (setup : Setup) (past : History) (tables : Tables) (middle new : KeyDat
     lasting_is = made.lasting_is ∙ ap (λ part. after part change) (still.lasting_is ∙ stands.lasting_is) ∙ sym later.kept_is;
     bytes_are = made.bytes_are ∙ ap (λ n. n + record_bytes change) bytes_before ∙ sym later.bytes_are;
     settled_is = made.settled ∙ sym (later.settled_is ∙ idle);
+    waiting = none_waits (Acted event drawn (Done fields) ∷ past) (later.settled_is ∙ idle);
   }
 
   full_keys : SameStore middle new → KeysStand setup (record tables { keys = new }) (Acted event drawn (Stopped JournalFull) ∷ past)
@@ -105,15 +106,26 @@ module _ (setup : Setup) (past : History) (tables : Tables) (middle new : KeyDat
     lasting_is = same.lasting_is ∙ still.lasting_is ∙ stands.lasting_is ∙ sym later.kept_is;
     bytes_are = same_bytes middle new same ∙ bytes_before ∙ sym later.bytes_are;
     settled_is = same_settled middle new same ∙ same_settled tables.keys middle still ∙ stands.settled_is ∙ sym later.settled_is;
+    waiting = none_waits (Acted event drawn (Stopped JournalFull) ∷ past) (later.settled_is ∙ idle);
   }
 
   torn_keys : IsTorn middle new change → KeysStand setup (record tables { keys = new }) (Acted event drawn (Stopped SystemError) ∷ past)
-  torn_keys torn = let later = torn_stored setup past event drawn idle no_restart in record {
+  torn_keys torn = let later = torn_stored setup past event drawn change idle no_restart is in record {
     policy_is = stands.policy_is;
     device_is = stands.device_is ∙ sym later.device_is;
     lasting_is = torn.lasting_is ∙ still.lasting_is ∙ stands.lasting_is ∙ sym later.kept_is;
     bytes_are = torn.bytes_are ∙ bytes_before ∙ sym later.bytes_are;
     settled_is = torn.waits ∙ sym later.waits;
+    waiting = λ waiting. (
+      change,
+      record {
+        pending_is = torn.pending_is;
+        made_is = ap (λ part. after part change) (torn.lasting_is ∙ still.lasting_is ∙ stands.lasting_is) ∙ sym later.made_kept;
+        made_bytes = ap (λ bytes. bytes + record_bytes change) (torn.bytes_are ∙ bytes_before) ∙ sym later.made_bytes;
+        lost_is = torn.lasting_is ∙ still.lasting_is ∙ stands.lasting_is ∙ sym later.lost_kept;
+        lost_bytes = torn.bytes_are ∙ bytes_before ∙ sym later.lost_bytes;
+      },
+    );
   }
 
   pub written_keys : (reply : Reply) → IsWritten middle new change fields reply → KeysStand setup (record tables { keys = new }) (Acted event drawn reply ∷ past)
@@ -148,19 +160,11 @@ module _ (setup : Setup) (past : History) (tables : Tables) (middle new : KeyDat
 -- the same where there may be no change
 module _ (setup : Setup) (past : History) (tables : Tables) (middle new : KeyDatabase) (event : Event) (drawn : List ℕ) (fields : Fields) (stands : KeysStand setup tables past)
     (still : SameStore tables.keys middle) (settled : AreSettled tables) (no_restart : is_restart event.act ≡ false) (no_root : (before : List ℕ) → root_given event.act before ≡ before) where
-  unchanged : change_by setup past event drawn ≡ None → SameStored setup past (Acted event drawn (Done fields) ∷ past)
-  unchanged is = record {
-    kept_is = ap (λ c. after_change c (kept setup past)) is;
-    bytes_are = ap (λ c. bytes_with c (stored_bytes setup past)) is;
-    settled_is = refl;
-    device_is = ap (λ root. record setup.device { root = root }) (no_root (root_of setup past));
-  }
-
   pub told_keys : (change : Option Change) (reply : Reply) → change_by setup past event drawn ≡ change → IsWrittenIf middle new change fields reply → KeysStand setup (record tables { keys = new }) (Acted event drawn reply ∷ past)
   told_keys None reply is written =
       subst (λ r. KeysStand setup (record tables { keys = new }) (Acted event drawn r ∷ past)) (sym written.1)
       (keys_stay setup past (Acted event drawn (Done fields) ∷ past) tables (record tables { keys = new }) stands
-      (record { device_is = refl; policy_is = refl; store_is = same_twice tables.keys middle new still written.0 }) (unchanged is))
+      (record { device_is = refl; policy_is = refl; store_is = same_twice tables.keys middle new still written.0 }) (unchanged_stored setup past event drawn (Done fields) no_root is refl (sym stands.settled_is ∙ settled)))
   told_keys (Some change) reply is written = written_keys setup past tables middle new event drawn change fields stands still settled no_restart no_root is reply written
 
   pub told_follows : (change : Option Change) (reply : Reply) → change_by setup past event drawn ≡ change → length drawn ≡ size_of (wanted setup past event)
@@ -207,7 +211,7 @@ module _ {D : Type 0} (g : Ghosts D) (disk : D) where
   no_use tables (EnterFinish op input signature) e = cc
   no_use tables _ e = refl
 
-  no_change_for : (tables : Tables) (caller : Caller) (act : Act) (answered : Answered) → changes_kept act ≡ false → change_for tables caller act answered ≡ None
+  pub no_change_for : (tables : Tables) (caller : Caller) (act : Act) (answered : Answered) → changes_kept act ≡ false → change_for tables caller act answered ≡ None
   no_change_for tables caller act answered e = rw (no_use tables act e) (none_changed act tables.device tables.policy (lasting tables.keys) [] caller answered.drawn e)
 
   pub leaves_goes : (old new : Tables) (caller : Caller) (act : Act) (answered : Answered) → LeavesStore old new answered → changes_kept act ≡ false → StoreGoesFor g old new disk disk caller act answered

@@ -18,6 +18,7 @@ use Rattle.cipher_ops.specs.Sizes.{own_text}
 use Rattle.operation_slots.specs.Table.{FindsChanged, FindsNoMore, Gives, IsSound, KeepsLater, KeepsLaterThan, Takes, TakesOut, given_back, made_busy}
 use Rattle.journal_records.specs.declared.change.Change.{Change}
 use Rattle.journal_records.specs.declared.change.Change.TheVariants as changes
+use Rattle.key_database.specs.declared.database.KeyDatabase.{KeyDatabase}
 use Rattle.key_database.specs.Held.{CanMake}
 use Rattle.key_database.specs.Stands.{table_of}
 use Rattle.keystore_core.specs.Writing.{used_of}
@@ -53,20 +54,21 @@ added_for _ input = record { aad = 0; text = input }
 abbrev pub added_by : Brought → Added
 added_by brought = added_for brought.kind brought.input
 
--- the stored key that a finish on an operation uses once, and that change
-abbrev pub used_for : StepKind → Tables → ℕ → Option ℕ
-used_for kinds.Finish tables op = used_of (operation_in tables.operations op)
-used_for _ tables op = None
+-- the stored key that a finish on an operation uses once
+abbrev pub used_for : StepKind → Option Operation → Option ℕ
+used_for kinds.Last row = used_of row
+used_for _ row = None
 
 abbrev pub used_in : Tables → ℕ → StepKind → Option ℕ
-used_in tables op kind = used_for kind tables op
+used_in tables op kind = used_for kind (operation_in tables.operations op)
 
-abbrev pub spent : Tables → ℕ → StepKind → Option Change
-spent tables op kind = option_map changes.Use (used_in tables op kind)
+-- that change
+abbrev pub used_by : Option ℕ → Option Change
+used_by used = option_map changes.Use used
 
 -- it may be made
-abbrev pub CanSpend : Tables → ℕ → StepKind → Type 0
-CanSpend tables op kind = (id : ℕ) → used_in tables op kind ≡ Some id → CanMake (table_of tables.keys) (changes.Use id)
+abbrev pub CanSpend : KeyDatabase → Option ℕ → Type 0
+CanSpend keys used = (id : ℕ) → used ≡ Some id → CanMake (table_of keys) (changes.Use id)
 
 -- additional data puts out nothing
 abbrev pub reply_of : StepKind → Result (List ℕ) Code → Reply
@@ -89,13 +91,13 @@ abbrev pub CanWork : Option CipherState → JobRoom → Type 0
 CanWork None room = ⊥
 CanWork (Some state) room = ∥ CanRun state room ∥₁
 
--- a denial closes the operation where its rule says so
-abbrev pub DeniesBy : Bool → ℕ → Tables → Tables → Type 0
-DeniesBy true op old new = ClosesOne op old new
-DeniesBy false op old new = new ≡ old
+-- the operation is closed where that is so, and else all is as it was
+abbrev pub ClosesIf : Bool → ℕ → Tables → Tables → Type 0
+ClosesIf true op old new = ClosesOne op old new
+ClosesIf false op old new = new ≡ old
 
-abbrev pub Denies : Rule → ℕ → Tables → Tables → Type 0
-Denies rule op old new = DeniesBy (ends_operation rule) op old new
+-- a denial closes the operation where its rule says soabbrev pub Denies : Rule → ℕ → Tables → Tables → Type 0
+Denies rule op old new = ClosesIf (ends_operation rule) op old new
 
 -- a work went out: its operation is busy, its ticket is kept, and its job is that of the state and the room
 pub record SendsJob (out : Out) (room : JobRoom) (old new : Tables) (job : Job) : Type 0 where

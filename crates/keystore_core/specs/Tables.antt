@@ -10,9 +10,10 @@ use Rattle.rule_model.specs.declared.event.Act.{Act}
 use Rattle.rule_model.specs.declared.facts.Caller.{Caller}
 use Rattle.rule_model.specs.Entries.{History}
 use Rattle.rule_model.specs.Jobs.{HasDone, HasJob, Stays}
-use Rattle.rule_model.specs.Legal.{MayFollow, is_ready}
+use Rattle.rule_model.specs.Legal.{LegalBefore, MayFollow, is_ready}
 use Rattle.rule_model.specs.Operations.{step_of}
 use Rattle.rule_model.specs.Setup.{Setup}
+use Rattle.rule_model.specs.Uses.{IsStored}
 use Rattle.keystore_core.specs.declared.answered.Answered.{Answered}
 use Rattle.keystore_core.specs.declared.operations.Operation.{Operation}
 use Rattle.keystore_core.specs.declared.tables.Tables.{Tables}
@@ -48,11 +49,18 @@ row_at tables op = operation_in tables.operations op
 abbrev pub state_at : Tables → ℕ → Option CipherState
 state_at tables op = idle_value (held tables.slots op)
 
--- the tables stand for some history of at most so many entries
+-- a history that may stand behind an entry: it is legal before some event, over what a store can stand for
+pub record IsLegal (setup : Setup) (past : History) : Type 0 where
+  pub next : Option Event
+  pub legal : LegalBefore setup next past
+  pub stored : IsStored setup.start
+
+-- the tables stand for some legal history of at most so many entries
 pub record IsTables (tables : Tables) (most : ℕ) : Type 0 where
   pub setup : Setup
   pub past : History
   pub stands : TablesStand setup tables past
+  pub legal : IsLegal setup past
   pub few : length past ≤ most
 
 -- The tables stand for a history after which this is the step's number, and a leave of a ticket that is out has what its job
@@ -62,11 +70,12 @@ pub record StandsAt (setup : Setup) (tables : Tables) (past : History) (step : �
   pub step_is : step ≡ step_of past
   pub done_is : HasDone setup past act back
 
--- some history is such
+-- some legal history is such
 pub record IsAt (tables : Tables) (step : ℕ) (act : Act) (back : Option Done) : Type 0 where
   pub setup : Setup
   pub past : History
   pub stands : StandsAt setup tables past step act back
+  pub legal : IsLegal setup past
 
 -- the uid of a caller is that of the client
 abbrev pub IsCaller : Tables → Caller → Type 0

@@ -10,7 +10,7 @@ use Rattle.journal_records.specs.declared.change.Change.TheVariants as changes
 use Rattle.journal_records.specs.Effects.{after}
 use Rattle.journal_records.specs.Holding.{Holding}
 use Rattle.key_database.specs.declared.database.KeyDatabase.{KeyDatabase}
-use Rattle.key_database.specs.Stands.{Holds, SameStore, is_unsettled, lasting, store_bytes}
+use Rattle.key_database.specs.Stands.{Holds, SameStore, is_unsettled, lasting, pending_of, store_bytes}
 use Rattle.key_database.specs.Store.{Between}
 use Rattle.rule_model.specs.declared.event.Act.{Act}
 use Rattle.rule_model.specs.declared.event.Act.TheVariants.{EnterFinish}
@@ -42,6 +42,7 @@ pub record IsTorn (old new : KeyDatabase) (change : Change) : Type 0 where
   pub lasting_is : lasting new ≡ lasting old
   pub bytes_are : store_bytes new ≡ store_bytes old
   pub waits : is_unsettled new ≡ true
+  pub pending_is : pending_of new ≡ Some change
   pub room : has_record_room (store_bytes old) change ≡ true
 
 -- what became of a change, by its reply: it was made, and the fields are told; its record has no room; or a device call failed

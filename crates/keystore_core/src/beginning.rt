@@ -264,7 +264,7 @@ fn reserve_begin(begins: &mut Begins, id: Option<u64>) -> Result<(), NoMemory>
 /// Counts a begin on a key, where it is stored.
 fn count_begin(begins: &mut Begins, id: Option<u64>)
     requires room { spec.HasRoomOn begins.old id }
-    requires few { IfSome id (λ key. begins_in begins.old key < 2 ^ 62) }
+    requires few { IfSome id (λ key. begins_in begins.old key < 2 ^ 63) }
     ensures { ChangesBegins (begins_of_key id) begins.old begins.new }
 {
     if let Some(id) = id {
@@ -303,9 +303,9 @@ impl Tables {
         requires fresh { is_some (held self.old.slots row.number) ≡ false }
         requires later { IsLater self.old.slots step }
         requires room { HasRoomForOperation self.old.operations }
-        requires few { operations_given self.old.operations < 2 ^ 62 }
+        requires few { operations_given self.old.operations < 2 ^ 63 }
         requires counted { spec.HasRoomOn self.old.boot.begins key }
-        requires less { IfSome key (λ id. begins_in self.old.boot.begins id < 2 ^ 62) }
+        requires less { IfSome key (λ id. begins_in self.old.boot.begins id < 2 ^ 63) }
         ensures { spec.OpensOne pruned step uid key row state self.old self.new }
     {
         self.make_way(pruned);
@@ -326,7 +326,7 @@ impl Tables {
         forced: bool,
     ) -> Result<Answered, NoMemory>
         requires at { ∥ IsAt self.old step (acts.CreateOperation key params forced) None ∥₁ }
-        requires few { step ≤ 2 ^ 62 }
+        requires few { step ≤ 2 ^ 63 }
         requires caller { IsCaller self.old caller }
         ensures serves { ServesAt step None self.old self.new (event_by caller (acts.CreateOperation key params forced)) result }
         ensures job { IfOk result (λ answered. answered.job ≡ None) }

@@ -54,7 +54,7 @@ impl Begins {
     /// Counts a begin on a key.
     pub fn count(&mut self, key: u64)
         requires room { HasRoomForBegin self.old key }
-        requires few { begins_in self.old key < 2 ^ 62 }
+        requires few { begins_in self.old key < 2 ^ 63 }
         ensures { ChangesBegins (BeginsOn key) self.old self.new }
     {
         match self.counts.get_mut(&key) {

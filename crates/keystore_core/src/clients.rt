@@ -35,7 +35,7 @@ impl Clients {
 
     /// Takes in a new client and answers its number.
     pub fn connect(&mut self, uid: u32) -> Result<u64, NoMemory>
-        requires { clients_given self.old < 2 ^ 62 }
+        requires { clients_given self.old < 2 ^ 63 }
         ensures number { IfOk result (λ client. client ≡ clients_given self.old + 1) }
         ensures given { IfOk result (λ client. clients_given self.new ≡ client) }
         ensures comes { IfOk result (λ client. ChangesClients (Comes client uid) self.old self.new) }

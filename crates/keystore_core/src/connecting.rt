@@ -23,7 +23,7 @@ impl Tables {
         _caller: Caller,
         uid: u32,
     ) -> Result<Answered, NoMemory>
-        requires { ∥ IsTables self.old (2 ^ 62 - 1) ∥₁ }
+        requires { ∥ IsTables self.old (2 ^ 63 - 1) ∥₁ }
         ensures serves { ServesAfter self.old self.new (event_by _caller (acts.Connect uid)) result }
         ensures job { IfOk result (λ answered. answered.job ≡ None) }
         ensures drew { IfOk result (λ answered. IsUndrawn answered) }

@@ -3,11 +3,14 @@
 ghost use Rattle.std.specs.Prelude.{◌≡◌, ℕ, ◌+◌, ◌^◌, ◌<◌, ◌≤◌, [], List, None, true, false, not, IfOk, IfSome, OnOk};
 ghost use Rattle.cipher_ops.specs.Jobs.{ticket_of};
 ghost use Rattle.ks_outside.specs.Shown.{Drew};
+ghost use Rattle.tags.specs.declared.code.Code.TheVariants.{SystemError};
+ghost use Rattle.rule_model.specs.declared.reply.Reply.TheVariants as replies;
 ghost use Rattle.rule_model.specs.Drawn.{is_entropy_fault};
 ghost use Rattle.rule_model.specs.Entries.{History, after_step};
 ghost use Rattle.rule_model.specs.Jobs.{HasDone, HasJob, Stays};
 ghost use Rattle.rule_model.specs.Legal.{MayStep};
 ghost use Rattle.rule_model.specs.Setup.{Setup};
+ghost use Rattle.rule_model.specs.Acts.{is_restart};
 ghost use Rattle.rule_model.specs.Settling.{is_disk_fault};
 ghost use Rattle.journal_records.specs.LastingPart.{Lasting, empty_lasting};
 ghost use Rattle.key_database.specs.Store.{StandsFor};
@@ -145,6 +148,9 @@ impl Engine {
 
     /// The step of an act that is not made, since an earlier change could not be settled. It takes no memory.
     fn not_settled(&mut self) -> Stepped
+        requires { entries_of self.old < 2 ^ 62 }
+        ensures reply { result ≡ record { settled = None; reply = replies.Stopped SystemError; job = None; drawn = [] } }
+        ensures entries { self.new ≡ record self.old { entries = self.old.entries + 1 } }
     {
         self.entries += 1;
         Stepped {
@@ -186,7 +192,7 @@ impl Engine {
         ensures passes { (setup : Setup) (past : History) → Stands setup self.old past → StoreStands D.Disk setup self.old disk.old past →
             Passes D.Disk disk.old disk.new (MayHoldEither setup past (after_step result.settled event result.drawn result.reply past)) }
         ensures same { (setup : Setup) (past : History) → Stands setup self.old past → StoreStands D.Disk setup self.old disk.old past →
-            tells D.Disk disk.old ≡ true → is_other_store result.reply ≡ false }
+            tells D.Disk disk.old ≡ true → is_restart event.act ≡ true → is_other_store result.reply ≡ false }
         ensures sure { D.is_sure disk.old → D.is_sure disk.new }
         ensures telling { tells D.Disk disk.new ≡ tells D.Disk disk.old }
         ensures cause { CountsFaults (D.fault_count disk.old) (D.fault_count disk.new) (is_disk_fault result.reply) }

@@ -163,7 +163,7 @@ impl Operations {
 
     /// The number that the next operation takes.
     pub fn next(&self) -> u64
-        requires { operations_given self.now < 2 ^ 62 }
+        requires { operations_given self.now < 2 ^ 63 }
         ensures { result ≡ operations_given self.now + 1 }
     {
         self.given + 1
@@ -181,7 +181,7 @@ impl Operations {
     /// Opens an operation under the next number, in the place of one that gives way.
     pub fn open(&mut self, operation: Operation)
         requires room { HasRoomForOperation self.old }
-        requires few { operations_given self.old < 2 ^ 62 }
+        requires few { operations_given self.old < 2 ^ 63 }
         ensures { AddsRow operation self.old self.new }
     {
         let Ok(()) = self.rows.push(operation) else {

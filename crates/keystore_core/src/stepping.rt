@@ -14,7 +14,9 @@ ghost use Rattle.keystore_core.specs.Leaving.{ClosesOne};
 ghost use Rattle.keystore_core.specs.Operations.{HasRoomForOperation};
 ghost use Rattle.keystore_core.specs.Stepping as spec;
 ghost use Rattle.keystore_core.specs.Keys.{AreSettled, live_key};
+ghost use Rattle.key_database.specs.Stands.{is_unsettled};
 ghost use Rattle.rule_model.specs.Replies.{no_fields};
+ghost use Rattle.rule_model.specs.Settling.{is_disk_fault};
 ghost use Rattle.keystore_core.specs.Tables.{IsCaller, IsTables, ServesAfter, TablesStand, event_by, row_at, state_at};
 ghost use Rattle.keystore_core.specs.Writing.{IsWrittenIf, LeavesStore, StoreGoes, StoreGoesAfter};
 ghost use Rattle.keystore_core.specs.Tickets.{HasRoomForTicket, tickets_given};
@@ -26,6 +28,7 @@ use crate::tickets::Out;
 use crate::writing::write_change;
 use cipher_ops::{Job, JobRoom, Work};
 use journal_records::Change;
+use key_database::KeyDatabase;
 use ks_outside::Disk;
 use operation_slots::Taken;
 use rule_model::{Brought, Caller, Fields, NO_FIELDS, Reply};
@@ -70,6 +73,34 @@ fn is_waiting(operation: &Operation) -> bool
     ensures { result ≡ (is_some operation.now.challenge && not operation.now.shown) }
 {
     operation.challenge.is_some() && !operation.shown
+}
+
+/// Whether a reply says that a device call failed.
+fn is_fault(reply: &Reply) -> bool
+    ensures { result ≡ is_disk_fault reply.now }
+{
+    match reply {
+        Reply::Stopped { code } => *code == Code::SystemError,
+        _ => false,
+    }
+}
+
+/// Uses a key once, on the disk, where there is one to use; the reply gives the ticket where nothing stood against it. It
+/// takes no memory.
+fn spend<D: Disk>(keys: &mut KeyDatabase, disk: &mut D, used: Option<u64>, ticket: u64) -> Reply
+    requires settled { is_unsettled keys.old ≡ false }
+    requires can { spec.CanSpend keys.old used }
+    ensures written { IsWrittenIf keys.old keys.new (spec.used_by used) (record no_fields { ticket = Some ticket }) result }
+    ensures store { StoreGoes D.Disk keys.old keys.new disk.old disk.new false (spec.used_by used) result }
+{
+    let fields = Fields {
+        ticket: Some(ticket),
+        ..NO_FIELDS
+    };
+    match used {
+        Some(id) => write_change(keys, disk, Change::Use { id }, fields),
+        None => Reply::Done(fields),
+    }
 }
 
 impl Tables {
@@ -167,7 +198,7 @@ impl Tables {
     fn send(&mut self, out: Out, room: JobRoom) -> Job
         requires state { spec.CanWork (state_at self.old out.op) room }
         requires room { HasRoomForTicket self.old.tickets }
-        requires few { tickets_given self.old.tickets < 2 ^ 62 }
+        requires few { tickets_given self.old.tickets < 2 ^ 63 }
         ensures { spec.SendsJob out room self.old self.new result }
     {
         let ticket = self.tickets.next();
@@ -179,36 +210,31 @@ impl Tables {
         Job::new(state, ticket, room)
     }
 
-    /// The stored key that a finish on an operation uses once: that of an operation with a use limit.
+    /// The stored key that a step of an operation uses once: a finish does, on an operation of a key with a use limit.
     fn used_key(&self, op: u64, kind: StepKind) -> Option<u64>
         ensures { result ≡ spec.used_in self.now op kind }
     {
-        if kind != StepKind::Finish {
+        if kind != StepKind::Last {
             return None;
         }
         match self.operations.get(op) {
-            Some(operation) if operation.limited => operation.key,
-            _ => None,
+            Some(operation) => { if operation.limited { operation.key } else { None } }
+            None => None,
         }
     }
 
-    /// Uses the key of an operation once, on the disk, where it has a use limit and the work is the last one; the reply gives
-    /// the ticket where nothing stood against it. It takes no memory.
-    fn spend<D: Disk>(&mut self, disk: &mut D, op: u64, kind: StepKind, ticket: u64) -> Reply
-        requires settled { AreSettled self.old }
-        requires can { spec.CanSpend self.old op kind }
-        ensures written { IsWrittenIf self.old.keys self.new.keys (spec.spent self.old op kind) (record no_fields { ticket = Some ticket }) result }
-        ensures store { StoreGoes D.Disk self.old.keys self.new.keys disk.old disk.new false (spec.spent self.old op kind) result }
-        ensures rest { self.new ≡ record self.old { keys = self.new.keys } }
+    /// Answers a finish whose key could not be used. Where a device call failed, that ends the operation.
+    fn unspent(&mut self, alloc: Global, op: u64, reply: Reply) -> Answered
+        requires { is_disk_fault reply ≡ true → IsSome (state_at self.old op) }
+        ensures reply { result.reply ≡ reply }
+        ensures job { result.job ≡ None }
+        ensures drawn { result.drawn ≡ [] }
+        ensures closes { spec.ClosesIf (is_disk_fault reply) op self.old self.new }
     {
-        let fields = Fields {
-            ticket: Some(ticket),
-            ..NO_FIELDS
-        };
-        match self.used_key(op, kind) {
-            Some(id) => write_change(&mut self.keys, disk, Change::Use { id }, fields),
-            None => Reply::Done(fields),
+        if is_fault(&reply) {
+            self.close(op);
         }
+        Answered::undrawn(alloc, reply)
     }
 
     /// A client enters an operation with a work. The last work on an operation of a key with a use limit uses the key once,
@@ -221,7 +247,7 @@ impl Tables {
         op: u64,
         work: Work,
     ) -> Result<Answered, NoMemory>
-        requires tables { ∥ IsTables self.old (2 ^ 62 - 1) ∥₁ }
+        requires tables { ∥ IsTables self.old (2 ^ 63 - 1) ∥₁ }
         requires caller { IsCaller self.old caller }
         requires settled { AreSettled self.old }
         ensures serves { ServesAfter self.old self.new (event_by caller (spec.entering op work)) result }
@@ -234,27 +260,22 @@ impl Tables {
         if let Err((rule, code)) = check_step(&facts) {
             return Ok(self.deny(alloc, op, rule, code));
         }
+        let used = self.used_key(op, brought.kind);
         let room = self.room(alloc, op, work)?;
         let ticket = self.tickets.next();
         self.tickets.reserve()?;
-        match self.spend(disk, op, brought.kind, ticket) {
+        match spend(&mut self.keys, disk, used, ticket) {
             Reply::Done(_) => {
                 let job = self.send(Out { op, brought }, room);
                 Ok(Answered::entered(alloc, ticket, job))
             }
-            Reply::Stopped {
-                code: Code::SystemError,
-            } => {
-                self.close(op);
-                Ok(Answered::stopped(alloc, Code::SystemError))
-            }
-            _ => Ok(Answered::stopped(alloc, Code::JournalFull)),
+            refusal => Ok(self.unspent(alloc, op, refusal)),
         }
     }
 
     /// A client gives an operation up.
     pub fn abort(&mut self, alloc: Global, caller: Caller, op: u64) -> Answered
-        requires tables { ∥ IsTables self.old (2 ^ 62 - 1) ∥₁ }
+        requires tables { ∥ IsTables self.old (2 ^ 63 - 1) ∥₁ }
         requires caller { IsCaller self.old caller }
         ensures serves { ServesAfter self.old self.new (event_by caller (acts.Abort op)) (Ok result) }
         ensures job { result.job ≡ None }

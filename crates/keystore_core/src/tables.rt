@@ -105,10 +105,10 @@ impl Tables {
         done: Option<Done>,
     ) -> Result<Answered, NoMemory>
         requires at { ∥ IsAt self.old step act done ∥₁ }
-        requires few { step ≤ 2 ^ 62 }
+        requires few { step ≤ 2 ^ 63 }
         requires caller { IsCaller self.old caller }
         requires built { IsTrue (is_event act) }
-        requires settled { AreSettled self.old }
+        requires settled { (fixed_for act).settles ≡ true → AreSettled self.old }
         ensures serves { ServesAt step done self.old self.new (event_by caller act) result }
         ensures number { IfOk result (λ answered. IfSome answered.job (λ job. ticket_of job ≡ tickets_given self.old.tickets + 1)) }
         ensures memory { OnErr result (IsTrue (fixed_for act).takes_memory) }
@@ -198,8 +198,8 @@ impl Tables {
         done: Option<Done>,
     ) -> Answered
         requires at { ∥ IsAt self.old step event.act done ∥₁ }
-        requires few { step ≤ 2 ^ 62 }
-        requires settled { AreSettled self.old }
+        requires few { step ≤ 2 ^ 63 }
+        requires settled { (fixed_for event.act).settles ≡ true → AreSettled self.old }
         ensures answers { AnswersAt step done self.old self.new event result }
         ensures number { IfSome result.job (λ job. ticket_of job ≡ tickets_given self.old.tickets + 1) }
         ensures drew { DrewFor N.Entropy entropy.old entropy.new result }

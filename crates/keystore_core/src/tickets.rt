@@ -35,7 +35,7 @@ impl Tickets {
 
     /// The number that the next ticket takes.
     pub fn next(&self) -> u64
-        requires { tickets_given self.now < 2 ^ 62 }
+        requires { tickets_given self.now < 2 ^ 63 }
         ensures { result ≡ tickets_given self.now + 1 }
     {
         self.given + 1
@@ -53,7 +53,7 @@ impl Tickets {
 
     /// Takes the room of the next ticket.
     pub fn reserve(&mut self) -> Result<(), NoMemory>
-        requires { tickets_given self.old < 2 ^ 62 }
+        requires { tickets_given self.old < 2 ^ 63 }
         ensures room { OnOk result (HasRoomForTicket self.new) }
         ensures same { SameTickets self.old self.new }
     {
@@ -67,7 +67,7 @@ impl Tickets {
     /// Keeps a work under the next ticket.
     pub fn give(&mut self, out: Out)
         requires room { HasRoomForTicket self.old }
-        requires few { tickets_given self.old < 2 ^ 62 }
+        requires few { tickets_given self.old < 2 ^ 63 }
         ensures { GivesTicket out self.old self.new }
     {
         let number = self.next();

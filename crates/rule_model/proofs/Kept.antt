@@ -111,28 +111,57 @@ uncounted_bytes : (faulted : Bool) (setup : Setup) (past : History) (change : Op
 uncounted_bytes true setup past change = refl
 uncounted_bytes false setup past change = refl
 
--- a later history keeps what an earlier one does, in as many bytes and with the same root of trust, and neither or both wait to be settled
+-- A later history keeps what an earlier one does, in as many bytes and with the same root of trust, and neither or both wait to be
+-- settled; the same after a settling of what waits.
 pub record SameStored (setup : Setup) (past later : History) : Type 0 where
   pub kept_is : kept setup later ≡ kept setup past
   pub bytes_are : stored_bytes setup later ≡ stored_bytes setup past
   pub settled_is : is_unsettled later ≡ is_unsettled past
   pub device_is : device_at setup later ≡ device_at setup past
+  pub waiting_kept : (settled : Settled) → is_unsettled past ≡ true → kept setup (Settling settled ∷ later) ≡ kept setup (Settling settled ∷ past)
+  pub waiting_bytes : (settled : Settled) → is_unsettled past ≡ true → stored_bytes setup (Settling settled ∷ later) ≡ stored_bytes setup (Settling settled ∷ past)
 
 pub same_stored : (setup : Setup) (past : History) → SameStored setup past past
-same_stored setup past = record { kept_is = refl; bytes_are = refl; settled_is = refl; device_is = refl }
+same_stored setup past = record {
+  kept_is = refl;
+  bytes_are = refl;
+  settled_is = refl;
+  device_is = refl;
+  waiting_kept = λ settled waits. refl;
+  waiting_bytes = λ settled waits. refl;
+}
 
--- an entry that is not admitted, and of which no device call failed
-pub denied_stored : (setup : Setup) (past : History) (event : Event) (drawn : List ℕ) (reply : Reply) → is_done reply ≡ false → is_disk_fault reply ≡ false
+-- an entry that is not admitted and not faulted
+pub unfaulted_stored : (setup : Setup) (past : History) (event : Event) (drawn : List ℕ) (reply : Reply) → is_done reply ≡ false → is_faulted (is_unsettled past) event.act reply ≡ false
     → SameStored setup past (Acted event drawn reply ∷ past)
-denied_stored setup past event drawn (Done fields) e f = cc
-denied_stored setup past event drawn (Broken rule code) e f = record { kept_is = refl; bytes_are = refl; settled_is = refl; device_is = refl }
-denied_stored setup past event drawn (Stopped code) e f = record {
+unfaulted_stored setup past event drawn (Done fields) e f = cc
+unfaulted_stored setup past event drawn (Broken rule code) e f = record {
+  kept_is = refl;
+  bytes_are = refl;
+  settled_is = refl;
+  device_is = refl;
+  waiting_kept = λ settled waits. refl;
+  waiting_bytes = λ settled waits. refl;
+}
+unfaulted_stored setup past event drawn (Stopped code) e f = record {
   kept_is = denied_kept setup past event drawn (Stopped code) refl;
   bytes_are = uncounted_bytes (is_faulted (is_unsettled past) event.act (Stopped code)) setup past
       (change_of event.act (device_at setup past) setup.policy (kept_settled setup (if is_faulted (is_unsettled past) event.act (Stopped code) then None else None) past) (open_of setup past) (caller_of past event) drawn);
   settled_is = rw f refl;
   device_is = refl;
+  waiting_kept = λ settled waits. rw f refl;
+  waiting_bytes = λ settled waits. rw f refl;
 }
+
+no_fault : (waits : Bool) (act : Act) (reply : Reply) → is_disk_fault reply ≡ false → is_faulted waits act reply ≡ false
+no_fault waits act (Done fields) f = refl
+no_fault waits act (Broken rule code) f = refl
+no_fault waits act (Stopped code) f = rw f refl
+
+-- one of which no device call failed
+pub denied_stored : (setup : Setup) (past : History) (event : Event) (drawn : List ℕ) (reply : Reply) → is_done reply ≡ false → is_disk_fault reply ≡ false
+    → SameStored setup past (Acted event drawn reply ∷ past)
+denied_stored setup past event drawn reply e f = unfaulted_stored setup past event drawn reply e (no_fault (is_unsettled past) event.act reply f)
 
 -- an entry whose act changes none
 pub quiet_stored : (setup : Setup) (past : History) (event : Event) (drawn : List ℕ) (reply : Reply) → changes_kept event.act ≡ false → is_disk_fault reply ≡ false
@@ -142,21 +171,35 @@ quiet_stored setup past event drawn (Done fields) e f = record {
   bytes_are = ap (λ change. bytes_with change (stored_bytes setup past)) (none_changed event.act (device_at setup past) setup.policy (kept setup past) (open_of setup past) (caller_of past event) drawn e);
   settled_is = refl;
   device_is = same_device setup past event drawn (Done fields) e;
+  waiting_kept = λ settled waits.
+      ap (λ change. after_change change (kept_settled setup (Some settled) past))
+      (none_changed event.act (device_at setup past) setup.policy (kept_settled setup (Some settled) past) (open_of setup past) (caller_of past event) drawn e);
+  waiting_bytes = λ settled waits.
+      ap (λ change. bytes_with change (bytes_settled setup (Some settled) past))
+      (none_changed event.act (device_at setup past) setup.policy (kept_settled setup (Some settled) past) (open_of setup past) (caller_of past event) drawn e);
 }
 quiet_stored setup past event drawn (Broken rule code) e f = denied_stored setup past event drawn (Broken rule code) refl f
 quiet_stored setup past event drawn (Stopped code) e f = denied_stored setup past event drawn (Stopped code) refl f
 
--- an entry that would change nothing, and gives no root of trust
+never_waits : {A : Type 0} (past : History) → is_unsettled past ≡ false → is_unsettled past ≡ true → A
+never_waits past idle waits = absurd (no (is_unsettled past) idle waits) where
+  no : (b : Bool) → b ≡ false → b ≡ true → ⊥
+  no true e f = cc
+  no false e f = cc
+
+-- an entry that would change nothing, and gives no root of trust, where none waits
 pub unchanged_stored : (setup : Setup) (past : History) (event : Event) (drawn : List ℕ) (reply : Reply) → ((before : List ℕ) → root_given event.act before ≡ before) → change_by setup past event drawn ≡ None → is_disk_fault reply ≡ false
-    → SameStored setup past (Acted event drawn reply ∷ past)
-unchanged_stored setup past event drawn (Done fields) root e f = record {
+    → is_unsettled past ≡ false → SameStored setup past (Acted event drawn reply ∷ past)
+unchanged_stored setup past event drawn (Done fields) root e f idle = record {
   kept_is = ap (λ change. after_change change (kept setup past)) e;
   bytes_are = ap (λ change. bytes_with change (stored_bytes setup past)) e;
   settled_is = refl;
   device_is = ap (λ given. record setup.device { root = given }) (root (root_of setup past));
+  waiting_kept = λ settled waits. never_waits past idle waits;
+  waiting_bytes = λ settled waits. never_waits past idle waits;
 }
-unchanged_stored setup past event drawn (Broken rule code) root e f = denied_stored setup past event drawn (Broken rule code) refl f
-unchanged_stored setup past event drawn (Stopped code) root e f = denied_stored setup past event drawn (Stopped code) refl f
+unchanged_stored setup past event drawn (Broken rule code) root e f idle = denied_stored setup past event drawn (Broken rule code) refl f
+unchanged_stored setup past event drawn (Stopped code) root e f idle = denied_stored setup past event drawn (Stopped code) refl f
 
 -- a later history keeps what an earlier one does with a change, in so many bytes more
 pub record MadeStored (setup : Setup) (past later : History) (change : Change) : Type 0 where
@@ -174,21 +217,30 @@ made_stored setup past event drawn fields change root is = record {
   device_is = ap (λ given. record setup.device { root = given }) (root (root_of setup past));
 }
 
--- a later history keeps what an earlier one does, and its last change waits to be settled
-pub record TornStored (setup : Setup) (past later : History) : Type 0 where
+-- A later history keeps what an earlier one does, and its last change waits to be settled: where it is kept it is made, and where it
+-- is lost it is not.
+pub record TornStored (setup : Setup) (past later : History) (change : Change) : Type 0 where
   pub kept_is : kept setup later ≡ kept setup past
   pub bytes_are : stored_bytes setup later ≡ stored_bytes setup past
   pub waits : is_unsettled later ≡ true
   pub device_is : device_at setup later ≡ device_at setup past
+  pub made_kept : kept setup (Settling Kept ∷ later) ≡ after (kept setup past) change
+  pub made_bytes : stored_bytes setup (Settling Kept ∷ later) ≡ stored_bytes setup past + record_bytes change
+  pub lost_kept : kept setup (Settling Lost ∷ later) ≡ kept setup past
+  pub lost_bytes : stored_bytes setup (Settling Lost ∷ later) ≡ stored_bytes setup past
 
-pub torn_stored : (setup : Setup) (past : History) (event : Event) (drawn : List ℕ) → is_unsettled past ≡ false → is_restart event.act ≡ false
-    → TornStored setup past (Acted event drawn (Stopped SystemError) ∷ past)
-torn_stored setup past event drawn e stays = record {
+pub torn_stored : (setup : Setup) (past : History) (event : Event) (drawn : List ℕ) (change : Change) → is_unsettled past ≡ false → is_restart event.act ≡ false → change_by setup past event drawn ≡ Some change
+    → TornStored setup past (Acted event drawn (Stopped SystemError) ∷ past) change
+torn_stored setup past event drawn change e stays is = record {
   kept_is = denied_kept setup past event drawn (Stopped SystemError) refl;
   bytes_are = uncounted_bytes (is_faulted (is_unsettled past) event.act (Stopped SystemError)) setup past
       (change_of event.act (device_at setup past) setup.policy (kept_settled setup (if is_faulted (is_unsettled past) event.act (Stopped SystemError) then None else None) past) (open_of setup past) (caller_of past event) drawn);
   waits = rw (stays, e) refl;
   device_is = refl;
+  made_kept = rw (stays, e) (ap (λ c. after_change c (kept setup past)) is);
+  made_bytes = rw (stays, e) (ap (λ c. bytes_with c (stored_bytes setup past)) is);
+  lost_kept = rw (stays, e) refl;
+  lost_bytes = rw (stays, e) refl;
 }
 
 -- an answer that admits nothing needs no room in the store

@@ -9,7 +9,7 @@ use Rattle.rule_model.specs.Legal.{Legal, LegalBefore, MayStep}
 use Rattle.rule_model.specs.Setup.{Setup}
 
 -- what is legal with nothing after it is legal before any entry
-goes_on : (setup : Setup) (next : Option Event) (past : History) → Legal setup past → LegalBefore setup next past
+pub goes_on : (setup : Setup) (next : Option Event) (past : History) → Legal setup past → LegalBefore setup next past
 goes_on setup next [] legal = tt
 goes_on setup next (Settling settled ∷ past) legal = absurd legal.0
 goes_on setup next (Acted event drawn reply ∷ past) legal = legal
