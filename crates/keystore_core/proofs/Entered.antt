@@ -37,7 +37,7 @@ use Rattle.rule_model.specs.Answer.{answer, answer_by_rules}
 use Rattle.rule_model.specs.Blobs.{device_at, root_given}
 use Rattle.rule_model.specs.Changes.{change_of}
 use Rattle.rule_model.specs.Clients.{caller_of}
-use Rattle.rule_model.specs.Drawn.{size_of, wanted}
+use Rattle.rule_model.specs.Drawn.{is_entropy_fault, size_of, wanted}
 use Rattle.rule_model.specs.Entries.{History, admits, count_of, is_done}
 use Rattle.rule_model.specs.Jobs.{IsJobOn, IsJobOut, Stays}
 use Rattle.rule_model.specs.Kept.{is_live, kept, open_of, operation_at, operation_change}
@@ -83,14 +83,15 @@ same_used (Some row) (Some o) r = rw (r.limited, r.key) refl
 same_used None (Some o) both = absurd both
 same_used (Some row) None both = absurd both
 
+pub use_option : (used : Option ℕ) → option_or (option_map changes.Use used) None ≡ option_map changes.Use used
+use_option None = refl
+use_option (Some id) = refl
+
 -- what the tables say that a step uses is the change that it would make
 pub entering_change : (tables : Tables) (caller : Caller) (op : ℕ) (work : Work) (answered : Answer) → change_for tables caller (entering op work) answered ≡ used_by (used_in tables op (brought_by work).kind)
 entering_change tables caller op (Aad input) answered = refl
 entering_change tables caller op (Text input) answered = refl
-entering_change tables caller op (Last input signature) answered = either (used_of (operation_in tables.operations op)) where
-  either : (used : Option ℕ) → option_or (option_map changes.Use used) None ≡ option_map changes.Use used
-  either None = refl
-  either (Some id) = refl
+entering_change tables caller op (Last input signature) answered = use_option (used_of (operation_in tables.operations op))
 
 pub entering_restarts : (op : ℕ) (work : Work) → is_restart (entering op work) ≡ false
 entering_restarts op (Aad input) = refl
@@ -129,6 +130,20 @@ use_met setup past tables caller op (Last input signature) id stands legal used 
     let own : option_and_then limited_key (operation_at setup past op) ≡ Some id = sym (same_used (row_at tables op) (operation_at setup past op) (row_found setup past tables op stands)) ∙ used in
     subst (λ part. is_met part (changes.Use id) ≡ true) (sym stands.keys.lasting_is)
     (uses_met setup legal.next past legal.legal legal.stored op id own (live_used (is_live setup past) caller (brought_by (Last input signature)) (operation_at setup past op) id own ended))
+
+-- the answer of the store is that of the use, where it admits it
+pub is_told : (old new : KeyDatabase) (used : Option Change) (fields : Fields) (reply : Reply) → IsWrittenIf old new used fields reply → is_done reply ≡ true → reply ≡ Done fields
+is_told old new None fields reply written done = written.1
+is_told old new (Some change) fields reply (Made made e) done = e
+is_told old new (Some change) fields reply (Full same room e) done = let no : is_done (Stopped JournalFull) ≡ true = subst (λ r. is_done r ≡ true) e done in cc
+is_told old new (Some change) fields reply (Torn torn e) done = let no : is_done (Stopped SystemError) ≡ true = subst (λ r. is_done r ≡ true) e done in cc
+
+-- no draw failed
+pub no_draw : (old new : KeyDatabase) (used : Option Change) (fields : Fields) (reply : Reply) → IsWrittenIf old new used fields reply → is_entropy_fault reply ≡ false
+no_draw old new None fields reply written = subst (λ r. is_entropy_fault r ≡ false) (sym written.1) refl
+no_draw old new (Some change) fields reply (Made made e) = subst (λ r. is_entropy_fault r ≡ false) (sym e) refl
+no_draw old new (Some change) fields reply (Full same room e) = subst (λ r. is_entropy_fault r ≡ false) (sym e) refl
+no_draw old new (Some change) fields reply (Torn torn e) = subst (λ r. is_entropy_fault r ≡ false) (sym e) refl
 
 -- ---- a work that goes out
 
@@ -202,16 +217,16 @@ module _ (setup : Setup) (past : History) (start : Tables) (keys : KeyDatabase) 
     by_work (Last input signature) e = ap (where_stored (stored_bytes setup past) (change_by setup past (event_by caller (entering op (Last input signature))) [])) e
 
   ruled : (ticket : ℕ) → step_table.answer Facts ≡ Ok tt → ticket ≡ next_ticket past → model.entering setup past (caller_of past Entering) op work ≡ Done (Told ticket)
-  ruled ticket answer next =
+  ruled ticket let_through next =
       sym (ap (λ c. model.entering setup past c op work) (called past start caller (entering op work) now.clients is_caller))
-      ∙ ap (λ found. broken_or found (Done (record no_fields { ticket = Some (next_ticket past) }))) answer
+      ∙ ap (λ found. broken_or found (Done (record no_fields { ticket = Some (next_ticket past) }))) let_through
       ∙ ap (λ n. Done (Told n)) (sym next)
 
   -- what the store's answer makes of the history, and of the keys and grants
   follows : (ticket : ℕ) (reply : Reply) → step_table.answer Facts ≡ Ok tt → ticket ≡ next_ticket past → IsWrittenIf start.keys keys Used (Told ticket) reply → MayFollow setup past Entering [] reply
-  follows ticket reply answer next written =
+  follows ticket reply let_through next written =
       told_follows setup past start start.keys keys Entering [] (Told ticket) now.keys (one_store_same start.keys) settled (entering_restarts op work) (entering_root op work) Used reply used_is (entering_draws setup past caller op work)
-      (told (Told ticket) (ruled ticket answer next)) written
+      (told (Told ticket) (ruled ticket let_through next)) written
 
   keys_after : (ticket : ℕ) (reply : Reply) → IsWrittenIf start.keys keys Used (Told ticket) reply → KeysStand setup Spent (Acted Entering [] reply ∷ past)
   keys_after ticket reply written =
@@ -227,7 +242,7 @@ module _ (setup : Setup) (past : History) (start : Tables) (keys : KeyDatabase) 
   pub goes_out : (new : Tables) (room : JobRoom) (job : Job) (ticket : ℕ) (o : Open) → operation_at setup past op ≡ Some o → step_table.answer Facts ≡ Ok tt → Facts.busy ≡ false → Enters Facts
       → IsRoomAt (row_at start op) work room → ticket ≡ tickets_given start.tickets + 1 → IsWrittenIf start.keys keys Used (Told ticket) (Done (Told ticket)) → SendsJob Sent room Spent new job
       → AnswersAfter setup past new Entering (record { reply = Done (Told ticket); job = Some job; drawn = [] })
-  goes_out new room job ticket o e answer idle enters is_room next written sent =
+  goes_out new room job ticket o e let_through idle enters is_room next written sent =
       let reply : Reply = Done (Told ticket) in
       let later : History = Acted Entering [] reply ∷ past in
       let first : ticket ≡ next_ticket past = next ∙ ap (λ n. n + 1) now.tickets.given in
@@ -246,7 +261,7 @@ module _ (setup : Setup) (past : History) (start : Tables) (keys : KeyDatabase) 
       let on_o : IsJobOn (Some o) work job = subst (λ x. IsJobOn x work job) e on in
       let ticket_here : ticket_at later ticket ≡ Some First = ap (λ c. ticket_after c ticket (ticket_at past ticket)) ticket_is ∙ own_ticket ticket First (ticket_at past ticket) in
       record {
-        follows = λ ready. follows ticket reply answer first written;
+        follows = λ ready. follows ticket reply let_through first written;
         stands = record {
           clients = clients_stay setup past Entering [] reply start.clients new.clients now.clients sent.clients (enter_clients caller op work reply) no_connect;
           keys = keys_on later new (keys_after ticket reply written) sent.keys;
@@ -284,19 +299,12 @@ module _ (setup : Setup) (past : History) (start : Tables) (keys : KeyDatabase) 
   own_open None own = cc
   own_open (Some o) own = (o, refl)
 
-  -- the answer of the store is that of the use, where it admits it
-  is_told : (used : Option Change) (fields : Fields) (reply : Reply) → IsWrittenIf start.keys keys used fields reply → is_done reply ≡ true → reply ≡ Done fields
-  is_told None fields reply written done = written.1
-  is_told (Some change) fields reply (Made made e) done = e
-  is_told (Some change) fields reply (Full same room e) done = let no : is_done (Stopped JournalFull) ≡ true = subst (λ r. is_done r ≡ true) e done in cc
-  is_told (Some change) fields reply (Torn torn e) done = let no : is_done (Stopped SystemError) ≡ true = subst (λ r. is_done r ≡ true) e done in cc
-
   pub entered_after : (new : Tables) (room : JobRoom) (job : Job) (ticket : ℕ) (reply : Reply) → is_done reply ≡ true → step_table.answer Facts ≡ Ok tt → Facts.own ≡ true → Facts.busy ≡ false → Enters Facts
       → IsRoomAt (row_at start op) work room → ticket ≡ tickets_given start.tickets + 1 → IsWrittenIf start.keys keys Used (Told ticket) reply → SendsJob Sent room Spent new job
       → AnswersAfter setup past new Entering (record { reply = Done (Told ticket); job = Some job; drawn = [] })
-  entered_after new room job ticket reply done answer own idle enters is_room next written sent =
+  entered_after new room job ticket reply done let_through own idle enters is_room next written sent =
       let there = own_open (operation_at setup past op) own in
-      goes_out new room job ticket there.0 there.1 answer idle enters is_room next (subst (IsWrittenIf start.keys keys Used (Told ticket)) (is_told Used (Told ticket) reply written done) written) sent
+      goes_out new room job ticket there.0 there.1 let_through idle enters is_room next (subst (IsWrittenIf start.keys keys Used (Told ticket)) (is_told start.keys keys Used (Told ticket) reply written done) written) sent
 
   -- ---- a finish whose key could not be used
 
@@ -308,10 +316,10 @@ module _ (setup : Setup) (past : History) (start : Tables) (keys : KeyDatabase) 
   -- its record has no room in the store
   full_after : (new : Tables) (ticket : ℕ) → step_table.answer Facts ≡ Ok tt → ticket ≡ next_ticket past → IsWrittenIf start.keys keys Used (Told ticket) (Stopped JournalFull) → SameStore start.keys keys → new ≡ Spent
       → AnswersAfter setup past new Entering (record { reply = Stopped JournalFull; job = None; drawn = [] })
-  full_after new ticket answer first written same is =
+  full_after new ticket let_through first written same is =
       let none : operation_change setup past Entering [] (Stopped JournalFull) ≡ SameOperations = by_work work in
       record {
-        follows = λ ready. follows ticket (Stopped JournalFull) answer first written;
+        follows = λ ready. follows ticket (Stopped JournalFull) let_through first written;
         stands = subst (λ t. TablesStand setup t (Acted Entering [] (Stopped JournalFull) ∷ past)) (sym is)
             (denied_tables setup past Entering [] (Stopped JournalFull) start Spent now (same_but_keys start keys same) refl refl none (stopped_tickets JournalFull work));
         has_job = refl;
@@ -325,12 +333,12 @@ module _ (setup : Setup) (past : History) (start : Tables) (keys : KeyDatabase) 
   -- a device call failed: the operation is closed
   torn_after : (new : Tables) (ticket : ℕ) → step_table.answer Facts ≡ Ok tt → Facts.busy ≡ false → ticket ≡ next_ticket past → (change : Change) → Used ≡ Some change → IsWrittenIf start.keys keys Used (Told ticket) (Stopped SystemError) → ClosesOne op Spent new
       → AnswersAfter setup past new Entering (record { reply = Stopped SystemError; job = None; drawn = [] })
-  torn_after new ticket answer idle first change some written closed =
+  torn_after new ticket let_through idle first change some written closed =
       let later : History = Acted Entering [] (Stopped SystemError) ∷ past in
       let after = closed_tables setup past Entering [] (Stopped SystemError) op start keys new now closed (keys_on later new (keys_after ticket (Stopped SystemError) written) closed.keys) (closes_it work some)
       (enter_clients caller op work (Stopped SystemError)) (stopped_tickets SystemError work) refl refl refl (enter_boot setup past caller op work (Stopped SystemError)) (idle_open idle) in
       record {
-        follows = λ ready. follows ticket (Stopped SystemError) answer first written;
+        follows = λ ready. follows ticket (Stopped SystemError) let_through first written;
         stands = after.0;
         has_job = refl;
         stays = after.1;
@@ -342,7 +350,7 @@ module _ (setup : Setup) (past : History) (start : Tables) (keys : KeyDatabase) 
 
   pub unspent_after : (new : Tables) (ticket : ℕ) (reply : Reply) → is_done reply ≡ false → step_table.answer Facts ≡ Ok tt → Facts.busy ≡ false → ticket ≡ tickets_given start.tickets + 1 → IsWrittenIf start.keys keys Used (Told ticket) reply
       → ClosesIf (is_disk_fault reply) op Spent new → AnswersAfter setup past new Entering (record { reply = reply; job = None; drawn = [] })
-  unspent_after new ticket reply denied answer idle next written closes = by_used Used refl written where
+  unspent_after new ticket reply denied let_through idle next written closes = by_used Used refl written where
     first : ticket ≡ next_ticket past
     first = next ∙ ap (λ n. n + 1) now.tickets.given
 
@@ -351,10 +359,15 @@ module _ (setup : Setup) (past : History) (start : Tables) (keys : KeyDatabase) 
     by_used (Some change) e (Made made is) = let no : is_done (Done (Told ticket)) ≡ false = subst (λ r. is_done r ≡ false) is denied in cc
     by_used (Some change) e (Full same room is) =
         subst (λ r. AnswersAfter setup past new Entering (record { reply = r; job = None; drawn = [] })) (sym is)
-        (full_after new ticket answer first (subst (IsWrittenIf start.keys keys Used (Told ticket)) is written) same (subst (λ r. ClosesIf (is_disk_fault r) op Spent new) is closes))
+        (full_after new ticket let_through first (subst (IsWrittenIf start.keys keys Used (Told ticket)) is written) same (subst (λ r. ClosesIf (is_disk_fault r) op Spent new) is closes))
     by_used (Some change) e (Torn torn is) =
         subst (λ r. AnswersAfter setup past new Entering (record { reply = r; job = None; drawn = [] })) (sym is)
-        (torn_after new ticket answer idle first change e (subst (IsWrittenIf start.keys keys Used (Told ticket)) is written) (subst (λ r. ClosesIf (is_disk_fault r) op Spent new) is closes))
+        (torn_after new ticket let_through idle first change e (subst (IsWrittenIf start.keys keys Used (Told ticket)) is written) (subst (λ r. ClosesIf (is_disk_fault r) op Spent new) is closes))
+
+-- the keys and grants where an operation is closed or not
+pub closed_store : (b : Bool) (op : ℕ) (old new : Tables) → ClosesIf b op old new → SameStore old.keys new.keys
+closed_store true op old new closed = closed.keys.store_is
+closed_store false op old new same = subst (λ t. SameStore old.keys t.keys) (sym same) (one_store_same old.keys)
 
 -- what is known of the disk stays where the keys and grants are moved
 pub goes_into : {D : Type 0} (g : Ghosts D) (old middle new : KeyDatabase) (disk later : D) (restarts : Bool) (change : Option Change) (reply : Reply) → SameStore middle new → StoreGoes g old middle disk later restarts change reply

@@ -1,5 +1,5 @@
 -- The parts of the relation between the tables and a history, each after an entry that leaves it as it is, or makes a change.
-use Rattle.std.proofs.Common.{◌≡◌, ℕ, ◌+◌, ◌<◌, ◌≤◌, ◌-◌, ◌^◌, Bool, true, false, IsTrue, ◌&&◌, if◌then◌else◌, List, ◌∷◌, length, Option, Some, None, Result, Ok, Err, refl, sym, ap, ◌∙◌, subst, arith}
+use Rattle.std.proofs.Common.{◌≡◌, ℕ, ◌+◌, ◌<◌, ◌≤◌, ◌-◌, ◌^◌, Bool, true, false, IsTrue, ◌&&◌, not, if◌then◌else◌, List, [], ◌∷◌, length, Option, Some, None, Result, Ok, Err, refl, sym, ap, ◌∙◌, subst, arith}
 use Rattle.std.specs.Prelude.{IfSome}
 use Rattle.std.proofs.Math.Bridge.{le_prop}
 use Rattle.std.proofs.Props.{props}
@@ -305,7 +305,7 @@ not_made setup past old new event stands same waiting settles =
       no_more false = refl
 
 -- an act that takes memory is no leave
-takes_memory : (act : Act) (past : History) → IsTrue (fixed_for act).takes_memory → (stopped_operation act past ≡ SameOperations) × (stopped_ticket act ≡ NoTickets)
+takes_memory : (act : Act) (past : History) → IsTrue (fixed_for act).takes_memory → (stopped_operation false act past ≡ SameOperations) × (stopped_ticket act ≡ NoTickets)
 takes_memory (Leave ticket) past takes = cc
 takes_memory _ past takes = (refl, refl)
 

@@ -1,6 +1,7 @@
 -- What is known of the store goes on over an act, and over a step.
 use Rattle.std.proofs.Common.{◌≡◌, ◌⊎◌, ℕ, Bool, true, false, ◌&&◌, not, if◌then◌else◌, List, [], ◌∷◌, Option, Some, None, option_map, Result, Ok, Err, refl, sym, ap, ◌∙◌, subst}
-use Rattle.std.specs.Prelude.{IfOk, option_or}
+use Rattle.std.specs.Prelude.{IfOk}
+use Rattle.std.specs.Option.{option_or}
 use Rattle.tags.specs.declared.policy.PolicyRow.{PolicyRow}
 use Rattle.tags.specs.declared.secrets.DeviceSecrets.{DeviceSecrets}
 use Rattle.tags.specs.declared.settled.Settled.TheVariants.{Kept, Lost}
@@ -32,10 +33,10 @@ use Rattle.rule_model.specs.Changes.{change_of}
 use Rattle.rule_model.specs.Clients.{caller_of}
 use Rattle.rule_model.specs.Entries.{History, is_done}
 use Rattle.rule_model.specs.Kept.{kept, open_of, operation_at}
-use Rattle.rule_model.specs.Settling.{is_system_error, is_unsettled as waits}
+use Rattle.rule_model.specs.Settling.{is_disk_fault, is_system_error, is_unsettled as waits}
 use Rattle.rule_model.specs.Setup.{Setup}
 use Rattle.rule_model.specs.Stored.{after_reply, change_by, holding_of, torn_by}
-use Rattle.rule_model.proofs.Kept.{changes_kept, next_holding, still_holding}
+use Rattle.rule_model.proofs.Kept.{SameStored, changes_kept, next_holding, quiet_stored, same_holding, waiting_stored}
 use Rattle.keystore_core.specs.declared.answered.Answered.{Answered}
 use Rattle.keystore_core.specs.declared.tables.Tables.{Tables}
 use Rattle.keystore_core.specs.Tables.{IsCaller, ServesAfter, ServesAt, TablesStand, event_by}
@@ -44,7 +45,7 @@ use Rattle.keystore_core.specs.Operations.{operation_in}
 use Rattle.keystore_core.specs.Writing.{LeavesStore, StoreAnswers, StoreGoes, StoreGoesAfter, caller_by, change_for, use_by, used_of}
 use Rattle.keystore_core.proofs.KeyTable.{none_waits}
 use Rattle.keystore_core.proofs.Stepped.{row_found}
-use Rattle.keystore_core.proofs.Entered.{same_used}
+use Rattle.keystore_core.proofs.Entered.{same_used, use_option}
 use Rattle.keystore_core.proofs.Written.{denied_goes, leaves_goes, no_change_for, quiet_goes}
 
 -- ---- an act
@@ -82,11 +83,6 @@ malformed_goes g disk keys restarts change rule code = denied_goes g disk keys k
 
 -- ---- a step
 
--- what a finish uses is told by the operation's row
-use_option : (used : Option ℕ) → option_or (option_map changes.Use used) None ≡ option_map changes.Use used
-use_option None = refl
-use_option (Some id) = refl
-
 abbrev AreTwo : Holding → Type 0
 AreTwo (Sure part) = ⊥
 AreTwo (Unsure part later) = Unit {0}
@@ -100,6 +96,12 @@ waiting_stays restarts (Stopped code) (Unsure part later) unsure = by_code (is_s
   by_code : (b : Bool) → (if b then torn_by None (Unsure part later) else Unsure part later) ≡ Unsure part later
   by_code true = refl
   by_code false = refl
+
+-- an admitted act is no failed call
+admitted : (reply : Reply) → is_done reply ≡ true → is_disk_fault reply ≡ false
+admitted (Done fields) e = refl
+admitted (Broken rule code) e = refl
+admitted (Stopped code) e = cc
 
 settles_none : (act : Act) → (fixed_for act).settles ≡ false → changes_kept act ≡ false
 settles_none Disconnect e = refl
@@ -142,11 +144,18 @@ module _ {D : Type 0} (g : Ghosts D) (setup : Setup) (past : History) (old new :
   two : waits past ≡ true → AreTwo (holding_of setup past)
   two waiting = subst (λ b. AreTwo (if b then Unsure (kept setup (Settling Lost ∷ past)) (kept setup (Settling Kept ∷ past)) else Sure (kept setup past))) (sym waiting) tt
 
+  -- only an act that is admitted, and changes nothing, or one that is not, stands over what waits
+  waits_on : waits past ≡ true → SameStored setup past After
+  waits_on waiting = by_admitted (is_done answered.reply) refl where
+    by_admitted : (b : Bool) → is_done answered.reply ≡ b → SameStored setup past After
+    by_admitted true e = quiet_stored setup past event answered.drawn answered.reply (quiet_act waiting) (admitted answered.reply e)
+    by_admitted false e = waiting_stored setup past event answered.drawn answered.reply e waiting
+
   waiting_next : waits past ≡ true → after_reply (is_restart event.act) (change_for old (caller_by old event) event.act answered) answered.reply (holding_of setup past) ≡ holding_of setup After
   waiting_next waiting =
       ap (λ c. after_reply (is_restart event.act) c answered.reply (holding_of setup past)) (no_change_for g disk old (caller_by old event) event.act answered (quiet_act waiting))
       ∙ waiting_stays (is_restart event.act) answered.reply (holding_of setup past) (two waiting)
-      ∙ sym (still_holding setup past event answered.drawn answered.reply waiting (ap (λ b. b && is_done answered.reply) (quiet_act waiting)))
+      ∙ sym (same_holding setup past After (waits_on waiting))
 
   next : after_reply (is_restart event.act) (change_for old (caller_by old event) event.act answered) answered.reply (holding_of setup past) ≡ holding_of setup After
   next = by_waiting (waits past) refl where

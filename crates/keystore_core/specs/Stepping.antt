@@ -96,7 +96,8 @@ abbrev pub ClosesIf : Bool → ℕ → Tables → Tables → Type 0
 ClosesIf true op old new = ClosesOne op old new
 ClosesIf false op old new = new ≡ old
 
--- a denial closes the operation where its rule says soabbrev pub Denies : Rule → ℕ → Tables → Tables → Type 0
+-- a denial closes the operation where its rule says so
+abbrev pub Denies : Rule → ℕ → Tables → Tables → Type 0
 Denies rule op old new = ClosesIf (ends_operation rule) op old new
 
 -- a work went out: its operation is busy, its ticket is kept, and its job is that of the state and the room
