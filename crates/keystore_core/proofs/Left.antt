@@ -56,7 +56,8 @@ use Rattle.keystore_core.proofs.Alike.{alike_any, alike_at, alike_filter, alike_
 use Rattle.keystore_core.proofs.KeyTable.{keys_stay}
 use Rattle.keystore_core.proofs.Opened.{found_apart, stays_by, stays_same, without_client, without_keeps}
 use Rattle.keystore_core.proofs.Standing.{busy_after, called, clients_stay, count_grows, denied_tables, quiet, rows_after, same_tables, slots_after, tickets_stay, uncounted}
-use Rattle.keystore_core.proofs.Stepped.{none_changed, row_named, slot_found, slot_named}
+use Rattle.keystore_core.proofs.Stepped.{row_named, slot_found, slot_named}
+use Rattle.keystore_core.proofs.Entered.{none_changed}
 
 -- the number of an open operation
 abbrev number_in : Open → ℕ

@@ -18,5 +18,6 @@ pub mod Stepped
 pub mod Entered
 pub mod Left
 pub mod Shown
+pub mod Steps
 pub mod Users
 pub mod BeginKeys

@@ -1,6 +1,6 @@
 -- A new key: its answer, and the tables after it.
 use Rattle.std.proofs.Common.{◌≡◌, ℕ, ◌+◌, ◌<◌, ◌≤◌, Bool, true, false, ◌&&◌, ◌||◌, IsTrue, inr, List, [], ◌∷◌, length, Option, Some, None, Result, Ok, Err, if◌then◌else◌, ◌==◌, ◌^◌, arith, refl, sym, ap, ◌∙◌, subst}
-use Rattle.std.specs.Option.{option_map}
+use Rattle.std.specs.Option.{option_map, option_or}
 use Rattle.std.specs.Prelude.{is_none, unwrap_or}
 use Rattle.std.proofs.lemmas.Bool.{and_parts, eq-eqb, le-leb, lt-ltb}
 use Rattle.tags.specs.declared.code.Code.{Code}
@@ -50,9 +50,9 @@ use Rattle.rule_model.specs.Legal.{MayFollow, is_ready, Answered, WithoutEntropy
 use Rattle.rule_model.specs.NewFacts.{new_facts}
 use Rattle.rule_model.specs.Operations.{SameOperations}
 use Rattle.rule_model.specs.Places.{has_key_place}
-use Rattle.rule_model.specs.Settling.{is_disk_fault}
+use Rattle.rule_model.specs.Settling.{is_disk_fault, is_unsettled}
 use Rattle.rule_model.specs.Stored.{change_by, stored_bytes, where_stored}
-use Rattle.rule_model.proofs.Kept.{denied_stands}
+use Rattle.rule_model.proofs.Kept.{denied_stands, no_fault_unfaulted}
 use Rattle.rule_model.specs.Setup.{Setup}
 use Rattle.rule_model.specs.Tickets.{SameTickets as NoTickets, ticket_change}
 use Rattle.rule_model.proofs.Boot.{moves_boot, same_boot as same_boot_after}
@@ -63,7 +63,7 @@ use Rattle.keystore_core.specs.declared.creating.Import.{Import}
 use Rattle.keystore_core.specs.declared.tables.Tables.{Tables}
 use Rattle.keystore_core.specs.Creating.{CanKeep, blob_made, facts_of_import, keeping, kept_fields, making}
 use Rattle.keystore_core.specs.Keys.{AreSettled}
-use Rattle.keystore_core.specs.Writing.{IsWrittenIf, StoreGoes}
+use Rattle.keystore_core.specs.Writing.{IsWrittenIf, StoreGoes, use_by}
 use Rattle.keystore_core.proofs.Written.{goes_from, told_follows, told_job, told_keys}
 use Rattle.keystore_core.specs.Tables.{AnswersAfter, IsCaller, SameTables, TablesStand, event_by}
 use Rattle.keystore_core.specs.Device.{early_in}
@@ -194,7 +194,7 @@ imported import = option_map (λ (i : Import). i.material) import
 
 -- what is known of the store goes on by the change of a new key
 planned_change : (tables : Tables) (caller : Caller) (key : Descriptor) (params : List ℕ) (i : Option Import) (early_ended : Bool) (plan : NewKey) (part : Lasting) (drawn : List ℕ) → IsPlanned (facts_of tables.policy caller key params i early_ended) plan
-    → keeping part (owner_of caller) key (blob_made tables.device plan.plan i drawn) plan.list plan.plan.limit ≡ change_of (making key params i) tables.device tables.policy part caller drawn
+    → keeping part (owner_of caller) key (blob_made tables.device plan.plan i drawn) plan.list plan.plan.limit ≡ option_or (use_by tables (making key params i)) (change_of (making key params i) tables.device tables.policy part [] caller drawn)
 planned_change tables caller key params None early_ended plan part drawn is =
     ap (λ (p : NewKey). keeping part (owner_of caller) key (blob_made tables.device p.plan None drawn) p.list p.plan.limit) is.plan_is
 planned_change tables caller key params (Some i) early_ended plan part drawn is =
@@ -207,11 +207,11 @@ no_restart key params (Some i) = refl
 pub keeps_goes : {D : Type 0} (g : Ghosts D) (tables : Tables) (middle new : KeyDatabase) (disk later : D) (caller : Caller) (key : Descriptor) (params : List ℕ) (import : Option Import) (early_ended : Bool) (plan : NewKey) (drawn : List ℕ) (reply : Reply)
     → planned (facts_of tables.policy caller key params import early_ended) ≡ Ok plan → SameStore tables.keys middle
     → StoreGoes g middle new disk later false (keeping (lasting middle) (owner_of caller) key (blob_made tables.device plan.plan import drawn) plan.list plan.plan.limit) reply
-    → StoreGoes g tables.keys new disk later (is_restart (making key params import)) (change_of (making key params import) tables.device tables.policy (lasting tables.keys) caller drawn) reply
+    → StoreGoes g tables.keys new disk later (is_restart (making key params import)) (option_or (use_by tables (making key params import)) (change_of (making key params import) tables.device tables.policy (lasting tables.keys) [] caller drawn)) reply
 keeps_goes g tables middle new disk later caller key params import early_ended plan drawn reply e same goes =
     let is = is_planned (facts_of tables.policy caller key params import early_ended) plan e in
     let change : Option Change = keeping (lasting middle) (owner_of caller) key (blob_made tables.device plan.plan import drawn) plan.list plan.plan.limit in
-    let change_is : change ≡ change_of (making key params import) tables.device tables.policy (lasting tables.keys) caller drawn =
+    let change_is : change ≡ option_or (use_by tables (making key params import)) (change_of (making key params import) tables.device tables.policy (lasting tables.keys) [] caller drawn) =
     ap (λ part. keeping part (owner_of caller) key (blob_made tables.device plan.plan import drawn) plan.list plan.plan.limit) same.lasting_is
     ∙ planned_change tables caller key params import early_ended plan (lasting tables.keys) drawn is in
     subst (λ c. StoreGoes g tables.keys new disk later (is_restart (making key params import)) c reply) change_is
@@ -287,7 +287,7 @@ module _ (setup : Setup) (past : History) (tables : Tables) (caller : Caller) (k
       → HasJob setup (Acted Making drawn reply ∷ past) reply None → AnswersAfter setup past new Making (record { reply = reply; job = None; drawn = drawn })
   unmade new drawn reply still denied no_fault follows no_job = record {
     follows = follows;
-    stands = denied_tables setup past Making drawn reply tables new stands still denied no_fault (none drawn reply) (unticketed reply);
+    stands = denied_tables setup past Making drawn reply tables new stands still denied (no_fault_unfaulted (is_unsettled past) Making.act reply no_fault) (none drawn reply) (unticketed reply);
     has_job = no_job;
     stays = stays_same setup past Making drawn reply (none drawn reply);
   }

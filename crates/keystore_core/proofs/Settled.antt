@@ -20,7 +20,7 @@ settled_keys setup past old keys Kept change stands waits by idle = record {
   device_is = stands.device_is;
   policy_is = stands.policy_is;
   lasting_is = by.0 ∙ waits.made_is;
-  bytes_are = (let bytes : store_bytes keys ≡ store_bytes old.keys + record_bytes change = omega (arith, by.1.0, closed_length change) in bytes) ∙ waits.made_bytes;
+  bytes_are = (let bytes : store_bytes keys ≡ store_bytes old.keys + record_bytes change = omega (arith, by.1, closed_length change) in bytes) ∙ waits.made_bytes;
   settled_is = idle;
   waiting = λ e. absurd cc;
 }
@@ -28,7 +28,7 @@ settled_keys setup past old keys Lost change stands waits by idle = record {
   device_is = stands.device_is;
   policy_is = stands.policy_is;
   lasting_is = by.0 ∙ waits.lost_is;
-  bytes_are = by.1.0 ∙ waits.lost_bytes;
+  bytes_are = by.1 ∙ waits.lost_bytes;
   settled_is = idle;
   waiting = λ e. absurd cc;
 }

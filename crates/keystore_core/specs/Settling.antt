@@ -1,7 +1,6 @@
 -- What settling before an act leaves.
 use Rattle.std.specs.Prelude.{◌≡◌, Bool, true, Option, Some, None, Result, Ok, Err, IsTrue}
 use Rattle.tags.specs.declared.settled.Settled.{Settled}
-use Rattle.ks_outside.specs.declared.failed.Failed.{Failed}
 use Rattle.journal_records.specs.Holding.{Holding, settled_in}
 use Rattle.rule_model.specs.declared.event.Act.{Act}
 use Rattle.rule_model.specs.Acts.{fixed_for}
@@ -25,15 +24,15 @@ pub record HasNotSettled (past : History) (old new : Tables) (act : Act) : Type 
   pub waits : is_unsettled past ≡ true
   pub settles : (fixed_for act).settles ≡ true
 
-abbrev pub SettlesTo : Setup → History → Tables → Tables → Act → Result (Option Settled) Failed → Type 0
+abbrev pub SettlesTo : {E : Type 0} → Setup → History → Tables → Tables → Act → Result (Option Settled) E → Type 0
 SettlesTo setup past old new act (Ok settled) = HasSettled setup past new act settled
 SettlesTo setup past old new act (Err fault) = HasNotSettled past old new act
 
-abbrev pub SettlesFirst : Tables → Tables → Act → Result (Option Settled) Failed → Type 0
+abbrev pub SettlesFirst : {E : Type 0} → Tables → Tables → Act → Result (Option Settled) E → Type 0
 SettlesFirst old new act result = (setup : Setup) (past : History) → TablesStand setup old past → SettlesTo setup past old new act result
 
 -- what is known of the store after it
-abbrev pub after_first : Result (Option Settled) Failed → Holding → Holding
+abbrev pub after_first : {E : Type 0} → Result (Option Settled) E → Holding → Holding
 after_first (Ok None) held = held
 after_first (Ok (Some settled)) held = settled_in settled held
 after_first (Err fault) held = held

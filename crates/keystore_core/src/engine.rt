@@ -17,7 +17,7 @@ ghost use Rattle.key_database.specs.Store.{StandsFor};
 ghost use Rattle.ks_outside.specs.Faults.{CountsFaults, HasCause};
 ghost use Rattle.ks_outside.specs.Images.{AllImages, Passes, TornFrom, tells};
 ghost use Rattle.keystore_core.specs.Restarting.{is_other_store};
-ghost use Rattle.keystore_core.specs.Engine.{fault_of};
+ghost use Rattle.keystore_core.specs.Engine.{entries_made as made_by, fault_of};
 ghost use Rattle.keystore_core.specs.Tables.{IsTables};
 
 use crate::tables::Tables;
@@ -27,7 +27,7 @@ use key_database::KeyDatabase;
 use ks_outside::{Disk, Entropy, Failed};
 use rule_model::{Event, Reply, Stepped};
 use std::alloc::Global;
-use tags::{Bytes, Code, DeviceSecrets, NoMemory, Policy};
+use tags::{Bytes, Code, DeviceSecrets, NoMemory, Policy, Settled};
 
 /// The engine of the service.
 #[derive(Drop)]
@@ -70,6 +70,16 @@ fn copied(alloc: Global, policy: &Policy) -> Result<Policy, NoMemory>
     match Policy::of(rows) {
         Some(copy) => Ok(copy),
         None => unreachable!(),
+    }
+}
+
+/// How many entries a step makes, by what it settled first.
+fn entries_made(settled: Option<Settled>) -> u64
+    ensures { result ≡ made_by settled }
+{
+    match settled {
+        Some(_) => 2,
+        None => 1,
     }
 }
 
@@ -165,9 +175,10 @@ impl Engine {
 
     /// Takes one event; a leave of a ticket that is out with what its job came back with, which no other event looks at. Where
     /// an earlier change waits to be settled, every act but a leave and a disconnect settles it first. What the engine stood
-    /// for goes on by one step: what it settled, and the event with the bytes that were drawn for it and the reply. There is a job exactly where the reply gives a ticket, which an admitted enter alone does. It is the work of its
-    /// operation, and stays so as long as the ticket is out. The bytes are those that the entropy gave, and a draw failed
-    /// exactly where the reply says so.
+    /// for goes on by one step: what it settled, and the event with the bytes that were drawn for it and the reply. There is a
+    /// job exactly where the reply gives a ticket, which an admitted enter alone does. It is the work of its operation, and
+    /// stays so as long as the ticket is out. The bytes are those that the entropy gave, and a draw failed exactly where the
+    /// reply says so.
     pub fn step<D: Disk, N: Entropy>(
         &mut self,
         disk: &mut D,
@@ -198,14 +209,10 @@ impl Engine {
         ensures cause { CountsFaults (D.fault_count disk.old) (D.fault_count disk.new) (is_disk_fault result.reply) }
         ensures drew { Drew N.Entropy entropy.old entropy.new result.drawn (is_entropy_fault result.reply) }
     {
-        let settled = match self.tables.settle_first(disk, &event.act) {
-            Ok(settled) => settled,
-            Err(Failed) => return self.not_settled(),
+        let Ok(settled) = self.tables.settle_first(disk, &event.act) else {
+            return self.not_settled();
         };
-        if settled.is_some() {
-            self.entries += 1;
-        }
-        let step = self.entries + 1;
+        let step = self.entries + entries_made(settled);
         let answered = self
             .tables
             .answer(self.alloc, disk, entropy, step, event, done);

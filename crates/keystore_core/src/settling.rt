@@ -1,11 +1,13 @@
 //! Settling: what became of a change whose device call failed is found out before an act that settles first.
 
-ghost use Rattle.std.specs.Prelude.{◌≡◌, true, OnErr};
+ghost use Rattle.std.specs.Prelude.{◌≡◌, true, IfOk};
 ghost use Rattle.ks_outside.specs.Faults.{HasCause};
 ghost use Rattle.ks_outside.specs.Images.{Passes, tells};
 ghost use Rattle.journal_records.specs.Holding.{Holding};
 ghost use Rattle.key_database.specs.Stands.{Holds};
 ghost use Rattle.key_database.specs.Store.{MayBe};
+ghost use Rattle.rule_model.specs.Acts.{fixed_for};
+ghost use Rattle.keystore_core.specs.Keys.{AreSettled};
 ghost use Rattle.keystore_core.specs.Settling as spec;
 
 use crate::tables::Tables;
@@ -22,6 +24,8 @@ impl Tables {
         act: &Act,
     ) -> Result<Option<Settled>, Failed>
         ensures stands { spec.SettlesFirst self.old self.new act.now result }
+        ensures rest { self.new ≡ record self.old { keys = self.new.keys } }
+        ensures ready { IfOk result (λ settled. (fixed_for act.now).settles ≡ true → AreSettled self.new) }
         ensures holds { (held : Holding) → Holds D.Disk self.old.keys disk.old held → Holds D.Disk self.new.keys disk.new (spec.after_first result held) }
         ensures passes { (held : Holding) → Holds D.Disk self.old.keys disk.old held → Passes D.Disk disk.old disk.new (MayBe held) }
         ensures sure { D.is_sure disk.old → D.is_sure disk.new }

@@ -1,4 +1,4 @@
-use Rattle.std.proofs.Common.{refl, sym, ap, ◌∙◌, subst}
+use Rattle.std.proofs.Common.{Some, refl, sym, ap, ◌∙◌, subst}
 use Rattle.key_database.specs.Stands.{lasting}
 use Rattle.keystore_core.specs.Engine.{IsOver}
 use Rattle.keystore_core.proofs.engine.Engine.open.Goals as goal
@@ -9,6 +9,8 @@ returns-in-Ok-new-clause-stands g c = λ setup is. record {
   tables = c.in-Ok-new.ensures.stands setup
       (subst (λ k. IsOver setup c.args.device.now c.in-Ok-copied.policy c.args.slots k) c.in-Ok-new.ensures.keys
       (subst (λ p. IsOver setup c.args.device.now p c.args.slots c.in-Ok-new.tables.keys) (sym c.in-Ok-copied.ensures) is));
+  legal = tt;
+  stored = (c.in-Ok.ensures.holds.past, c.in-Ok.ensures.holds.left ∙ ap Some (sym (ap lasting c.in-Ok-new.ensures.keys) ∙ sym is.start));
 }
 
 pub returns-in-Ok-new-clause-finds : goal.returns-in-Ok-new-clause-finds

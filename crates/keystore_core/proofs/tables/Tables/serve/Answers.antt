@@ -37,13 +37,13 @@ pub returns-in-CreateOperation-clause-store : goal.returns-in-CreateOperation-cl
 returns-in-CreateOperation-clause-store g c = rw c.in-CreateOperation.is (leaves_at g.D.Disk c.args.disk.now c.args.self.now c.begin.new.self c.args.caller (acts.CreateOperation c.in-CreateOperation.key c.in-CreateOperation.params c.in-CreateOperation.forced) _ _ c.begin.result refl c.begin.ensures.store c.begin.ensures.serves)
 
 pub returns-in-EnterAad-clause-store : goal.returns-in-EnterAad-clause-store
-returns-in-EnterAad-clause-store g c = rw c.in-EnterAad.is (leaves_after g.D.Disk c.args.disk.now c.args.self.now c.enter.new.self c.args.caller (acts.EnterAad c.in-EnterAad.op c.in-EnterAad.input) c.enter.result refl c.enter.ensures.store c.enter.ensures.serves)
+returns-in-EnterAad-clause-store g c = rw c.in-EnterAad.is c.enter.ensures.store
 
 pub returns-in-EnterUpdate-clause-store : goal.returns-in-EnterUpdate-clause-store
-returns-in-EnterUpdate-clause-store g c = rw c.in-EnterUpdate.is (leaves_after g.D.Disk c.args.disk.now c.args.self.now c.enter-in-EnterUpdate.new.self c.args.caller (acts.EnterUpdate c.in-EnterUpdate.op c.in-EnterUpdate.input) c.enter-in-EnterUpdate.result refl c.enter-in-EnterUpdate.ensures.store c.enter-in-EnterUpdate.ensures.serves)
+returns-in-EnterUpdate-clause-store g c = rw c.in-EnterUpdate.is c.enter-in-EnterUpdate.ensures.store
 
 pub returns-in-EnterFinish-clause-store : goal.returns-in-EnterFinish-clause-store
-returns-in-EnterFinish-clause-store g c = rw c.in-EnterFinish.is (leaves_after g.D.Disk c.args.disk.now c.args.self.now c.enter-in-EnterFinish.new.self c.args.caller (acts.EnterFinish c.in-EnterFinish.op c.in-EnterFinish.input c.in-EnterFinish.signature) c.enter-in-EnterFinish.result refl c.enter-in-EnterFinish.ensures.store c.enter-in-EnterFinish.ensures.serves)
+returns-in-EnterFinish-clause-store g c = rw c.in-EnterFinish.is c.enter-in-EnterFinish.ensures.store
 
 pub returns-in-Abort-clause-store : goal.returns-in-Abort-clause-store
 returns-in-Abort-clause-store g c = rw c.in-Abort.is (leaves_goes g.D.Disk c.args.disk.now c.args.self.now c.abort.new.self c.args.caller (acts.Abort c.in-Abort.op) c.abort.result c.abort.ensures.store refl)
