@@ -172,3 +172,6 @@ module _ (setup : Setup) (past : History) (old : Engine) (mid : Tables) (event :
 
   pub holding_not : holding_of setup Unmade ≡ holding_of setup past
   holding_not = same_holding setup past Unmade (waiting_stored setup past event [] (Stopped SystemError) refl not_has.waits)
+
+  pub held_not : {D : Type 0} (g : Ghosts D) (disk : D) (later : Engine) → later.tables ≡ mid → Holds g mid.keys disk (holding_of setup past) → Holds g later.tables.keys disk (holding_of setup Unmade)
+  held_not g disk later tables held = subst (λ (t : Tables). Holds g t.keys disk (holding_of setup Unmade)) (sym tables) (subst (λ h. Holds g mid.keys disk h) (sym holding_not) held)

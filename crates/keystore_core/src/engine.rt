@@ -209,8 +209,9 @@ impl Engine {
         ensures cause { CountsFaults (D.fault_count disk.old) (D.fault_count disk.new) (is_disk_fault result.reply) }
         ensures drew { Drew N.Entropy entropy.old entropy.new result.drawn (is_entropy_fault result.reply) }
     {
-        let Ok(settled) = self.tables.settle_first(disk, &event.act) else {
-            return self.not_settled();
+        let settled = match self.tables.settle_first(disk, &event.act) {
+            Ok(settled) => settled,
+            Err(Failed) => return self.not_settled(),
         };
         let step = self.entries + entries_made(settled);
         let answered = self

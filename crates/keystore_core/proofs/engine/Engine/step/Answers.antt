@@ -1,2 +1,68 @@
-use Rattle.std.proofs.Common.{refl}
+use Rattle.std.proofs.Common.{refl, ap}
+use Rattle.rule_model.specs.Entries.{after_settling}
+use Rattle.rule_model.specs.Stored.{holding_of}
+use Rattle.keystore_core.specs.declared.engine.Engine.{Engine}
+use mathlib.Core.Logic.{∥∥₁_map}
+use Rattle.keystore_core.proofs.Steps.{held_not, is_at, may_not, may_step, stands_mid, stands_not, stands_on, stays_not, stays_on, store_moments, store_steps}
 use Rattle.keystore_core.proofs.engine.Engine.step.Goals as goal
+
+pub returns-in-Err-clause-stands : goal.returns-in-Err-clause-stands
+returns-in-Err-clause-stands g c = λ setup past stands done.
+    rw c.not_settled.ensures.reply
+    (stands_not setup past c.args.self.now c.settle_first.new.self c.args.event stands (c.in-Err.ensures.stands setup past stands.tables) c.not_settled.new.self
+    (ap (λ (e : Engine). e.tables) c.not_settled.ensures.entries) (ap (λ (e : Engine). e.entries) c.not_settled.ensures.entries))
+
+pub returns-in-Err-clause-follows : goal.returns-in-Err-clause-follows
+returns-in-Err-clause-follows g c = λ setup past stands done.
+    rw c.not_settled.ensures.reply (may_not setup past c.args.self.now c.settle_first.new.self c.args.event stands (c.in-Err.ensures.stands setup past stands.tables))
+
+pub returns-in-Err-clause-stays : goal.returns-in-Err-clause-stays
+returns-in-Err-clause-stays g c = λ setup past stands done.
+    rw c.not_settled.ensures.reply (stays_not setup past c.args.self.now c.settle_first.new.self c.args.event stands (c.in-Err.ensures.stands setup past stands.tables))
+
+pub returns-in-Err-clause-store : goal.returns-in-Err-clause-store
+returns-in-Err-clause-store g c = λ setup past stands held.
+    rw c.not_settled.ensures.reply
+    (held_not setup past c.args.self.now c.settle_first.new.self c.args.event stands (c.in-Err.ensures.stands setup past stands.tables) g.D.Disk c.settle_first.new.disk c.not_settled.new.self
+    (ap (λ (e : Engine). e.tables) c.not_settled.ensures.entries) (c.in-Err.ensures.holds (holding_of setup past) held))
+
+pub answer-answered-requires-clause-at : goal.answer-answered-requires-clause-at
+answer-answered-requires-clause-at g c = ∥∥₁_map c.requires.takes (λ t.
+    rw c.entries_made.ensures
+    (is_at t.setup t.past c.args.self.now c.settle_first.new.self c.args.event c.in-Ok.settled c.args.done t.stands (c.in-Ok.ensures.stands t.setup t.past t.stands.tables) t.back_is))
+
+pub returns-clause-stands : goal.returns-clause-stands
+returns-clause-stands g c = λ setup past stands done.
+    let has = c.in-Ok.ensures.stands setup past stands.tables in
+    stands_on setup past c.args.self.now c.settle_first.new.self c.args.event c.in-Ok.settled c.args.done stands has c.answer-answered.new.self c.answer-answered.result
+    (c.answer-answered.ensures.answers setup (after_settling c.in-Ok.settled past) (rw c.entries_made.ensures (stands_mid setup past c.args.self.now c.settle_first.new.self c.args.event c.in-Ok.settled c.args.done stands has done)))
+    _ refl (rw c.entries_made.ensures refl)
+
+pub returns-clause-follows : goal.returns-clause-follows
+returns-clause-follows g c = λ setup past stands done.
+    let has = c.in-Ok.ensures.stands setup past stands.tables in
+    may_step setup past c.args.self.now c.settle_first.new.self c.args.event c.in-Ok.settled c.args.done stands has c.answer-answered.new.self c.answer-answered.result
+    (c.answer-answered.ensures.answers setup (after_settling c.in-Ok.settled past) (rw c.entries_made.ensures (stands_mid setup past c.args.self.now c.settle_first.new.self c.args.event c.in-Ok.settled c.args.done stands has done)))
+
+pub returns-clause-job : goal.returns-clause-job
+returns-clause-job g c = λ setup past stands done.
+    let has = c.in-Ok.ensures.stands setup past stands.tables in
+    (c.answer-answered.ensures.answers setup (after_settling c.in-Ok.settled past) (rw c.entries_made.ensures (stands_mid setup past c.args.self.now c.settle_first.new.self c.args.event c.in-Ok.settled c.args.done stands has done))).has_job
+
+pub returns-clause-stays : goal.returns-clause-stays
+returns-clause-stays g c = λ setup past stands done.
+    let has = c.in-Ok.ensures.stands setup past stands.tables in
+    stays_on setup past c.args.self.now c.settle_first.new.self c.args.event c.in-Ok.settled c.args.done stands has c.answer-answered.new.self c.answer-answered.result
+    (c.answer-answered.ensures.answers setup (after_settling c.in-Ok.settled past) (rw c.entries_made.ensures (stands_mid setup past c.args.self.now c.settle_first.new.self c.args.event c.in-Ok.settled c.args.done stands has done)))
+
+pub returns-clause-store : goal.returns-clause-store
+returns-clause-store g c = λ setup past stands held.
+    let has = c.in-Ok.ensures.stands setup past stands.tables in
+    store_steps g.D.Disk setup past c.args.self.now.tables c.settle_first.new.self c.answer-answered.new.self c.args.disk.now c.settle_first.new.disk c.answer-answered.new.disk c.args.event c.in-Ok.settled c.answer-answered.result
+    has c.in-Ok.ensures.ready c.in-Ok.ensures.holds c.answer-answered.ensures.store held
+
+pub returns-clause-passes : goal.returns-clause-passes
+returns-clause-passes g c = λ setup past stands held.
+    let has = c.in-Ok.ensures.stands setup past stands.tables in
+    store_moments g.D.Disk setup past c.args.self.now.tables c.settle_first.new.self c.answer-answered.new.self c.args.disk.now c.settle_first.new.disk c.answer-answered.new.disk c.args.event c.in-Ok.settled c.answer-answered.result
+    has c.in-Ok.ensures.ready c.in-Ok.ensures.holds c.answer-answered.ensures.store held c.in-Ok.ensures.passes

@@ -1,0 +1,19 @@
+use Rattle.std.proofs.Common.{◌≡◌, Bool, true, false, not, refl, sym, ◌∙◌}
+use Rattle.key_database.specs.Stands.{is_unsettled}
+use Rattle.keystore_core.proofs.Settled.{settled_tables}
+use Rattle.keystore_core.proofs.tables.Tables.settle_first.Goals as goal
+
+not_false : (b : Bool) → false ≡ not b → b ≡ true
+not_false true e = refl
+not_false false e = cc
+
+pub returns-in-Ok-clause-stands : goal.returns-in-Ok-clause-stands
+returns-in-Ok-clause-stands g c = λ setup past stands.
+    let waiting = sym stands.keys.settled_is ∙ not_false (is_unsettled c.args.self.now.keys) c.if-is_settled.ensures in
+    let waits = stands.keys.waiting waiting in
+    record {
+      stands = settled_tables setup past c.args.self.now c.settle.new.self c.in-Ok.settled waits.0 stands waits.1 (c.in-Ok.ensures.settled waits.0 waits.1.pending_is) c.in-Ok.ensures.waiting;
+      ready = refl;
+      waits = λ told e. waiting;
+      settles = λ told e. sym c.if-not-settles.ensures;
+    }
