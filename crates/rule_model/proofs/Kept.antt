@@ -111,28 +111,101 @@ uncounted_bytes : (faulted : Bool) (setup : Setup) (past : History) (change : Op
 uncounted_bytes true setup past change = refl
 uncounted_bytes false setup past change = refl
 
--- a later history keeps what an earlier one does, in as many bytes and with the same root of trust, and neither or both wait to be settled
+-- ---- entries that are not faulted
+
+pub no_fault_unfaulted : (waits : Bool) (act : Act) (reply : Reply) → is_disk_fault reply ≡ false → is_faulted waits act reply ≡ false
+no_fault_unfaulted waits act (Done fields) f = refl
+no_fault_unfaulted waits act (Broken rule code) f = refl
+no_fault_unfaulted waits act (Stopped code) f = rw f refl
+
+not_again : (system restarts waits : Bool) → waits ≡ true → (system && (not restarts && not waits)) ≡ false
+not_again true true waits e = refl
+not_again true false waits e = rw e refl
+not_again false restarts waits e = refl
+
+pub waiting_unfaulted : (waits : Bool) (act : Act) (reply : Reply) → waits ≡ true → is_faulted waits act reply ≡ false
+waiting_unfaulted waits act (Done fields) e = refl
+waiting_unfaulted waits act (Broken rule code) e = refl
+waiting_unfaulted waits act (Stopped code) e = not_again (is_system_error code) (is_restart act) waits e
+
+no_restart_fault : (system restarts waits : Bool) → restarts ≡ true → (system && (not restarts && not waits)) ≡ false
+no_restart_fault true restarts waits e = rw e refl
+no_restart_fault false restarts waits e = refl
+
+pub restart_unfaulted : (waits : Bool) (act : Act) (reply : Reply) → is_restart act ≡ true → is_faulted waits act reply ≡ false
+restart_unfaulted waits act (Done fields) e = refl
+restart_unfaulted waits act (Broken rule code) e = refl
+restart_unfaulted waits act (Stopped code) e = no_restart_fault (is_system_error code) (is_restart act) waits e
+
+-- such an entry changes nothing after a settling of an earlier one, where it is not admitted or its act changes none
+only_left : (b : Bool) → b && true ≡ false → b ≡ false
+only_left true e = e
+only_left false e = refl
+
+pub still_kept : (setup : Setup) (past : History) (event : Event) (drawn : List ℕ) (reply : Reply) (settled : Settled) → is_faulted (is_unsettled past) event.act reply ≡ false → changes_kept event.act && is_done reply ≡ false
+    → kept setup (Settling settled ∷ Acted event drawn reply ∷ past) ≡ kept setup (Settling settled ∷ past)
+still_kept setup past event drawn (Done fields) settled f e =
+    ap (λ change. after_change change (kept_settled setup (Some settled) past))
+    (none_changed event.act (device_at setup past) setup.policy (kept_settled setup (Some settled) past) (open_of setup past) (caller_of past event) drawn (only_left (changes_kept event.act) e))
+still_kept setup past event drawn (Broken rule code) settled f e = refl
+still_kept setup past event drawn (Stopped code) settled f e = rw f refl
+
+pub still_bytes : (setup : Setup) (past : History) (event : Event) (drawn : List ℕ) (reply : Reply) (settled : Settled) → is_faulted (is_unsettled past) event.act reply ≡ false → changes_kept event.act && is_done reply ≡ false
+    → stored_bytes setup (Settling settled ∷ Acted event drawn reply ∷ past) ≡ stored_bytes setup (Settling settled ∷ past)
+still_bytes setup past event drawn (Done fields) settled f e =
+    ap (λ change. bytes_with change (bytes_settled setup (Some settled) past))
+    (none_changed event.act (device_at setup past) setup.policy (kept_settled setup (Some settled) past) (open_of setup past) (caller_of past event) drawn (only_left (changes_kept event.act) e))
+still_bytes setup past event drawn (Broken rule code) settled f e = refl
+still_bytes setup past event drawn (Stopped code) settled f e = rw f refl
+
+-- A later history keeps what an earlier one does, in as many bytes and with the same root of trust. Neither or both wait to be
+-- settled, and where they do, a settling leaves the same after both.
 pub record SameStored (setup : Setup) (past later : History) : Type 0 where
   pub kept_is : kept setup later ≡ kept setup past
   pub bytes_are : stored_bytes setup later ≡ stored_bytes setup past
   pub settled_is : is_unsettled later ≡ is_unsettled past
   pub device_is : device_at setup later ≡ device_at setup past
+  pub waiting_kept : (settled : Settled) → is_unsettled past ≡ true → kept setup (Settling settled ∷ later) ≡ kept setup (Settling settled ∷ past)
+  pub waiting_bytes : (settled : Settled) → is_unsettled past ≡ true → stored_bytes setup (Settling settled ∷ later) ≡ stored_bytes setup (Settling settled ∷ past)
 
 pub same_stored : (setup : Setup) (past : History) → SameStored setup past past
-same_stored setup past = record { kept_is = refl; bytes_are = refl; settled_is = refl; device_is = refl }
+same_stored setup past =
+    record { kept_is = refl; bytes_are = refl; settled_is = refl; device_is = refl; waiting_kept = λ settled waits. refl; waiting_bytes = λ settled waits. refl }
 
--- an entry that is not admitted, and of which no device call failed
-pub denied_stored : (setup : Setup) (past : History) (event : Event) (drawn : List ℕ) (reply : Reply) → is_done reply ≡ false → is_disk_fault reply ≡ false
+not_both : (changes : Bool) → changes && false ≡ false
+not_both true = refl
+not_both false = refl
+
+-- an entry that is neither admitted nor faulted
+pub unfaulted_stored : (setup : Setup) (past : History) (event : Event) (drawn : List ℕ) (reply : Reply) → is_done reply ≡ false → is_faulted (is_unsettled past) event.act reply ≡ false
     → SameStored setup past (Acted event drawn reply ∷ past)
-denied_stored setup past event drawn (Done fields) e f = cc
-denied_stored setup past event drawn (Broken rule code) e f = record { kept_is = refl; bytes_are = refl; settled_is = refl; device_is = refl }
-denied_stored setup past event drawn (Stopped code) e f = record {
+unfaulted_stored setup past event drawn (Done fields) e f = cc
+unfaulted_stored setup past event drawn (Broken rule code) e f =
+    record { kept_is = refl; bytes_are = refl; settled_is = refl; device_is = refl; waiting_kept = λ settled waits. refl; waiting_bytes = λ settled waits. refl }
+unfaulted_stored setup past event drawn (Stopped code) e f = record {
   kept_is = denied_kept setup past event drawn (Stopped code) refl;
   bytes_are = uncounted_bytes (is_faulted (is_unsettled past) event.act (Stopped code)) setup past
       (change_of event.act (device_at setup past) setup.policy (kept_settled setup (if is_faulted (is_unsettled past) event.act (Stopped code) then None else None) past) (open_of setup past) (caller_of past event) drawn);
   settled_is = rw f refl;
   device_is = refl;
+  waiting_kept = λ settled waits. still_kept setup past event drawn (Stopped code) settled f (not_both (changes_kept event.act));
+  waiting_bytes = λ settled waits. still_bytes setup past event drawn (Stopped code) settled f (not_both (changes_kept event.act));
 }
+
+-- one of which no device call failed
+pub denied_stored : (setup : Setup) (past : History) (event : Event) (drawn : List ℕ) (reply : Reply) → is_done reply ≡ false → is_disk_fault reply ≡ false
+    → SameStored setup past (Acted event drawn reply ∷ past)
+denied_stored setup past event drawn reply e f = unfaulted_stored setup past event drawn reply e (no_fault_unfaulted (is_unsettled past) event.act reply f)
+
+-- one while an earlier change waits to be settled
+pub waiting_stored : (setup : Setup) (past : History) (event : Event) (drawn : List ℕ) (reply : Reply) → is_done reply ≡ false → is_unsettled past ≡ true
+    → SameStored setup past (Acted event drawn reply ∷ past)
+waiting_stored setup past event drawn reply e waits = unfaulted_stored setup past event drawn reply e (waiting_unfaulted (is_unsettled past) event.act reply waits)
+
+-- a restart that has not happened
+pub restart_stored : (setup : Setup) (past : History) (event : Event) (drawn : List ℕ) (reply : Reply) → is_done reply ≡ false → is_restart event.act ≡ true
+    → SameStored setup past (Acted event drawn reply ∷ past)
+restart_stored setup past event drawn reply e restarts = unfaulted_stored setup past event drawn reply e (restart_unfaulted (is_unsettled past) event.act reply restarts)
 
 -- an entry whose act changes none
 pub quiet_stored : (setup : Setup) (past : History) (event : Event) (drawn : List ℕ) (reply : Reply) → changes_kept event.act ≡ false → is_disk_fault reply ≡ false
@@ -142,21 +215,29 @@ quiet_stored setup past event drawn (Done fields) e f = record {
   bytes_are = ap (λ change. bytes_with change (stored_bytes setup past)) (none_changed event.act (device_at setup past) setup.policy (kept setup past) (open_of setup past) (caller_of past event) drawn e);
   settled_is = refl;
   device_is = same_device setup past event drawn (Done fields) e;
+  waiting_kept = λ settled waits. still_kept setup past event drawn (Done fields) settled refl (ap (λ b. b && true) e);
+  waiting_bytes = λ settled waits. still_bytes setup past event drawn (Done fields) settled refl (ap (λ b. b && true) e);
 }
 quiet_stored setup past event drawn (Broken rule code) e f = denied_stored setup past event drawn (Broken rule code) refl f
 quiet_stored setup past event drawn (Stopped code) e f = denied_stored setup past event drawn (Stopped code) refl f
 
--- an entry that would change nothing, and gives no root of trust
+never_waits : {A : Type 0} (waits : Bool) → waits ≡ false → waits ≡ true → A
+never_waits true idle waiting = cc
+never_waits false idle waiting = cc
+
+-- an entry that would change nothing, and gives no root of trust, where nothing waits to be settled
 pub unchanged_stored : (setup : Setup) (past : History) (event : Event) (drawn : List ℕ) (reply : Reply) → ((before : List ℕ) → root_given event.act before ≡ before) → change_by setup past event drawn ≡ None → is_disk_fault reply ≡ false
-    → SameStored setup past (Acted event drawn reply ∷ past)
-unchanged_stored setup past event drawn (Done fields) root e f = record {
+    → is_unsettled past ≡ false → SameStored setup past (Acted event drawn reply ∷ past)
+unchanged_stored setup past event drawn (Done fields) root e f idle = record {
   kept_is = ap (λ change. after_change change (kept setup past)) e;
   bytes_are = ap (λ change. bytes_with change (stored_bytes setup past)) e;
   settled_is = refl;
   device_is = ap (λ given. record setup.device { root = given }) (root (root_of setup past));
+  waiting_kept = λ settled waits. never_waits (is_unsettled past) idle waits;
+  waiting_bytes = λ settled waits. never_waits (is_unsettled past) idle waits;
 }
-unchanged_stored setup past event drawn (Broken rule code) root e f = denied_stored setup past event drawn (Broken rule code) refl f
-unchanged_stored setup past event drawn (Stopped code) root e f = denied_stored setup past event drawn (Stopped code) refl f
+unchanged_stored setup past event drawn (Broken rule code) root e f idle = denied_stored setup past event drawn (Broken rule code) refl f
+unchanged_stored setup past event drawn (Stopped code) root e f idle = denied_stored setup past event drawn (Stopped code) refl f
 
 -- a later history keeps what an earlier one does with a change, in so many bytes more
 pub record MadeStored (setup : Setup) (past later : History) (change : Change) : Type 0 where
@@ -174,22 +255,38 @@ made_stored setup past event drawn fields change root is = record {
   device_is = ap (λ given. record setup.device { root = given }) (root (root_of setup past));
 }
 
--- a later history keeps what an earlier one does, and its last change waits to be settled
-pub record TornStored (setup : Setup) (past later : History) : Type 0 where
+-- A later history keeps what an earlier one does, and a change waits to be settled: it is made where it was kept, and is not
+-- where it was lost.
+pub record TornStored (setup : Setup) (past later : History) (change : Change) : Type 0 where
   pub kept_is : kept setup later ≡ kept setup past
   pub bytes_are : stored_bytes setup later ≡ stored_bytes setup past
   pub waits : is_unsettled later ≡ true
   pub device_is : device_at setup later ≡ device_at setup past
+  pub made_kept : kept setup (Settling Kept ∷ later) ≡ after (kept setup past) change
+  pub made_bytes : stored_bytes setup (Settling Kept ∷ later) ≡ stored_bytes setup past + record_bytes change
+  pub lost_kept : kept setup (Settling Lost ∷ later) ≡ kept setup past
+  pub lost_bytes : stored_bytes setup (Settling Lost ∷ later) ≡ stored_bytes setup past
 
-pub torn_stored : (setup : Setup) (past : History) (event : Event) (drawn : List ℕ) → is_unsettled past ≡ false → is_restart event.act ≡ false
-    → TornStored setup past (Acted event drawn (Stopped SystemError) ∷ past)
-torn_stored setup past event drawn e stays = record {
-  kept_is = denied_kept setup past event drawn (Stopped SystemError) refl;
-  bytes_are = uncounted_bytes (is_faulted (is_unsettled past) event.act (Stopped SystemError)) setup past
-      (change_of event.act (device_at setup past) setup.policy (kept_settled setup (if is_faulted (is_unsettled past) event.act (Stopped SystemError) then None else None) past) (open_of setup past) (caller_of past event) drawn);
-  waits = rw (stays, e) refl;
+-- a faulted entry
+pub faulted_stored : (setup : Setup) (past : History) (event : Event) (drawn : List ℕ) (reply : Reply) (change : Change) → is_faulted (is_unsettled past) event.act reply ≡ true → change_by setup past event drawn ≡ Some change
+    → TornStored setup past (Acted event drawn reply ∷ past) change
+faulted_stored setup past event drawn (Done fields) change f is = cc
+faulted_stored setup past event drawn (Broken rule code) change f is = cc
+faulted_stored setup past event drawn (Stopped code) change f is = record {
+  kept_is = denied_kept setup past event drawn (Stopped code) refl;
+  bytes_are = uncounted_bytes (is_faulted (is_unsettled past) event.act (Stopped code)) setup past
+      (change_of event.act (device_at setup past) setup.policy (kept_settled setup (if is_faulted (is_unsettled past) event.act (Stopped code) then None else None) past) (open_of setup past) (caller_of past event) drawn);
+  waits = rw f refl;
   device_is = refl;
+  made_kept = rw f (ap (λ c. after_change c (kept setup past)) is);
+  made_bytes = rw f (ap (λ c. bytes_with c (stored_bytes setup past)) is);
+  lost_kept = rw f refl;
+  lost_bytes = rw f refl;
 }
+
+pub torn_stored : (setup : Setup) (past : History) (event : Event) (drawn : List ℕ) (change : Change) → is_unsettled past ≡ false → is_restart event.act ≡ false → change_by setup past event drawn ≡ Some change
+    → TornStored setup past (Acted event drawn (Stopped SystemError) ∷ past) change
+torn_stored setup past event drawn change idle stays is = faulted_stored setup past event drawn (Stopped SystemError) change (rw (stays, idle) refl) is
 
 -- an answer that admits nothing needs no room in the store
 pub denied_stands : (bytes : ℕ) (change : Option Change) (reply : Reply) → is_done reply ≡ false → where_stored bytes change reply ≡ reply
@@ -232,37 +329,19 @@ next_holding setup past event drawn (Stopped code) e =
 
 -- ---- where a change waits to be settled
 
--- an entry that changes nothing whatever it is made over leaves what is known as it is: one that is not admitted, or whose act
--- changes none
-still_kept : (setup : Setup) (past : History) (event : Event) (drawn : List ℕ) (reply : Reply) (settled : Settled) → is_unsettled past ≡ true → changes_kept event.act && is_done reply ≡ false
-    → kept setup (Settling settled ∷ Acted event drawn reply ∷ past) ≡ kept setup (Settling settled ∷ past)
-still_kept setup past event drawn (Done fields) settled waits e =
-    let quiet : changes_kept event.act ≡ false = only_left (changes_kept event.act) e in
-    ap (λ change. after_change change (kept_settled setup (Some settled) past))
-    (none_changed event.act (device_at setup past) setup.policy (kept_settled setup (Some settled) past) (open_of setup past) (caller_of past event) drawn quiet) where
-      only_left : (b : Bool) → b && true ≡ false → b ≡ false
-      only_left true f = f
-      only_left false f = refl
-still_kept setup past event drawn (Broken rule code) settled waits e = refl
-still_kept setup past event drawn (Stopped code) settled waits e = rw (not_again (is_system_error code) (is_restart event.act)) refl where
-  not_again : (system restarts : Bool) → (system && (not restarts && not (is_unsettled past))) ≡ false
-  not_again true true = refl
-  not_again true false = rw waits refl
-  not_again false restarts = refl
+-- over a history that keeps the same, and over one after which a change waits
+pub same_holding : (setup : Setup) (past later : History) → SameStored setup past later → holding_of setup later ≡ holding_of setup past
+same_holding setup past later same = by_waiting (is_unsettled past) refl where
+  by_waiting : (waits : Bool) → is_unsettled past ≡ waits → holding_of setup later ≡ holding_of setup past
+  by_waiting true e =
+      rw (same.settled_is ∙ e, e)
+      (ap (λ part. Unsure part (kept setup (Settling Kept ∷ later))) (same.waiting_kept Lost e)
+      ∙ ap (λ part. Unsure (kept setup (Settling Lost ∷ past)) part) (same.waiting_kept Kept e))
+  by_waiting false e = rw (same.settled_is ∙ e, e) (ap Sure same.kept_is)
 
--- what is known goes on over such an entry, and a settling ends it
-pub still_holding : (setup : Setup) (past : History) (event : Event) (drawn : List ℕ) (reply : Reply) → is_unsettled past ≡ true → changes_kept event.act && is_done reply ≡ false
-    → holding_of setup (Acted event drawn reply ∷ past) ≡ holding_of setup past
-still_holding setup past event drawn reply waits e =
-    rw (still_waits, waits)
-    (ap (λ part. Unsure part (kept setup (Settling Kept ∷ Acted event drawn reply ∷ past))) (still_kept setup past event drawn reply Lost waits e)
-    ∙ ap (λ part. Unsure (kept setup (Settling Lost ∷ past)) part) (still_kept setup past event drawn reply Kept waits e)) where
-      by_either : (b : Bool) → (b || true) ≡ true
-      by_either true = refl
-      by_either false = refl
-
-      still_waits : (is_faulted (is_unsettled past) event.act reply || is_unsettled past) ≡ true
-      still_waits = rw waits (by_either (is_faulted true event.act reply))
+pub torn_holding : (setup : Setup) (past later : History) (change : Change) → TornStored setup past later change → holding_of setup later ≡ Unsure (kept setup past) (after (kept setup past) change)
+torn_holding setup past later change torn =
+    rw torn.waits (ap (λ part. Unsure part (kept setup (Settling Kept ∷ later))) torn.lost_kept ∙ ap (λ part. Unsure (kept setup past) part) torn.made_kept)
 
 pub settled_holding_is : (setup : Setup) (past : History) (settled : Settled) → is_unsettled past ≡ true → holding_of setup (Settling settled ∷ past) ≡ settled_in settled (holding_of setup past)
 settled_holding_is setup past Kept waits = rw waits refl
