@@ -234,10 +234,10 @@ class Maker(ListMaker):
             key["blob"] = blob.hex()
         return opened_or_none(blob)
 
-    def own_name(self, client):
-        """The name of a key of the client's app, where it has one."""
-        uid = self.service.uid_of(client)
-        aliases = [alias for domain, nspace, alias in self.service.store.live if (domain, nspace) == (APP, uid)]
+    def own_name(self, client, is_limited=False):
+        """The name of a key of the client's app, or of one that has a use limit, where it has one."""
+        keys = self.service.store.keys_of((APP, self.service.uid_of(client)))
+        aliases = [key.alias for key in keys if not is_limited or key.uses is not None]
         return {"domain": APP, "alias": self.random.choice(aliases).decode() if aliases else "a"}
 
     def begin_on_stored(self, members):
@@ -268,6 +268,8 @@ class Maker(ListMaker):
         members["key"] = self.descriptor()
         if self.found(members["c"], members["key"]) is None and self.chance(0.5):
             members["key"] = {"domain": APP, "alias": "a"}
+        if members["do"] == "getKeyEntry" and self.chance(0.5):
+            members["key"] = self.own_name(members["c"], is_limited=True)
         if members["do"] in ("grant", "ungrant"):
             members["uid"] = self.some_uid()
         if members["do"] == "grant":

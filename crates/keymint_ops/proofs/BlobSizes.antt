@@ -1,5 +1,5 @@
 -- The blob of a key that the rules let through is short.
-use Rattle.std.proofs.Common.{ℕ, ◌+◌, ◌≤◌, List, Option, Some, None, length, arith}
+use Rattle.std.proofs.Common.{ℕ, ◌≤◌, List, Option, Some, None, arith}
 use Rattle.key_rules.specs.Creation.{IsShortId}
 use Rattle.key_blobs.specs.Text.{id_size}
 

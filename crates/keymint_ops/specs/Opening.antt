@@ -1,5 +1,5 @@
 -- What a begin reads of the blob of a key.
-use Rattle.std.specs.Prelude.{ℕ, Bool, false, List, [], Option, Some, None, Result, Ok, Err, is_ok, length}
+use Rattle.std.specs.Prelude.{ℕ, Bool, false, List, [], Some, None, Result, Ok, Err, is_ok, length}
 use Rattle.tags.specs.declared.code.Code.{Code}
 use Rattle.tags.specs.declared.param.Param.{Param}
 use Rattle.tags.specs.declared.rule.RuleTable.TheVariants.{K}
@@ -8,7 +8,7 @@ use Rattle.tags.specs.declared.tag.Tag.TheVariants.{ApplicationId, ApplicationDa
 use Rattle.tags.specs.Table.{first_broken}
 use Rattle.tag_lists.specs.Lookups.{bytes_of}
 use Rattle.key_blobs.specs.declared.fault.BlobFault.{BlobFault}
-use Rattle.key_blobs.specs.declared.fault.BlobFault.TheVariants.{Format, Tag, Root, App, Memory}
+use Rattle.key_blobs.specs.declared.fault.BlobFault.TheVariants.{Root, App}
 use Rattle.key_blobs.specs.declared.sealed.Opened.{Opened}
 use Rattle.key_blobs.specs.Blobs.{unsealed}
 use Rattle.key_rules.specs.Table.{key_rules}

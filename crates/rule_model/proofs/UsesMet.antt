@@ -1,41 +1,23 @@
 -- The need of a use is met where the rules admit it: the key of an open operation that is limited has uses left while it is a key.
-use Rattle.std.proofs.Common.{◌≡◌, inr, ℕ, zero, suc, ◌+◌, ◌≤◌, Bool, true, false, ◌==◌, ◌&&◌, ◌||◌, not, nat_lt, if◌then◌else◌, List, [], ◌∷◌, map, find, Option, Some, None, option_map, refl, sym, ap, ◌∙◌, subst, arith}
+use Rattle.std.proofs.Common.{◌≡◌, inr, ℕ, zero, suc, ◌+◌, ◌≤◌, Bool, true, false, ◌==◌, ◌&&◌, ◌||◌, nat_lt, if◌then◌else◌, List, [], ◌∷◌, find, Option, Some, None, refl, sym, ◌∙◌, arith}
 use Rattle.std.proofs.lemmas.Bool.{eqb-true, lt-ltb}
 use Rattle.std.specs.List.{list_any}
-use Rattle.std.specs.Option.{option_and_then, option_map_or}
-use Rattle.tags.specs.declared.descriptor.Descriptor.{Descriptor}
-use Rattle.tags.specs.declared.param.Param.{Param}
-use Rattle.key_domains.specs.declared.access.Access.{Access}
-use Rattle.key_domains.specs.declared.access.Access.TheVariants.{Found, Blob, Nothing}
+use Rattle.std.specs.Option.{option_and_then}
 use Rattle.journal_records.specs.declared.change.Change.TheVariants as changes
 use Rattle.journal_records.specs.declared.record.KeyRecord.{KeyRecord}
-use Rattle.journal_records.specs.LastingPart.{Lasting, has_id, some_has_id}
-use Rattle.journal_records.specs.Lookups.{key_of_id}
+use Rattle.journal_records.specs.LastingPart.{has_id, some_has_id}
 use Rattle.journal_records.specs.Needs.{has_uses, is_met}
-use Rattle.step_rules.specs.Table.{ends_operation}
-use Rattle.rule_model.specs.declared.entry.Entry.{Entry}
-use Rattle.rule_model.specs.declared.entry.Entry.TheVariants.{Acted, Settling}
-use Rattle.rule_model.specs.declared.event.Act.{Act}
-use Rattle.rule_model.specs.declared.event.Act.TheVariants.{AddAuthToken, Disconnect, CreateOperation, EnterAad, EnterUpdate, EnterFinish, Abort, Leave, Restart}
 use Rattle.rule_model.specs.declared.event.Event.{Event}
-use Rattle.rule_model.specs.declared.reply.Fields.{Fields}
-use Rattle.rule_model.specs.declared.reply.Reply.TheVariants.{Done, Broken, Stopped}
-use Rattle.rule_model.specs.Access.{key_in}
-use Rattle.rule_model.specs.BeginFacts.{is_limited, limited_by}
+use Rattle.rule_model.specs.BeginFacts.{is_limited}
 use Rattle.rule_model.specs.Entries.{History}
-use Rattle.rule_model.specs.Clients.{caller_of}
-use Rattle.rule_model.specs.Kept.{access_at, kept, open_of}
+use Rattle.rule_model.specs.Kept.{kept, open_of}
 use Rattle.rule_model.specs.Legal.{LegalBefore}
-use Rattle.rule_model.specs.Operations.{Open, Operation, OperationChange, SameOperations, Opens, Enters, Returns, Shows, Closes, ClosesOf, ClosesAll, admitted_operation, as_entered, as_returned, as_shown, closes, enters, has_number, is_for, is_of, limited_key, open_after, operation_of, returns, step_of, stopped_operation, used_key, without_pruned}
-use Rattle.rule_model.specs.Settling.{is_faulted, is_unsettled}
+use Rattle.rule_model.specs.Operations.{Open, has_number, limited_key, used_key}
 use Rattle.rule_model.specs.Setup.{Setup}
-use Rattle.rule_model.specs.Tickets.{ticket_at}
-use Rattle.rule_model.specs.Tokens.{token_of}
-use Rattle.rule_model.specs.Uses.{HasLimit, IsStored, Stood, uses_made}
+use Rattle.rule_model.specs.Uses.{IsStored, Stood, uses_made}
 use Rattle.rule_model.proofs.Begun.{BeganOn, began_on}
-use Rattle.rule_model.proofs.Bounds.{Bounded, Each, IsWithin, bounded_from, each_changed, each_in, each_left, each_more, each_found}
-use Rattle.rule_model.proofs.Held.{HoldBoth, HoldsAt, hold_both, stood_now}
-use Rattle.rule_model.proofs.Returned.{ends_none, enters_none, one_changed, opens_none, returns_none}
+use Rattle.rule_model.proofs.Bounds.{Bounded, Each, IsWithin, bounded_from, each_found}
+use Rattle.rule_model.proofs.Held.{HoldBoth, HoldsAt, hold_both}
 
 -- ---- so the need of its use is met
 

@@ -43,6 +43,7 @@ impl Act {
     {
         self.kind().row().is_built
     }
+
     /// Whether the act settles first, where an earlier change waits for that.
     pub fn settles(&self) -> bool
         ensures { result ≡ (fixed_for self.now).settles }
