@@ -10,8 +10,8 @@ use Rattle.rule_model.specs.declared.facts.Caller.{Caller}
 use Rattle.rule_model.specs.declared.reply.Fields.{Fields}
 use Rattle.rule_model.specs.declared.reply.Reply.{Reply}
 use Rattle.rule_model.specs.declared.reply.Reply.TheVariants.{Done}
-use Rattle.rule_model.specs.Acts.{fixed_for, is_begin, is_built, is_connect, is_enter, is_restart}
-use Rattle.rule_model.specs.Answer.{answer, answer_by_rules, answer_stored, malformed}
+use Rattle.rule_model.specs.Acts.{fixed_for, is_begin, is_connect, is_enter, is_restart}
+use Rattle.rule_model.specs.Answer.{answer, answer_by_rules, answer_stored}
 use Rattle.rule_model.specs.Changes.{change_of}
 use Rattle.rule_model.specs.Clients.{caller_of}
 use Rattle.rule_model.specs.Drawn.{no_pieces, size_of, wanted, wanted_by_rules}
@@ -38,9 +38,8 @@ use Rattle.keystore_core.proofs.Opened.{stays_same}
 use Rattle.keystore_core.proofs.Written.{written_follows, written_job, written_keys}
 use Rattle.keystore_core.proofs.Standing.{called, clients_stay, operations_stay, quiet, same_tables, slots_stay, tickets_stay}
 
--- an act that is built, draws nothing, and moves neither clients nor operations nor tickets
+-- an act that draws nothing, and moves neither clients nor operations nor tickets
 pub record IsCall (act : Act) : Type 0 where
-  pub built : is_built act ≡ true
   pub draws : (fixed_for act).draws ≡ false
   pub clients : moves_clients act ≡ false
   pub operations : moves_operations act ≡ false
@@ -49,11 +48,10 @@ pub record IsCall (act : Act) : Type 0 where
   pub root : (before : List ℕ) → root_given act before ≡ before
   pub boot : moves_boot act ≡ false
 
-drawn_none : (built draws : Bool) (setup : Setup) (past : History) (act : Act) (caller : Caller) → draws ≡ false
-    → 0 ≡ size_of (if built && draws then wanted_by_rules act setup past caller else no_pieces)
-drawn_none true true setup past act caller e = cc
-drawn_none true false setup past act caller e = refl
-drawn_none false draws setup past act caller e = refl
+drawn_none : (draws : Bool) (setup : Setup) (past : History) (act : Act) (caller : Caller) → draws ≡ false
+    → 0 ≡ size_of (if draws then wanted_by_rules act setup past caller else no_pieces)
+drawn_none true setup past act caller e = cc
+drawn_none false setup past act caller e = refl
 
 module _ (setup : Setup) (past : History) (tables : Tables) (caller : Caller) (act : Act) (stands : TablesStand setup tables past) (is_caller : IsCaller tables caller) (call : IsCall act) where
   abbrev Calling : Event
@@ -80,10 +78,10 @@ module _ (setup : Setup) (past : History) (tables : Tables) (caller : Caller) (a
       }
 
   drew : 0 ≡ size_of (wanted setup past Calling)
-  drew = drawn_none (is_built act) (fixed_for act).draws setup past act (caller_of past Calling) call.draws
+  drew = drawn_none (fixed_for act).draws setup past act (caller_of past Calling) call.draws
 
   answered_as : (reply : Reply) → reply ≡ answer_stored act setup past caller [] → reply ≡ answer setup past Calling []
-  answered_as reply is = is ∙ ap (λ c. answer_stored act setup past c []) same ∙ sym (ap (λ b. if b then answer_stored act setup past (caller_of past Calling) [] else malformed) call.built)
+  answered_as reply is = is ∙ ap (λ c. answer_stored act setup past c []) same
 
   answers_call : (new : KeyDatabase) (reply : Reply) → KeysStand setup (record tables { keys = new }) (Acted Calling [] reply ∷ past) → (IsTrue (is_ready past act) → MayFollow setup past Calling [] reply)
       → HasJob setup (Acted Calling [] reply ∷ past) reply None → AnswersAfter setup past (record tables { keys = new }) Calling (record { reply = reply; job = None; drawn = [] })

@@ -66,7 +66,7 @@ leaves_at g disk old new caller act step back (Err fault) e leaves serves = quie
 pub caller_told : (old : Tables) (event : Event) (caller : Caller) → IsCaller old caller → caller.reading ≡ event.reading → caller.client ≡ event.client → caller ≡ caller_by old event
 caller_told old event caller uid reading client = λ i. record { reading = reading i; client = client i; uid = (uid ∙ ap (λ n. uid_in old.clients n) client) i }
 
--- an event that is given up for want of memory, and a line that is none
+-- an event that is given up for want of memory
 pub memory_goes : {D : Type 0} (g : Ghosts D) (old new : KeyDatabase) (disk later : D) (restarts : Bool) (change : Option Change) → StoreGoes g old new disk later false None (Stopped MemoryAllocationFailed)
     → StoreGoes g old new disk later restarts change (Stopped MemoryAllocationFailed)
 memory_goes g old new disk later restarts change goes = record {
@@ -76,10 +76,6 @@ memory_goes g old new disk later restarts change goes = record {
   telling = goes.telling;
   cause = goes.cause;
 }
-
-pub malformed_goes : {D : Type 0} (g : Ghosts D) (disk : D) (keys : KeyDatabase) (restarts : Bool) (change : Option Change) (rule : Rule) (code : Code)
-    → StoreGoes g keys keys disk disk restarts change (Broken rule code)
-malformed_goes g disk keys restarts change rule code = denied_goes g disk keys keys restarts change (Broken rule code) (one_store_same keys) refl refl
 
 -- ---- a step
 

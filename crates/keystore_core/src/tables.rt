@@ -3,7 +3,7 @@
 ghost use Rattle.std.specs.Prelude.{◌≡◌, ◌+◌, ◌^◌, ◌≤◌, true, false, IfOk, IfSome, IsTrue, OnErr};
 ghost use Rattle.cipher_ops.specs.Jobs.{ticket_of};
 ghost use Rattle.keystore_core.specs.Tickets.{tickets_given};
-ghost use Rattle.rule_model.specs.Acts.{fixed_for, is_built as is_event, is_restart};
+ghost use Rattle.rule_model.specs.Acts.{fixed_for, is_restart};
 ghost use Rattle.rule_model.specs.Setup.{Setup};
 ghost use Rattle.keystore_core.specs.Drawn.{DrewFor, DrewForResult};
 ghost use Rattle.keystore_core.specs.Tables.{AnswersAt, IsAt, IsCaller, ServesAt, TablesStand, event_by};
@@ -44,12 +44,6 @@ pub struct Tables {
     pub(crate) tickets: Tickets,
     pub(crate) boot: Boot,
 }
-
-/// The answer to a line that is no event.
-const MALFORMED: Rule = Rule {
-    table: RuleTable::L,
-    number: 1,
-};
 
 impl Tables {
     ghost use Rattle.std.specs.Prelude.{[], ◌<◌};
@@ -93,7 +87,7 @@ impl Tables {
         }
     }
 
-    /// Serves an act that is built, by the rules.
+    /// Serves an act by the rules.
     fn serve<D: Disk, N: Entropy>(
         &mut self,
         alloc: Global,
@@ -107,7 +101,6 @@ impl Tables {
         requires at { ∥ IsAt self.old step act done ∥₁ }
         requires few { step ≤ 2 ^ 63 }
         requires caller { IsCaller self.old caller }
-        requires built { IsTrue (is_event act) }
         requires settled { (fixed_for act).settles ≡ true → AreSettled self.old }
         ensures serves { ServesAt step done self.old self.new (event_by caller act) result }
         ensures number { IfOk result (λ answered. IfSome answered.job (λ job. ticket_of job ≡ tickets_given self.old.tickets + 1)) }
@@ -187,7 +180,7 @@ impl Tables {
         }
     }
 
-    /// Answers an event: by the rules, as a malformed line where its act is not built, or with want of memory.
+    /// Answers an event: by the rules, or with want of memory.
     pub fn answer<D: Disk, N: Entropy>(
         &mut self,
         alloc: Global,
@@ -212,9 +205,6 @@ impl Tables {
             client,
             act,
         } = event;
-        if !act.is_built() {
-            return Answered::refused(alloc, MALFORMED, Code::InvalidArgument);
-        }
         let caller = self.caller(reading, client);
         match self.serve(alloc, disk, entropy, caller, step, act, done) {
             Ok(answered) => answered,

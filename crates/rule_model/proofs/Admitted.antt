@@ -17,8 +17,8 @@ use Rattle.rule_model.specs.declared.facts.Caller.{Caller}
 use Rattle.rule_model.specs.declared.reply.Fields.{Fields}
 use Rattle.rule_model.specs.declared.reply.Reply.{Reply}
 use Rattle.rule_model.specs.declared.reply.Reply.TheVariants.{Done, Broken, Stopped}
-use Rattle.rule_model.specs.Acts.{is_built, is_enter}
-use Rattle.rule_model.specs.Answer.{answer, answer_by_rules, answer_stored, malformed}
+use Rattle.rule_model.specs.Acts.{is_enter}
+use Rattle.rule_model.specs.Answer.{answer, answer_by_rules, answer_stored}
 use Rattle.rule_model.specs.Clients.{caller_of}
 use Rattle.rule_model.specs.Entries.{History, is_done}
 use Rattle.rule_model.specs.Kept.{is_live, operation_at}
@@ -45,19 +45,10 @@ where_done bytes (Some change) (Done fields) e = refl
 where_done bytes (Some change) (Broken rule code) e = cc
 where_done bytes (Some change) (Stopped code) e = cc
 
-built_done : (b : Bool) (reply : Reply) → is_done (if b then reply else malformed) ≡ true → is_done reply ≡ true
-built_done true reply e = e
-built_done false reply e = cc
-
-pub built_is : (b : Bool) (reply : Reply) (fields : Fields) → Done fields ≡ (if b then reply else malformed) → Done fields ≡ reply
-built_is true reply fields e = e
-built_is false reply fields e = cc
-
 -- an admitted answer is one by the rules
 pub admitted_by_rules : (setup : Setup) (past : History) (event : Event) (drawn : List ℕ) → is_done (answer setup past event drawn) ≡ true → is_done (answer_by_rules event.act setup past (caller_of past event) drawn) ≡ true
 admitted_by_rules setup past event drawn e =
-    where_done _ _ (answer_by_rules event.act setup past (caller_of past event) drawn)
-    (built_done (is_built event.act) (answer_stored event.act setup past (caller_of past event) drawn) e)
+    where_done _ _ (answer_by_rules event.act setup past (caller_of past event) drawn) e
 
 -- ---- a step that enters an operation
 

@@ -14,8 +14,8 @@ use Rattle.rule_model.specs.declared.facts.Caller.{Caller}
 use Rattle.rule_model.specs.declared.reply.Fields.{Fields}
 use Rattle.rule_model.specs.declared.reply.Reply.{Reply}
 use Rattle.rule_model.specs.declared.reply.Reply.TheVariants.{Done, Broken, Stopped}
-use Rattle.rule_model.specs.Acts.{is_begin, is_built}
-use Rattle.rule_model.specs.Answer.{answer, answer_by_rules, answer_stored, malformed}
+use Rattle.rule_model.specs.Acts.{is_begin}
+use Rattle.rule_model.specs.Answer.{answer, answer_by_rules, answer_stored}
 use Rattle.rule_model.specs.Clients.{caller_of}
 use Rattle.rule_model.specs.Entries.{History, count_of, gives, is_done}
 use Rattle.rule_model.specs.Kept.{kept, open_of}
@@ -382,7 +382,7 @@ paired_done setup past event drawn fields id _ done number paired = paired
 -- ---- over a legal history
 
 begun_number : (setup : Setup) (past : History) (caller : Caller) (drawn : List ℕ) (fields : Fields) (act : Act) → is_begin act ≡ true
-    → Done fields ≡ (if is_built act then answer_stored act setup past caller drawn else malformed) → fields.op ≡ Some (count_of is_begin past + 1)
+    → Done fields ≡ answer_stored act setup past caller drawn → fields.op ≡ Some (count_of is_begin past + 1)
 begun_number setup past caller drawn fields (CreateOperation key params forced) begins is =
     ap (λ (f : Fields). f.op) (sym (broken_fields (begin_table.answer (begin_facts setup past caller key params forced)) _ fields (sym is)))
 begun_number setup past caller drawn fields _ begins is = cc

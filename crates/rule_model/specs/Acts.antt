@@ -9,34 +9,34 @@ use Rattle.rule_model.specs.declared.event.Act.TheVariants as acts
 
 -- a call of a client: it takes memory, draws nothing, settles first, and is not built yet
 abbrev pub call : ℕ → ActRow
-call number = record { number = number; has_client = true; takes_memory = true; draws = false; settles = true; enters = false; is_built = false }
+call number = record { number = number; has_client = true; takes_memory = true; draws = false; settles = true; enters = false }
 
 -- Each kind's row. These take no memory: disconnect, abort, a token, the device's state, and a leave, whose room its enter
 -- took. A disconnect and a leave settle nothing.
 abbrev pub row_of : ActKind → ActRow
-row_of kinds.Connect = record (call 1) { has_client = false; is_built = true }
-row_of kinds.Disconnect = record (call 2) { takes_memory = false; settles = false; is_built = true }
-row_of kinds.GenerateKey = record (call 3) { draws = true; is_built = true }
-row_of kinds.ImportKey = record (call 4) { draws = true; is_built = true }
-row_of kinds.CreateOperation = record (call 5) { draws = true; is_built = true }
-row_of kinds.UpdateAad = record (call 6) { enters = true; is_built = true }
-row_of kinds.Update = record (call 7) { enters = true; is_built = true }
-row_of kinds.Finish = record (call 8) { enters = true; is_built = true }
-row_of kinds.Abort = record (call 9) { takes_memory = false; is_built = true }
-row_of kinds.GetKeyEntry = record (call 10) { is_built = true }
-row_of kinds.DeleteKey = record (call 11) { is_built = true }
-row_of kinds.Grant = record (call 12) { is_built = true }
-row_of kinds.Ungrant = record (call 13) { is_built = true }
-row_of kinds.GetNumberOfEntries = record (call 14) { is_built = true }
-row_of kinds.ListEntriesBatched = record (call 15) { is_built = true }
-row_of kinds.AddAuthToken = record (call 16) { takes_memory = false; is_built = true }
-row_of kinds.DeviceLocked = record (call 17) { takes_memory = false; is_built = true }
-row_of kinds.DeviceUnlocked = record (call 18) { takes_memory = false; is_built = true }
-row_of kinds.EarlyBootEnded = record (call 19) { takes_memory = false; is_built = true }
-row_of kinds.ClearNamespace = record (call 20) { is_built = true }
-row_of kinds.UserRemoved = record (call 21) { is_built = true }
-row_of kinds.Leave = record (call 22) { has_client = false; takes_memory = false; settles = false; is_built = true }
-row_of kinds.Restart = record (call 23) { has_client = false; is_built = true }
+row_of kinds.Connect = record (call 1) { has_client = false }
+row_of kinds.Disconnect = record (call 2) { takes_memory = false; settles = false }
+row_of kinds.GenerateKey = record (call 3) { draws = true }
+row_of kinds.ImportKey = record (call 4) { draws = true }
+row_of kinds.CreateOperation = record (call 5) { draws = true }
+row_of kinds.UpdateAad = record (call 6) { enters = true }
+row_of kinds.Update = record (call 7) { enters = true }
+row_of kinds.Finish = record (call 8) { enters = true }
+row_of kinds.Abort = record (call 9) { takes_memory = false }
+row_of kinds.GetKeyEntry = call 10
+row_of kinds.DeleteKey = call 11
+row_of kinds.Grant = call 12
+row_of kinds.Ungrant = call 13
+row_of kinds.GetNumberOfEntries = call 14
+row_of kinds.ListEntriesBatched = call 15
+row_of kinds.AddAuthToken = record (call 16) { takes_memory = false }
+row_of kinds.DeviceLocked = record (call 17) { takes_memory = false }
+row_of kinds.DeviceUnlocked = record (call 18) { takes_memory = false }
+row_of kinds.EarlyBootEnded = record (call 19) { takes_memory = false }
+row_of kinds.ClearNamespace = call 20
+row_of kinds.UserRemoved = call 21
+row_of kinds.Leave = record (call 22) { has_client = false; takes_memory = false; settles = false }
+row_of kinds.Restart = record (call 23) { has_client = false }
 
 -- the name of each kind, as a script writes it
 abbrev pub text_of : ActKind → List ℕ
@@ -99,10 +99,6 @@ kind_of (acts.Restart root) = kinds.Restart
 -- what is fixed for an act
 abbrev pub fixed_for : Act → ActRow
 fixed_for act = row_of (kind_of act)
-
--- whether an act is an event by now; one that is not is answered as a malformed line
-abbrev pub is_built : Act → Bool
-is_built act = (fixed_for act).is_built
 
 -- the acts of one kind each
 abbrev pub is_connect : Act → Bool

@@ -18,7 +18,7 @@ use Rattle.rule_model.specs.declared.event.Act.TheVariants.{Connect, Disconnect,
 use Rattle.rule_model.specs.declared.facts.Caller.{Caller}
 use Rattle.rule_model.specs.declared.reply.Reply.{Reply}
 use Rattle.rule_model.specs.declared.reply.Reply.TheVariants.{Done, Broken, Stopped}
-use Rattle.rule_model.specs.Acts.{is_begin, is_built, is_connect}
+use Rattle.rule_model.specs.Acts.{is_begin, is_connect}
 use Rattle.rule_model.specs.Boot.{has_early_ended, last_tokens}
 use Rattle.rule_model.specs.Calls.{accepted_in, add_auth_token_ruling, clear_namespace_ruling, counted_in, delete_key_ruling, disconnect_ruling, early_boot_ended_ruling, get_key_entry_ruling, grant_ruling, granted_in, key_entry, listed_in, listing_ruling, ungrant_ruling, user_call_ruling}
 use Rattle.rule_model.specs.Blobs.{device_at}
@@ -73,10 +73,6 @@ made_in part caller key blob =
     then Done (if key.domain == domain_blob then record no_fields { blob = Some blob } else record no_fields { key = Some part.next_key })
     else Stopped StoreFull
 
--- the answer to a line that is no event
-abbrev pub malformed : Reply
-malformed = Broken (record { table = L; number = 1 }) InvalidArgument
-
 -- The answer by the rules: the first broken one of the call's table, or the reply with its fields.
 abbrev pub answer_by_rules : Act → Setup → History → Caller → List ℕ → Reply
 answer_by_rules (Connect uid) setup past caller drawn = Done (record no_fields { client = Some (count_of is_connect past + 1) })
@@ -118,12 +114,11 @@ answer_by_rules EarlyBootEnded setup past caller drawn = broken_or (early_boot_e
 answer_by_rules (Leave ticket) setup past caller drawn = leaving setup past (ticket_at past ticket)
 answer_by_rules (Restart root) setup past caller drawn = Done no_fields
 
--- the answer of an act that is built: by the rules, where its record has room in the store
+-- the answer to an act: by the rules, where its record has room in the store
 abbrev pub answer_stored : Act → Setup → History → Caller → List ℕ → Reply
 answer_stored act setup past caller drawn =
     where_stored (stored_bytes setup past) (change_of act (device_at setup past) setup.policy (kept setup past) (open_of setup past) caller drawn) (answer_by_rules act setup past caller drawn)
 
 -- the answer to an event over the entries before it, with the bytes that were drawn for it
 abbrev pub answer : Setup → History → Event → List ℕ → Reply
-answer setup past event drawn =
-    if is_built event.act then answer_stored event.act setup past (caller_of past event) drawn else malformed
+answer setup past event drawn = answer_stored event.act setup past (caller_of past event) drawn

@@ -20,7 +20,7 @@ use Rattle.rule_model.specs.declared.facts.Pieces.{Pieces}
 use Rattle.rule_model.specs.declared.reply.Reply.{Reply}
 use Rattle.rule_model.specs.declared.reply.Reply.TheVariants.{Done, Broken, Stopped}
 use Rattle.rule_model.specs.Access.{owner_of}
-use Rattle.rule_model.specs.Acts.{fixed_for, is_built}
+use Rattle.rule_model.specs.Acts.{fixed_for}
 use Rattle.rule_model.specs.Boot.{has_early_ended}
 use Rattle.rule_model.specs.Clients.{caller_of}
 use Rattle.rule_model.specs.Entries.{History}
@@ -59,7 +59,7 @@ wanted_by_rules _ setup past caller = no_pieces
 
 -- what is drawn for an event: nothing for an act that draws none, and nothing where a rule is broken
 abbrev pub wanted : Setup → History → Event → Pieces
-wanted setup past event = if is_built event.act && (fixed_for event.act).draws then wanted_by_rules event.act setup past (caller_of past event) else no_pieces
+wanted setup past event = if (fixed_for event.act).draws then wanted_by_rules event.act setup past (caller_of past event) else no_pieces
 
 -- the bytes that were drawn for an entry
 abbrev pub drawn_in : Entry → List ℕ

@@ -47,11 +47,9 @@ pub struct ActRow {
     pub settles: bool,
     /// it enters an operation, whose work comes back by a leave
     pub enters: bool,
-    /// it is an event by now
-    pub is_built: bool,
 }
 
-/// A call of a client: it takes memory, draws nothing, settles first, and is not built yet.
+/// A call of a client: it takes memory, draws nothing, and settles first.
 fn call(number: u8) -> ActRow
     ensures { result ≡ spec.call number }
 {
@@ -62,7 +60,6 @@ fn call(number: u8) -> ActRow
         draws: false,
         settles: true,
         enters: false,
-        is_built: false,
     }
 }
 
@@ -111,15 +108,6 @@ impl ActRow {
             ..self
         }
     }
-
-    fn built(self) -> ActRow
-        ensures { result ≡ record self { is_built = true } }
-    {
-        ActRow {
-            is_built: true,
-            ..self
-        }
-    }
 }
 
 impl ActKind {
@@ -155,33 +143,32 @@ impl ActKind {
         ensures { result ≡ row_of self }
     {
         match self {
-            ActKind::Connect => call(1).of_no_client().built(),
-            ActKind::Disconnect => call(2).without_memory().settling_nothing().built(),
-            ActKind::GenerateKey => call(3).drawing().built(),
-            ActKind::ImportKey => call(4).drawing().built(),
-            ActKind::CreateOperation => call(5).drawing().built(),
-            ActKind::UpdateAad => call(6).entering().built(),
-            ActKind::Update => call(7).entering().built(),
-            ActKind::Finish => call(8).entering().built(),
-            ActKind::Abort => call(9).without_memory().built(),
-            ActKind::GetKeyEntry => call(10).built(),
-            ActKind::DeleteKey => call(11).built(),
-            ActKind::Grant => call(12).built(),
-            ActKind::Ungrant => call(13).built(),
-            ActKind::GetNumberOfEntries => call(14).built(),
-            ActKind::ListEntriesBatched => call(15).built(),
-            ActKind::AddAuthToken => call(16).without_memory().built(),
-            ActKind::DeviceLocked => call(17).without_memory().built(),
-            ActKind::DeviceUnlocked => call(18).without_memory().built(),
-            ActKind::EarlyBootEnded => call(19).without_memory().built(),
-            ActKind::ClearNamespace => call(20).built(),
-            ActKind::UserRemoved => call(21).built(),
+            ActKind::Connect => call(1).of_no_client(),
+            ActKind::Disconnect => call(2).without_memory().settling_nothing(),
+            ActKind::GenerateKey => call(3).drawing(),
+            ActKind::ImportKey => call(4).drawing(),
+            ActKind::CreateOperation => call(5).drawing(),
+            ActKind::UpdateAad => call(6).entering(),
+            ActKind::Update => call(7).entering(),
+            ActKind::Finish => call(8).entering(),
+            ActKind::Abort => call(9).without_memory(),
+            ActKind::GetKeyEntry => call(10),
+            ActKind::DeleteKey => call(11),
+            ActKind::Grant => call(12),
+            ActKind::Ungrant => call(13),
+            ActKind::GetNumberOfEntries => call(14),
+            ActKind::ListEntriesBatched => call(15),
+            ActKind::AddAuthToken => call(16).without_memory(),
+            ActKind::DeviceLocked => call(17).without_memory(),
+            ActKind::DeviceUnlocked => call(18).without_memory(),
+            ActKind::EarlyBootEnded => call(19).without_memory(),
+            ActKind::ClearNamespace => call(20),
+            ActKind::UserRemoved => call(21),
             ActKind::Leave => call(22)
                 .of_no_client()
                 .without_memory()
-                .settling_nothing()
-                .built(),
-            ActKind::Restart => call(23).of_no_client().built(),
+                .settling_nothing(),
+            ActKind::Restart => call(23).of_no_client(),
         }
     }
 

@@ -1,7 +1,7 @@
 //! The kind of an act, and what is fixed for it.
 
 ghost use Rattle.std.specs.Prelude.{◌≡◌};
-ghost use Rattle.rule_model.specs.Acts.{fixed_for, is_built as is_event, kind_of};
+ghost use Rattle.rule_model.specs.Acts.{fixed_for, kind_of};
 
 use crate::{Act, ActKind};
 
@@ -35,13 +35,6 @@ impl Act {
             Act::Leave { .. } => ActKind::Leave,
             Act::Restart { .. } => ActKind::Restart,
         }
-    }
-
-    /// Whether the act is an event by now. One that is not is answered as a malformed line.
-    pub fn is_built(&self) -> bool
-        ensures { result ≡ is_event self.now }
-    {
-        self.kind().row().is_built
     }
 
     /// Whether the act settles first, where an earlier change waits for that.

@@ -6,7 +6,6 @@ use Rattle.serde_json.specs.Data.{Data}
 use Rattle.serde_json.specs.Read.{read}
 use Rattle.script_lines.specs.Members.{◌>>=◌}
 use Rattle.script_lines.specs.Acts.{reading_of, name_of, act_of, client_of, hold_of}
-use Rattle.rule_model.specs.Acts.{is_built}
 
 -- the JSON value of a line: UTF-8 that is a JSON text
 abbrev pub parsed : List ℕ → Option Data
@@ -22,14 +21,6 @@ line_in members = do
   hold ← hold_of name members
   Some (record { event = record { reading = reading; client = client; act = act }; hold = hold })
 
--- what a line says, its act built or not; None is a malformed line
-abbrev pub read_line : List ℕ → Option Line
-read_line line = parsed line >>= line_in
-
--- a line of an act that is built
-abbrev pub if_built : Line → Option Line
-if_built line = if is_built line.event.act then Some line else None
-
 -- the event that a line spells, and whether an enter waits for its leave; None is a malformed line
 abbrev pub event_of : List ℕ → Option Line
-event_of line = read_line line >>= if_built
+event_of line = parsed line >>= line_in

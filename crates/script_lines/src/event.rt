@@ -4,7 +4,7 @@ ghost use Rattle.std.specs.Prelude.{◌≡◌};
 ghost use Rattle.serde_json.specs.View.{view};
 ghost use Rattle.script_lines.specs.Reads.{Gives, GivesView};
 ghost use Rattle.script_lines.specs.Acts.{act_of as spec_act_of, client_of as spec_client_of, hold_of as spec_hold_of, reading_of as spec_reading_of};
-ghost use Rattle.script_lines.specs.Lines.{event_of as spec_event_of, line_in as spec_line_in, parsed as spec_parsed, read_line as spec_read_line};
+ghost use Rattle.script_lines.specs.Lines.{event_of as spec_event_of, line_in as spec_line_in, parsed as spec_parsed};
 
 use crate::LineFault;
 use crate::act_name::name_of;
@@ -24,22 +24,9 @@ use std::str;
 
 /// The event that a line spells, without its LF, and whether an enter waits for its leave.
 ///
-/// A line is `Malformed` exactly where it is no JSON object of a script (RFC 8259), or its act is not built yet.
+/// A line is `Malformed` exactly where it is no JSON object of a script (RFC 8259).
 pub fn event_of(alloc: Global, line: &[u8]) -> Result<Line, LineFault>
     ensures { Gives result (spec_event_of line.now) }
-{
-    let line = read_line(alloc, line)?;
-    if !line.event.act.is_built() {
-        return Err(LineFault::Malformed);
-    }
-    Ok(line)
-}
-
-/// What a line says, without its LF, also where its act is not built yet.
-///
-/// A line is `Malformed` exactly where it is no JSON object of a script (RFC 8259).
-pub fn read_line(alloc: Global, line: &[u8]) -> Result<Line, LineFault>
-    ensures { Gives result (spec_read_line line.now) }
 {
     let object = parsed(alloc, line)?;
     line_in(alloc, &object)

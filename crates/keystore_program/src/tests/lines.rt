@@ -1,7 +1,7 @@
 //! Lines with the events that they spell, and replies with their lines.
 
 use rule_model::{Entries, Fields, NO_FIELDS, Reply, Stepped};
-use script_lines::{LineFault, event_of, line_of, malformed_line, read_line};
+use script_lines::{LineFault, event_of, line_of, malformed_line};
 use std::alloc::Global;
 use std::test::Fail;
 use tags::{Bytes, Code, NoMemory, Rule, RuleTable, Settled};
@@ -136,7 +136,7 @@ static ACTS: [(&str, &str); 27] = [
     ),
 ];
 
-/// Acts that are spelled wrongly, of those that no line has yet; those of the others are in `checks/malformed-lines.jsonl`.
+/// Acts that are spelled wrongly; more are in `checks/malformed-lines.jsonl`.
 static BAD_ACTS: [&str; 6] = [
     r#"{"t":[0,1000],"c":1,"do":"deleteKey","key":{}}"#,
     r#"{"t":[0,1000],"c":1,"do":"deleteKey","key":{"domain":0,"nspace":null}}"#,
@@ -170,12 +170,12 @@ fn each_act_with_its_members(rt: HostRuntime) -> Result<(), Fail> {
     let alloc = rt.alloc();
     for row in &ACTS {
         let (line, want) = *row;
-        let spelled = read_line(alloc, line.as_bytes())?;
+        let spelled = event_of(alloc, line.as_bytes())?;
         let text = format!(in alloc; "{:?}", spelled.event.act)?;
         assert!(rt; text.as_str() == want, "{text}");
     }
     for line in &BAD_ACTS {
-        let spelled = read_line(alloc, line.as_bytes());
+        let spelled = event_of(alloc, line.as_bytes());
         assert!(rt; matches!(spelled, Err(LineFault::Malformed)), "{line}");
     }
     Ok(())

@@ -2,7 +2,7 @@ use Rattle.std.proofs.Common.{[], inl, refl, arith, subst}
 use Rattle.rule_model.specs.Legal.{WithoutMemory}
 use Rattle.keystore_core.proofs.Standing.{without_memory}
 use Rattle.keystore_core.specs.Writing.{StoreGoesFor}
-use Rattle.keystore_core.proofs.Storing.{caller_told, malformed_goes, memory_goes}
+use Rattle.keystore_core.proofs.Storing.{caller_told, memory_goes}
 use Rattle.keystore_core.proofs.tables.Tables.answer.Goals as goal
 
 pub returns-in-Ok-clause-answers : goal.returns-in-Ok-clause-answers
