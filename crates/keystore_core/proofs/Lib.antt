@@ -18,6 +18,7 @@ pub mod Stepped
 pub mod Entered
 pub mod Left
 pub mod Shown
+pub mod OtherStore
 pub mod Steps
 pub mod Users
 pub mod BeginKeys

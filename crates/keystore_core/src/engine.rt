@@ -10,7 +10,6 @@ ghost use Rattle.rule_model.specs.Entries.{History, after_step};
 ghost use Rattle.rule_model.specs.Jobs.{HasDone, HasJob, Stays};
 ghost use Rattle.rule_model.specs.Legal.{MayStep};
 ghost use Rattle.rule_model.specs.Setup.{Setup};
-ghost use Rattle.rule_model.specs.Acts.{is_restart};
 ghost use Rattle.rule_model.specs.Settling.{is_disk_fault};
 ghost use Rattle.journal_records.specs.LastingPart.{Lasting, empty_lasting};
 ghost use Rattle.key_database.specs.Store.{StandsFor};
@@ -203,7 +202,7 @@ impl Engine {
         ensures passes { (setup : Setup) (past : History) → Stands setup self.old past → StoreStands D.Disk setup self.old disk.old past →
             Passes D.Disk disk.old disk.new (MayHoldEither setup past (after_step result.settled event result.drawn result.reply past)) }
         ensures same { (setup : Setup) (past : History) → Stands setup self.old past → StoreStands D.Disk setup self.old disk.old past →
-            tells D.Disk disk.old ≡ true → is_restart event.act ≡ true → is_other_store result.reply ≡ false }
+            tells D.Disk disk.old ≡ true → is_other_store result.reply ≡ false }
         ensures sure { D.is_sure disk.old → D.is_sure disk.new }
         ensures telling { tells D.Disk disk.new ≡ tells D.Disk disk.old }
         ensures cause { CountsFaults (D.fault_count disk.old) (D.fault_count disk.new) (is_disk_fault result.reply) }

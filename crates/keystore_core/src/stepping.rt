@@ -228,7 +228,13 @@ impl Tables {
             return None;
         }
         match self.operations.get(op) {
-            Some(operation) => { if operation.limited { operation.key } else { None } }
+            Some(operation) => {
+                if operation.limited {
+                    operation.key
+                } else {
+                    None
+                }
+            }
             None => None,
         }
     }

@@ -131,7 +131,13 @@ impl Tables {
                 forced,
             } => self.begin(alloc, entropy, caller, step, key, params, forced),
             Act::EnterAad { op, input } => self.enter(alloc, disk, caller, op, Work::Aad { input }),
-            Act::EnterUpdate { op, input } => self.enter(alloc, disk, caller, op, Work::Text { input }),
+            Act::EnterUpdate { op, input } => self.enter(
+                alloc,
+                disk,
+                caller,
+                op,
+                Work::Text { input },
+            ),
             Act::EnterFinish {
                 op,
                 input,

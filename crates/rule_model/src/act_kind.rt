@@ -164,10 +164,7 @@ impl ActKind {
             ActKind::EarlyBootEnded => call(19).without_memory(),
             ActKind::ClearNamespace => call(20),
             ActKind::UserRemoved => call(21),
-            ActKind::Leave => call(22)
-                .of_no_client()
-                .without_memory()
-                .settling_nothing(),
+            ActKind::Leave => call(22).of_no_client().without_memory().settling_nothing(),
             ActKind::Restart => call(23).of_no_client(),
         }
     }

@@ -1,9 +1,11 @@
-use Rattle.std.proofs.Common.{refl, ap}
+use Rattle.std.proofs.Common.{refl, ap, ◌∙◌}
 use Rattle.rule_model.specs.Entries.{after_settling}
 use Rattle.rule_model.specs.Stored.{holding_of}
 use Rattle.keystore_core.specs.declared.engine.Engine.{Engine}
-use mathlib.Core.Logic.{∥∥₁_map}
-use Rattle.keystore_core.proofs.Steps.{held_not, is_at, may_not, may_step, stands_mid, stands_not, stands_on, stays_not, stays_on, store_moments, store_steps}
+use mathlib.Core.Logic.{∥∥₁_elim, ∥∥₁_map}
+use Rattle.std.proofs.Math.Bool.{Bool-set}
+use Rattle.keystore_core.proofs.OtherStore.{never_other}
+use Rattle.keystore_core.proofs.Steps.{held_mid, held_not, is_at, may_not, may_step, stands_mid, stands_not, stands_on, stays_not, stays_on, store_moments, store_steps}
 use Rattle.keystore_core.proofs.engine.Engine.step.Goals as goal
 
 pub returns-in-Err-clause-stands : goal.returns-in-Err-clause-stands
@@ -66,3 +68,17 @@ returns-clause-passes g c = λ setup past stands held.
     let has = c.in-Ok.ensures.stands setup past stands.tables in
     store_moments g.D.Disk setup past c.args.self.now.tables c.settle_first.new.self c.answer-answered.new.self c.args.disk.now c.settle_first.new.disk c.answer-answered.new.disk c.args.event c.in-Ok.settled c.answer-answered.result
     has c.in-Ok.ensures.ready c.in-Ok.ensures.holds c.answer-answered.ensures.store held c.in-Ok.ensures.passes
+
+pub returns-in-Err-clause-same : goal.returns-in-Err-clause-same
+returns-in-Err-clause-same g c = λ setup past stands held told. rw c.not_settled.ensures.reply refl
+
+pub returns-clause-same : goal.returns-clause-same
+returns-clause-same g c = λ setup past stands held told. ∥∥₁_elim c.requires.takes (Bool-set _ _) (λ t.
+    let has = c.in-Ok.ensures.stands t.setup t.past t.stands.tables in
+    let after = c.answer-answered.ensures.answers t.setup (after_settling c.in-Ok.settled t.past) (rw c.entries_made.ensures (stands_mid t.setup t.past c.args.self.now c.settle_first.new.self c.args.event c.in-Ok.settled c.args.done t.stands has t.back_is)) in
+    never_other t.setup (after_settling c.in-Ok.settled t.past) c.args.event c.answer-answered.result.drawn c.answer-answered.result.reply
+    (λ restarts. c.answer-answered.ensures.same (holding_of setup (after_settling c.in-Ok.settled past))
+        (held_mid g.D.Disk setup past c.args.self.now.tables c.settle_first.new.self c.answer-answered.new.self c.args.disk.now c.settle_first.new.disk c.answer-answered.new.disk c.args.event c.in-Ok.settled c.answer-answered.result
+        (c.in-Ok.ensures.stands setup past stands.tables) c.in-Ok.ensures.ready c.in-Ok.ensures.holds c.answer-answered.ensures.store held)
+        (c.in-Ok.ensures.telling ∙ told) restarts)
+    (after.follows has.ready))
