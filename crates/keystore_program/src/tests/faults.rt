@@ -76,12 +76,15 @@ static ASKS: [Call<'static>; 15] = [
     ),
 ];
 
-/// The calls of a device before the first record, and those of sixteen records.
+/// Which of the calls write a record.
+static WRITERS: [usize; 16] = [4, 5, 6, 7, 8, 9, 10, 11, 12, 14, 15, 17, 18, 19, 20, 21];
+
+/// How many calls of the device formatting and the opening of an empty store make, and how many a record.
 const BEFORE: u64 = 5;
 
-const RECORDS: u64 = 64;
+const A_RECORD: u64 = 4;
 
-const FAILED: &str = "{\"code\":4}";
+const FAILED: &str = "{\"code\":4}\n";
 
 /// The calls as lines.
 fn script_of(alloc: Global, calls: &[Call]) -> Result<String, Fail> {
@@ -92,81 +95,71 @@ fn script_of(alloc: Global, calls: &[Call]) -> Result<String, Fail> {
     Ok(script)
 }
 
-/// The lines that count, by what they got: a line that got the code 4 where the settling after it says kept, or where none
-/// came and the last one is to count, and all lines with another reply.
-fn counting(alloc: Global, script: &str, given: &str, last: bool) -> Result<String, Fail> {
-    let mut lines = String::from_str(alloc, "")?;
-    let mut waiting = "";
-    let mut replies = given.lines();
-    for line in script.lines() {
-        let mut reply = replies.next().unwrap_or("");
-        if reply.starts_with("{\"settled\":") {
-            if reply.contains("kept") {
-                lines.push_str(waiting)?;
-                lines.push('\n')?;
-            }
-            waiting = "";
-            reply = replies.next().unwrap_or("");
-        }
-        if reply != FAILED {
-            lines.push_str(line)?;
-            lines.push('\n')?;
-        } else if waiting.is_empty() {
-            waiting = line;
-        }
-    }
-    if last {
-        lines.push_str(waiting)?;
-        lines.push('\n')?;
-    }
-    Ok(lines)
-}
-
-/// What lasts after a script over a disk on which no call fails.
-fn lasting(rt: &impl Abort, alloc: Global, script: &str, asks: &str) -> Result<String, Fail> {
+/// What lasts after calls over a disk on which no call fails.
+fn lasting(rt: &impl Abort, alloc: Global, calls: &[Call], asks: &str) -> Result<String, Fail> {
+    let script = script_of(alloc, calls)?;
     let mut disk = MemoryDisk::with_room(alloc, ROOM, &[])?;
-    let _ = text_on(rt, alloc, "run --fresh", script, &mut disk)?;
+    let _ = text_on(rt, alloc, "run --fresh", script.as_str(), &mut disk)?;
     text_on(rt, alloc, "run", asks, &mut disk)
 }
 
-/// One call of the disk fails.
+/// What lasts without one of the calls.
+fn lasting_without(
+    rt: &impl Abort,
+    alloc: Global,
+    place: usize,
+    asks: &str,
+) -> Result<String, Fail> {
+    let mut calls = Vec::new(alloc);
+    for (number, call) in ACTS.iter().enumerate() {
+        if number != place {
+            calls.push(*call)?;
+        }
+    }
+    lasting(rt, alloc, calls.as_slice(), asks)
+}
+
+/// One call of the disk fails: what is opened then has the change where the settling said that it was kept.
 fn fails_once(
     rt: &impl Abort,
     alloc: Global,
     number: u64,
     script: &str,
     asks: &str,
+    ends: (&str, &str),
 ) -> Result<(), Fail> {
     let failing = [number];
     let mut disk = MemoryDisk::with_room(alloc, ROOM, &failing)?;
     let given = text_on(rt, alloc, "run --fresh", script, &mut disk)?;
     let lasts = text_on(rt, alloc, "run", asks, &mut disk)?;
-    assert!(rt; given.as_str().contains(FAILED), "{number}");
-    let counts = counting(alloc, script, given.as_str(), false)?;
-    let wanted = lasting(rt, alloc, counts.as_str(), asks)?;
-    assert_eq!(rt; lasts.as_str(), wanted.as_str(), "{number}");
+    let (_, then) = given.as_str().split_once(FAILED).unwrap_or(("", ""));
+    let wanted = if then.starts_with("{\"settled\":\"kept\"}\n") {
+        ends.1
+    } else {
+        assert!(rt; then.starts_with("{\"settled\":\"lost\"}\n"), "{number}");
+        ends.0
+    };
+    assert_eq!(rt; lasts.as_str(), wanted, "{number}");
     Ok(())
 }
 
-/// The disk stops before a call, and what it holds is opened as another disk.
+/// The disk stops before a call, and all later acts are answered so. What it holds is opened as another disk: it has all that
+/// was acknowledged, and the change that was under way or not.
 fn stops(
     rt: &impl Abort,
     alloc: Global,
     number: u64,
     script: &str,
     asks: &str,
+    ends: (&str, &str),
 ) -> Result<(), Fail> {
     let inner = MemoryDisk::with_room(alloc, ROOM, &[])?;
     let mut stopped = StoppedDisk::new(inner, number - 1);
     let given = text_on(rt, alloc, "run --fresh", script, &mut stopped)?;
     let mut disk = stopped.into_inner();
     let lasts = text_on(rt, alloc, "run", asks, &mut disk)?;
-    assert!(rt; given.as_str().contains(FAILED), "{number}");
-    let without = counting(alloc, script, given.as_str(), false)?;
-    let with = counting(alloc, script, given.as_str(), true)?;
-    let before = lasting(rt, alloc, without.as_str(), asks)?;
-    let after = lasting(rt, alloc, with.as_str(), asks)?;
-    let is_one = lasts.as_str() == before.as_str() || lasts.as_str() == after.as_str();
+    assert!(rt; given.as_str().ends_with(FAILED), "{number}");
+    let is_one = lasts.as_str() == ends.0 || lasts.as_str() == ends.1;
     assert!(rt; is_one, "{number}");
     Ok(())
 }
@@ -176,9 +169,20 @@ fn what_is_opened_after_a_fault_is_what_was_acknowledged(rt: HostRuntime) -> Res
     let alloc = rt.alloc();
     let script = script_of(alloc, &ACTS)?;
     let asks = script_of(alloc, &ASKS)?;
-    for number in BEFORE..BEFORE + RECORDS {
-        fails_once(&rt, alloc, number + 1, script.as_str(), asks.as_str())?;
-        stops(&rt, alloc, number + 1, script.as_str(), asks.as_str())?;
+    let whole = lasting(&rt, alloc, &ACTS, asks.as_str())?;
+    let mut before = lasting(&rt, alloc, &ACTS[..4], asks.as_str())?;
+    let mut number = BEFORE;
+    for place in &WRITERS {
+        let after = lasting(&rt, alloc, &ACTS[..*place + 1], asks.as_str())?;
+        let without = lasting_without(&rt, alloc, *place, asks.as_str())?;
+        for _ in 0..A_RECORD {
+            number += 1;
+            let once = (without.as_str(), whole.as_str());
+            fails_once(&rt, alloc, number, script.as_str(), asks.as_str(), once)?;
+            let ends = (before.as_str(), after.as_str());
+            stops(&rt, alloc, number, script.as_str(), asks.as_str(), ends)?;
+        }
+        before = after;
     }
     Ok(())
 }
