@@ -1,5 +1,5 @@
 -- What a history drew, part by part.
-use Rattle.std.proofs.Common.{◌≡◌, ℕ, zero, suc, ◌+◌, ◌-◌, ◌^◌, ◌<◌, ◌≤◌, inl, inr, Bool, true, false, if◌then◌else◌, List, [], ◌∷◌, ◌++◌, Option, None, Some, refl, sym, ap, ◌∙◌, subst, arith, append-nil, append_assoc, ◌||◌}
+use Rattle.std.proofs.Common.{◌≡◌, ℕ, ◌+◌, ◌-◌, ◌^◌, ◌<◌, ◌≤◌, inl, inr, Bool, true, false, if◌then◌else◌, List, [], ◌++◌, Option, None, Some, refl, sym, ap, ◌∙◌, subst, arith, append-nil, append_assoc, ◌||◌, ◌&&◌}
 use Rattle.ks_outside.proofs.DrawLaws.{Draws-nil, Draws-trans}
 use Rattle.ks_outside.proofs.Shown.{drew_on as drew_on_drew}
 use Rattle.ks_outside.specs.Faults.{Rises}
@@ -30,6 +30,23 @@ pub unchanged : (failed : Bool) (n m a b c : ℕ) → (n ≡ 0 → b ≡ a) → 
 unchanged true n m a b c so is same e = absurd (omega (arith, is, e))
 unchanged false n m a b c so is same e = same refl ∙ so (sym is ∙ e)
 
+-- what two steps add to it, of which the first had no draw that failed
+pub undrawn_step : (past : History) (settled : Option Settled) (event : Event) (drawn : List ℕ) (reply : Reply)
+    → undrawn_of (after_step settled event drawn reply past) ≡ (if is_entropy_fault reply then undrawn_of past + 1 else undrawn_of past)
+undrawn_step past settled event drawn reply = ap (λ n. if is_entropy_fault reply then n + 1 else n) (settled_undrawn settled past)
+
+pub undrawn_both : (past : History) (settled : Option Settled) (event next : Event) (drawn more : List ℕ) (reply left : Reply) → is_entropy_fault reply ≡ false
+    → undrawn_of (after_step None next more left (after_step settled event drawn reply past)) ≡ (if is_entropy_fault left then undrawn_of past + 1 else undrawn_of past)
+undrawn_both past settled event next drawn more reply left fine =
+    ap (λ n. if is_entropy_fault left then n + 1 else n) (ap (λ failed. if failed then undrawn_of (after_settling settled past) + 1 else undrawn_of (after_settling settled past)) fine ∙ settled_undrawn settled past)
+
+-- at most one more of two counts, where they do not both rise
+pub one_more : (first second : Bool) (n m a b : ℕ) → (first && second) ≡ false → n ≡ (if first then a + 1 else a) → m ≡ (if second then b + 1 else b) → n + m ≤ a + b + 1
+one_more true true n m a b fine e f = absurd (let no = fine in cc)
+one_more true false n m a b fine e f = omega (arith, e, f)
+one_more false true n m a b fine e f = omega (arith, e, f)
+one_more false false n m a b fine e f = omega (arith, e, f)
+
 module _ {N : Type 0} (g : Ghosts N) where
   -- the history without entries drew nothing
   pub drew_none : (entropy : N) → DrewAll g entropy entropy []
@@ -47,7 +64,7 @@ module _ {N : Type 0} (g : Ghosts N) where
     failed = is_entropy_fault reply;
     added = ap (λ bytes. bytes ++ drawn) (settled_drawn settled past);
     drew = drew;
-    undrawn = ap (λ n. if is_entropy_fault reply then n + 1 else n) (settled_undrawn settled past);
+    undrawn = undrawn_step past settled event drawn reply;
   }
 
   -- a history went on by two steps, of which the first had no draw that failed
@@ -59,7 +76,7 @@ module _ {N : Type 0} (g : Ghosts N) where
     failed = is_entropy_fault left;
     added = ap (λ bytes. (bytes ++ drawn) ++ more) (settled_drawn settled past) ∙ append_assoc (drawn_of past) drawn more;
     drew = subst (λ failed. Drew g old new (drawn ++ more) (failed || is_entropy_fault left)) fine (drew_on_drew g old mid new drawn more _ _ first second);
-    undrawn = ap (λ n. if is_entropy_fault left then n + 1 else n) (ap (λ failed. if failed then undrawn_of (after_settling settled past) + 1 else undrawn_of (after_settling settled past)) fine ∙ settled_undrawn settled past);
+    undrawn = undrawn_both past settled event next drawn more reply left fine;
   }
 
   -- a part after another

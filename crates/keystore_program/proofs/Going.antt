@@ -1,5 +1,5 @@
 -- A run between two lines, and how it goes on and ends.
-use Rattle.std.proofs.Common.{◌≡◌, ℕ, suc, Bool, true, false, ◌==◌, ◌⊎◌, ◌+◌, ◌^◌, ◌<◌, ◌≤◌, List, [], ◌∷◌, ◌++◌, length, take, drop, Option, Some, None, Result, Err, IfSome, inl, inr, refl, sym, ap, ◌∙◌, subst, arith, append_assoc, append-nil, length-append}
+use Rattle.std.proofs.Common.{◌≡◌, ℕ, suc, Bool, true, false, ◌==◌, ◌+◌, ◌^◌, ◌<◌, ◌≤◌, List, [], ◌∷◌, ◌++◌, length, take, drop, Option, Some, None, Err, IfSome, inl, inr, refl, sym, ap, ◌∙◌, subst, arith, append_assoc, append-nil, length-append}
 use Rattle.std.proofs.lemmas.List.{length-take-le}
 use Rattle.std.proofs.lemmas.Bool.Decides.{nat_tests}
 use Rattle.std.specs.Io.KnownBytes.{Consumes, IsAtEnd}
@@ -15,20 +15,18 @@ use Rattle.keystore_program.specs.declared.session.Session.{Session}
 use Rattle.keystore_program.specs.declared.serve.Halt.{Halt}
 use Rattle.keystore_program.specs.declared.serve.Halt.TheVariants as halts
 use Rattle.keystore_program.specs.declared.status.Status.{Status}
-use Rattle.keystore_program.specs.declared.status.Status.TheVariants as statuses
 use Rattle.keystore_program.specs.Drawn.{DrewAll}
-use Rattle.keystore_program.specs.Ends.{AreTaken, EndsAmid, Ends, EndsCut, EndsOk, EndsWaiting, outside}
+use Rattle.keystore_program.specs.Ends.{AreTaken, EndsAmid, Ends, EndsCut, EndsOk}
 use Rattle.keystore_program.specs.Follows.{Follows}
 use Rattle.keystore_program.specs.Halts.{status_of}
 use Rattle.keystore_program.specs.Lines.{AreLines, IsFree, ended, lines_of}
 use Rattle.keystore_program.specs.Serving.{IsServed, IsServedInPart, IsUnserved, ServesLine}
 use Rattle.keystore_program.specs.Kept.{IsUnwritten, Keeps}
-use Rattle.keystore_program.specs.Session.{GoesOn, StandsFor, devices, is_waiting}
+use Rattle.keystore_program.specs.Session.{GoesOn, StandsFor, devices}
 use Rattle.keystore_program.specs.Window.{HasNoFeedBelow, IsFirstFeed}
 use Rattle.keystore_program.proofs.DrawLemmas.{drew_none, drew_nothing, drew_on}
 use Rattle.keystore_program.proofs.KeepLemmas.{KeptSince, held_images, keeps_all, since_none, since_on}
 use Rattle.keystore_program.proofs.LineLemmas.{are_more, ended-more, follows_more, free_take, free_whole, lines_of-ended, lines_of-last, split_feed}
-use Rattle.keystore_program.proofs.Tickets.{waits_are}
 
 -- the held bytes around their first LF
 at_feed : (lines : List (List ℕ)) (held : List ℕ) (n : ℕ) → IsFirstFeed held n → ended (lines ++ take n held ∷ []) ++ drop (n + 1) held ≡ ended lines ++ held
@@ -157,7 +155,7 @@ module _ {S K D N : Type 0} (s : SourceGhosts S) (k : SinkGhosts K) (d : DiskGho
         lines = going.lines;
         text = going.text;
         taken = ended going.lines ++ held;
-        served = record { history = going.past; legal = going.stands.legal; follows = going.follows; drew = going.drew; keeps = kept going };
+        served = record { history = going.past; legal = going.stands.stands.legal; follows = going.follows; drew = going.drew; keeps = kept going };
         put = going.put;
         took = going.took;
         end = end;
@@ -180,7 +178,7 @@ module _ {S K D N : Type 0} (s : SourceGhosts S) (k : SinkGhosts K) (d : DiskGho
         taken = ended going.lines ++ held;
         served = record {
           history = done.later;
-          legal = done.goes_on.stands.legal;
+          legal = done.goes_on.stands.stands.legal;
           follows = follows_more [] going.lines held going.past done.later going.text done.text going.follows done.goes_on.says;
           drew = drew_on n old.entropy now.entropy entropy going.past done.later going.drew done.goes_on.drew;
           keeps = kept_more setup old now disk entropy going.past session' held done.later done.text going.since done.goes_on;
@@ -199,7 +197,7 @@ module _ {S K D N : Type 0} (s : SourceGhosts S) (k : SinkGhosts K) (d : DiskGho
       → (going : Going setup old now session held taken served failed) → HasNoFeedBelow held (length held) → EndsAmid s k d n setup old now going.lines held failed
   ends_amid setup old now session held taken served failed going feeds = record {
     text = going.text;
-    served = record { history = going.past; legal = going.stands.legal; follows = going.follows; drew = going.drew; keeps = kept going };
+    served = record { history = going.past; legal = going.stands.stands.legal; follows = going.follows; drew = going.drew; keeps = kept going };
     put = going.put;
     took = going.took;
     short = going.short;
@@ -220,37 +218,12 @@ module _ {S K D N : Type 0} (s : SourceGhosts S) (k : SinkGhosts K) (d : DiskGho
     whole = going.text;
     part = done.part;
     missing = done.missing;
-    legal = done.goes_on.stands.legal;
+    legal = done.goes_on.stands.stands.legal;
     drew = drew_on n old.entropy now.entropy entropy going.past done.later going.drew done.goes_on.drew;
     keeps = kept_more setup old now disk entropy going.past session' line done.later (done.part ++ done.missing) going.since done.goes_on;
     served = going.follows;
     stopped = (done.later, done.part ++ done.missing, [], done.goes_on.says, (refl, refl), sym (append-nil (done.part ++ done.missing)));
     put = put_on k old.sink now.sink sink going.text done.part false failed going.put done.put;
-    taken = ended going.lines ++ held;
-    took = going.took;
-    are = are;
-    short = are_more going.lines line going.short free short;
-    few = omega (arith, going.sum, few);
-  }
-
-  -- the run stops behind a line of whose change a device call failed
-  ends_waiting : (setup : Setup) (old now : Outside S K D N) (sink : K) (disk : D) (entropy : N) (session session' : Session) (held line : List ℕ) (taken served : ℕ)
-      → (going : Going setup old now session held taken served false) → taken ≤ 2 ^ 30 → IsFree line → length line ≤ 262144
-      → AreTaken (s.content now.source) (ended going.lines ++ held) (going.lines ++ line ∷ [])
-      → IsServed k d n setup going.past session' line now.sink sink (devices now.disk now.entropy) (devices disk entropy) → is_waiting session' ≡ true
-      → EndsWaiting s k d n setup old (record now { sink = sink; disk = disk; entropy = entropy })
-  ends_waiting setup old now sink disk entropy session session' held line taken served going few free short are done waits = record {
-    lines = going.lines ++ line ∷ [];
-    text = going.text ++ done.text;
-    served = record {
-      history = done.later;
-      legal = done.goes_on.stands.legal;
-      follows = follows_more [] going.lines line going.past done.later going.text done.text going.follows done.goes_on.says;
-      drew = drew_on n old.entropy now.entropy entropy going.past done.later going.drew done.goes_on.drew;
-      keeps = kept_more setup old now disk entropy going.past session' line done.later done.text going.since done.goes_on;
-    };
-    waits = sym (waits_are d setup session' disk done.later done.goes_on.stands) ∙ waits;
-    put = put_on k old.sink now.sink sink going.text done.text false false going.put done.put;
     taken = ended going.lines ++ held;
     took = going.took;
     are = are;
@@ -271,7 +244,7 @@ module _ {S K D N : Type 0} (s : SourceGhosts S) (k : SinkGhosts K) (d : DiskGho
     whole = going.text;
     part = [];
     missing = [];
-    legal = going.stands.legal;
+    legal = going.stands.stands.legal;
     drew = drew_on n old.entropy now.entropy entropy going.past going.past going.drew (drew_nothing n now.entropy entropy going.past done.stays.undrawn);
     keeps = subst (λ (x : D). Keeps d setup old.disk x going.past) (sym done.stays.uncalled) (kept going);
     served = going.follows;
@@ -292,9 +265,6 @@ module _ {S K D N : Type 0} (s : SourceGhosts S) (k : SinkGhosts K) (d : DiskGho
   cut_line halts.Write status setup old now sink disk entropy session session' held line own taken served e going few free short are is done =
       rw e (ends_in_part setup old now sink disk entropy session session' held line taken served true going few free short are
       (subst (λ l. IsServedInPart k d n setup going.past session' l now.sink sink (devices now.disk now.entropy) (devices disk entropy) true) is done))
-  cut_line halts.Waits status setup old now sink disk entropy session session' held line own taken served e going few free short are is done =
-      rw e (ends_waiting setup old now sink disk entropy session session' held line taken served going few free short are
-      (subst (λ l. IsServed k d n setup going.past session' l now.sink sink (devices now.disk now.entropy) (devices disk entropy)) is done.0) done.1)
   cut_line halts.Memory status setup old now sink disk entropy session session' held line own taken served e going few free short are is (inl done) =
       rw e (ends_in_part setup old now sink disk entropy session session' held line taken served false going few free short are
       (subst (λ l. IsServedInPart k d n setup going.past session' l now.sink sink (devices now.disk now.entropy) (devices disk entropy) false) is done))

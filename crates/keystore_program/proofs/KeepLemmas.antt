@@ -1,9 +1,9 @@
 -- What a history leaves on a disk, part by part.
-use Rattle.std.proofs.Common.{◌≡◌, ℕ, suc, ◌+◌, ◌-◌, ◌^◌, ◌<◌, ◌≤◌, ◌⊎◌, inl, inr, ⊎_elim, Bool, true, false, ◌&&◌, if◌then◌else◌, List, [], ◌∷◌, ◌++◌, Option, None, Some, refl, sym, ap, ◌∙◌, subst, arith, append_assoc}
+use Rattle.std.proofs.Common.{◌≡◌, ℕ, ◌+◌, ◌-◌, ◌^◌, ◌<◌, ◌≤◌, ◌⊎◌, inl, inr, ⊎_elim, Bool, true, false, if◌then◌else◌, List, [], ◌∷◌, ◌++◌, Option, None, Some, refl, sym, ap, ◌∙◌, arith, append_assoc}
 use Rattle.ks_outside.proofs.Joins.{each_moment, passes_as, passes_none, passes_on}
 use Rattle.ks_outside.proofs.Shown.{counts_none, counts_on}
-use Rattle.ks_outside.specs.Faults.{CountsFaults, Rises}
-use Rattle.ks_outside.specs.Images.{AllImages, AtEachMoment, Passes, tells}
+use Rattle.ks_outside.specs.Faults.{CountsFaults}
+use Rattle.ks_outside.specs.Images.{AllImages, Passes, tells}
 use Rattle.ks_outside.specs.declared.disk.Disk.{Ghosts}
 use Rattle.tags.specs.declared.settled.Settled.{Settled}
 use Rattle.journal_records.specs.declared.change.Change.{Change}
@@ -11,14 +11,12 @@ use Rattle.journal_records.specs.Effects.{after, lasting_of}
 use Rattle.journal_records.specs.Holding.{Holding, Sure, Unsure}
 use Rattle.journal_records.specs.LastingPart.{Lasting}
 use Rattle.journal_records.specs.Needs.{is_met}
-use Rattle.use_journal.specs.Journal.{AreChanges, IsJournal}
 use Rattle.key_database.specs.declared.database.KeyDatabase.{KeyDatabase}
 use Rattle.key_database.specs.Stands.{Holds}
-use Rattle.key_database.specs.Store.{MayBe, StandsFor}
+use Rattle.key_database.specs.Store.{MayBe}
 use Rattle.rule_model.specs.declared.entry.Entry.TheVariants.{Acted, Settling}
 use Rattle.rule_model.specs.declared.event.Event.{Event}
 use Rattle.rule_model.specs.declared.reply.Reply.{Reply}
-use Rattle.rule_model.specs.Acts.{is_restart}
 use Rattle.rule_model.specs.Entries.{History, after_settling, after_step}
 use Rattle.rule_model.specs.Settling.{is_disk_fault}
 use Rattle.rule_model.specs.Setup.{Setup}
@@ -62,9 +60,8 @@ settled_estranged : (settled : Option Settled) (past : History) → estranged_of
 settled_estranged None past = refl
 settled_estranged (Some settled) past = refl
 
-not_estranged : (restarts other : Bool) (n m : ℕ) → n ≡ m → (restarts ≡ true → other ≡ false) → (if restarts && other then n + 1 else n) ≡ m
-not_estranged false other n m e none = e
-not_estranged true other n m e none = rw (none refl) e
+not_estranged : (other : Bool) (n m : ℕ) → n ≡ m → other ≡ false → (if other then n + 1 else n) ≡ m
+not_estranged other n m e none = rw none e
 
 left_after : (past : List Change) (change : Change) (part : Lasting) → lasting_of past ≡ Some part → is_met part change ≡ true → lasting_of (change ∷ past) ≡ Some (after part change)
 left_after past change part left met = rw (left, met) refl
@@ -95,7 +92,7 @@ module _ {D : Type 0} (d : Ghosts D) (setup : Setup) where
   pub keeps_step : (old new : D) (past : History) (settled : Option Settled) (event : Event) (drawn : List ℕ) (reply : Reply)
       → Passes d old new (MayHoldEither setup past (after_step settled event drawn reply past))
       → CountsFaults (d.fault_count old) (d.fault_count new) (is_disk_fault reply) → tells d new ≡ tells d old
-      → (tells d old ≡ true → is_restart event.act ≡ true → is_other_store reply ≡ false)
+      → (tells d old ≡ true → is_other_store reply ≡ false)
       → KeepsMore d setup old new past (after_step settled event drawn reply past) (is_disk_fault reply)
   keeps_step old new past settled event drawn reply passes faults telling same = record {
     front = front_step settled event drawn reply past;
@@ -104,7 +101,7 @@ module _ {D : Type 0} (d : Ghosts D) (setup : Setup) where
     faults = faults;
     failures = ap (λ n. if is_disk_fault reply then n + 1 else n) (settled_failed settled past);
     telling = telling;
-    same = λ told. not_estranged (is_restart event.act) (is_other_store reply) (estranged_of (after_settling settled past)) (estranged_of past) (settled_estranged settled past) (same told);
+    same = λ told. not_estranged (is_other_store reply) (estranged_of (after_settling settled past)) (estranged_of past) (settled_estranged settled past) (same told);
   }
 
   -- two parts, of which the first had no call that failed

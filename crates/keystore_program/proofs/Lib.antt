@@ -1,3 +1,4 @@
+pub mod Completing
 pub mod DrawLemmas
 pub mod Going
 pub mod KeepLemmas

@@ -1,8 +1,6 @@
 -- A store that was opened, and the run over it.
-use Rattle.std.proofs.Common.{◌≡◌, ◌↔◌, ℕ, ◌+◌, ◌-◌, ◌^◌, ◌<◌, ◌≤◌, ◌⊎◌, inl, inr, Bool, true, false, ◌||◌, if◌then◌else◌, List, [], ◌∷◌, length, Option, Some, None, Result, Ok, Err, OnOk, OnErr, IfOk, refl, sym, ap, ◌∙◌, subst, arith}
-use Rattle.std.proofs.lemmas.Bool.{cases_Bool, cases_lt}
-use Rattle.ks_outside.specs.Faults.{HasCause, Rises}
-use Rattle.ks_outside.specs.Images.{AllImages, Passes, TornFrom, tells}
+use Rattle.std.proofs.Common.{◌≡◌, ℕ, ◌≤◌, Bool, true, false, List, [], Err, refl, sym, ◌∙◌, subst, arith}
+use Rattle.ks_outside.specs.Images.{AllImages, Passes, tells}
 use Rattle.ks_outside.specs.Shown.{Outside}
 use Rattle.ks_outside.specs.declared.disk.Disk.{Ghosts as DiskGhosts}
 use Rattle.ks_outside.specs.declared.entropy.Entropy.{Ghosts as EntropyGhosts}
@@ -10,30 +8,24 @@ use Rattle.ks_outside.specs.declared.sink.Sink.{Ghosts as SinkGhosts}
 use Rattle.ks_outside.specs.declared.source.Source.{Ghosts as SourceGhosts}
 use Rattle.ks_outside.proofs.Joins.{passes_none}
 use Rattle.journal_records.specs.Holding.{Sure}
-use Rattle.journal_records.specs.LastingPart.{Lasting, empty_lasting}
+use Rattle.journal_records.specs.LastingPart.{Lasting}
 use Rattle.tags.specs.declared.policy.PolicyRow.{PolicyRow}
 use Rattle.tags.specs.declared.secrets.DeviceSecrets.{DeviceSecrets}
 use Rattle.key_database.specs.declared.database.KeyDatabase.{KeyDatabase}
 use Rattle.key_database.specs.Stands.{Holds, store_bytes}
 use Rattle.key_database.specs.Store.{StandsFor as IsStoreOf}
-use Rattle.rule_model.specs.declared.event.Act.{Act}
-use Rattle.rule_model.specs.declared.reply.Reply.{Reply}
-use Rattle.rule_model.specs.declared.reply.Reply.TheVariants.{Done, Broken, Stopped}
-use Rattle.rule_model.specs.declared.entry.Entry.TheVariants.{Acted, Settling}
-use Rattle.rule_model.specs.Entries.{History}
-use Rattle.rule_model.specs.Settling.{is_disk_fault, is_faulted, is_unsettled}
 use Rattle.rule_model.specs.Setup.{Setup}
 use Rattle.keystore_core.specs.declared.engine.Engine.{Engine}
 use Rattle.keystore_core.specs.declared.engine.OpenFault.{OpenFault}
 use Rattle.keystore_core.specs.declared.engine.OpenFault.TheVariants as faults
-use Rattle.keystore_core.specs.Engine.{IsOpened, OpenFaults, OpensFor, OpensStore, Stands, StoreStands, bytes_of, lasting_of, waits_in}
+use Rattle.keystore_core.specs.Engine.{IsOpened, OpenFaults, OpensFor, OpensStore, Stands, StoreStands, bytes_of, lasting_of}
 use Rattle.keystore_program.specs.declared.session.Session.{Session}
 use Rattle.keystore_program.specs.declared.status.Status.{Status}
 use Rattle.keystore_program.specs.declared.status.Status.TheVariants as statuses
 use Rattle.keystore_program.specs.Ends.{Ends}
 use Rattle.keystore_program.specs.Jobs.{JobsStand}
-use Rattle.keystore_program.specs.Kept.{IsUnwritten, failed_of}
-use Rattle.keystore_program.specs.Runs.{Formats, Given, IsCause, IsFormatted, IsRead, IsRefused, IsSetup, IsStart, IsUntouched, Opened, Refused, Runs, RunsFresh, Formatted, Unformatted, formatted_as, given, is_disk_status, refusal_of}
+use Rattle.keystore_program.specs.Kept.{IsUnwritten}
+use Rattle.keystore_program.specs.Runs.{Formats, Given, IsCause, IsRead, IsRefused, IsStart, Opened, Refused, Runs, RunsFresh, Formatted, Unformatted, is_disk_status, refusal_of}
 use Rattle.keystore_program.specs.Session.{StandsFor, engine_of, jobs_of}
 
 -- what is fixed in a run over an engine that was opened
@@ -43,10 +35,6 @@ setup_of device policy slots engine = record { device = device; policy = policy;
 pub is_opened : (device : DeviceSecrets) (policy : List PolicyRow) (slots : ℕ) (engine : Engine) → IsOpened (setup_of device policy slots engine) device policy slots engine
 is_opened device policy slots engine = record { start = refl; bytes = refl; device_is = refl; policy_is = refl; slots_are = refl }
 
--- nothing waits in an engine that stands for no entry
-pub opened_settled : {setup : Setup} {engine : Engine} → Stands setup engine [] → waits_in engine ≡ false
-opened_settled stands = stands.tables.keys.settled_is
-
 -- a session over an engine that was opened
 pub session_stands : {D : Type 0} (d : DiskGhosts D) (setup : Setup) (engine : Engine) (session : Session) (disk : D) → engine_of session ≡ engine → Stands setup engine [] → StoreStands d setup engine disk [] → JobsStand setup (jobs_of session) []
     → StandsFor d setup session disk []
@@ -54,7 +42,6 @@ session_stands d setup engine session disk same stands store held = record {
   stands = subst (λ e. Stands setup e []) (sym same) stands;
   store = subst (λ e. StoreStands d setup e disk []) (sym same) store;
   held = held;
-  legal = tt;
 }
 
 -- the images after an opening are the store of the start
@@ -91,34 +78,6 @@ module _ {D : Type 0} (d : DiskGhosts D) where
 
 -- ---- the status that tells a fault of the disk
 
-failed_more : (fails : Bool) (n : ℕ) → fails ≡ true ⊎ 1 ≤ n → 1 ≤ (if fails then n + 1 else n)
-failed_more true n e = omega arith
-failed_more false n (inl e) = absurd (let no = e in cc)
-failed_more false n (inr some) = some
-
-faulted_fails : (waits : Bool) (act : Act) (reply : Reply) → (is_faulted waits act reply || waits) ≡ true → is_disk_fault reply ≡ true ⊎ waits ≡ true
-faulted_fails true act reply e = inr refl
-faulted_fails false act (Done fields) e = absurd (let no = e in cc)
-faulted_fails false act (Broken rule code) e = absurd (let no = e in cc)
-faulted_fails false act (Stopped code) e = elim (cases_Bool (is_disk_fault (Stopped code))) [
-  | inl said ↦ inl said
-  | inr unsaid ↦ absurd (let none : (is_faulted false act (Stopped code) || false) ≡ false = rw unsaid refl in cc)
-]
-
--- a history with a change that waits has an entry that a failed device call answered
-pub waiting_failed : (past : History) → is_unsettled past ≡ true → 1 ≤ failed_of past
-waiting_failed [] e = absurd (let no = e in cc)
-waiting_failed (Settling settled ∷ past) e = absurd (let no = e in cc)
-waiting_failed (Acted event drawn reply ∷ past) e = failed_more (is_disk_fault reply) (failed_of past)
-    (elim (faulted_fails (is_unsettled past) event.act reply e) [ inl fails ↦ inl fails | inr waits ↦ inr (waiting_failed past waits) ])
-
--- so the count rose
-pub rose : (n before now : ℕ) → 1 ≤ n → (now < 2 ^ 64 - 1 → n + before ≤ now) → before ≤ now → Rises before now
-rose n before now some faults later = elim (cases_lt now (2 ^ 64 - 1)) [
-  | inl few ↦ inl (omega (arith, some, faults few))
-  | inr most ↦ elim (cases_lt before now) [ inl rises ↦ inl rises | inr stays ↦ inr (omega (arith, most, stays, later), omega (arith, stays, later)) ]
-]
-
 fine : {before now : ℕ} (told : Bool) → told ≡ false → before ≤ now → IsCause before now told
 fine told e later = record { later = later; rises = λ f. absurd (let no : ◌≡◌ {A = Bool} true false = sym f ∙ e in cc) }
 
@@ -131,9 +90,7 @@ module _ {S K D N : Type 0} (s : SourceGhosts S) (k : SinkGhosts K) (d : DiskGho
   ends_cause setup old new statuses.WriteFault ends = fine false refl ends.keeps.later
   ends_cause setup old new (statuses.LineTooLong line) ends = fine false refl ends.amid.served.keeps.later
   ends_cause setup old new statuses.ScriptTooLong ends = fine false refl ends.amid.served.keeps.later
-  ends_cause setup old new statuses.DiskFault ends =
-      let keeps = ends.served.keeps in
-      record { later = keeps.later; rises = λ told. rose (failed_of ends.served.history) _ _ (waiting_failed ends.served.history ends.waits) keeps.faults keeps.later }
+  ends_cause setup old new statuses.DiskFault ends = absurd ends
   ends_cause setup old new statuses.Usage ends = absurd ends
   ends_cause setup old new (statuses.Corrupted offset) ends = absurd ends
   ends_cause setup old new statuses.ListenFault ends = absurd ends

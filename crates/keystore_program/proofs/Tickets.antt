@@ -1,5 +1,5 @@
 -- The jobs of a session, after a step.
-use Rattle.std.proofs.Common.{◌≡◌, ℕ, ◌+◌, ◌<◌, Bool, true, false, ◌==◌, if◌then◌else◌, List, ◌∷◌, length, Option, Some, None, is_some, Result, Ok, Err, IfSome, refl, sym, ap, ◌∙◌, subst, inl, inr, arith}
+use Rattle.std.proofs.Common.{◌≡◌, ℕ, ◌≤◌, true, false, ◌==◌, if◌then◌else◌, List, ◌∷◌, Option, Some, None, is_some, Result, Ok, Err, IfSome, refl, sym, ap, ◌∙◌, subst, inl, inr, arith}
 use Rattle.std.proofs.lemmas.Bool.{cases_Bool, eqb-true}
 use Rattle.cipher_ops.specs.declared.job.Done.{Done as JobDone}
 use Rattle.cipher_ops.specs.declared.job.Job.{Job}
@@ -18,42 +18,23 @@ use Rattle.rule_model.specs.declared.reply.Reply.TheVariants.{Done, Broken, Stop
 use Rattle.rule_model.specs.Acts.{fixed_for, is_restart}
 use Rattle.rule_model.specs.Answer.{answer, given_or, leaving}
 use Rattle.rule_model.specs.Drawn.{size_of, wanted}
-use Rattle.rule_model.specs.Entries.{History, after_step, is_done}
+use Rattle.rule_model.specs.Entries.{History, after_settling, after_step, is_done}
 use Rattle.rule_model.specs.Jobs.{GoesWith, HasDone, HasJob, IsDoneOn, IsDoneOut, IsJobOn, IsJobOut, Stays, but_shown}
-use Rattle.rule_model.specs.Legal.{MayFollow, MayStep, Answered, WithoutMemory, WithoutEntropy, Faulted, NotRestarted}
-use Rattle.rule_model.specs.Operations.{Open, operation_at}
-use Rattle.rule_model.specs.Settling.{is_disk_fault, is_faulted, is_unsettled}
+use Rattle.rule_model.specs.Legal.{MayFollow, MayStep, Answered, WithoutMemory, WithoutEntropy, Faulted, NotSettled, NotRestarted}
+use Rattle.rule_model.specs.Kept.{operation_at}
+use Rattle.rule_model.specs.Operations.{Open}
 use Rattle.rule_model.specs.Setup.{Setup}
 use Rattle.rule_model.specs.Stored.{change_by}
-use Rattle.rule_model.specs.Tickets.{AllGone, ComesBack, Entered, GoesOut, SameTickets, admitted_ticket, goes_out, stopped_ticket, ticket_after, ticket_at, ticket_change}
+use Rattle.rule_model.specs.Tickets.{AllGone, ComesBack, Entered, SameTickets, admitted_ticket, goes_out, stopped_ticket, ticket_after, ticket_at, ticket_change}
 use Rattle.keystore_core.specs.declared.engine.Engine.{Engine}
-use Rattle.keystore_core.specs.Engine.{MayTake, Stands as EngineStands, StandsForSome, StoreStands, waits_in}
+use Rattle.keystore_core.specs.Engine.{MayTake, Stands as EngineStands, StandsForSome, StoreStands, entries_made}
 use Rattle.ks_outside.specs.declared.disk.Disk.{Ghosts as DiskGhosts}
 use Rattle.keystore_program.specs.declared.jobs.Jobs.{Jobs}
 use Rattle.keystore_program.specs.declared.session.Session.{Session}
-use Rattle.keystore_program.specs.Session.{StandsFor, engine_of, is_waiting, jobs_of}
+use Rattle.keystore_program.specs.Session.{StandsFor, engine_of, jobs_of}
 use Rattle.keystore_program.specs.Follows.{left_by}
 use Rattle.keystore_program.specs.Jobs.{ClearsJobs, Holds, IsHeld, JobsStand, Ran, RanJob, SameJobs, SetsJob, job_in}
 use Rattle.keystore_program.specs.SessionKept.{IsSession}
-
--- a change of a session's store waits exactly where its history says so
-pub waits_are : {D : Type 0} (d : DiskGhosts D) (setup : Setup) (session : Session) (disk : D) (past : History) → StandsFor d setup session disk past → is_waiting session ≡ is_unsettled past
-waits_are d setup session disk past for = for.stands.tables.keys.settled_is
-
--- none waits after a step whose reply tells no failed device call, where none waited before
-none_faulted : (waits : Bool) (act : Act) (reply : Reply) → is_disk_fault reply ≡ false → is_faulted waits act reply ≡ false
-none_faulted waits act (Done fields) fine = refl
-none_faulted waits act (Broken rule code) fine = refl
-none_faulted waits act (Stopped code) fine = rw fine refl
-
-stays_settled : (settled : Option Settled) (event : Event) (drawn : List ℕ) (reply : Reply) (past : History) → settled ≡ None → is_disk_fault reply ≡ false → is_unsettled past ≡ false → is_unsettled (after_step settled event drawn reply past) ≡ false
-stays_settled None event drawn reply past none fine before = rw (before, none_faulted false event.act reply fine) refl
-stays_settled (Some settled) event drawn reply past none fine before = absurd (let no = none in cc)
-
-pub engine_settled : {old new : Engine} (setup : Setup) (past : History) (settled : Option Settled) (event : Event) (drawn : List ℕ) (reply : Reply)
-    → EngineStands setup old past → EngineStands setup new (after_step settled event drawn reply past) → settled ≡ None → is_disk_fault reply ≡ false → waits_in old ≡ false → waits_in new ≡ false
-engine_settled setup past settled event drawn reply before after none fine idle =
-    after.tables.keys.settled_is ∙ stays_settled settled event drawn reply past none fine (sym before.tables.keys.settled_is ∙ idle)
 
 -- what a job of an open operation comes back with
 done_on : (o : Option Open) (work : Work) (job : Job) (back : JobDone) → RanJob job back → IsJobOn o work job → IsDoneOn o work back
@@ -96,6 +77,9 @@ leave_change setup past ticket event drawn reply e (WithoutEntropy is) = absurd 
 leave_change setup past ticket event drawn reply e (Faulted is) = absurd (
     let writes : is_some (change_by setup past event drawn) ≡ false = ap (λ act. is_some (change_by setup past (record event { act = act }) drawn)) e in
     let yes = is.writes in cc)
+leave_change setup past ticket event drawn reply e (NotSettled is) = absurd (
+    let settles : (fixed_for event.act).settles ≡ false = ap (λ act. (fixed_for act).settles) e in
+    let yes = is.settles in cc)
 leave_change setup past ticket event drawn reply e (NotRestarted code is) = absurd (
     let restarts : is_restart event.act ≡ false = ap is_restart e in
     let yes = is.restarts in cc)
@@ -186,22 +170,46 @@ goes_with setup later (Done fields) job has = has
 goes_with setup later (Broken rule code) job has = has
 goes_with setup later (Stopped code) job has = has
 
+-- a settling leaves the tickets
+settled_tickets : (settled : Option Settled) (past : History) (t : ℕ) → ticket_at (after_settling settled past) t ≡ ticket_at past t
+settled_tickets None past t = refl
+settled_tickets (Some settled) past t = refl
+
 -- the jobs that are held after the step of a leave
 pub held_left : (setup : Setup) (past : History) (ticket : ℕ) (event : Event) (settled : Option Settled) (drawn : List ℕ) (reply : Reply) (old new : Jobs)
-    → event.act ≡ Leave ticket → settled ≡ None → MayStep setup past settled event drawn reply → Stays setup past (after_step settled event drawn reply past)
+    → event.act ≡ Leave ticket → MayStep setup past settled event drawn reply → Stays setup past (after_step settled event drawn reply past)
     → SetsJob ticket None old new → JobsStand setup old past → JobsStand setup new (after_step settled event drawn reply past)
-held_left setup past ticket event (Some settled) drawn reply old new e none may stays sets held = absurd (let no = none in cc)
-held_left setup past ticket event None drawn reply old new e none may stays sets held = held_after_leave setup past (Acted event drawn reply ∷ past) stays ticket old new
-    (λ t. ap (λ change. ticket_after change t (ticket_at past t)) (leave_change setup past ticket event drawn reply e may.follows)) sets held
+held_left setup past ticket event settled drawn reply old new e may stays sets held = held_after_leave setup past (after_step settled event drawn reply past) stays ticket old new
+    (λ t. ap (λ change. ticket_after change t (ticket_at (after_settling settled past) t)) (leave_change setup (after_settling settled past) ticket event drawn reply e may.follows)
+    ∙ ap (λ found. ticket_after (ComesBack ticket) t found) (settled_tickets settled past t)) sets held
+
+-- a leave settles nothing
+pub leave_alone : (setup : Setup) (past : History) (ticket : ℕ) (settled : Option Settled) (event : Event) (drawn : List ℕ) (reply : Reply) → event.act ≡ Leave ticket → MayStep setup past settled event drawn reply → is_some settled ≡ false
+leave_alone setup past ticket None event drawn reply e may = refl
+leave_alone setup past ticket (Some settled) event drawn reply e may = absurd (
+    let settles : (fixed_for event.act).settles ≡ false = ap (λ act. (fixed_for act).settles) e in
+    let yes = may.settles.settles in cc)
+
+pub none_settled : (settled : Option Settled) → is_some settled ≡ false → settled ≡ None
+none_settled None e = refl
+none_settled (Some settled) e = absurd (let no = e in cc)
+
+-- how many entries a step makes
+pub one_made : (settled : Option Settled) → is_some settled ≡ false → entries_made settled ≡ 1
+one_made settled e = ap entries_made (none_settled settled e)
+
+pub few_made : (settled : Option Settled) → entries_made settled ≤ 2
+few_made None = omega arith
+few_made (Some settled) = omega arith
 
 -- the same of another event, with the job that it gave
 pub held_on : (setup : Setup) (past : History) (event : Event) (settled : Option Settled) (drawn : List ℕ) (reply : Reply) (job : Option Job) (next : ℕ) (old new : Jobs)
-    → left_by event.act ≡ None → is_restart event.act ≡ false → settled ≡ None → HasJob setup (after_step settled event drawn reply past) reply job
+    → left_by event.act ≡ None → is_restart event.act ≡ false → HasJob setup (after_step settled event drawn reply past) reply job
     → Stays setup past (after_step settled event drawn reply past) → IfSome job (λ j. ticket_of j ≡ next)
     → Holds next job old new → JobsStand setup old past → JobsStand setup new (after_step settled event drawn reply past)
-held_on setup past event (Some settled) drawn reply job next old new no_leave no_restart none has stays number holds held = absurd (let no = none in cc)
-held_on setup past event None drawn reply job next old new no_leave no_restart none has stays number holds held = held_after setup past (Acted event drawn reply ∷ past) stays next (ticket_given reply) job old new
-    (goes_with setup (Acted event drawn reply ∷ past) reply job has) number (others_stay past event drawn reply no_leave no_restart) holds held
+held_on setup past event settled drawn reply job next old new no_leave no_restart has stays number holds held = held_after setup past (after_step settled event drawn reply past) stays next (ticket_given reply) job old new
+    (goes_with setup (after_step settled event drawn reply past) reply job has) number
+    (λ t others. others_stay (after_settling settled past) event drawn reply no_leave no_restart t others ∙ settled_tickets settled past t) holds held
 
 -- after a restart no work is out, where it is admitted, and else what was out is so
 all_gone : (act : Act) (fields : Fields) → is_restart act ≡ true → admitted_ticket act fields ≡ AllGone
@@ -217,17 +225,18 @@ no_job setup past entered job e f = subst (λ x. IsHeld setup past x job) (sym e
 
 -- the jobs that are held after the step of a restart
 pub held_restarted : (setup : Setup) (past : History) (event : Event) (settled : Option Settled) (drawn : List ℕ) (reply : Reply) (old new : Jobs)
-    → is_restart event.act ≡ true → settled ≡ None → Stays setup past (after_step settled event drawn reply past)
+    → is_restart event.act ≡ true → Stays setup past (after_step settled event drawn reply past)
     → ClearsJobs (is_done reply) old new → JobsStand setup old past → JobsStand setup new (after_step settled event drawn reply past)
-held_restarted setup past event (Some settled) drawn reply old new restarts none stays clears held t = absurd (let no = none in cc)
-held_restarted setup past event None drawn (Done fields) old new restarts none stays clears held t =
-    no_job setup (Acted event drawn (Done fields) ∷ past) (ticket_at (Acted event drawn (Done fields) ∷ past) t) (job_in new t) (ap (λ change. ticket_after change t (ticket_at past t)) (all_gone event.act fields restarts)) (clears t)
-held_restarted setup past event None drawn (Broken rule code) old new restarts none stays clears held t =
-    let later : History = Acted event drawn (Broken rule code) ∷ past in
-    subst (IsHeld setup later (ticket_at later t)) (sym (clears t)) (keep setup past later stays t (job_in old t) refl (held t))
-held_restarted setup past event None drawn (Stopped code) old new restarts none stays clears held t =
-    let later : History = Acted event drawn (Stopped code) ∷ past in
-    subst (IsHeld setup later (ticket_at later t)) (sym (clears t)) (keep setup past later stays t (job_in old t) (ap (λ change. ticket_after change t (ticket_at past t)) (none_stopped event.act restarts)) (held t))
+held_restarted setup past event settled drawn (Done fields) old new restarts stays clears held t =
+    let later : History = after_step settled event drawn (Done fields) past in
+    no_job setup later (ticket_at later t) (job_in new t) (ap (λ change. ticket_after change t (ticket_at (after_settling settled past) t)) (all_gone event.act fields restarts)) (clears t)
+held_restarted setup past event settled drawn (Broken rule code) old new restarts stays clears held t =
+    let later : History = after_step settled event drawn (Broken rule code) past in
+    subst (IsHeld setup later (ticket_at later t)) (sym (clears t)) (keep setup past later stays t (job_in old t) (settled_tickets settled past t) (held t))
+held_restarted setup past event settled drawn (Stopped code) old new restarts stays clears held t =
+    let later : History = after_step settled event drawn (Stopped code) past in
+    subst (IsHeld setup later (ticket_at later t)) (sym (clears t)) (keep setup past later stays t (job_in old t)
+    (ap (λ change. ticket_after change t (ticket_at (after_settling settled past) t)) (none_stopped event.act restarts) ∙ settled_tickets settled past t) (held t))
 
 -- what a session stands for it stands for with the same engine and jobs
 pub reserved : {D : Type 0} (d : DiskGhosts D) (setup : Setup) (old new : Session) (disk : D) (past : History) → engine_of new ≡ engine_of old → (JobsStand setup (jobs_of old) past → JobsStand setup (jobs_of new) past)
@@ -236,7 +245,6 @@ reserved d setup old new disk past same jobs for = record {
   stands = subst (λ engine. EngineStands setup engine past) (sym same) for.stands;
   store = subst (λ engine. StoreStands d setup engine disk past) (sym same) for.store;
   held = jobs for.held;
-  legal = for.legal;
 }
 
 -- a restart is no leave

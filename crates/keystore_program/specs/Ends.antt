@@ -9,7 +9,6 @@ use Rattle.ks_outside.specs.declared.sink.Sink.{Ghosts as SinkGhosts}
 use Rattle.ks_outside.specs.declared.source.Source.{Ghosts as SourceGhosts}
 use Rattle.rule_model.specs.Entries.{History}
 use Rattle.rule_model.specs.Legal.{Legal}
-use Rattle.rule_model.specs.Settling.{is_unsettled}
 use Rattle.rule_model.specs.Setup.{Setup}
 use Rattle.keystore_program.specs.declared.status.Status.{Status}
 use Rattle.keystore_program.specs.declared.status.Status.TheVariants as statuses
@@ -120,20 +119,6 @@ module _ {S K D N : Type 0} (s : SourceGhosts S) (k : SinkGhosts K) (d : DiskGho
     pub short : AreLines (front ++ last)
     pub few : length taken ≤ SCRIPT_BYTES
 
-  -- A device call of a line's change failed. This line and those before it were served, and their text was written; whether its
-  -- change lasts is not known yet.
-  pub record EndsWaiting (setup : Setup) (old new : Outside S K D N) : Type 0 where
-    pub lines : List (List ℕ)
-    pub text : List ℕ
-    pub served : Served setup old new lines text
-    pub waits : is_unsettled served.history ≡ true
-    pub put : Put k old.sink new.sink text false
-    pub taken : List ℕ
-    pub took : Took s old.source new.source taken false
-    pub are : AreTaken (s.content new.source) taken lines
-    pub short : AreLines lines
-    pub few : length taken ≤ SCRIPT_BYTES
-
   abbrev pub Ends : Setup → Outside S K D N → Outside S K D N → Status → Type 0
   Ends setup old new statuses.Ok = EndsOk setup old new
   Ends setup old new statuses.Memory = EndsCut setup old new false
@@ -141,7 +126,7 @@ module _ {S K D N : Type 0} (s : SourceGhosts S) (k : SinkGhosts K) (d : DiskGho
   Ends setup old new statuses.WriteFault = EndsCut setup old new true
   Ends setup old new (statuses.LineTooLong line) = EndsLong setup old new line
   Ends setup old new statuses.ScriptTooLong = EndsMany setup old new
-  Ends setup old new statuses.DiskFault = EndsWaiting setup old new
+  Ends setup old new statuses.DiskFault = ⊥
   Ends setup old new statuses.Usage = ⊥
   Ends setup old new (statuses.Corrupted offset) = ⊥
   Ends setup old new statuses.ListenFault = ⊥

@@ -8,11 +8,9 @@ use Rattle.keystore_program.specs.declared.status.Status.TheVariants as statuses
 abbrev pub status_of : Halt → Status
 status_of halts.Memory = statuses.Memory
 status_of halts.Write = statuses.WriteFault
-status_of halts.Waits = statuses.DiskFault
 
 -- whether a write failed
 abbrev pub is_write_halt : Result (Unit {0}) Halt → Bool
 is_write_halt (Ok u) = false
 is_write_halt (Err halts.Memory) = false
 is_write_halt (Err halts.Write) = true
-is_write_halt (Err halts.Waits) = false

@@ -1,12 +1,11 @@
 -- What a history leaves on a disk, and what it says of the disk's faults.
-use Rattle.std.specs.Prelude.{◌≡◌, ℕ, ◌+◌, ◌-◌, ◌^◌, ◌<◌, ◌≤◌, ◌⊎◌, Bool, true, false, ◌&&◌, List, [], ◌∷◌, ◌++◌, if◌then◌else◌}
+use Rattle.std.specs.Prelude.{◌≡◌, ℕ, ◌+◌, ◌-◌, ◌^◌, ◌<◌, ◌≤◌, Bool, true, false, List, [], ◌∷◌, ◌++◌, if◌then◌else◌}
 use Rattle.ks_outside.specs.Faults.{CountsFaults}
 use Rattle.ks_outside.specs.Images.{AllImages, AtEachMoment, Passes, tells}
 use Rattle.ks_outside.specs.declared.disk.Disk.{Ghosts}
 use Rattle.key_database.specs.Store.{StandsFor}
 use Rattle.rule_model.specs.declared.entry.Entry.{Entry}
 use Rattle.rule_model.specs.declared.entry.Entry.TheVariants.{Acted, Settling}
-use Rattle.rule_model.specs.Acts.{is_restart}
 use Rattle.rule_model.specs.Entries.{History}
 use Rattle.rule_model.specs.Settling.{is_disk_fault}
 use Rattle.rule_model.specs.Setup.{Setup}
@@ -31,9 +30,9 @@ abbrev pub failed_of : History → ℕ
 failed_of [] = 0
 failed_of (entry ∷ past) = if is_failed entry then failed_of past + 1 else failed_of past
 
--- a restart that read another store than the one that is kept
+-- an entry that was answered because another store was read than the one that is kept
 abbrev pub is_estranged : Entry → Bool
-is_estranged (Acted event drawn reply) = is_restart event.act && is_other_store reply
+is_estranged (Acted event drawn reply) = is_other_store reply
 is_estranged (Settling settled) = false
 
 -- how many entries are such
@@ -43,7 +42,7 @@ estranged_of (entry ∷ past) = if is_estranged entry then estranged_of past + 1
 
 -- A history went on over a disk, and a device call failed or none did. At each moment each image that came stands for what may be
 -- kept after some front of the later history. One of its new entries was answered for a failed device call exactly where one
--- failed. Over a disk that tells its content no restart read another store.
+-- failed. Over a disk that tells its content none of them read another store.
 pub record KeepsMore {D : Type 0} (d : Ghosts D) (setup : Setup) (old new : D) (past later : History) (failed : Bool) : Type 0 where
   pub front : IsFront past later
   pub passes : Passes d old new (AtSome setup later)
@@ -55,7 +54,7 @@ pub record KeepsMore {D : Type 0} (d : Ghosts D) (setup : Setup) (old new : D) (
 -- What a history leaves of a disk since it began. Each image stands for what may be kept after the history; where all images
 -- stood for the lasting part at the start when it began, each image at each moment since stands for what may be kept after some
 -- front of it. It has at most as many entries that a failed device call answered as the count rose, where the count ends below
--- its greatest value; and where it has none the count stayed. Over a disk that tells its content no restart read another store.
+-- its greatest value; and where it has none the count stayed. Over a disk that tells its content none of them read another store.
 pub record Keeps {D : Type 0} (d : Ghosts D) (setup : Setup) (begin new : D) (history : History) : Type 0 where
   pub holds : AllImages d new (MayHold setup history)
   pub moments : AllImages d begin (StandsFor setup.start) → AtEachMoment d begin new (AtSome setup history)

@@ -1,3 +1,4 @@
+pub mod Complete
 pub mod Drawn
 pub mod Ends
 pub mod Finds

@@ -1,5 +1,5 @@
 -- What serving a line leaves.
-use Rattle.std.specs.Prelude.{◌≡◌, ℕ, ◌⊎◌, Bool, true, false, List, [], ◌++◌, Result, Ok, Err}
+use Rattle.std.specs.Prelude.{ℕ, ◌⊎◌, Bool, true, false, List, [], ◌++◌, Result, Ok, Err}
 use Rattle.ks_outside.specs.Shown.{Put}
 use Rattle.ks_outside.specs.declared.disk.Disk.{Ghosts as DiskGhosts}
 use Rattle.ks_outside.specs.declared.entropy.Entropy.{Ghosts as EntropyGhosts}
@@ -7,9 +7,9 @@ use Rattle.ks_outside.specs.declared.sink.Sink.{Ghosts as SinkGhosts}
 use Rattle.rule_model.specs.Entries.{History}
 use Rattle.rule_model.specs.Setup.{Setup}
 use Rattle.keystore_program.specs.declared.serve.Halt.{Halt}
-use Rattle.keystore_program.specs.declared.serve.Halt.TheVariants.{Memory, Write, Waits}
+use Rattle.keystore_program.specs.declared.serve.Halt.TheVariants.{Memory, Write}
 use Rattle.keystore_program.specs.declared.session.Session.{Session}
-use Rattle.keystore_program.specs.Session.{Devices, GoesOn, Stays, is_waiting}
+use Rattle.keystore_program.specs.Session.{Devices, GoesOn, Stays}
 
 module _ {K D N : Type 0} (k : SinkGhosts K) (d : DiskGhosts D) (n : EntropyGhosts N) where
   -- the line was served, and its text was written
@@ -35,7 +35,5 @@ module _ {K D N : Type 0} (k : SinkGhosts K) (d : DiskGhosts D) (n : EntropyGhos
   abbrev pub ServesLine : Setup → History → Session → List ℕ → K → K → Devices D N → Devices D N → Result (Unit {0}) Halt → Type 0
   ServesLine setup past new line sink written before after (Ok u) = IsServed setup past new line sink written before after
   ServesLine setup past new line sink written before after (Err Write) = IsServedInPart setup past new line sink written before after true
-  ServesLine setup past new line sink written before after (Err Waits) =
-      IsServed setup past new line sink written before after × (is_waiting new ≡ true)
   ServesLine setup past new line sink written before after (Err Memory) =
       IsServedInPart setup past new line sink written before after false ⊎ IsUnserved setup past new sink written before after

@@ -1,5 +1,5 @@
 -- What a line of a script leaves in a session.
-use Rattle.std.specs.Prelude.{◌≡◌, ℕ, ◌+◌, ◌⊎◌, Bool, false, List, [], Option, Result, Ok, Err}
+use Rattle.std.specs.Prelude.{◌≡◌, ℕ, ◌+◌, ◌≤◌, ◌⊎◌, Bool, false, List, [], Option, Result, Ok, Err}
 use Rattle.ks_outside.specs.Shown.{Drew}
 use Rattle.ks_outside.specs.declared.disk.Disk.{Ghosts as DiskGhosts}
 use Rattle.ks_outside.specs.declared.entropy.Entropy.{Ghosts as EntropyGhosts}
@@ -7,19 +7,20 @@ use Rattle.tags.specs.declared.bytes.NoMemory.{NoMemory}
 use Rattle.rule_model.specs.declared.entry.Stepped.{Stepped}
 use Rattle.rule_model.specs.declared.event.Event.{Event}
 use Rattle.rule_model.specs.declared.event.Line.{Line}
+use Rattle.rule_model.specs.Drawn.{undrawn_of}
 use Rattle.rule_model.specs.Entries.{History, after_step}
-use Rattle.rule_model.specs.Legal.{Legal, MayStep}
+use Rattle.rule_model.specs.Legal.{MayStep}
 use Rattle.rule_model.specs.Settling.{is_disk_fault}
 use Rattle.rule_model.specs.Setup.{Setup}
 use Rattle.script_lines.specs.Lines.{event_of}
 use Rattle.keystore_core.specs.declared.engine.Engine.{Engine}
-use Rattle.keystore_core.specs.Engine.{Stands, StoreStands, entries_of, tickets_of, waits_in}
+use Rattle.keystore_core.specs.Engine.{Stands, StoreStands, entries_of, tickets_of}
 use Rattle.keystore_program.specs.declared.jobs.Jobs.{Jobs}
 use Rattle.keystore_program.specs.declared.session.Session.{Session}
 use Rattle.keystore_program.specs.Drawn.{DrewMore}
 use Rattle.keystore_program.specs.Follows.{Says}
 use Rattle.keystore_program.specs.Jobs.{HasRoomForJob, JobsStand}
-use Rattle.keystore_program.specs.Kept.{KeepsMore}
+use Rattle.keystore_program.specs.Kept.{KeepsMore, failed_of}
 
 -- the disk and the entropy that a session is handed, at one moment
 pub record Devices (D N : Type 0) : Type 0 where
@@ -44,23 +45,20 @@ engine_of session = session.engine
 abbrev pub jobs_of : Session → Jobs
 jobs_of session = session.jobs
 
--- whether a change of its store waits to be settled
-abbrev pub is_waiting : Session → Bool
-is_waiting session = waits_in session.engine
-
 -- a session and a disk stand for a legal history, and the session holds the jobs of the works that are out
 pub record StandsFor {D : Type 0} (d : DiskGhosts D) (setup : Setup) (session : Session) (disk : D) (past : History) : Type 0 where
   pub stands : EngineStands setup session past
   pub store : StoreHolds d setup session disk past
   pub held : JobsStand setup session.jobs past
-  pub legal : Legal setup past
 
--- a session went on by a line that says this, with this text
+-- A session went on by a line that says this, with this text. At most one of its entries was answered for a failed call, of the
+-- disk or of the entropy.
 pub record GoesBy {D N : Type 0} (d : DiskGhosts D) (n : EntropyGhosts N) (setup : Setup) (past : History) (new : Session) (said : Option Line) (before after : Devices D N) (later : History) (text : List ℕ) : Type 0 where
   pub says : Says past said later text
   pub drew : DrewMore n before.entropy after.entropy past later
   pub failed : Bool
   pub keeps : KeepsMore d setup before.disk after.disk past later failed
+  pub one : failed_of later + undrawn_of later ≤ failed_of past + undrawn_of past + 1
   pub stands : StandsFor d setup new after.disk later
 
 -- the same of a line's bytes

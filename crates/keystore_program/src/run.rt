@@ -1,12 +1,14 @@
 //! The top call: a store is made, or a script from a source is served over it, line by line into a sink.
 
-ghost use Rattle.std.specs.Prelude.{◌≡◌, ◌↔◌, ℕ, ◌+◌, ◌-◌, ◌^◌, ◌<◌, ◌≤◌, [], Some, None, false};
+ghost use Rattle.std.specs.Prelude.{◌≡◌, ◌↔◌, ℕ, ◌+◌, ◌-◌, ◌^◌, ◌<◌, ◌≤◌, [], List, Bool, Some, None, false};
 ghost use Rattle.ks_outside.specs.Faults.{CountsFaults};
+ghost use Rattle.journal_records.specs.LastingPart.{Lasting};
 ghost use Rattle.rule_model.specs.Setup.{Setup};
+ghost use Rattle.keystore_program.specs.Complete.{AreFaultless, Completes, IsReady};
 ghost use Rattle.keystore_program.specs.Ends.{Ends, is_read_fault, is_write_fault, outside};
 ghost use Rattle.keystore_program.specs.Kept.{IsUnwritten};
 ghost use Rattle.keystore_program.specs.Runs.{Does, Formats, IsCause, Runs, RunsFresh, formatted_as, given, is_disk_status, refusal_of};
-ghost use Rattle.keystore_program.specs.Session.{StandsFor, entries_in, is_waiting};
+ghost use Rattle.keystore_program.specs.Session.{StandsFor, entries_in};
 ghost use Rattle.keystore_program.specs.Words.{form_of as form_said};
 
 use crate::reader::{Found, LineReader};
@@ -32,7 +34,6 @@ fn serve_script<S: Source, K: Sink, D: Disk, N: Entropy>(
     requires nothing { reader.old.bytes ≡ [] }
     requires untaken { reader.old.taken ≡ 0 }
     requires fresh { entries_in session.old ≡ 0 }
-    requires settled { is_waiting session.old ≡ false }
     ensures ends { (setup : Setup) (begin : D) → StandsFor D.Disk setup session.old disk.old [] → IsUnwritten D.Disk begin disk.old →
         Ends S.Source K.Sink D.Disk N.Entropy setup (outside source.old sink.old begin entropy.old) (outside source.new sink.new disk.new entropy.new) result }
     ensures source_faults { CountsFaults (S.fault_count source.old) (S.fault_count source.new) (is_read_fault result) }
@@ -173,6 +174,14 @@ pub fn run_words<S: Source, K: Sink, D: Disk, N: Entropy>(
     // draws what the entropy gives and is kept on the disk, as each status says.
     ensures does { (form : Form) → form_said words.now ≡ Some form →
         Does S.Source K.Sink D.Disk N.Entropy device.now policy.now form (outside source.old sink.old disk.old entropy.old) (outside source.new sink.new disk.new entropy.new) result }
+
+    // A script within the limits, over a formatted disk that tells its content, with no failed call: status 0 and all of the text,
+    // in which no line is a settled one or has the code 4, 8 or 1005; or want of memory.
+    ensures complete { (fresh : Bool) (slots : ℕ) (start : Lasting) (bytes : List ℕ) → form_said words.now ≡ Some (Form.Run fresh slots) →
+        IsReady S.Source K.Sink D.Disk N.Entropy fresh start bytes (outside source.old sink.old disk.old entropy.old) →
+        AreFaultless S.Source K.Sink D.Disk N.Entropy (outside source.old sink.old disk.old entropy.old) (outside source.new sink.new disk.new entropy.new) →
+        Completes S.Source K.Sink D.Disk N.Entropy (given device.now policy.now slots) start bytes
+        (outside source.old sink.old disk.old entropy.old) (outside source.new sink.new disk.new entropy.new) result }
 
     // A read failed exactly where the status says so, and so did a write. Where the status says that the disk failed it did.
     ensures source_faults { CountsFaults (S.fault_count source.old) (S.fault_count source.new) (is_read_fault result) }

@@ -1,12 +1,12 @@
 //! A line of a script, served and answered.
 
-ghost use Rattle.std.specs.Prelude.{◌≡◌, ◌+◌, ◌-◌, ◌^◌, ◌<◌, ◌≤◌, false, OnOk};
+ghost use Rattle.std.specs.Prelude.{◌≡◌, ◌+◌, ◌-◌, ◌^◌, ◌<◌, ◌≤◌};
 ghost use Rattle.ks_outside.specs.Faults.{CountsFaults};
 ghost use Rattle.rule_model.specs.Entries.{History};
 ghost use Rattle.rule_model.specs.Setup.{Setup};
 ghost use Rattle.keystore_program.specs.Halts.{is_write_halt};
 ghost use Rattle.keystore_program.specs.Serving.{ServesLine};
-ghost use Rattle.keystore_program.specs.Session.{StandsFor, devices, entries_in, is_waiting};
+ghost use Rattle.keystore_program.specs.Session.{StandsFor, devices, entries_in};
 
 use crate::session::Session;
 use crate::status::Status;
@@ -21,8 +21,6 @@ pub enum Halt {
     Memory,
     /// the sink failed
     Write,
-    /// the line was served and answered, and a change of the store waits to be settled
-    Waits,
 }
 
 impl Halt {
@@ -35,12 +33,11 @@ impl Halt {
         match self {
             Halt::Memory => Status::Memory,
             Halt::Write => Status::WriteFault,
-            Halt::Waits => Status::DiskFault,
         }
     }
 }
 
-/// Serves a line and writes its text. Where a device call of a change failed, the run stops then.
+/// Serves a line and writes its text.
 pub fn serve_line<K: Sink, D: Disk, N: Entropy>(
     alloc: Global,
     session: &mut Session,
@@ -50,22 +47,16 @@ pub fn serve_line<K: Sink, D: Disk, N: Entropy>(
     line: &[u8],
 ) -> Result<(), Halt>
     requires few { entries_in session.old < 2 ^ 62 - 2 }
-    requires settled { is_waiting session.old ≡ false }
     ensures serves { (setup : Setup) (past : History) → StandsFor D.Disk setup session.old disk.old past →
         ServesLine K.Sink D.Disk N.Entropy setup past session.new line.now sink.old sink.new (devices disk.old entropy.old) (devices disk.new entropy.new) result }
-    ensures settled { OnOk result (is_waiting session.new ≡ false) }
-    ensures entries { entries_in session.new ≤ entries_in session.old + 2 }
+    ensures entries { entries_in session.new ≤ entries_in session.old + 3 }
     ensures sink_faults { CountsFaults (K.fault_count sink.old) (K.fault_count sink.new) (is_write_halt result) }
 {
     let Ok(text) = session.line(alloc, disk, entropy, line) else {
         return Err(Halt::Memory);
     };
-    let Ok(()) = write_all(sink, text.as_slice()) else {
-        return Err(Halt::Write);
-    };
-    if session.is_settled() {
-        Ok(())
-    } else {
-        Err(Halt::Waits)
+    match write_all(sink, text.as_slice()) {
+        Ok(()) => Ok(()),
+        Err(_) => Err(Halt::Write),
     }
 }

@@ -1,12 +1,11 @@
 //! A session: an engine that takes the lines of a script.
 
-ghost use Rattle.std.specs.Prelude.{◌≡◌, ◌+◌, ◌-◌, ◌^◌, ◌<◌, ◌≤◌, [], Some, None, true, false, not, OnOk};
+ghost use Rattle.std.specs.Prelude.{◌≡◌, ◌+◌, ◌-◌, ◌^◌, ◌<◌, ◌≤◌, [], Some, None, true, false, OnOk};
 ghost use Rattle.ks_outside.specs.Shown.{Drew};
 ghost use Rattle.rule_model.specs.declared.event.Act.TheVariants as acts;
 ghost use Rattle.rule_model.specs.Drawn.{is_entropy_fault};
 ghost use Rattle.rule_model.specs.Acts as acts_spec;
 ghost use Rattle.rule_model.specs.Entries.{History, is_done as is_admitted};
-ghost use Rattle.rule_model.specs.Settling.{is_disk_fault};
 ghost use Rattle.rule_model.specs.Setup.{Setup};
 ghost use Rattle.keystore_program.specs.Follows as spec;
 ghost use Rattle.keystore_program.specs.SessionKept.{IsSession};
@@ -80,7 +79,7 @@ fn leave_at(reading: Reading, ticket: u64) -> Event
 
 impl Session {
     ghost use Rattle.keystore_program.specs.Jobs.{JobsStand};
-    ghost use Rattle.keystore_program.specs.Session.{HasRoom, StandsFor, Serves, ServesBy, StepsTo, devices, engine_of, entries_in, is_waiting, jobs_of};
+    ghost use Rattle.keystore_program.specs.Session.{HasRoom, StandsFor, Serves, ServesBy, StepsTo, devices, engine_of, entries_in, jobs_of};
     ghost use Rattle.keystore_program.specs.SessionKept.{IsIdle};
 
     /// A session over an engine none of whose works is out.
@@ -93,13 +92,6 @@ impl Session {
             engine,
             jobs: Jobs::new(alloc),
         }
-    }
-
-    /// Whether no change of the store waits to be settled.
-    pub fn is_settled(&self) -> bool
-        ensures { result ≡ not (is_waiting self.now) }
-    {
-        self.engine.is_settled()
     }
 
     /// Takes the room of the next ticket's job.
@@ -122,11 +114,8 @@ impl Session {
         ticket: u64,
     ) -> Stepped
         requires few { entries_in self.old < 2 ^ 62 }
-        requires settled { is_waiting self.old ≡ false }
         requires act { event.act ≡ acts.Leave ticket }
         ensures steps { (setup : Setup) (past : History) → StandsFor D.Disk setup self.old disk.old past → StepsTo D.Disk setup past self.new disk.old disk.new event result }
-        ensures settled { result.settled ≡ None }
-        ensures waits { is_disk_fault result.reply ≡ false → is_waiting self.new ≡ false }
         ensures entries { entries_in self.new ≡ entries_in self.old + 1 }
         ensures drew { Drew N.Entropy entropy.old entropy.new result.drawn (is_entropy_fault result.reply) }
     {
@@ -137,13 +126,11 @@ impl Session {
     /// Makes the step of another event, and holds the job of a work that goes out.
     fn go<D: Disk, N: Entropy>(&mut self, disk: &mut D, entropy: &mut N, event: Event) -> Stepped
         requires few { entries_in self.old < 2 ^ 62 }
-        requires settled { is_waiting self.old ≡ false }
         requires room { HasRoom self.old }
         requires act { spec.left_by event.act ≡ None }
         requires goes_on { acts_spec.is_restart event.act ≡ false }
         ensures steps { (setup : Setup) (past : History) → StandsFor D.Disk setup self.old disk.old past → StepsTo D.Disk setup past self.new disk.old disk.new event result }
-        ensures waits { is_disk_fault result.reply ≡ false → is_waiting self.new ≡ false }
-        ensures entries { entries_in self.new ≡ entries_in self.old + 1 }
+        ensures entries { entries_in self.new ≤ entries_in self.old + 2 }
         ensures drew { Drew N.Entropy entropy.old entropy.new result.drawn (is_entropy_fault result.reply) }
     {
         let next = self.engine.next_ticket();
@@ -170,11 +157,9 @@ impl Session {
         event: Event,
     ) -> Stepped
         requires few { entries_in self.old < 2 ^ 62 }
-        requires settled { is_waiting self.old ≡ false }
         requires act { acts_spec.is_restart event.act ≡ true }
         ensures steps { (setup : Setup) (past : History) → StandsFor D.Disk setup self.old disk.old past → StepsTo D.Disk setup past self.new disk.old disk.new event result }
-        ensures waits { is_disk_fault result.reply ≡ false → is_waiting self.new ≡ false }
-        ensures entries { entries_in self.new ≡ entries_in self.old + 1 }
+        ensures entries { entries_in self.new ≤ entries_in self.old + 2 }
         ensures drew { Drew N.Entropy entropy.old entropy.new result.drawn (is_entropy_fault result.reply) }
     {
         let stepped = self.engine.step(disk, entropy, event, None);
@@ -185,11 +170,9 @@ impl Session {
     /// Makes the step of an event.
     fn step<D: Disk, N: Entropy>(&mut self, disk: &mut D, entropy: &mut N, event: Event) -> Stepped
         requires few { entries_in self.old < 2 ^ 62 }
-        requires settled { is_waiting self.old ≡ false }
         requires room { HasRoom self.old }
         ensures steps { (setup : Setup) (past : History) → StandsFor D.Disk setup self.old disk.old past → StepsTo D.Disk setup past self.new disk.old disk.new event result }
-        ensures waits { is_disk_fault result.reply ≡ false → is_waiting self.new ≡ false }
-        ensures entries { entries_in self.new ≡ entries_in self.old + 1 }
+        ensures entries { entries_in self.new ≤ entries_in self.old + 2 }
         ensures drew { Drew N.Entropy entropy.old entropy.new result.drawn (is_entropy_fault result.reply) }
     {
         let restarts = is_restart(&event.act);
@@ -214,10 +197,9 @@ impl Session {
         line: Line,
     ) -> Result<Bytes, NoMemory>
         requires few { entries_in self.old < 2 ^ 62 - 2 }
-        requires settled { is_waiting self.old ≡ false }
         ensures serves { (setup : Setup) (past : History) → StandsFor D.Disk setup self.old disk.old past →
             ServesBy D.Disk N.Entropy setup past self.new (Some line) (devices disk.old entropy.old) (devices disk.new entropy.new) result }
-        ensures entries { entries_in self.new ≤ entries_in self.old + 2 }
+        ensures entries { entries_in self.new ≤ entries_in self.old + 3 }
     {
         let Line { event, hold } = line;
         let reading = event.reading;
@@ -235,10 +217,11 @@ impl Session {
     }
 
     /// Makes the steps of one line and gives their reply lines: of a line that enters without holding, the enter and its
-    /// leave, with the leave's reply. After want of memory the session stands for the history with all of the line's entries,
-    /// or with none of them. What the entropy gave was drawn for these entries. One of them is the reply to a failed draw
-    /// exactly where a draw failed, and one the reply to a failed call of the disk exactly where one failed. What they change
-    /// of what lasts is on the disk before their text is given.
+    /// leave, with the leave's reply. Before it stands the settled line, where the first step settled an earlier change.
+    /// After want of memory the session stands for the history with all of the line's entries, or with none of them. What the
+    /// entropy gave was drawn for these entries. One of them is the reply to a failed draw exactly where a draw failed, or to
+    /// a failed call of the disk exactly where one failed, and one at most. What they change of what lasts is on the disk
+    /// before their text is given.
     pub fn line<D: Disk, N: Entropy>(
         &mut self,
         alloc: Global,
@@ -247,10 +230,9 @@ impl Session {
         line: &[u8],
     ) -> Result<Bytes, NoMemory>
         requires few { entries_in self.old < 2 ^ 62 - 2 }
-        requires settled { is_waiting self.old ≡ false }
         ensures serves { (setup : Setup) (past : History) → StandsFor D.Disk setup self.old disk.old past →
             Serves D.Disk N.Entropy setup past self.new line.now (devices disk.old entropy.old) (devices disk.new entropy.new) result }
-        ensures entries { entries_in self.new ≤ entries_in self.old + 2 }
+        ensures entries { entries_in self.new ≤ entries_in self.old + 3 }
     {
         match event_of(alloc, line) {
             Ok(line) => self.serve(alloc, disk, entropy, line),

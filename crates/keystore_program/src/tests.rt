@@ -4,6 +4,7 @@ mod answered;
 mod blobs;
 mod blocks;
 mod draws;
+mod faults;
 mod lengths;
 mod lines;
 mod macs;
@@ -14,6 +15,7 @@ mod sharing;
 mod stores;
 mod tickets;
 mod tokens;
+mod uses;
 mod vectors;
 
 use crate::run::run_words;

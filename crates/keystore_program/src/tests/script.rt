@@ -1,8 +1,8 @@
 //! Scripts from their calls, and the replies that they are to get.
 
-use super::run_over;
+use super::{run_on, run_over};
 use crate::status::Status;
-use ks_outside::{MemoryEntropy, MemorySink, MemorySource};
+use ks_outside::{Disk, MemoryEntropy, MemorySink, MemorySource};
 use std::alloc::Global;
 use std::process::Abort;
 use std::test::Fail;
@@ -125,15 +125,49 @@ impl Script {
         failing: &[u64],
     ) -> Result<(), Fail> {
         let given = self.run_by(rt, alloc, words, failing)?;
-        let mut replies = given.as_str().split('\n');
-        let mut wanted = self.wanted.as_str().split('\n');
-        for line in self.asked.as_str().split('\n') {
-            let reply = replies.next().unwrap_or("");
-            same(rt, line, reply, wanted.next().unwrap_or(""));
-        }
-        assert_eq!(rt; given.len(), self.wanted.len());
+        self.compare(rt, given.as_str());
         Ok(())
     }
+
+    /// The same by these words over a disk.
+    pub fn check_on<D: Disk>(
+        &self,
+        rt: &impl Abort,
+        alloc: Global,
+        words: &str,
+        disk: &mut D,
+    ) -> Result<(), Fail> {
+        let given = text_on(rt, alloc, words, self.asked.as_str(), disk)?;
+        self.compare(rt, given.as_str());
+        Ok(())
+    }
+
+    /// Compares what the lines got, line by line.
+    fn compare(&self, rt: &impl Abort, given: &str) {
+        let mut replies = given.split('\n');
+        let mut asked = self.asked.as_str().split('\n');
+        for want in self.wanted.as_str().split('\n') {
+            let line = asked.next().unwrap_or("");
+            same(rt, line, replies.next().unwrap_or(""), want);
+        }
+        assert_eq!(rt; given.len(), self.wanted.len());
+    }
+}
+
+/// What a script gets over a disk.
+pub fn text_on<D: Disk>(
+    rt: &impl Abort,
+    alloc: Global,
+    words: &str,
+    script: &str,
+    disk: &mut D,
+) -> Result<String, Fail> {
+    let mut source = MemorySource::new(script.as_bytes(), &[]);
+    let mut sink = MemorySink::with_room(alloc, 16_384, 256, &[])?;
+    let mut entropy = MemoryEntropy::counting();
+    let ended = run_on(alloc, words, &mut source, &mut sink, disk, &mut entropy)?;
+    assert_eq!(rt; ended, Status::Ok);
+    Ok(String::from_utf8_lossy(alloc, sink.written())?)
 }
 
 /// A script whose client 1 is connected, with the uid 10001.

@@ -3,6 +3,7 @@ use Rattle.keystore_program.specs.declared.words.Form.{Form}
 use Rattle.keystore_program.specs.declared.words.Form.TheVariants.{Run}
 use Rattle.keystore_program.specs.Ends.{outside}
 use Rattle.keystore_program.specs.Runs.{Does}
+use Rattle.keystore_program.proofs.Completing.{does_complete}
 use Rattle.keystore_program.proofs.Openings.{fresh_cause, runs_cause}
 use Rattle.keystore_program.proofs.run.run_words.Goals as goal
 
@@ -25,3 +26,13 @@ returns-in-Some-Run-true-default-clause-disk_faults g c = fresh_cause g.S.Source
 
 pub returns-in-Some-Run-false-default-clause-disk_faults : goal.returns-in-Some-Run-false-default-clause-disk_faults
 returns-in-Some-Run-false-default-clause-disk_faults g c = runs_cause g.S.Source g.K.Sink g.D.Disk g.N.Entropy _ (λ opened. c.args.disk.now) _ _ _ (λ setup opened read. refl) c.serve_store.ensures.since_call
+
+pub returns-in-Some-Run-true-default-clause-complete : goal.returns-in-Some-Run-true-default-clause-complete
+returns-in-Some-Run-true-default-clause-complete g c = λ fresh slots start bytes said ready fine.
+    does_complete g.S.Source g.K.Sink g.D.Disk g.N.Entropy c.args.device.now c.args.policy.now fresh slots start bytes _ _ _
+    (returns-in-Some-Run-true-default-clause-does g c (Run fresh slots) said) ready fine
+
+pub returns-in-Some-Run-false-default-clause-complete : goal.returns-in-Some-Run-false-default-clause-complete
+returns-in-Some-Run-false-default-clause-complete g c = λ fresh slots start bytes said ready fine.
+    does_complete g.S.Source g.K.Sink g.D.Disk g.N.Entropy c.args.device.now c.args.policy.now fresh slots start bytes _ _ _
+    (returns-in-Some-Run-false-default-clause-does g c (Run fresh slots) said) ready fine

@@ -12,7 +12,6 @@ lines-init g c = record {
   taken = omega (arith, c.requires.untaken);
   source = counts_none _;
   sink = counts_none _;
-  settled = c.requires.settled;
 }
 
 pub returns-in-Err-clause-ends : goal.returns-in-Err-clause-ends
@@ -42,7 +41,6 @@ lines-preserved g c =
       taken = omega (arith, c.pass.ensures.taken, c.fill.ensures.taken);
       source = counts_on _ _ _ false false c.lines.invariant.source more.3.faults;
       sink = counts_on _ _ _ false false c.lines.invariant.sink c.in_default.ensures.sink_faults;
-      settled = c.in_default.ensures.settled;
     }
 
 pub returns-then-is_empty-clause-ends : goal.returns-then-is_empty-clause-ends

@@ -1,9 +1,9 @@
-use Rattle.std.proofs.Common.{◌≡◌, ◌+◌, ◌-◌, ◌^◌, ◌≤◌, false, [], length}
+use Rattle.std.proofs.Common.{◌+◌, ◌-◌, ◌^◌, ◌≤◌, false, [], length}
 use Rattle.ks_outside.specs.Faults.{CountsFaults}
 use Rattle.rule_model.specs.Setup.{Setup}
 use Rattle.keystore_program.specs.Ends.{outside}
 use Rattle.keystore_program.specs.Kept.{IsUnwritten}
-use Rattle.keystore_program.specs.Session.{StandsFor, entries_in, is_waiting}
+use Rattle.keystore_program.specs.Session.{StandsFor, entries_in}
 use Rattle.keystore_program.proofs.Going.{Going}
 use Rattle.keystore_program.proofs.run.serve_script.Given as goal
 
@@ -11,8 +11,7 @@ abbrev pub invariant-lines : goal.invariant-lines
 invariant-lines g l = record {
   going : (setup : Setup) (begin : g.row.D.Denot) → StandsFor g.D.Disk setup l.fn.session l.fn.disk [] → IsUnwritten g.D.Disk begin l.fn.disk
       → Going g.S.Source g.K.Sink g.D.Disk g.N.Entropy g.met.D.Disk.only_now setup (outside l.fn.source l.fn.sink begin l.fn.entropy) (outside l.source l.sink l.disk l.entropy) l.session l.reader.bytes l.reader.taken l.served false;
-  entries : entries_in l.session ≤ l.served + l.served;
-  settled : is_waiting l.session ≡ false;
+  entries : entries_in l.session ≤ l.served + l.served + l.served;
   bytes : l.served + length l.reader.bytes ≤ l.reader.taken;
   taken : l.reader.taken ≤ 2 ^ 30;
   source : CountsFaults (g.S.Source.fault_count l.fn.source) (g.S.Source.fault_count l.source) false;

@@ -1,9 +1,8 @@
-use Rattle.std.proofs.Common.{◌≡◌, ℕ, [], refl, ap, ◌∙◌}
+use Rattle.std.proofs.Common.{[], refl}
 use Rattle.rule_model.specs.Setup.{Setup}
-use Rattle.keystore_core.specs.Engine.{waits_in}
 use Rattle.keystore_program.specs.Kept.{IsUnwritten}
 use Rattle.keystore_program.specs.Runs.{Opened, Refused}
-use Rattle.keystore_program.proofs.Openings.{is_opened, opened_images, opened_settled, refused, session_stands, setup_of, unwritten_none}
+use Rattle.keystore_program.proofs.Openings.{is_opened, opened_images, refused, session_stands, setup_of, unwritten_none}
 use Rattle.keystore_program.proofs.run.serve_store.Goals as goal
 
 pub returns-in-Err-clause-since_call : goal.returns-in-Err-clause-since_call
@@ -21,9 +20,6 @@ new-session-requires g c = ∣ record {
   stands = c.in-Ok-open.ensures.stands (setup_of c.args.device.now c.args.policy.now c.args.slots c.in-Ok-open.engine) (is_opened c.args.device.now c.args.policy.now c.args.slots c.in-Ok-open.engine);
   none = λ ticket. refl;
 } ∣₁
-
-pub serve_script-requires-clause-settled : goal.serve_script-requires-clause-settled
-serve_script-requires-clause-settled g c = ap waits_in c.new-session.ensures.engine ∙ opened_settled (c.in-Ok-open.ensures.stands (setup_of c.args.device.now c.args.policy.now c.args.slots c.in-Ok-open.engine) (is_opened c.args.device.now c.args.policy.now c.args.slots c.in-Ok-open.engine))
 
 pub returns-clause-since_call : goal.returns-clause-since_call
 returns-clause-since_call g c =

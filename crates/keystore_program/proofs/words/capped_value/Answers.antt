@@ -1,4 +1,4 @@
-use Rattle.std.proofs.Common.{◌≡◌, ◌+◌, ◌-◌, ◌*◌, ◌≤◌, min, get_or, ap, ◌∙◌, arith}
+use Rattle.std.proofs.Common.{◌+◌, ◌*◌, min, ap, ◌∙◌, arith}
 use Rattle.keystore_program.proofs.Numbers.{value_step}
 use Rattle.keystore_program.proofs.words.capped_value.Goals as goal
 

@@ -1,4 +1,4 @@
-use Rattle.std.proofs.Common.{◌≡◌, ◌≤◌, ℕ, min, drop}
+use Rattle.std.proofs.Common.{◌≡◌, ◌≤◌, min, drop}
 use Rattle.keystore_program.specs.Words.{value_on}
 use Rattle.keystore_program.proofs.words.capped_value.Given as goal
 

@@ -1,4 +1,4 @@
-use Rattle.std.proofs.Common.{◌≡◌, ℕ, [], refl}
+use Rattle.std.proofs.Common.{[], refl}
 use mathlib.Core.Logic.{∥∥₁_map}
 use Rattle.keystore_program.proofs.Tickets.{no_job}
 use Rattle.keystore_program.proofs.session.Session.new.Goals as goal

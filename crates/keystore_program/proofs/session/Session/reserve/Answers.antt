@@ -1,4 +1,3 @@
-use Rattle.std.proofs.Common.{◌≡◌, ℕ, None, subst, sym}
 use mathlib.Core.Logic.{∥∥₁_map}
 use Rattle.keystore_program.proofs.Tickets.{some_engine, same_jobs}
 use Rattle.keystore_program.proofs.session.Session.reserve.Goals as goal
