@@ -1,0 +1,5 @@
+pub mod Talking
+pub mod Written
+pub mod Requests
+pub mod Piecing
+pub mod Serving

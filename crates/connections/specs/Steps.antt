@@ -1,0 +1,72 @@
+-- What answering requests shows.
+use Rattle.std.specs.Prelude.{◌≡◌, ℕ, ◌+◌, Bool, true, false, List, [], ◌∷◌, ◌++◌, ⊥}
+use Rattle.ks_outside.specs.Carried.{Carried}
+use Rattle.ks_outside.specs.declared.link.Link.{Ghosts as LinkGhosts}
+use Rattle.rule_model.specs.declared.event.Act.{Act}
+use Rattle.rule_model.specs.declared.reply.Reply.{Reply}
+use Rattle.wire_frames.specs.Replies.{reply_of}
+use Rattle.connections.specs.Talks.{Exchange, asked, size_of, told, Talks, joins, has_joined, is_due, says_full, InTurn, NoneFull, EndsFull}
+use Rattle.connections.specs.Ends.{is_link_fault, IsWhole}
+use Rattle.connections.specs.declared.answering.Progress.{Progress}
+use Rattle.connections.specs.declared.end.End.{End}
+use Rattle.connections.specs.declared.end.End.TheVariants.{EndOfInput, Truncated, BadFrame, LinkFault, RunFull, Memory}
+
+-- what an end says of the one reply
+abbrev pub EndsOne : End → Reply → List ℕ → Type 0
+EndsOne LinkFault reply missing = Unit {0}
+EndsOne Memory reply missing = Unit {0}
+EndsOne RunFull reply missing = (says_full reply ≡ true) × (missing ≡ [])
+EndsOne end reply missing = ⊥
+
+-- what an end says among requests of which these were answered and those are left; the first frame of them all stands at the place
+abbrev pub EndsAmong : End → ℕ → Bool → List Exchange → List Act → List ℕ → Type 0
+EndsAmong (BadFrame offset) place joined talk left missing =
+    IsWhole talk missing × (offset ≡ place + size_of talk)
+        × ((act : Act) × (more : List Act) × (left ≡ act ∷ more) × (is_due (has_joined joined talk) act ≡ false))
+EndsAmong LinkFault place joined talk left missing = Unit {0}
+EndsAmong Memory place joined talk left missing = Unit {0}
+EndsAmong RunFull place joined talk left missing = EndsFull talk × (missing ≡ [])
+EndsAmong end place joined talk left missing = ⊥
+
+module _ {L A : Type 0} (g : LinkGhosts L) (answers : A → Act → Reply → A → Type 0) (link after : L) (before now : A) where
+  -- the request was answered, and all of the reply was written
+  pub record Answered (act : Act) (joined : Bool) : Type 0 where
+    pub reply : Reply
+    pub answered : answers before act reply now
+    pub carried : Carried g link after [] (reply_of reply) false
+    pub unfull : says_full reply ≡ false
+    pub joins_is : joined ≡ joins (record { act = act; reply = reply })
+
+  -- the request was answered, and the connection ends
+  pub record Unanswered (act : Act) (end : End) : Type 0 where
+    pub reply : Reply
+    pub part : List ℕ
+    pub missing : List ℕ
+    pub answered : answers before act reply now
+    pub frame : reply_of reply ≡ part ++ missing
+    pub carried : Carried g link after [] part (is_link_fault end)
+    pub ends : EndsOne end reply missing
+
+  -- of the requests these are left, and all before them were answered
+  pub record Goes (old new : Progress) (requests left : List Act) : Type 0 where
+    pub talk : List Exchange
+    pub requests_are : requests ≡ asked talk ++ left
+    pub talks : Talks answers before talk now
+    pub carried : Carried g link after [] (told talk) false
+    pub turn : InTurn old.joined talk
+    pub unfull : NoneFull talk
+    pub joined : new.joined ≡ has_joined old.joined talk
+    pub place : new.place ≡ old.place + size_of talk
+
+  -- the connection ends among the requests
+  pub record StopsAmong (old : Progress) (requests : List Act) (end : End) : Type 0 where
+    pub talk : List Exchange
+    pub left : List Act
+    pub part : List ℕ
+    pub missing : List ℕ
+    pub requests_are : requests ≡ asked talk ++ left
+    pub talks : Talks answers before talk now
+    pub turn : InTurn old.joined talk
+    pub replies : told talk ≡ part ++ missing
+    pub carried : Carried g link after [] part (is_link_fault end)
+    pub ends : EndsAmong end old.place old.joined talk left missing

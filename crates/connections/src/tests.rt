@@ -1,0 +1,122 @@
+//! Connections in memory, and who answers a connect with client 1 and all else with no field.
+
+ghost use Rattle.std.specs.Prelude.{◌≡◌, ◌<◌, ◌^◌, length};
+ghost use Rattle.rule_model.specs.declared.event.Act.{Act as GhostAct};
+ghost use Rattle.rule_model.specs.declared.reply.Reply.{Reply as GhostReply};
+ghost use Rattle.wire_frames.specs.Spelling.{IsRequest};
+ghost use Rattle.wire_frames.specs.Replies.{reply_body};
+
+use crate::{Answerer, End, serve_link};
+use ks_outside::MemoryLink;
+use rule_model::{Act, Fields, NO_FIELDS, Reply};
+use std::alloc::{AllocError, Global};
+use std::sync::Wait;
+use std::test::Fail;
+use tags::Code;
+use wire_frames::Request;
+
+/// Answers so many requests, and then says that the run is full.
+#[derive(Drop)]
+struct Stub {
+    left: u32,
+}
+
+/// A client's number.
+#[tactic(auto, unfolding(wire_frames::specs::Replies::reply_body))]
+fn first_client() -> Reply
+    ensures short { length (reply_body result) < 2 ^ 32 }
+{
+    Reply::Done(Fields {
+        client: Some(1),
+        ..NO_FIELDS
+    })
+}
+
+/// No field.
+#[tactic(auto, unfolding(wire_frames::specs::Replies::reply_body))]
+fn nothing() -> Reply
+    ensures short { length (reply_body result) < 2 ^ 32 }
+{
+    Reply::Done(NO_FIELDS)
+}
+
+/// The run is full.
+#[tactic(auto, unfolding(wire_frames::specs::Replies::reply_body))]
+fn full() -> Reply
+    ensures short { length (reply_body result) < 2 ^ 32 }
+{
+    Reply::Stopped {
+        code: Code::RunFull,
+    }
+}
+
+impl Answerer for Stub {
+    ghost use Rattle.std.specs.Prelude.{Unit};
+
+    ghost answers = { λ old act reply new. Unit {0} };
+
+    fn answer<R: Wait>(&mut self, _rt: &R, request: Request) -> Reply {
+        if self.left == 0 {
+            return full();
+        }
+        self.left -= 1;
+        match request.act() {
+            Act::Connect { .. } => first_client(),
+            _ => nothing(),
+        }
+    }
+}
+
+/// A connect with uid 10001.
+const CONNECT: [u8; 9] = [0, 0, 0, 5, 1, 0, 0, 0x27, 0x11];
+
+/// Its reply: code 0, no rule, field 1 with the client's number.
+const CLIENT: [u8; 19] = [
+    0, 0, 0, 15, 0, 0, 0, 0, 0, 0, 1, 0, 0, 0, 0, 0, 0, 0, 1,
+];
+
+/// A connect, and the number of what the client sent behind it.
+const TWICE: [u8; 18] = [
+    0, 0, 0, 5, 1, 0, 0, 0x27, 0x11, 0, 0, 0, 5, 1, 0, 0, 0x27, 0x11,
+];
+
+/// A connection of these bytes whose calls with these numbers fail: its end, and whether it wrote so.
+fn ends<R: Wait>(
+    rt: &R,
+    alloc: Global,
+    bytes: &[u8],
+    failing: &[u64],
+    answers: u32,
+    end: End,
+    written: &[u8],
+) -> Result<bool, AllocError> {
+    let mut link = MemoryLink::with_room(alloc, bytes, 64, 4, failing)?;
+    let mut stub = Stub { left: answers };
+    let found = serve_link(rt, alloc, &mut link, &mut stub);
+    Ok(found == end && link.written() == written)
+}
+
+#[test]
+fn a_connect_is_answered(rt: HostRuntime) -> Result<(), Fail> {
+    assert!(&rt; ends(&rt, rt.alloc(), &CONNECT, &[], 9, End::EndOfInput, &CLIENT)?);
+    assert!(&rt; ends(&rt, rt.alloc(), &CONNECT[..8], &[], 9, End::Truncated, &[])?);
+    assert!(&rt; ends(&rt, rt.alloc(), &[], &[], 9, End::EndOfInput, &[])?);
+    Ok(())
+}
+
+#[test]
+fn frames_that_end_a_connection(rt: HostRuntime) -> Result<(), Fail> {
+    assert!(&rt; ends(&rt, rt.alloc(), &[0; 4], &[], 9, End::BadFrame { offset: 0 }, &[])?);
+    assert!(&rt; ends(&rt, rt.alloc(), &TWICE, &[], 9, End::BadFrame { offset: 9 }, &CLIENT)?);
+    Ok(())
+}
+
+#[test]
+fn faults_of_the_link_and_a_full_run(rt: HostRuntime) -> Result<(), Fail> {
+    assert!(&rt; ends(&rt, rt.alloc(), &CONNECT, &[1], 9, End::LinkFault, &[])?);
+    assert!(&rt; ends(&rt, rt.alloc(), &CONNECT, &[2], 9, End::LinkFault, &[])?);
+    assert!(&rt; ends(&rt, rt.alloc(), &CONNECT, &[3], 9, End::LinkFault, &CLIENT)?);
+    let full = [0, 0, 0, 6, 0, 0, 3, 0xe9, 0, 0];
+    assert!(&rt; ends(&rt, rt.alloc(), &TWICE, &[], 0, End::RunFull, &full)?);
+    Ok(())
+}
