@@ -21,7 +21,7 @@ use Rattle.connections.specs.Pieces.{Follows, PieceServed, PieceStops}
 use Rattle.connections.specs.declared.answering.Progress.{Progress}
 use Rattle.connections.specs.declared.end.End.{End}
 use Rattle.connections.specs.declared.end.End.TheVariants.{EndOfInput, Truncated, BadFrame, LinkFault, RunFull, Memory}
-use Rattle.connections.proofs.Talking.{asked_append, size_append, joined_append, turn_append, open_append, full_append, each_front, each_back}
+use Rattle.connections.proofs.Talking.{asked_append, size_append, joined_append, turn_append, open_append, full_append, cut_append, each_front, each_back}
 
 -- what stands behind the requests of a stream begins at its place
 place_is : (stream : List ℕ) (acts : List Act) (rest : List ℕ) (place : ℕ) → stream ≡ stream_of acts rest → place + length rest ≡ length stream → place ≡ length (flat_map frame_of acts)
@@ -39,8 +39,8 @@ is_part f rest shut left = subst (λ (b : Bool). MatchBool b (IsBad rest) ((held
 ends_so : (end : End) (place : ℕ) (joined : Bool) (talk more : List Exchange) (left : List Act) (missing rest : List ℕ) (over : Option (List ℕ)) → NoneFull talk
     → place ≡ size_of talk → joined ≡ has_joined false talk → AllByRecursion IsRequest left → EndsAmong end place joined more left missing
     → EndsSo end (talk ++ more) (stream_of left rest) missing over
-ends_so LinkFault place joined talk more left missing rest over unfull place_same joined_same each ends = tt
-ends_so Memory place joined talk more left missing rest over unfull place_same joined_same each ends = tt
+ends_so LinkFault place joined talk more left missing rest over unfull place_same joined_same each ends = inr (ends.0, cut_append talk more ends.0 missing unfull ends.1)
+ends_so Memory place joined talk more left missing rest over unfull place_same joined_same each ends = inr (cut_append talk more [] missing unfull ends)
 ends_so RunFull place joined talk more left missing rest over unfull place_same joined_same each ends = (full_append talk more unfull ends.0, ends.1)
 ends_so EndOfInput place joined talk more left missing rest over unfull place_same joined_same each ends = absurd ends
 ends_so Truncated place joined talk more left missing rest over unfull place_same joined_same each ends = absurd ends
@@ -67,7 +67,7 @@ ends_so (BadFrame offset) place joined talk more left missing rest over unfull p
 module _ {L A : Type 0} (g : LinkGhosts L) (answers : A → Act → Reply → A → Type 0) (stream piece : List ℕ) (talk : List Exchange) (f : Frames) (p : Progress) (follows : Follows stream talk f p) where
   -- nothing of the piece was answered
   at_once : (link : L) (before : A) (end : End) (rest : List ℕ) → stream ++ piece ≡ stream_of (asked talk) rest → is_link_fault end ≡ false
-      → ((over : Option (List ℕ)) → EndsSo end talk rest [] over) → PieceStops g answers link link before before stream piece talk end
+      → ((over : Option (List ℕ)) → EndsSo end talk rest [] over) → PieceStops g answers link link before before stream piece talk p end
   at_once link before end rest whole fault ends =
       let same : talk ++ [] ≡ talk = append-nil talk in
       record {
@@ -82,23 +82,24 @@ module _ {L A : Type 0} (g : LinkGhosts L) (answers : A → Act → Reply → A 
         replies = refl;
         carried = subst (λ (b : Bool). Carried g link link [] [] b) (sym fault) (carried_none g link);
         ends = λ over. subst (λ (t : List Exchange). EndsSo end t rest [] over) (sym same) (ends over);
+        joined = follows.joined ∙ ap (λ (t : List Exchange). has_joined false t) (sym same);
       }
 
   pub piece_bad_at_once : (link : L) (before : A) (now : Frames) (offset : ℕ) → Faults f piece now (Bad offset)
-      → PieceStops g answers link link before before stream piece talk (BadFrame offset)
+      → PieceStops g answers link link before before stream piece talk p (BadFrame offset)
   piece_bad_at_once link before now offset faults =
       let bad : IsBadAt (stream ++ piece) (asked talk) offset = (faults stream (asked talk) follows.stands).1 in
       at_once link before (BadFrame offset) bad.rest bad.whole refl (λ over. ((follows.unfull, refl), place_is (stream ++ piece) (asked talk) bad.rest offset bad.whole bad.place, inl bad.bad))
 
-  pub piece_memory : (link : L) (before : A) → PieceStops g answers link link before before stream piece talk Memory
+  pub piece_memory : (link : L) (before : A) → PieceStops g answers link link before before stream piece talk p Memory
   piece_memory link before =
       let rest : List ℕ = follows.stands.rest in
       let whole : stream ≡ stream_of (asked talk) rest = follows.stands.whole in
-      at_once link before Memory (rest ++ piece) (ap (λ (l : List ℕ). l ++ piece) whole ∙ append_assoc (flat_map frame_of (asked talk)) rest piece) refl (λ over. tt)
+      at_once link before Memory (rest ++ piece) (ap (λ (l : List ℕ). l ++ piece) whole ∙ append_assoc (flat_map frame_of (asked talk)) rest piece) refl (λ over. inl (follows.unfull, refl))
 
   module _ (link after : L) (before now : A) (frames : Frames) (requests : List Act) (stands : Stands (stream ++ piece) (asked talk ++ requests) frames) where
-    pub piece_stops : (end : End) → StopsAmong g answers link after before now p requests end → PieceStops g answers link after before now stream piece talk end
-    piece_stops end stops =
+    pub piece_stops : (next : Progress) (end : End) → StopsAmong g answers link after before now p next requests end → PieceStops g answers link after before now stream piece talk next end
+    piece_stops next end stops =
         let more : List Exchange = stops.talk in
         let left : List Act = stops.left in
         let rest : List ℕ = stands.rest in
@@ -119,6 +120,7 @@ module _ {L A : Type 0} (g : LinkGhosts L) (answers : A → Act → Reply → A 
           replies = stops.replies;
           carried = stops.carried;
           ends = λ over. ends_so end p.place p.joined talk more left stops.missing rest over follows.unfull follows.place follows.joined (each_back (asked (talk ++ more)) left each) stops.ends;
+          joined = stops.joined ∙ ap (λ (b : Bool). has_joined b more) follows.joined ∙ sym (joined_append false talk more);
         }
 
     module _ (next : Progress) (goes : Goes g answers link after before now p next requests []) where
@@ -144,7 +146,7 @@ module _ {L A : Type 0} (g : LinkGhosts L) (answers : A → Act → Reply → A 
             carried = goes.carried;
           }
 
-      pub piece_bad : is_shut frames ≡ true → PieceStops g answers link after before now stream piece talk (BadFrame (start_of frames))
+      pub piece_bad : is_shut frames ≡ true → PieceStops g answers link after before now stream piece talk next (BadFrame (start_of frames))
       piece_bad shut =
           let more : List Exchange = goes.talk in
           let rest : List ℕ = stands.rest in
@@ -165,4 +167,5 @@ module _ {L A : Type 0} (g : LinkGhosts L) (answers : A → Act → Reply → A 
               place_is (stream ++ piece) (asked (talk ++ more)) rest (start_of frames) whole stands.place,
               inl (is_bad frames rest shut stands.left),
             );
+            joined = goes.joined ∙ ap (λ (b : Bool). has_joined b more) follows.joined ∙ sym (joined_append false talk more);
           }

@@ -13,8 +13,8 @@ use Rattle.wire_frames.specs.Streams.{stream_of, needed, IsPart, IsBad}
 use Rattle.wire_frames.specs.Standing.{is_shut, Stands}
 use Rattle.wire_frames.specs.declared.frames.Frames.{Frames}
 use Rattle.wire_frames.proofs.Fronts.{needed_least}
-use Rattle.connections.specs.Talks.{Exchange, asked, size_of, told, Talks}
-use Rattle.connections.specs.Ends.{is_link_fault, EndsSo, Serves}
+use Rattle.connections.specs.Talks.{Exchange, asked, size_of, told, Talks, has_joined}
+use Rattle.connections.specs.Ends.{is_link_fault, EndsSo, Talked}
 use Rattle.connections.specs.Pieces.{Follows, PieceServed, PieceStops}
 use Rattle.connections.specs.declared.answering.Progress.{Progress}
 use Rattle.connections.specs.declared.end.End.{End}
@@ -72,9 +72,9 @@ module _ {L A : Type 0} (g : LinkGhosts L) (answers : A → Act → Reply → A 
       long = omega (arith, long, going.long, length-append going.stream piece);
     }
 
-    pub serves_piece : (read after : L) (last : A) (piece : List ℕ) (end : End) → Carried g now read piece [] false
-        → PieceStops g answers read after then last going.stream piece going.talk end → Serves g answers link after before last end
-    serves_piece read after last piece end took stops = record {
+    pub serves_piece : (read after : L) (last : A) (piece : List ℕ) (q : Progress) (end : End) → Carried g now read piece [] false
+        → PieceStops g answers read after then last going.stream piece going.talk q end → Talked g answers link after before last q.joined end
+    serves_piece read after last piece q end took stops = record {
       talk = going.talk ++ stops.more;
       taken = going.stream ++ piece;
       rest = stops.rest;
@@ -87,11 +87,12 @@ module _ {L A : Type 0} (g : LinkGhosts L) (answers : A → Act → Reply → A 
       replies = told_append going.talk stops.more ∙ ap (λ (l : List ℕ). told going.talk ++ l) stops.replies ∙ sym (append_assoc (told going.talk) stops.part stops.missing);
       carried = carried_more read after piece stops.part (is_link_fault end) took stops.carried;
       ends = stops.ends (g.incoming after);
+      joined_is = stops.joined;
     }
 
     -- the connection ends at what was taken so far
     ends_here : (after : L) (end : End) (rest : List ℕ) → Carried g now after [] [] (is_link_fault end) → going.stream ≡ stream_of (asked going.talk) rest
-        → EndsSo end going.talk rest [] (g.incoming after) → Serves g answers link after before then end
+        → EndsSo end going.talk rest [] (g.incoming after) → Talked g answers link after before then p.joined end
     ends_here after end rest last whole ends = record {
       talk = going.talk;
       taken = going.stream;
@@ -106,20 +107,22 @@ module _ {L A : Type 0} (g : LinkGhosts L) (answers : A → Act → Reply → A 
       carried = subst (λ (p : List ℕ × List ℕ). Carried g link after p.0 p.1 (is_link_fault end)) (λ i. (append-nil going.stream i, append-nil (told going.talk) i))
           (carried_on g link now after going.stream [] (told going.talk) [] false (is_link_fault end) going.carried last);
       ends = ends;
+      joined_is = going.follows.joined;
     }
 
-    pub serves_fault : (after : L) → Carried g now after [] [] true → Serves g answers link after before then LinkFault
-    serves_fault after last = ends_here after LinkFault going.follows.stands.rest last going.follows.stands.whole tt
+    pub serves_fault : (after : L) → Carried g now after [] [] true → Talked g answers link after before then p.joined LinkFault
+    serves_fault after last =
+        ends_here after LinkFault going.follows.stands.rest last going.follows.stands.whole (inl ((going.follows.unfull, refl), (is_part f going.follows.stands.rest going.follows.good going.follows.stands.left).1))
 
-    pub serves_limit : Serves g answers link now before then Memory
-    serves_limit = ends_here now Memory going.follows.stands.rest (carried_none g now) going.follows.stands.whole tt
+    pub serves_limit : Talked g answers link now before then p.joined Memory
+    serves_limit = ends_here now Memory going.follows.stands.rest (carried_none g now) going.follows.stands.whole (inl (going.follows.unfull, refl))
 
     pub serves_input : (after : L) → Carried g now after [] [] false → IsAtEnd (g.incoming after) → going.stream ≡ stream_of (asked going.talk) []
-        → Serves g answers link after before then EndOfInput
+        → Talked g answers link after before then p.joined EndOfInput
     serves_input after last over edge = ends_here after EndOfInput [] last edge ((going.follows.unfull, refl), refl, over)
 
     pub serves_cut : (after : L) → Carried g now after [] [] false → IsAtEnd (g.incoming after) → (going.stream ≢ stream_of (asked going.talk) [])
-        → Serves g answers link after before then Truncated
+        → Talked g answers link after before then p.joined Truncated
     serves_cut after last over inside =
         let rest : List ℕ = going.follows.stands.rest in
         let whole : going.stream ≡ stream_of (asked going.talk) rest = going.follows.stands.whole in

@@ -8,6 +8,7 @@ use Rattle.rule_model.specs.declared.reply.Reply.{Reply}
 use Rattle.wire_frames.specs.Spelling.{frame_of, IsRequest}
 use Rattle.wire_frames.specs.Replies.{reply_of}
 use Rattle.connections.specs.Talks.{Exchange, asked, size_of, told, Talks, joins, has_joined, says_full, InTurn, NoneFull, EndsFull}
+use Rattle.connections.specs.Ends.{IsCut}
 
 pub asked_append : (xs ys : List Exchange) → asked (xs ++ ys) ≡ asked xs ++ asked ys
 asked_append [] ys = refl
@@ -46,6 +47,19 @@ full_append xs ys first then =
     let front : List Exchange = then.0 in
     let last : Exchange = then.1 in
     (xs ++ front, last, ap (λ (l : List Exchange). xs ++ l) then.2 ∙ sym (append_assoc xs front (last ∷ [])), open_append xs front first then.3, then.4)
+
+pub cut_append : (xs ys : List Exchange) (piece missing : List ℕ) → NoneFull xs → IsCut ys piece missing → IsCut (xs ++ ys) piece missing
+cut_append xs ys piece missing first then =
+    let front : List Exchange = then.front in
+    let last : Exchange = then.last in
+    record {
+      front = xs ++ front;
+      last = last;
+      talk_is = ap (λ (l : List Exchange). xs ++ l) then.talk_is ∙ sym (append_assoc xs front (last ∷ []));
+      unfull = open_append xs front first then.unfull;
+      frame = then.frame;
+      some = then.some;
+    }
 
 pub each_front : (xs ys : List Act) → AllByRecursion IsRequest (xs ++ ys) → AllByRecursion IsRequest xs
 each_front [] ys all = tt

@@ -32,7 +32,7 @@ module _ {L A : Type 0} (g : LinkGhosts L) (answers : A → Act → Reply → A 
     pub carried : Carried g link after [] (told more) false
 
   -- the connection ends within the piece
-  pub record PieceStops (stream piece : List ℕ) (talk : List Exchange) (end : End) : Type 0 where
+  pub record PieceStops (stream piece : List ℕ) (talk : List Exchange) (progress : Progress) (end : End) : Type 0 where
     pub more : List Exchange
     pub rest : List ℕ
     pub part : List ℕ
@@ -44,3 +44,4 @@ module _ {L A : Type 0} (g : LinkGhosts L) (answers : A → Act → Reply → A 
     pub replies : told more ≡ part ++ missing
     pub carried : Carried g link after [] part (is_link_fault end)
     pub ends : (left : Option (List ℕ)) → EndsSo end (talk ++ more) rest missing left
+    pub joined : progress.joined ≡ has_joined false (talk ++ more)

@@ -19,6 +19,8 @@ use wire_frames::Request;
 #[derive(Drop)]
 struct Stub {
     left: u32,
+    /// a client has come, and has not gone
+    joined: bool,
 }
 
 /// A client's number.
@@ -55,14 +57,33 @@ impl Answerer for Stub {
 
     ghost answers = { λ old act reply new. Unit {0} };
 
-    fn answer<R: Wait>(&mut self, _rt: &R, request: Request) -> Reply {
-        if self.left == 0 {
-            return full();
-        }
-        self.left -= 1;
+    ghost connected = { λ stub. stub.joined };
+
+    fn answer<R: Wait>(self, _rt: &R, request: Request) -> (Stub, Reply) {
+        let Stub { left, joined } = self;
         match request.act() {
-            Act::Connect { .. } => first_client(),
-            _ => nothing(),
+            Act::Disconnect => (
+                Stub {
+                    left,
+                    joined: false,
+                },
+                nothing(),
+            ),
+            _ if left == 0 => (Stub { left, joined }, full()),
+            Act::Connect { .. } => (
+                Stub {
+                    left: left - 1,
+                    joined: true,
+                },
+                first_client(),
+            ),
+            _ => (
+                Stub {
+                    left: left - 1,
+                    joined,
+                },
+                nothing(),
+            ),
         }
     }
 }
@@ -91,9 +112,12 @@ fn ends<R: Wait>(
     written: &[u8],
 ) -> Result<bool, AllocError> {
     let mut link = MemoryLink::with_room(alloc, bytes, 64, 4, failing)?;
-    let mut stub = Stub { left: answers };
-    let found = serve_link(rt, alloc, &mut link, &mut stub);
-    Ok(found == end && link.written() == written)
+    let stub = Stub {
+        left: answers,
+        joined: false,
+    };
+    let (stub, found) = serve_link(rt, alloc, &mut link, stub);
+    Ok(found == end && link.written() == written && !stub.joined)
 }
 
 #[test]
