@@ -1,3 +1,4 @@
+pub mod Framed
 pub mod Talking
 pub mod Written
 pub mod Requests

@@ -1,5 +1,6 @@
 -- What a piece of the stream brings.
-use Rattle.std.proofs.Common.{◌≡◌, inl, inr, ◌⊎◌, ℕ, ◌+◌, Bool, true, false, ◌||◌, List, [], ◌∷◌, ◌++◌, length, flat_map, Option, refl, sym, ap, subst, ◌∙◌, arith, append_assoc}
+use Rattle.std.proofs.Common.{◌≡◌, inl, inr, ℕ, ◌+◌, ◌^◌, ◌<◌, Bool, true, false, if◌then◌else◌, Some, None, List, [], ◌∷◌, ◌++◌, length, flat_map, Option, refl, sym, ap, subst, ◌∙◌, arith, append_assoc}
+use Rattle.std.proofs.lemmas.Grind.{flat_map-append}
 use Rattle.std.proofs.lemmas.List.{append-nil, length-append}
 use Rattle.std.specs.Bool.{MatchBool}
 use Rattle.std.specs.List.{AllByRecursion}
@@ -14,8 +15,8 @@ use Rattle.wire_frames.specs.Standing.{start_of, held_in, is_shut, Stands, IsBad
 use Rattle.wire_frames.specs.declared.fault.FrameFault.TheVariants.{Bad}
 use Rattle.wire_frames.specs.declared.frames.Frames.{Frames}
 use Rattle.wire_frames.proofs.Going.{stream_append}
-use Rattle.connections.specs.Talks.{Exchange, asked, size_of, told, Talks, has_joined, is_due, InTurn, NoneFull}
-use Rattle.connections.specs.Ends.{is_link_fault, IsUndue, IsWhole, EndsSo}
+use Rattle.connections.specs.Talks.{Exchange, asked, size_of, told, has_joined, is_due, InTurn, NoneFull}
+use Rattle.connections.specs.Ends.{is_link_fault, EndsSo}
 use Rattle.connections.specs.Steps.{EndsAmong, Goes, StopsAmong}
 use Rattle.connections.specs.Pieces.{Follows, PieceServed, PieceStops}
 use Rattle.connections.specs.declared.answering.Progress.{Progress}
@@ -35,6 +36,15 @@ is_bad f rest shut left = subst (λ (b : Bool). MatchBool b (IsBad rest) ((held_
 pub is_part : (f : Frames) (rest : List ℕ) → is_shut f ≡ false → MatchBool (is_shut f) (IsBad rest) ((held_in f ≡ rest) × IsPart rest) → (held_in f ≡ rest) × IsPart rest
 is_part f rest shut left = subst (λ (b : Bool). MatchBool b (IsBad rest) ((held_in f ≡ rest) × IsPart rest)) shut left
 
+-- a place that is told is that of a bad frame
+pub is_told : (shut : Bool) (start offset : ℕ) → Some offset ≡ (if shut then Some start else None) → (shut ≡ true) × (start ≡ offset)
+is_told true start offset told = (refl, cc)
+is_told false start offset told = absurd (cc)
+
+pub is_untold : (shut : Bool) (start : ℕ) → ◌≡◌ {A = Option ℕ} None (if shut then Some start else None) → shut ≡ false
+is_untold true start told = absurd (cc)
+is_untold false start told = refl
+
 -- what an end among requests says of the whole stream
 ends_so : (end : End) (place : ℕ) (joined : Bool) (talk more : List Exchange) (left : List Act) (missing rest : List ℕ) (over : Option (List ℕ)) → NoneFull talk
     → place ≡ size_of talk → joined ≡ has_joined false talk → AllByRecursion IsRequest left → EndsAmong end place joined more left missing
@@ -51,8 +61,7 @@ ends_so (BadFrame offset) place joined talk more left missing rest over unfull p
     let offset_is : offset ≡ place + size_of more = ends.1 in
     let first : AllByRecursion IsRequest (act ∷ acts) = subst (λ (l : List Act). AllByRecursion IsRequest l) is each in
     let same : has_joined joined more ≡ has_joined false (talk ++ more) = ap (λ (b : Bool). has_joined b more) joined_same ∙ sym (joined_append false talk more) in
-    let undue : is_due (has_joined joined more) act ≡ false = ends.2.3 in
-    (
+    let undue : is_due (has_joined joined more) act ≡ false = ends.2.3 in (
       (open_append talk more unfull ends.0.0, ends.0.1),
       omega (arith, offset_is, place_same, size_append talk more),
       inr (record {
@@ -97,6 +106,18 @@ module _ {L A : Type 0} (g : LinkGhosts L) (answers : A → Act → Reply → A 
       let whole : stream ≡ stream_of (asked talk) rest = follows.stands.whole in
       at_once link before Memory (rest ++ piece) (ap (λ (l : List ℕ). l ++ piece) whole ∙ append_assoc (flat_map frame_of (asked talk)) rest piece) refl (λ over. inl (follows.unfull, refl))
 
+  -- the places of the requests are within what was taken
+  pub place_fits : (frames : Frames) (requests : List Act) → Stands (stream ++ piece) (asked talk ++ requests) frames → length stream + length piece < 2 ^ 62
+      → p.place + length (flat_map frame_of requests) < 2 ^ 62
+  place_fits frames requests stands short =
+      let rest : List ℕ = stands.rest in
+      let whole : stream ++ piece ≡ flat_map frame_of (asked talk ++ requests) ++ rest = stands.whole in
+      let long : length (stream ++ piece) ≡ length (flat_map frame_of (asked talk ++ requests)) + length rest =
+      ap (λ (l : List ℕ). length l) whole ∙ length-append (flat_map frame_of (asked talk ++ requests)) rest in
+      let parts : length (flat_map frame_of (asked talk ++ requests)) ≡ size_of talk + length (flat_map frame_of requests) =
+      ap (λ (l : List ℕ). length l) (flat_map-append frame_of (asked talk) requests) ∙ length-append (flat_map frame_of (asked talk)) (flat_map frame_of requests) in
+      omega (arith, short, long, parts, length-append stream piece, follows.place)
+
   module _ (link after : L) (before now : A) (frames : Frames) (requests : List Act) (stands : Stands (stream ++ piece) (asked talk ++ requests) frames) where
     pub piece_stops : (next : Progress) (end : End) → StopsAmong g answers link after before now p next requests end → PieceStops g answers link after before now stream piece talk next end
     piece_stops next end stops =
@@ -105,7 +126,7 @@ module _ {L A : Type 0} (g : LinkGhosts L) (answers : A → Act → Reply → A 
         let rest : List ℕ = stands.rest in
         let split : requests ≡ asked more ++ left = stops.requests_are in
         let all : asked talk ++ requests ≡ asked (talk ++ more) ++ left =
-            ap (λ (l : List Act). asked talk ++ l) split ∙ sym (append_assoc (asked talk) (asked more) left) ∙ ap (λ (l : List Act). l ++ left) (sym (asked_append talk more)) in
+        ap (λ (l : List Act). asked talk ++ l) split ∙ sym (append_assoc (asked talk) (asked more) left) ∙ ap (λ (l : List Act). l ++ left) (sym (asked_append talk more)) in
         let whole : stream ++ piece ≡ stream_of (asked talk ++ requests) rest = stands.whole in
         let each : AllByRecursion IsRequest (asked (talk ++ more) ++ left) = subst (λ (l : List Act). AllByRecursion IsRequest l) all stands.each in
         record {

@@ -1,20 +1,21 @@
 -- Requests are answered, one after another.
 use Rattle.std.proofs.Common.{◌≡◌, ℕ, ◌+◌, ◌<◌, Bool, true, false, ◌||◌, List, [], ◌∷◌, ◌++◌, length, refl, sym, ap, subst, ◌∙◌, arith, append_assoc}
-use Rattle.std.proofs.lemmas.List.{append-nil, length-append}
+use Rattle.std.proofs.lemmas.List.{append-nil}
 use Rattle.ks_outside.specs.Carried.{Carried}
 use Rattle.ks_outside.specs.declared.link.Link.{Ghosts as LinkGhosts}
 use Rattle.ks_outside.proofs.Carried.{carried_none, carried_on}
 use Rattle.rule_model.specs.declared.event.Act.{Act}
 use Rattle.rule_model.specs.declared.reply.Reply.{Reply}
-use Rattle.wire_frames.specs.Spelling.{frame_of}
+use Rattle.std.specs.List.{AllByRecursion}
+use Rattle.wire_frames.specs.Spelling.{frame_of, IsRequest}
 use Rattle.wire_frames.specs.Replies.{reply_of}
-use Rattle.connections.specs.Talks.{Exchange, asked, size_of, told, Talks, joins, has_joined, is_due, says_full, InTurn, NoneFull, EndsFull}
+use Rattle.connections.specs.Talks.{Exchange, asked, size_of, told, joins, is_due, NoneFull}
 use Rattle.connections.specs.Ends.{is_link_fault, IsCut}
 use Rattle.connections.specs.Steps.{EndsOne, EndsAmong, Tells, TellsLast, Goes, StopsAmong}
 use Rattle.connections.specs.declared.answering.Progress.{Progress}
 use Rattle.connections.specs.declared.end.End.{End}
 use Rattle.connections.specs.declared.end.End.TheVariants.{EndOfInput, Truncated, BadFrame, LinkFault, RunFull, Memory}
-use Rattle.connections.proofs.Talking.{asked_append, size_append, told_one, talks_append, joined_append, turn_append, open_append}
+use Rattle.connections.proofs.Talking.{asked_append, size_append, told_one, talks_append, joined_append, turn_append, open_append, each_back}
 
 -- of the last reply this is missing
 cut_last : (talk : List Exchange) (x : Exchange) (part missing : List ℕ) → NoneFull talk → reply_of x.reply ≡ part ++ missing → 0 < length missing → IsCut (talk ++ x ∷ []) part missing
@@ -30,6 +31,12 @@ ends_among RunFull place joined talk x left part missing unfull frame ends = ((t
 ends_among EndOfInput place joined talk x left part missing unfull frame ends = absurd ends
 ends_among Truncated place joined talk x left part missing unfull frame ends = absurd ends
 ends_among (BadFrame offset) place joined talk x left part missing unfull frame ends = absurd ends
+
+-- the next of the requests that are left is one that a frame can hold
+pub next_is : (requests left rest : List Act) (talk : List Exchange) (act : Act) → AllByRecursion IsRequest requests → requests ≡ asked talk ++ left → left ≡ act ∷ rest → IsRequest act
+next_is requests left rest talk act all whole first =
+    let back : AllByRecursion IsRequest left = each_back (asked talk) left (subst (λ (l : List Act). AllByRecursion IsRequest l) whole all) in
+    (subst (λ (l : List Act). AllByRecursion IsRequest l) first back).0
 
 module _ {L A : Type 0} (g : LinkGhosts L) (answers : A → Act → Reply → A → Type 0) where
   pub goes_none : (link : L) (before : A) (progress : Progress) (requests : List Act) → Goes g answers link link before before progress progress requests requests
@@ -48,7 +55,7 @@ module _ {L A : Type 0} (g : LinkGhosts L) (answers : A → Act → Reply → A 
     whole_one : (talk : List Exchange) (x : Exchange) → x.act ≡ act → requests ≡ asked talk ++ act ∷ left → requests ≡ asked (talk ++ x ∷ []) ++ left
     whole_one talk x same whole =
         whole ∙ ap (λ (a : Act). asked talk ++ a ∷ left) (sym same) ∙ sym (append_assoc (asked talk) (x.act ∷ []) left)
-            ∙ ap (λ (l : List Act). l ++ left) (sym (asked_append talk (x ∷ [])))
+        ∙ ap (λ (l : List Act). l ++ left) (sym (asked_append talk (x ∷ [])))
 
     module _ (reply : Reply) (came : Bool) (answered : answers then act reply now) (came_is : came ≡ joins (record { act = act; reply = reply })) where
       pub goes_on : (next : Progress) → Goes g answers link mid before then old new requests (act ∷ left) → Tells g mid after reply

@@ -1,5 +1,5 @@
 -- A connection goes on, and ends.
-use Rattle.std.proofs.Common.{◌≡◌, ◌≢◌, ◌⊎◌, ℕ, ◌+◌, ◌≤◌, Bool, true, false, ◌||◌, List, [], ◌∷◌, ◌++◌, length, flat_map, Option, refl, sym, ap, subst, ◌∙◌, arith, append_assoc}
+use Rattle.std.proofs.Common.{◌≡◌, ◌≢◌, inl, inr, ℕ, ◌+◌, Bool, true, false, List, [], ◌++◌, length, refl, sym, ap, subst, ◌∙◌, arith, append_assoc}
 use Rattle.std.proofs.lemmas.List.{append-nil, length-append}
 use Rattle.std.proofs.lemmas.Bool.{cases_Bool}
 use Rattle.std.specs.Io.KnownBytes.{IsAtEnd}
@@ -8,12 +8,11 @@ use Rattle.ks_outside.specs.declared.link.Link.{Ghosts as LinkGhosts}
 use Rattle.ks_outside.proofs.Carried.{carried_none, carried_on}
 use Rattle.rule_model.specs.declared.event.Act.{Act}
 use Rattle.rule_model.specs.declared.reply.Reply.{Reply}
-use Rattle.wire_frames.specs.Spelling.{frame_of}
-use Rattle.wire_frames.specs.Streams.{stream_of, needed, IsPart, IsBad}
+use Rattle.wire_frames.specs.Streams.{stream_of}
 use Rattle.wire_frames.specs.Standing.{is_shut, Stands}
 use Rattle.wire_frames.specs.declared.frames.Frames.{Frames}
 use Rattle.wire_frames.proofs.Fronts.{needed_least}
-use Rattle.connections.specs.Talks.{Exchange, asked, size_of, told, Talks, has_joined}
+use Rattle.connections.specs.Talks.{Exchange, asked, told, Talks}
 use Rattle.connections.specs.Ends.{is_link_fault, EndsSo, Talked}
 use Rattle.connections.specs.Pieces.{Follows, PieceServed, PieceStops}
 use Rattle.connections.specs.declared.answering.Progress.{Progress}

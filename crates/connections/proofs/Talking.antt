@@ -1,5 +1,5 @@
 -- Talks, one behind the other.
-use Rattle.std.proofs.Common.{◌≡◌, ℕ, ◌+◌, Bool, true, false, ◌||◌, List, [], ◌∷◌, ◌++◌, length, flat_map, refl, sym, ap, subst, ◌∙◌, arith, append_assoc}
+use Rattle.std.proofs.Common.{◌≡◌, ℕ, ◌+◌, Bool, ◌||◌, List, [], ◌∷◌, ◌++◌, length, flat_map, refl, sym, ap, subst, ◌∙◌, append_assoc}
 use Rattle.std.proofs.lemmas.Grind.{flat_map-append}
 use Rattle.std.proofs.lemmas.List.{append-nil, length-append}
 use Rattle.std.specs.List.{AllByRecursion}
@@ -7,7 +7,7 @@ use Rattle.rule_model.specs.declared.event.Act.{Act}
 use Rattle.rule_model.specs.declared.reply.Reply.{Reply}
 use Rattle.wire_frames.specs.Spelling.{frame_of, IsRequest}
 use Rattle.wire_frames.specs.Replies.{reply_of}
-use Rattle.connections.specs.Talks.{Exchange, asked, size_of, told, Talks, joins, has_joined, says_full, InTurn, NoneFull, EndsFull}
+use Rattle.connections.specs.Talks.{Exchange, asked, size_of, told, Talks, joins, has_joined, InTurn, NoneFull, EndsFull}
 use Rattle.connections.specs.Ends.{IsCut}
 
 pub asked_append : (xs ys : List Exchange) → asked (xs ++ ys) ≡ asked xs ++ asked ys
@@ -17,7 +17,7 @@ asked_append (x ∷ xs) ys = ap (λ (l : List Act). x.act ∷ l) (asked_append x
 pub size_append : (xs ys : List Exchange) → size_of (xs ++ ys) ≡ size_of xs + size_of ys
 size_append xs ys =
     ap (λ (l : List Act). length (flat_map frame_of l)) (asked_append xs ys) ∙ ap (λ (l : List ℕ). length l) (flat_map-append frame_of (asked xs) (asked ys))
-        ∙ length-append (flat_map frame_of (asked xs)) (flat_map frame_of (asked ys))
+    ∙ length-append (flat_map frame_of (asked xs)) (flat_map frame_of (asked ys))
 
 pub told_append : (xs ys : List Exchange) → told (xs ++ ys) ≡ told xs ++ told ys
 told_append [] ys = refl

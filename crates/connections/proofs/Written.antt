@@ -1,5 +1,5 @@
 -- Pieces of a text, written into a link one after another.
-use Rattle.std.proofs.Common.{◌≡◌, ℕ, ◌-◌, Bool, false, List, [], ◌++◌, length, take, drop, sym, ap, ◌∙◌, append_assoc}
+use Rattle.std.proofs.Common.{◌≡◌, ℕ, ◌-◌, false, List, [], ◌++◌, length, take, drop, sym, ap, ◌∙◌, append_assoc}
 use Rattle.std.proofs.lemmas.List.{take_rest, take-append-drop}
 use Rattle.ks_outside.specs.Carried.{Carried}
 use Rattle.ks_outside.specs.declared.link.Link.{Ghosts as LinkGhosts}

@@ -1,5 +1,5 @@
 -- Where a connection stands between the pieces of its stream, and what a piece brings.
-use Rattle.std.specs.Prelude.{◌≡◌, ℕ, Bool, false, List, [], ◌++◌, Option}
+use Rattle.std.specs.Prelude.{◌≡◌, ℕ, false, List, [], ◌++◌, Option}
 use Rattle.std.specs.List.{AllByRecursion}
 use Rattle.ks_outside.specs.Carried.{Carried}
 use Rattle.ks_outside.specs.declared.link.Link.{Ghosts as LinkGhosts}

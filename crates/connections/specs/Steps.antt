@@ -1,5 +1,5 @@
 -- What answering requests shows.
-use Rattle.std.specs.Prelude.{◌≡◌, ◌<◌, ℕ, ◌+◌, Bool, true, false, List, [], ◌∷◌, ◌++◌, length, ⊥}
+use Rattle.std.specs.Prelude.{◌≡◌, ◌<◌, ℕ, ◌+◌, Bool, true, false, List, [], ◌∷◌, ◌++◌, length}
 use Rattle.ks_outside.specs.Carried.{Carried}
 use Rattle.ks_outside.specs.declared.link.Link.{Ghosts as LinkGhosts}
 use Rattle.rule_model.specs.declared.event.Act.{Act}
@@ -9,7 +9,7 @@ use Rattle.connections.specs.Talks.{Exchange, asked, size_of, told, Talks, has_j
 use Rattle.connections.specs.Ends.{is_link_fault, IsWhole, IsCut}
 use Rattle.connections.specs.declared.answering.Progress.{Progress}
 use Rattle.connections.specs.declared.end.End.{End}
-use Rattle.connections.specs.declared.end.End.TheVariants.{EndOfInput, Truncated, BadFrame, LinkFault, RunFull, Memory}
+use Rattle.connections.specs.declared.end.End.TheVariants.{BadFrame, LinkFault, RunFull, Memory}
 
 -- what an end says of the one reply, of which a part was written and the rest is missing
 abbrev pub EndsOne : End → Reply → List ℕ → List ℕ → Type 0
@@ -22,7 +22,7 @@ EndsOne end reply part missing = ⊥
 abbrev pub EndsAmong : End → ℕ → Bool → List Exchange → List Act → List ℕ → Type 0
 EndsAmong (BadFrame offset) place joined talk left missing =
     IsWhole talk missing × (offset ≡ place + size_of talk)
-        × ((act : Act) × (more : List Act) × (left ≡ act ∷ more) × (is_due (has_joined joined talk) act ≡ false))
+    × ((act : Act) × (more : List Act) × (left ≡ act ∷ more) × (is_due (has_joined joined talk) act ≡ false))
 EndsAmong LinkFault place joined talk left missing = (piece : List ℕ) × IsCut talk piece missing
 EndsAmong Memory place joined talk left missing = IsCut talk [] missing
 EndsAmong RunFull place joined talk left missing = EndsFull talk × (missing ≡ [])

@@ -13,9 +13,7 @@ use wire_frames::Request;
 /// Answers the requests of one connection, one after another: one call of a service each.
 pub trait Answerer {
     ghost use Rattle.std.specs.Prelude.{Bool};
-
     ghost use Rattle.rule_model.specs.declared.event.Act.{Act};
-
     ghost use Rattle.rule_model.specs.declared.reply.Reply.{Reply};
 
     /// Whether the one becomes the other by a call for this act that is answered with this reply.

@@ -82,18 +82,18 @@ fn answer_one<R: Wait, A: Answerer>(rt: &R, answerer: A, request: Request) -> (A
 }
 
 /// Writes a reply. The connection ends where it is not written, and behind one that says that the run is full.
-fn tell<L: Link>(alloc: Global, link: &mut L, reply: &Reply) -> Result<(), End>
-    requires short { length (reply_body reply.now) < 2 ^ 32 }
-    ensures ok { OnOk result (Tells L.Link link.old link.new reply.now) }
-    ensures err { IfErr result (λ end. TellsLast L.Link link.old link.new reply.now end) }
+fn tell<L: Link>(alloc: Global, link: &mut L, reply: Reply) -> Result<(), End>
+    requires short { length (reply_body reply) < 2 ^ 32 }
+    ensures ok { OnOk result (Tells L.Link link.old link.new reply) }
+    ensures err { IfErr result (λ end. TellsLast L.Link link.old link.new reply end) }
 {
-    let Ok(frame) = reply_frame(alloc, reply) else {
+    let Ok(frame) = reply_frame(alloc, &reply) else {
         return Err(End::Memory);
     };
     let Ok(()) = write_all(link, frame.as_slice()) else {
         return Err(End::LinkFault);
     };
-    if says_full(reply) {
+    if says_full(&reply) {
         return Err(End::RunFull);
     }
     Ok(())
@@ -124,8 +124,8 @@ pub(crate) fn answer_all<R: Wait, L: Link, A: Answerer>(
         let size = request.frame_length();
         let (next, reply, joins) = answer_one(rt, answerer, request);
         answerer = next;
-        progress.joined = progress.joined || joins;
-        if let Err(end) = tell(alloc, link, &reply) {
+        progress.joined |= joins;
+        if let Err(end) = tell(alloc, link, reply) {
             return (answerer, Err(end));
         }
         progress.place += size;

@@ -92,9 +92,7 @@ impl Answerer for Stub {
 const CONNECT: [u8; 9] = [0, 0, 0, 5, 1, 0, 0, 0x27, 0x11];
 
 /// Its reply: code 0, no rule, field 1 with the client's number.
-const CLIENT: [u8; 19] = [
-    0, 0, 0, 15, 0, 0, 0, 0, 0, 0, 1, 0, 0, 0, 0, 0, 0, 0, 1,
-];
+const CLIENT: [u8; 19] = [0, 0, 0, 15, 0, 0, 0, 0, 0, 0, 1, 0, 0, 0, 0, 0, 0, 0, 1];
 
 /// A connect, and the number of what the client sent behind it.
 const TWICE: [u8; 18] = [
@@ -130,8 +128,28 @@ fn a_connect_is_answered(rt: HostRuntime) -> Result<(), Fail> {
 
 #[test]
 fn frames_that_end_a_connection(rt: HostRuntime) -> Result<(), Fail> {
-    assert!(&rt; ends(&rt, rt.alloc(), &[0; 4], &[], 9, End::BadFrame { offset: 0 }, &[])?);
-    assert!(&rt; ends(&rt, rt.alloc(), &TWICE, &[], 9, End::BadFrame { offset: 9 }, &CLIENT)?);
+    assert!(&rt;
+        ends(
+            &rt,
+            rt.alloc(),
+            &[0; 4],
+            &[],
+            9,
+            End::BadFrame { offset: 0 },
+            &[]
+        )?
+    );
+    assert!(&rt;
+        ends(
+            &rt,
+            rt.alloc(),
+            &TWICE,
+            &[],
+            9,
+            End::BadFrame { offset: 9 },
+            &CLIENT
+        )?
+    );
     Ok(())
 }
 

@@ -1,4 +1,4 @@
-use Rattle.std.proofs.Common.{◌≡◌, ◌-◌, ◌^◌, ◌≤◌}
+use Rattle.std.proofs.Common.{◌≡◌, ◌+◌, ◌-◌, ◌^◌, ◌≤◌}
 use Rattle.wire_frames.specs.Standing.{reach}
 use Rattle.connections.proofs.Serving.{Going}
 use Rattle.connections.proofs.connection.serve_requests.Given as goal
