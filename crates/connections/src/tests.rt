@@ -53,8 +53,6 @@ fn full() -> Reply
 }
 
 impl Answerer for Stub {
-    ghost use Rattle.std.specs.Prelude.{Unit};
-
     ghost answers = { λ old act reply new. Unit {0} };
 
     ghost connected = { λ stub. stub.joined };
@@ -160,5 +158,65 @@ fn faults_of_the_link_and_a_full_run(rt: HostRuntime) -> Result<(), Fail> {
     assert!(&rt; ends(&rt, rt.alloc(), &CONNECT, &[3], 9, End::LinkFault, &CLIENT)?);
     let full = [0, 0, 0, 6, 0, 0, 3, 0xe9, 0, 0];
     assert!(&rt; ends(&rt, rt.alloc(), &TWICE, &[], 0, End::RunFull, &full)?);
+    Ok(())
+}
+
+/// A connect, an abort and a count of keys, as a client sends them.
+static SESSION: [u8; 39] = [
+    0, 0, 0, 5, 1, 0, 0, 0x27, 0x11, 0, 0, 0, 9, 9, 0, 0, 0, 0, 0, 0, 0, 7, 0, 0, 0, 13, 14, 0, 0,
+    0, 0, 0, 0, 0, 0, 0, 0, 0, 0,
+];
+
+/// The replies to them.
+static REPLIES: [u8; 39] = [
+    0, 0, 0, 15, 0, 0, 0, 0, 0, 0, 1, 0, 0, 0, 0, 0, 0, 0, 1, 0, 0, 0, 6, 0, 0, 0, 0, 0, 0, 0, 0,
+    0, 6, 0, 0, 0, 0, 0, 0,
+];
+
+/// How a session ends of which so many bytes came, and how many bytes of replies it wrote.
+fn cut_end(cut: usize) -> (End, usize) {
+    match cut {
+        0 => (End::EndOfInput, 0),
+        1..9 => (End::Truncated, 0),
+        9 => (End::EndOfInput, 19),
+        10..22 => (End::Truncated, 19),
+        22 => (End::EndOfInput, 29),
+        23..39 => (End::Truncated, 29),
+        _ => (End::EndOfInput, 39),
+    }
+}
+
+// A stream that ends at each of its bytes.
+#[test]
+fn a_session_is_cut_at_each_byte(rt: HostRuntime) -> Result<(), Fail> {
+    for cut in 0..40 {
+        let (end, count) = cut_end(cut);
+        let bytes = SESSION.get(..cut).unwrap_or(&[]);
+        let replies = REPLIES.get(..count).unwrap_or(&[]);
+        assert!(&rt; ends(&rt, rt.alloc(), bytes, &[], 9, end, replies)?);
+    }
+    Ok(())
+}
+
+/// How many bytes of replies a session has written before its call with this number fails: a read, three writes, and a read.
+static WRITTEN: [(u64, usize); 5] = [(1, 0), (2, 0), (3, 19), (4, 29), (5, 39)];
+
+// A link that fails at each of its calls; the client that has come is disconnected all the same.
+#[test]
+fn each_call_of_a_link_fails(rt: HostRuntime) -> Result<(), Fail> {
+    for (call, count) in &WRITTEN {
+        let replies = REPLIES.get(..*count).unwrap_or(&[]);
+        assert!(&rt;
+            ends(
+                &rt,
+                rt.alloc(),
+                &SESSION,
+                &[*call],
+                9,
+                End::LinkFault,
+                replies
+            )?
+        );
+    }
     Ok(())
 }
