@@ -1,0 +1,4 @@
+pub mod Talks
+pub mod Ends
+pub mod Steps
+pub mod Pieces
