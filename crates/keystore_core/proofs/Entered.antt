@@ -1,13 +1,12 @@
 -- An enter that is let through: the key that a finish uses, its work that goes out, and a finish whose key could not be used.
-use Rattle.std.proofs.Common.{◌≡◌, ℕ, ◌+◌, ◌≤◌, Bool, true, false, not, ◌==◌, if◌then◌else◌, List, [], ◌∷◌, length, find, Option, Some, None, option_map, Ok, IsTrue, refl, sym, ap, ◌∙◌, subst, arith}
+use Rattle.std.proofs.Common.{◌≡◌, ℕ, ◌+◌, ◌≤◌, Bool, true, false, not, ◌==◌, if◌then◌else◌, List, [], ◌∷◌, length, find, Option, Some, None, option_map, Ok, refl, sym, ap, ◌∙◌, subst, arith}
 use Rattle.std.specs.Option.{option_and_then, option_or}
 use Rattle.std.proofs.lemmas.Bool.{eqb-true, eq-eqb}
 use Rattle.tags.specs.declared.code.Code.{Code}
-use Rattle.tags.specs.declared.code.Code.TheVariants.{JournalFull, MemoryAllocationFailed, SystemError}
+use Rattle.tags.specs.declared.code.Code.TheVariants.{JournalFull, SystemError}
 use Rattle.tags.specs.Plan.{OPERATION_BYTES}
 use Rattle.ks_outside.specs.declared.disk.Disk.{Ghosts}
 use Rattle.step_rules.specs.declared.facts.StepFacts.{StepFacts}
-use Rattle.step_rules.specs.declared.facts.StepKind.{StepKind}
 use Rattle.step_rules.specs.Rules.{Enters}
 use Rattle.step_rules.specs.Table as step_table
 use Rattle.cipher_ops.specs.declared.job.Job.{Job}
@@ -30,18 +29,17 @@ use Rattle.rule_model.specs.declared.facts.Brought.{Brought}
 use Rattle.rule_model.specs.declared.facts.Caller.{Caller}
 use Rattle.rule_model.specs.declared.reply.Fields.{Fields}
 use Rattle.rule_model.specs.declared.reply.Reply.{Reply}
-use Rattle.rule_model.specs.declared.reply.Reply.TheVariants.{Done, Broken, Stopped}
+use Rattle.rule_model.specs.declared.reply.Reply.TheVariants.{Done, Stopped}
 use Rattle.rule_model.specs.Acts.{is_begin, is_connect, is_enter, is_restart}
 use Rattle.rule_model.specs.Answer as model
 use Rattle.rule_model.specs.Answer.{answer, answer_by_rules}
-use Rattle.rule_model.specs.Blobs.{device_at, root_given}
-use Rattle.rule_model.specs.Changes.{change_of}
+use Rattle.rule_model.specs.Blobs.{root_given}
 use Rattle.rule_model.specs.Clients.{caller_of}
 use Rattle.rule_model.specs.Drawn.{is_entropy_fault, size_of, wanted}
 use Rattle.rule_model.specs.Entries.{History, admits, count_of, is_done}
 use Rattle.rule_model.specs.Jobs.{IsJobOn, IsJobOut, Stays}
-use Rattle.rule_model.specs.Kept.{is_live, kept, open_of, operation_at, operation_change}
-use Rattle.rule_model.specs.Legal.{MayFollow, is_ready}
+use Rattle.rule_model.specs.Kept.{is_live, open_of, operation_at, operation_change}
+use Rattle.rule_model.specs.Legal.{MayFollow}
 use Rattle.rule_model.specs.Operations.{Closes, Enters as EntersOne, Open, SameOperations, as_entered, has_number, is_busy, limited_key, open_after, step_of}
 use Rattle.rule_model.specs.Replies.{broken_or, no_fields}
 use Rattle.rule_model.specs.Settling.{is_disk_fault, is_unsettled as waits}
@@ -61,16 +59,16 @@ use Rattle.keystore_core.specs.Keys.{AreSettled, KeysStand, SameKeys}
 use Rattle.keystore_core.specs.Leaving.{ClosesOne}
 use Rattle.keystore_core.specs.Operations.{IsRow, changed, has_row, operation_in, rows_in}
 use Rattle.keystore_core.specs.Slots.{IsSlot}
-use Rattle.keystore_core.specs.Stepping.{ClosesIf, IsRoomAt, SendsJob, entering, used_by, used_for, used_in}
-use Rattle.keystore_core.specs.Tables.{AnswersAfter, IsCaller, IsLegal, SameTables, TablesStand, event_by, row_at}
+use Rattle.keystore_core.specs.Stepping.{ClosesIf, IsRoomAt, SendsJob, entering, used_by, used_in}
+use Rattle.keystore_core.specs.Tables.{AnswersAfter, IsCaller, IsLegal, TablesStand, event_by, row_at}
 use Rattle.keystore_core.specs.Tickets as out
 use Rattle.keystore_core.specs.Tickets.{BusyWith, IsOut, SameOut, tickets_given}
-use Rattle.keystore_core.specs.Writing.{Full, IsWritten, IsWrittenIf, Made, StoreGoes, Torn, change_for, used_of}
+use Rattle.keystore_core.specs.Writing.{Full, IsWrittenIf, Made, StoreGoes, Torn, change_for, used_of}
 use Rattle.keystore_core.proofs.Alike.{alike_change}
 use Rattle.keystore_core.proofs.Booted.{boot_stays}
 use Rattle.keystore_core.proofs.KeyTable.{keys_stay}
 use Rattle.keystore_core.proofs.Opened.{found_apart, found_changed, is_other, stays_by, stays_same}
-use Rattle.keystore_core.proofs.Standing.{busy_after, called, clients_stay, count_grows, denied_tables, quiet, rows_after, same_but_keys, slots_after, still, uncounted}
+use Rattle.keystore_core.proofs.Standing.{busy_after, called, clients_stay, count_grows, denied_tables, quiet, rows_after, same_but_keys, slots_after, uncounted}
 use Rattle.keystore_core.proofs.Stepped.{closed_tables, enter_begins, enter_boot, enter_change, enter_clients, enter_connects, enter_enters, enter_ticket, facts_at, is_idle, job_on, row_found, row_named, slot_found, slot_named}
 use Rattle.keystore_core.proofs.Written.{told_follows, told_keys}
 

@@ -1,25 +1,20 @@
 -- Only a restart is answered that another store was read.
 use Rattle.rule_model.specs.Tickets.{next_ticket}
 use Rattle.rule_model.specs.StepFacts.{brought_by, brought_by_abort, step_facts}
-use Rattle.rule_model.specs.Stored.{stored_bytes}
 use Rattle.rule_model.specs.Slots.{begin_facts, pruned_for}
-use Rattle.rule_model.specs.Operations.{challenge_of, nonce_size}
+use Rattle.rule_model.specs.Operations.{challenge_of}
 use Rattle.rule_model.specs.NewFacts.{import_of, new_facts}
-use Rattle.rule_model.specs.Kept.{has_busy, key_found, open_of}
+use Rattle.rule_model.specs.Kept.{has_busy, key_found}
 use Rattle.rule_model.specs.Access.{id_by}
 use Rattle.rule_model.specs.Entries.{count_of}
-use Rattle.rule_model.specs.Clients.{caller_of}
-use Rattle.rule_model.specs.Changes.{change_of, new_blob, owner_for, planned}
+use Rattle.rule_model.specs.Changes.{new_blob, owner_for, planned}
 use Rattle.rule_model.specs.Blobs.{device_at}
 use Rattle.rule_model.specs.Calls.{add_auth_token_ruling, clear_namespace_ruling, counted_in, delete_key_ruling, disconnect_ruling, early_boot_ended_ruling, get_key_entry_ruling, grant_ruling, listed_in, listing_ruling, ungrant_ruling, user_call_ruling}
 use Rattle.rule_model.specs.Boot.{has_early_ended}
-use Rattle.rule_model.specs.Acts.{is_begin, is_connect}
+use Rattle.rule_model.specs.Acts.{is_begin}
 use Rattle.step_rules.specs.Table as step_table
 use Rattle.use_rules.specs.Table as begin_table
-use Rattle.use_rules.specs.declared.facts.BeginFacts.{BeginFacts}
 use Rattle.key_rules.specs.Creation.{new_key}
-use Rattle.tags.specs.declared.rule.RuleTable.TheVariants.{L}
-use Rattle.tags.specs.declared.code.Code.TheVariants.{InvalidArgument, NoTicket}
 use Rattle.std.proofs.Common.{◌≡◌, ℕ, ◌+◌, Bool, true, false, ◌==◌, if◌then◌else◌, List, [], length, Option, Some, None, Result, Ok, Err, refl, subst, sym}
 use Rattle.std.specs.Option.{ok_or}
 use Rattle.tags.specs.declared.code.Code.{Code}

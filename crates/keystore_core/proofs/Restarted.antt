@@ -1,5 +1,5 @@
 -- A restart: the tables after one that is admitted, and after one that has not happened.
-use Rattle.std.proofs.Common.{◌≡◌, inl, ◌⊎◌, ℕ, Bool, true, false, ◌&&◌, not, if◌then◌else◌, List, [], ◌∷◌, Option, Some, None, refl, sym, ap, ◌∙◌, subst}
+use Rattle.std.proofs.Common.{◌≡◌, inl, ℕ, Bool, true, false, ◌&&◌, if◌then◌else◌, List, [], ◌∷◌, Option, None, refl, sym, ap, ◌∙◌, subst}
 use Rattle.tags.specs.declared.code.Code.{Code}
 use Rattle.tags.specs.declared.secrets.DeviceSecrets.{DeviceSecrets}
 use Rattle.tags.specs.declared.code.Code.TheVariants.{SystemError, ValueCorrupted}
@@ -12,7 +12,7 @@ use Rattle.key_database.specs.declared.database.KeyDatabase.{KeyDatabase}
 use Rattle.key_database.specs.Stands.{Holds, is_unsettled, lasting, store_bytes}
 use Rattle.key_database.specs.Store.{Between, MayBe}
 use Rattle.cipher_ops.specs.declared.state.CipherState.{CipherState}
-use Rattle.operation_slots.specs.Table.{SlotTable, has_number, held, operations_of}
+use Rattle.operation_slots.specs.Table.{SlotTable, held, operations_of}
 use Rattle.rule_model.specs.declared.entry.Entry.TheVariants.{Acted}
 use Rattle.rule_model.specs.declared.event.Act.TheVariants.{Restart}
 use Rattle.rule_model.specs.declared.event.Event.{Event}

@@ -1,13 +1,12 @@
 -- A step of an open operation: that its work may go out, its answer, and the tables after it.
-use Rattle.std.proofs.Common.{◌≡◌, ◌&&◌, ℕ, ◌+◌, ◌≤◌, Bool, true, false, not, ◌==◌, if◌then◌else◌, List, [], ◌∷◌, length, find, Option, Some, None, option_map, Ok, Err, is_some, IsTrue, refl, sym, ap, ◌∙◌, subst, arith, length-append}
+use Rattle.std.proofs.Common.{◌≡◌, ◌&&◌, ℕ, Bool, true, false, not, ◌==◌, if◌then◌else◌, List, [], ◌∷◌, length, Option, Some, None, option_map, Ok, Err, is_some, IsTrue, refl, sym, ap, ◌∙◌, subst, arith, length-append}
 use Rattle.std.proofs.Math.Bridge.{le_prop}
 use Rattle.std.proofs.Props.{props}
-use Rattle.std.proofs.lemmas.Bool.{eqb-true, eq-eqb}
 use mathlib.Core.Logic.{∥∥₁_prop}
 use Rattle.tags.specs.declared.code.Code.{Code}
 use Rattle.tags.specs.declared.plan.Plan.{Plan}
 use Rattle.tags.specs.declared.rule.Rule.{Rule}
-use Rattle.tags.specs.Plan.{OPERATION_BYTES, may_end}
+use Rattle.tags.specs.Plan.{may_end}
 use Rattle.step_rules.specs.declared.facts.StepFacts.{StepFacts}
 use Rattle.step_rules.specs.Rules.{Enters}
 use Rattle.step_rules.specs.Table as step_table
@@ -36,35 +35,31 @@ use Rattle.rule_model.specs.Acts.{is_begin, is_connect, is_enter}
 use Rattle.rule_model.specs.Answer.{answer_by_rules}
 use Rattle.rule_model.specs.Replies.{broken_or, no_fields}
 use Rattle.rule_model.specs.Clients.{SameClients as NoClients, caller_of, client_change}
-use Rattle.rule_model.specs.Entries.{History, admits, count_of, is_done}
-use Rattle.rule_model.specs.Jobs.{HasJob, IsJobOn, IsJobOut, Stays}
+use Rattle.rule_model.specs.Entries.{History, admits, is_done}
+use Rattle.rule_model.specs.Jobs.{IsJobOn, Stays}
 use Rattle.rule_model.specs.Kept.{is_live, open_of, operation_at, operation_change}
 use Rattle.rule_model.specs.Boot.{SameBoot as NoBoot, boot_change}
 use Rattle.rule_model.specs.Legal.{MayFollow, Answered, is_ready}
-use Rattle.rule_model.specs.Operations.{Closes, Enters as EntersOne, Open, SameOperations, closes, has_number, is_busy, open_after, operation_of, step_of, used_key}
+use Rattle.rule_model.specs.Operations.{Closes, Enters as EntersOne, Open, SameOperations, closes, has_number, is_busy, operation_of, used_key}
 use Rattle.rule_model.specs.Setup.{Setup}
 use Rattle.rule_model.specs.StepFacts.{brought_by, brought_by_abort, facts_of, has_ended, step_facts}
-use Rattle.rule_model.specs.Tickets.{Entered, GoesOut, SameTickets as NoTickets, next_ticket, ticket_after, ticket_at, ticket_change}
-use Rattle.rule_model.specs.Settling.{is_disk_fault}
+use Rattle.rule_model.specs.Tickets.{GoesOut, SameTickets as NoTickets, next_ticket, ticket_change}
 use Rattle.rule_model.specs.Stored.{stored_bytes, where_stored}
 use Rattle.rule_model.proofs.Kept.{denied_stands, denied_stored, quiet_stored}
 use Rattle.keystore_core.specs.declared.operations.Operation.{Operation as Row}
-use Rattle.keystore_core.specs.declared.operations.RowChange.TheVariants.{Enters as RowEnters}
 use Rattle.keystore_core.specs.declared.tables.Tables.{Tables}
-use Rattle.keystore_core.specs.declared.tickets.Out.{Out}
 use Rattle.keystore_core.specs.Alike.{BothFound}
 use Rattle.keystore_core.specs.Keys.{KeysStand}
 use Rattle.keystore_core.specs.Leaving.{ClosesOne}
-use Rattle.keystore_core.specs.Operations.{IsRow, changed, has_row, rows_in}
+use Rattle.keystore_core.specs.Operations.{IsRow, has_row, rows_in}
 use Rattle.keystore_core.specs.Slots.{IsKept, IsSlot, IsStateOf}
-use Rattle.keystore_core.specs.Stepping.{CanWork, ClosesIf, Denies, IsRoomAt, MayGrow, SendsJob, entering}
-use Rattle.keystore_core.specs.Tables.{AnswersAfter, IsCaller, SameTables, TablesStand, event_by, row_at, state_at}
-use Rattle.keystore_core.specs.Tickets.{BusyWith, SameOut, tickets_given}
-use Rattle.keystore_core.proofs.Alike.{alike_change, alike_filter, alike_found}
+use Rattle.keystore_core.specs.Stepping.{CanWork, ClosesIf, Denies, IsRoomAt, MayGrow, entering}
+use Rattle.keystore_core.specs.Tables.{AnswersAfter, IsCaller, TablesStand, event_by, row_at, state_at}
+use Rattle.keystore_core.proofs.Alike.{alike_filter, alike_found}
 use Rattle.keystore_core.proofs.Booted.{boot_stays}
 use Rattle.keystore_core.proofs.KeyTable.{keys_stay}
-use Rattle.keystore_core.proofs.Opened.{found_apart, found_changed, is_other, stays_by, stays_same, without_keeps}
-use Rattle.keystore_core.proofs.Standing.{busy_after, called, clients_stay, count_grows, denied_tables, quiet, rows_after, same_tables, slots_after, tickets_stay, uncounted}
+use Rattle.keystore_core.proofs.Opened.{is_other, stays_by, stays_same, without_keeps}
+use Rattle.keystore_core.proofs.Standing.{called, clients_stay, count_grows, denied_tables, rows_after, same_tables, slots_after, tickets_stay, uncounted}
 
 -- the tests of a row and a slot are those of the open operation
 pub row_named : (op : ℕ) (row : Row) (o : Open) → IsRow row o → has_row op row ≡ has_number op o

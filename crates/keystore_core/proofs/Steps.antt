@@ -1,13 +1,12 @@
 -- A step of the engine: what it settles first, and then the entry of its event.
-use Rattle.std.proofs.Common.{◌≡◌, ◌⊎◌, inl, inr, ℕ, ◌+◌, Bool, true, false, ◌&&◌, List, [], ◌∷◌, length, Option, Some, None, Ok, IsTrue, ⊎_elim, refl, sym, ap, ◌∙◌, subst, arith}
+use Rattle.std.proofs.Common.{◌≡◌, inl, inr, ℕ, ◌+◌, true, false, List, [], ◌∷◌, length, Option, Some, None, Ok, ⊎_elim, refl, sym, ◌∙◌, subst, arith}
 use Rattle.tags.specs.declared.code.Code.TheVariants.{SystemError}
 use Rattle.tags.specs.declared.settled.Settled.{Settled}
 use Rattle.tags.specs.declared.settled.Settled.TheVariants.{Kept, Lost}
 use Rattle.ks_outside.specs.declared.disk.Disk.{Ghosts}
 use Rattle.ks_outside.specs.Images.{Passes}
-use Rattle.ks_outside.proofs.Joins.{passes_as, passes_on}
+use Rattle.ks_outside.proofs.Joins.{passes_on}
 use Rattle.journal_records.specs.Holding.{Holding, Sure, Unsure, settled_in}
-use Rattle.key_database.specs.declared.database.KeyDatabase.{KeyDatabase}
 use Rattle.key_database.specs.Stands.{Holds, is_unsettled}
 use Rattle.key_database.specs.Store.{Between, MayBe}
 use Rattle.cipher_ops.specs.declared.job.Done.{Done as JobDone}
@@ -20,21 +19,19 @@ use Rattle.rule_model.specs.declared.reply.Reply.TheVariants.{Stopped}
 use Rattle.rule_model.specs.Acts.{fixed_for}
 use Rattle.rule_model.specs.Entries.{History, after_settling, after_step}
 use Rattle.rule_model.specs.Jobs.{HasDone, IsDoneOut, Stays}
-use Rattle.rule_model.specs.Legal.{Legal, LegalBefore, MaySettleFirst, MayStep, NotSettled, is_ready}
-use Rattle.rule_model.specs.Settling.{is_unsettled as waits}
+use Rattle.rule_model.specs.Legal.{Legal, LegalBefore, MaySettleFirst, MayStep, NotSettled}
 use Rattle.rule_model.specs.Setup.{Setup}
 use Rattle.rule_model.specs.Stored.{holding_of}
 use Rattle.rule_model.specs.Operations.{step_of}
 use Rattle.rule_model.specs.Tickets.{Entered, ticket_at}
-use Rattle.rule_model.specs.Uses.{IsStored}
 use Rattle.rule_model.proofs.Kept.{same_holding, settled_holding_is, waiting_stored}
 use Rattle.rule_model.proofs.Legal.{goes_on, legal_step}
 use Rattle.keystore_core.specs.declared.answered.Answered.{Answered}
 use Rattle.keystore_core.specs.declared.engine.Engine.{Engine}
 use Rattle.keystore_core.specs.declared.tables.Tables.{Tables}
-use Rattle.keystore_core.specs.Engine.{MayHold, MayHoldEither, Stands, entries_made}
+use Rattle.keystore_core.specs.Engine.{MayHoldEither, Stands, entries_made}
 use Rattle.keystore_core.specs.Settling.{HasNotSettled, HasSettled, after_first}
-use Rattle.keystore_core.specs.Tables.{AnswersAfter, AnswersAt, IsAt, IsLegal, StandsAt, TablesStand}
+use Rattle.keystore_core.specs.Tables.{AnswersAfter, IsAt, StandsAt, TablesStand}
 use Rattle.keystore_core.specs.Writing.{StoreAnswers}
 use Rattle.keystore_core.proofs.Standing.{not_made}
 use Rattle.keystore_core.proofs.Storing.{store_goes_on, store_passes}

@@ -1,5 +1,5 @@
 -- What is known of the store goes on over an act, and over a step.
-use Rattle.std.proofs.Common.{◌≡◌, ◌⊎◌, ℕ, Bool, true, false, ◌&&◌, not, if◌then◌else◌, List, [], ◌∷◌, Option, Some, None, option_map, Result, Ok, Err, refl, sym, ap, ◌∙◌, subst}
+use Rattle.std.proofs.Common.{◌≡◌, ℕ, Bool, true, false, ◌&&◌, not, if◌then◌else◌, List, [], ◌∷◌, Option, None, option_map, Result, Ok, Err, refl, sym, ap, ◌∙◌, subst}
 use Rattle.std.specs.Prelude.{IfOk}
 use Rattle.std.specs.Option.{option_or}
 use Rattle.tags.specs.declared.policy.PolicyRow.{PolicyRow}
@@ -7,8 +7,6 @@ use Rattle.tags.specs.declared.secrets.DeviceSecrets.{DeviceSecrets}
 use Rattle.tags.specs.declared.settled.Settled.TheVariants.{Kept, Lost}
 use Rattle.tags.specs.declared.bytes.NoMemory.{NoMemory}
 use Rattle.tags.specs.declared.code.Code.TheVariants.{MemoryAllocationFailed}
-use Rattle.tags.specs.declared.rule.Rule.{Rule}
-use Rattle.tags.specs.declared.code.Code.{Code}
 use Rattle.ks_outside.specs.declared.disk.Disk.{Ghosts}
 use Rattle.ks_outside.specs.Images.{Passes}
 use Rattle.journal_records.specs.declared.change.Change.{Change}
@@ -16,9 +14,8 @@ use Rattle.journal_records.specs.declared.change.Change.TheVariants as changes
 use Rattle.journal_records.specs.Holding.{Holding, Sure, Unsure}
 use Rattle.journal_records.specs.LastingPart.{Lasting}
 use Rattle.key_database.specs.declared.database.KeyDatabase.{KeyDatabase}
-use Rattle.key_database.specs.Stands.{Holds, SameStore, is_unsettled, lasting}
+use Rattle.key_database.specs.Stands.{Holds, is_unsettled, lasting}
 use Rattle.key_database.specs.Store.{Between}
-use Rattle.key_database.proofs.Rereading.{one_store_same}
 use Rattle.cipher_ops.specs.declared.job.Done.{Done as JobDone}
 use Rattle.rule_model.specs.declared.entry.Entry.TheVariants.{Acted, Settling}
 use Rattle.rule_model.specs.declared.event.Act.{Act}
@@ -46,7 +43,7 @@ use Rattle.keystore_core.specs.Writing.{LeavesStore, StoreAnswers, StoreGoes, St
 use Rattle.keystore_core.proofs.KeyTable.{none_waits}
 use Rattle.keystore_core.proofs.Stepped.{row_found}
 use Rattle.keystore_core.proofs.Entered.{same_used, use_option}
-use Rattle.keystore_core.proofs.Written.{denied_goes, leaves_goes, no_change_for, quiet_goes}
+use Rattle.keystore_core.proofs.Written.{leaves_goes, no_change_for, quiet_goes}
 
 -- ---- an act
 

@@ -1,13 +1,12 @@
 -- What an act does to the store: the keys after it, and how what is known of the disk goes on.
-use Rattle.std.proofs.Common.{◌≡◌, ◌⊎◌, inl, inr, ℕ, ◌+◌, ◌-◌, ◌<◌, ◌≤◌, Bool, true, false, ◌&&◌, not, if◌then◌else◌, List, [], ◌∷◌, ◌++◌, length, Option, Some, None, Result, Ok, Err, refl, sym, ap, ◌∙◌, subst, arith}
+use Rattle.std.proofs.Common.{◌≡◌, inl, inr, ℕ, ◌+◌, ◌-◌, ◌<◌, ◌≤◌, Bool, true, false, if◌then◌else◌, List, [], ◌∷◌, length, Option, Some, None, refl, sym, ap, ◌∙◌, subst, arith}
 use Rattle.std.specs.Prelude.{is_some}
 use Rattle.std.proofs.lemmas.Bool.{cases_lt, le-leb, leb-true}
 use Rattle.std.proofs.lemmas.List.{length-append}
 use Rattle.tags.specs.declared.code.Code.{Code}
-use Rattle.tags.specs.declared.code.Code.TheVariants.{JournalFull, MemoryAllocationFailed, SystemError}
+use Rattle.tags.specs.declared.code.Code.TheVariants.{JournalFull, SystemError}
 use Rattle.ks_outside.specs.declared.disk.Disk.{Ghosts}
 use Rattle.ks_outside.specs.Faults.{CountsFaults, Rises}
-use Rattle.ks_outside.specs.Images.{Passes, tells}
 use Rattle.ks_outside.proofs.Joins.{passes_none}
 use Rattle.journal_records.specs.declared.change.Change.{Change}
 use Rattle.journal_records.specs.Effects.{after}
@@ -27,21 +26,18 @@ use Rattle.rule_model.specs.declared.reply.Reply.{Reply}
 use Rattle.rule_model.specs.declared.reply.Reply.TheVariants.{Done, Broken, Stopped}
 use Rattle.rule_model.specs.Acts.{is_restart}
 use Rattle.rule_model.specs.Answer.{answer}
-use Rattle.rule_model.specs.Blobs.{root_of}
-use Rattle.rule_model.specs.Changes.{after_change, change_of}
 use Rattle.rule_model.specs.Drawn.{size_of, wanted}
 use Rattle.rule_model.specs.Entries.{History, is_done}
 use Rattle.rule_model.specs.Jobs.{HasJob}
-use Rattle.rule_model.specs.Kept.{kept}
 use Rattle.rule_model.specs.Legal.{MayFollow, Answered as AnsweredBy, Faulted}
-use Rattle.rule_model.specs.Blobs.{device_at, root_given}
+use Rattle.rule_model.specs.Blobs.{root_given}
 use Rattle.rule_model.specs.Settling.{is_disk_fault, is_system_error, is_unsettled as waits}
 use Rattle.rule_model.specs.Setup.{Setup}
-use Rattle.rule_model.specs.Stored.{after_reply, bytes_with, change_by, has_record_room, record_bytes, stored_bytes, where_stored}
-use Rattle.rule_model.proofs.Kept.{SameStored, changes_kept, denied_stored, made_stored, none_changed, torn_stored, unchanged_stored}
+use Rattle.rule_model.specs.Stored.{after_reply, change_by, has_record_room, record_bytes, stored_bytes, where_stored}
+use Rattle.rule_model.proofs.Kept.{changes_kept, denied_stored, made_stored, none_changed, torn_stored, unchanged_stored}
 use Rattle.keystore_core.specs.declared.answered.Answered.{Answered}
 use Rattle.keystore_core.specs.declared.tables.Tables.{Tables}
-use Rattle.keystore_core.specs.Keys.{AreSettled, KeysStand, SameKeys}
+use Rattle.keystore_core.specs.Keys.{AreSettled, KeysStand}
 use Rattle.keystore_core.proofs.KeyTable.{keys_stay, none_waits}
 use Rattle.keystore_core.proofs.Ready.{idle_ready, idle_settled}
 use Rattle.keystore_core.specs.Writing.{Full, HasMade, IsTorn, IsWritten, IsWrittenIf, LeavesStore, Made, StoreGoes, StoreGoesFor, Torn, change_for, use_by}

@@ -1,5 +1,5 @@
 -- What settling before an act leaves.
-use Rattle.std.specs.Prelude.{◌≡◌, Bool, true, Option, Some, None, Result, Ok, Err, IsTrue}
+use Rattle.std.specs.Prelude.{◌≡◌, true, Option, Some, None, Result, Ok, Err, IsTrue}
 use Rattle.tags.specs.declared.settled.Settled.{Settled}
 use Rattle.journal_records.specs.Holding.{Holding, settled_in}
 use Rattle.rule_model.specs.declared.event.Act.{Act}

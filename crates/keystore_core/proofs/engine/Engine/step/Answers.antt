@@ -78,7 +78,7 @@ returns-clause-same g c = λ setup past stands held told. ∥∥₁_elim c.requi
     let after = c.answer-answered.ensures.answers t.setup (after_settling c.in-Ok.settled t.past) (rw c.entries_made.ensures (stands_mid t.setup t.past c.args.self.now c.settle_first.new.self c.args.event c.in-Ok.settled c.args.done t.stands has t.back_is)) in
     never_other t.setup (after_settling c.in-Ok.settled t.past) c.args.event c.answer-answered.result.drawn c.answer-answered.result.reply
     (λ restarts. c.answer-answered.ensures.same (holding_of setup (after_settling c.in-Ok.settled past))
-        (held_mid g.D.Disk setup past c.args.self.now.tables c.settle_first.new.self c.answer-answered.new.self c.args.disk.now c.settle_first.new.disk c.answer-answered.new.disk c.args.event c.in-Ok.settled c.answer-answered.result
-        (c.in-Ok.ensures.stands setup past stands.tables) c.in-Ok.ensures.ready c.in-Ok.ensures.holds c.answer-answered.ensures.store held)
-        (c.in-Ok.ensures.telling ∙ told) restarts)
+    (held_mid g.D.Disk setup past c.args.self.now.tables c.settle_first.new.self c.answer-answered.new.self c.args.disk.now c.settle_first.new.disk c.answer-answered.new.disk c.args.event c.in-Ok.settled c.answer-answered.result
+    (c.in-Ok.ensures.stands setup past stands.tables) c.in-Ok.ensures.ready c.in-Ok.ensures.holds c.answer-answered.ensures.store held)
+    (c.in-Ok.ensures.telling ∙ told) restarts)
     (after.follows has.ready))

@@ -1,4 +1,4 @@
-use Rattle.std.proofs.Common.{◌≡◌, sym, ◌∙◌}
+use Rattle.std.proofs.Common.{sym, ◌∙◌}
 use Rattle.key_database.specs.Stands.{lasting}
 use Rattle.keystore_core.proofs.KeyTable.{found_live}
 use Rattle.keystore_core.proofs.tables.Tables.delete_key.Goals as goal

@@ -1,5 +1,4 @@
-use Rattle.std.proofs.Common.{◌≡◌, false, Some, ap, sym, refl, subst, ◌∙◌}
-use Rattle.rule_model.specs.Entries.{is_done}
+use Rattle.std.proofs.Common.{false, Some, ap, sym, subst, ◌∙◌}
 use Rattle.rule_model.specs.Replies.{no_fields}
 use mathlib.Core.Logic.{∥∥₁_elim}
 use denote.Struct.Props.{≡_prop}
@@ -9,16 +8,11 @@ use Rattle.operation_slots.specs.Table.{held}
 use Rattle.rule_model.specs.Kept.{is_live, operation_at}
 use Rattle.keystore_core.specs.Tables.{row_at}
 use Rattle.std.proofs.Math.Bool.{Bool-set}
-use Rattle.journal_records.specs.declared.change.Change.TheVariants as changes
-use Rattle.key_database.proofs.Rereading.{one_store_same}
-use Rattle.rule_model.specs.declared.reply.Reply.TheVariants.{Stopped}
-use Rattle.rule_model.specs.Settling.{is_disk_fault}
 use Rattle.rule_model.specs.StepFacts.{brought_by}
-use Rattle.keystore_core.specs.Stepping.{entering, used_by, used_in}
-use Rattle.keystore_core.specs.Writing.{IsWrittenIf, StoreGoes}
-use Rattle.keystore_core.proofs.Entered.{closed_store, entered_after, entering_change, entering_restarts, goes_into, is_told, unspent_after, use_met}
+use Rattle.keystore_core.specs.Stepping.{used_by, used_in}
+use Rattle.keystore_core.specs.Writing.{StoreGoes}
+use Rattle.keystore_core.proofs.Entered.{entered_after, entering_change, entering_restarts, goes_into, is_told, unspent_after, use_met}
 use Rattle.keystore_core.proofs.Standing.{few_tickets, same_but_tickets, still}
-use Rattle.keystore_core.proofs.Written.{denied_goes, quiet_goes}
 use Rattle.keystore_core.proofs.Stepped.{CanWork-prop, MayGrow-prop, can_work, ends_idle, idle_facts, may_grow, refused, row_found, slot_found, step_enters}
 use Rattle.keystore_core.proofs.tables.Tables.enter.Goals as goal
 

@@ -1,4 +1,4 @@
-use Rattle.std.proofs.Common.{◌≡◌, ℕ, ◌+◌, ◌<◌, ◌^◌, true, length, ap, sym, ◌∙◌, arith}
+use Rattle.std.proofs.Common.{◌≡◌, ◌+◌, ◌<◌, ◌^◌, true, length, ap, sym, ◌∙◌, arith}
 use Rattle.key_database.specs.Stands.{lasting}
 use Rattle.key_rules.specs.declared.facts.NewFacts.{NewFacts}
 use Rattle.keymint_ops.specs.Creation.{planned}

@@ -1,4 +1,4 @@
-use Rattle.std.proofs.Common.{◌≡◌, sym, ◌∙◌}
+use Rattle.std.proofs.Common.{sym, ◌∙◌}
 use Rattle.key_database.specs.Stands.{lasting}
 use Rattle.keystore_core.proofs.KeyTable.{grant_held}
 use Rattle.keystore_core.proofs.tables.Tables.ungrant.Goals as goal
