@@ -7,7 +7,7 @@ use Rattle.rule_model.specs.declared.act_kind.ActRow.{ActRow}
 use Rattle.rule_model.specs.declared.event.Act.{Act}
 use Rattle.rule_model.specs.declared.event.Act.TheVariants as acts
 
--- a call of a client: it takes memory, draws nothing, settles first, and is not built yet
+-- a call of a client: it takes memory, draws nothing, and settles first
 abbrev pub call : ℕ → ActRow
 call number = record { number = number; has_client = true; takes_memory = true; draws = false; settles = true; enters = false }
 

@@ -5,7 +5,7 @@
 #![tactic(auto)]
 
 mod act_kind;
-mod built;
+mod acts;
 mod entry;
 mod event;
 mod event_copy;
