@@ -19,6 +19,7 @@ pub mod Entered
 pub mod Left
 pub mod Shown
 pub mod OtherStore
+pub mod Completing
 pub mod Steps
 pub mod Users
 pub mod BeginKeys

@@ -19,4 +19,5 @@ pub mod Restarting
 pub mod Settling
 pub mod Beginning
 pub mod Stepping
+pub mod Complete
 pub mod Engine

@@ -6,7 +6,7 @@ ghost use Rattle.ks_outside.specs.Shown.{Drew};
 ghost use Rattle.tags.specs.declared.code.Code.TheVariants.{SystemError};
 ghost use Rattle.rule_model.specs.declared.reply.Reply.TheVariants as replies;
 ghost use Rattle.rule_model.specs.Drawn.{is_entropy_fault};
-ghost use Rattle.rule_model.specs.Entries.{History, after_step};
+ghost use Rattle.rule_model.specs.Entries.{History, after_settling, after_step};
 ghost use Rattle.rule_model.specs.Jobs.{HasDone, HasJob, Stays};
 ghost use Rattle.rule_model.specs.Legal.{MayStep};
 ghost use Rattle.rule_model.specs.Setup.{Setup};
@@ -15,6 +15,7 @@ ghost use Rattle.journal_records.specs.LastingPart.{Lasting, empty_lasting};
 ghost use Rattle.key_database.specs.Store.{StandsFor};
 ghost use Rattle.ks_outside.specs.Faults.{CountsFaults, HasCause};
 ghost use Rattle.ks_outside.specs.Images.{AllImages, Passes, TornFrom, tells};
+ghost use Rattle.keystore_core.specs.Complete.{GivesAnswer, HasNoFault};
 ghost use Rattle.keystore_core.specs.Restarting.{is_other_store};
 ghost use Rattle.keystore_core.specs.Engine.{entries_made as made_by, fault_of};
 ghost use Rattle.keystore_core.specs.Tables.{IsTables};
@@ -177,7 +178,7 @@ impl Engine {
     /// for goes on by one step: what it settled, and the event with the bytes that were drawn for it and the reply. There is a
     /// job exactly where the reply gives a ticket, which an admitted enter alone does. It is the work of its operation, and
     /// stays so as long as the ticket is out. The bytes are those that the entropy gave, and a draw failed exactly where the
-    /// reply says so.
+    /// reply says so. Where no call failed, the reply is that of the rules, or memory was wanting.
     pub fn step<D: Disk, N: Entropy>(
         &mut self,
         disk: &mut D,
@@ -203,6 +204,9 @@ impl Engine {
             Passes D.Disk disk.old disk.new (MayHoldEither setup past (after_step result.settled event result.drawn result.reply past)) }
         ensures same { (setup : Setup) (past : History) → Stands setup self.old past → StoreStands D.Disk setup self.old disk.old past →
             tells D.Disk disk.old ≡ true → is_other_store result.reply ≡ false }
+        ensures complete { (setup : Setup) (past : History) → Stands setup self.old past → HasDone setup past event.act done →
+            HasNoFault (D.fault_count disk.old) (D.fault_count disk.new) → HasNoFault (N.fault_count entropy.old) (N.fault_count entropy.new) →
+            GivesAnswer setup (after_settling result.settled past) event result.drawn result.reply }
         ensures sure { D.is_sure disk.old → D.is_sure disk.new }
         ensures telling { tells D.Disk disk.new ≡ tells D.Disk disk.old }
         ensures cause { CountsFaults (D.fault_count disk.old) (D.fault_count disk.new) (is_disk_fault result.reply) }

@@ -1,9 +1,10 @@
-use Rattle.std.proofs.Common.{refl, ap, ◌∙◌}
+use Rattle.std.proofs.Common.{refl, sym, ap, ◌∙◌}
 use Rattle.rule_model.specs.Entries.{after_settling}
 use Rattle.rule_model.specs.Stored.{holding_of}
 use Rattle.keystore_core.specs.declared.engine.Engine.{Engine}
 use mathlib.Core.Logic.{∥∥₁_elim, ∥∥₁_map}
 use Rattle.std.proofs.Math.Bool.{Bool-set}
+use Rattle.keystore_core.proofs.Completing.{gives_answer, none_failed, none_rose}
 use Rattle.keystore_core.proofs.OtherStore.{never_other}
 use Rattle.keystore_core.proofs.Steps.{held_mid, held_not, is_at, may_not, may_step, stands_mid, stands_not, stands_on, stays_not, stays_on, store_moments, store_steps}
 use Rattle.keystore_core.proofs.engine.Engine.step.Goals as goal
@@ -82,3 +83,15 @@ returns-clause-same g c = λ setup past stands held told. ∥∥₁_elim c.requi
     (c.in-Ok.ensures.stands setup past stands.tables) c.in-Ok.ensures.ready c.in-Ok.ensures.holds c.answer-answered.ensures.store held)
     (c.in-Ok.ensures.telling ∙ told) restarts)
     (after.follows has.ready))
+
+pub returns-in-Err-clause-complete : goal.returns-in-Err-clause-complete
+returns-in-Err-clause-complete g c = λ setup past stands done disk entropy. absurd (none_rose _ _ disk c.in-Err.ensures.cause.rises)
+
+pub returns-clause-complete : goal.returns-clause-complete
+returns-clause-complete g c = λ setup past stands done disk entropy.
+    let has = c.in-Ok.ensures.stands setup past stands.tables in
+    let may = may_step setup past c.args.self.now c.settle_first.new.self c.args.event c.in-Ok.settled c.args.done stands has c.answer-answered.new.self c.answer-answered.result
+    (c.answer-answered.ensures.answers setup (after_settling c.in-Ok.settled past) (rw c.entries_made.ensures (stands_mid setup past c.args.self.now c.settle_first.new.self c.args.event c.in-Ok.settled c.args.done stands has done))) in
+    gives_answer setup (after_settling c.in-Ok.settled past) c.args.event c.answer-answered.result.drawn c.answer-answered.result.reply may.follows
+    (none_failed _ _ _ (record { same = disk.same ∙ sym c.in-Ok.ensures.cause.same; below = disk.below }) c.answer-answered.ensures.store.cause)
+    (none_failed _ _ _ entropy c.answer-answered.ensures.drew.faults)
