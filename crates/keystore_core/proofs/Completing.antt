@@ -1,5 +1,5 @@
 -- A step in which no call of the disk or of the entropy failed.
-use Rattle.std.proofs.Common.{◌≡◌, ◌⊎◌, inl, inr, ℕ, Bool, true, false, List, IsTrue, refl, subst, arith}
+use Rattle.std.proofs.Common.{◌≡◌, inl, inr, ℕ, Bool, true, false, List, IsTrue, refl, subst, arith}
 use Rattle.tags.specs.declared.code.Code.{Code}
 use Rattle.tags.specs.declared.code.Code.TheVariants.{SystemError, ValueCorrupted}
 use Rattle.ks_outside.specs.Faults.{CountsFaults, Rises}
