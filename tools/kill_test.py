@@ -209,7 +209,6 @@ class Client:
     def settle(self, run):
         """Asks for each key, and takes what was under way as the store has it."""
         doubt, self.doubt = self.doubt, None
-        self.under_way += doubt is not None
         for alias in ALIASES:
             reply = run.ask(c=1, do="getKeyEntry", key=descriptor(alias))
             given = (reply["key"], reply.get("uses")) if reply["code"] == 0 else None
@@ -263,6 +262,8 @@ class Client:
         except Killed:
             if waiting is not None:
                 self.doubt = waiting
+            elif self.doubt is not None:
+                self.under_way += 1
             run.end()
 
 
@@ -274,6 +275,7 @@ def main():
     words = parser.parse_args()
     program = words.program.resolve()
     clients = []
+    kills = 0
     try:
         for first in range(0, words.kills, KILLS_PER_STORE):
             client = Client(f"{words.seed} {first}")
@@ -282,11 +284,12 @@ def main():
                 subprocess.run([program, "init"], cwd=folder, check=True)
                 for _ in range(min(KILLS_PER_STORE, words.kills - first)):
                     client.go(Run(program, folder, client.random.uniform(0, LONGEST)))
+                    kills += 1
     except Lost as lost:
-        print(f"after {words.kills} kills at most: {lost}")
+        print(f"after {kills} kills: {lost}")
         return 1
     counts = [sum(getattr(client, name) for client in clients) for name in ("answered", "changes", "uses", "under_way", "found")]
-    print("{} kills: {} lines answered, {} changes and {} uses acknowledged, all there;".format(words.kills, *counts[:3]))
+    print("{} kills: {} lines answered, {} changes and {} uses acknowledged, all there;".format(kills, *counts[:3]))
     print("{} changes under way at a kill, of which {} had come".format(*counts[3:]))
     return 0
 

@@ -27,7 +27,7 @@ use Rattle.rule_model.specs.Setup.{Setup}
 use Rattle.keystore_program.specs.declared.status.Status.{Status}
 use Rattle.keystore_program.specs.declared.status.Status.TheVariants as statuses
 use Rattle.keystore_program.specs.declared.words.Form.TheVariants.{Run}
-use Rattle.keystore_program.specs.Complete.{AreFaultless, Completes, GivesAll, HasNoFault, IsPlain, IsReady, Wanting, Whole, settlings_of}
+use Rattle.keystore_program.specs.Complete.{AreFaultless, Completes, GivesAll, HasNoFault, IsOpenedOn, IsPlain, IsReady, Wanting, Whole, settlings_of}
 use Rattle.keystore_program.specs.Drawn.{DrewAll}
 use Rattle.keystore_program.specs.Ends.{Ends, EndsOk}
 use Rattle.keystore_program.specs.Follows.{Follows}
@@ -136,7 +136,7 @@ module _ {S K D N : Type 0} (s : SourceGhosts S) (k : SinkGhosts K) (d : DiskGho
         undrawn = none_counted (undrawn_of history) entropy drew.faults;
       }
 
-  module _ (g : Given) (start : Lasting) (bytes : List ℕ) (old new : Outside S K D N) (told : s.content old.source ≡ Some bytes) (few : length bytes < 2 ^ 30) (short : AreLines (lines_of bytes)) (fine : AreFaultless s k d n old new) where
+  module _ (g : Given) (fresh : Bool) (start : Lasting) (bytes : List ℕ) (old new : Outside S K D N) (told : s.content old.source ≡ Some bytes) (few : length bytes < 2 ^ 30) (short : AreLines (lines_of bytes)) (fine : AreFaultless s k d n old new) where
     -- the whole source was served
     whole : (setup : Setup) (begin : D) → tells d begin ≡ true → HasNoFault (d.fault_count begin) (d.fault_count new.disk) → EndsOk s k d n setup (record old { disk = begin }) new → GivesAll s k d n setup bytes old new
     whole setup begin tells_begin disk ends =
@@ -154,26 +154,26 @@ module _ {S K D N : Type 0} (s : SourceGhosts S) (k : SinkGhosts K) (d : DiskGho
         }
 
     -- a run whose store was opened, by its status
-    opened_completes : (setup : Setup) (begin : D) (status : Status) → IsSetup setup g → setup.start ≡ start → tells d begin ≡ true → d.fault_count begin ≡ d.fault_count old.disk
-        → Ends s k d n setup (record old { disk = begin }) new status → Completes s k d n g start bytes old new status
-    opened_completes setup begin statuses.Ok is starts tells_begin same ends = Whole setup is starts (whole setup begin tells_begin (no_fault_since same fine.disk) ends) refl
-    opened_completes setup begin statuses.Memory is starts tells_begin same ends = Wanting refl
-    opened_completes setup begin statuses.ReadFault is starts tells_begin same ends = absurd (not_risen fine.source (ends.amid.took.faults.rises refl))
-    opened_completes setup begin statuses.WriteFault is starts tells_begin same ends = absurd (not_risen fine.sink (ends.put.faults.rises refl))
-    opened_completes setup begin (statuses.LineTooLong line) is starts tells_begin same ends =
+    opened_completes : (setup : Setup) (begin : D) (status : Status) → IsSetup setup g → IsOpenedOn d fresh setup old.disk → setup.start ≡ start → tells d begin ≡ true → d.fault_count begin ≡ d.fault_count old.disk
+        → Ends s k d n setup (record old { disk = begin }) new status → Completes s k d n g fresh start bytes old new status
+    opened_completes setup begin statuses.Ok is opens starts tells_begin same ends = Whole setup is opens starts (whole setup begin tells_begin (no_fault_since same fine.disk) ends) refl
+    opened_completes setup begin statuses.Memory is opens starts tells_begin same ends = Wanting refl
+    opened_completes setup begin statuses.ReadFault is opens starts tells_begin same ends = absurd (not_risen fine.source (ends.amid.took.faults.rises refl))
+    opened_completes setup begin statuses.WriteFault is opens starts tells_begin same ends = absurd (not_risen fine.sink (ends.put.faults.rises refl))
+    opened_completes setup begin (statuses.LineTooLong line) is opens starts tells_begin same ends =
         let taken = front_taken (s.content old.source) (s.content new.source) bytes (ended ends.lines ++ ends.rest) told ends.amid.took.bytes in
         absurd (omega (arith, rest_short bytes taken.0 ends.rest ends.lines taken.1 ends.amid.short short ends.amid.free, ends.long))
-    opened_completes setup begin statuses.ScriptTooLong is starts tells_begin same ends =
+    opened_completes setup begin statuses.ScriptTooLong is opens starts tells_begin same ends =
         let taken = front_taken (s.content old.source) (s.content new.source) bytes (ended ends.lines ++ ends.rest) told ends.amid.took.bytes in
         let grown : length bytes ≡ length (ended ends.lines ++ ends.rest) + length taken.0 = ap length taken.1 ∙ length-append (ended ends.lines ++ ends.rest) taken.0 in
         absurd (omega (arith, few, grown, ends.many))
-    opened_completes setup begin statuses.DiskFault is starts tells_begin same ends = absurd ends
-    opened_completes setup begin statuses.Usage is starts tells_begin same ends = absurd ends
-    opened_completes setup begin (statuses.Corrupted offset) is starts tells_begin same ends = absurd ends
-    opened_completes setup begin statuses.ListenFault is starts tells_begin same ends = absurd ends
+    opened_completes setup begin statuses.DiskFault is opens starts tells_begin same ends = absurd ends
+    opened_completes setup begin statuses.Usage is opens starts tells_begin same ends = absurd ends
+    opened_completes setup begin (statuses.Corrupted offset) is opens starts tells_begin same ends = absurd ends
+    opened_completes setup begin statuses.ListenFault is opens starts tells_begin same ends = absurd ends
 
     -- one whose store was not opened
-    refused_completes : (disk : D) (status : Status) → AllImages d disk (IsStoreOf start) → tells d disk ≡ true → d.fault_count disk ≡ d.fault_count old.disk → IsRefused d disk new.disk status → Completes s k d n g start bytes old new status
+    refused_completes : (disk : D) (status : Status) → AllImages d disk (IsStoreOf start) → tells d disk ≡ true → d.fault_count disk ≡ d.fault_count old.disk → IsRefused d disk new.disk status → Completes s k d n g fresh start bytes old new status
     refused_completes disk statuses.Memory images tells_disk same refused = Wanting refl
     refused_completes disk statuses.DiskFault images tells_disk same refused = absurd (not_risen (no_fault_since same fine.disk) refused.refuses)
     refused_completes disk (statuses.Corrupted offset) images tells_disk same refused = absurd (refused.refuses.no_store start images tells_disk)
@@ -185,22 +185,24 @@ module _ {S K D N : Type 0} (s : SourceGhosts S) (k : SinkGhosts K) (d : DiskGho
     refused_completes disk statuses.ScriptTooLong images tells_disk same refused = absurd refused.refuses
     refused_completes disk statuses.ListenFault images tells_disk same refused = absurd refused.refuses
 
+  module _ (g : Given) (start : Lasting) (bytes : List ℕ) (old new : Outside S K D N) (told : s.content old.source ≡ Some bytes) (few : length bytes < 2 ^ 30) (short : AreLines (lines_of bytes)) (fine : AreFaultless s k d n old new) where
     -- a run over the store that is there, and one over an empty store
-    stored_completes : (status : Status) → AllImages d old.disk (IsStoreOf start) → tells d old.disk ≡ true → Runs s k d n g (λ opened. old.disk) old new status → Completes s k d n g start bytes old new status
-    stored_completes status images tells_disk (Opened opened runs) = opened_completes runs.setup old.disk status runs.is (runs.read.finds start images tells_disk) tells_disk refl runs.ends
-    stored_completes status images tells_disk (Refused untouched refused) = refused_completes old.disk status images tells_disk refl refused
+    stored_completes : (status : Status) → AllImages d old.disk (IsStoreOf start) → tells d old.disk ≡ true → Runs s k d n g (λ opened. old.disk) old new status → Completes s k d n g false start bytes old new status
+    stored_completes status images tells_disk (Opened opened runs) =
+        opened_completes g false start bytes old new told few short fine runs.setup old.disk status runs.is (opened, runs.read) (runs.read.finds start images tells_disk) tells_disk refl runs.ends
+    stored_completes status images tells_disk (Refused untouched refused) = refused_completes g false start bytes old new told few short fine old.disk status images tells_disk refl refused
 
-    fresh_completes : (status : Status) → start ≡ empty_lasting → tells d old.disk ≡ true → RunsFresh s k d n g old new status → Completes s k d n g start bytes old new status
+    fresh_completes : (status : Status) → start ≡ empty_lasting → tells d old.disk ≡ true → RunsFresh s k d n g old new status → Completes s k d n g true start bytes old new status
     fresh_completes status nothing tells_disk (Formatted formatted is (Opened opened runs)) =
-        opened_completes runs.setup opened status runs.is (runs.read.finds empty_lasting is.empty (is.telling ∙ tells_disk) ∙ sym nothing)
+        opened_completes g true start bytes old new told few short fine runs.setup opened status runs.is (formatted, opened, is, runs.read) (runs.read.finds empty_lasting is.empty (is.telling ∙ tells_disk) ∙ sym nothing)
         (runs.read.unwritten.telling ∙ is.telling ∙ tells_disk) (runs.read.unwritten.count ∙ is.count) runs.ends
     fresh_completes status nothing tells_disk (Formatted formatted is (Refused untouched refused)) =
-        refused_completes formatted status (subst (λ (part : Lasting). AllImages d formatted (IsStoreOf part)) (sym nothing) is.empty) (is.telling ∙ tells_disk) is.count refused
+        refused_completes g true start bytes old new told few short fine formatted status (subst (λ (part : Lasting). AllImages d formatted (IsStoreOf part)) (sym nothing) is.empty) (is.telling ∙ tells_disk) is.count refused
     fresh_completes status nothing tells_disk (Unformatted untouched torn) = absurd (not_risen fine.disk torn.rises)
 
   -- what a form of a run does is complete
   pub does_complete : (device : DeviceSecrets) (policy : List PolicyRow) (fresh : Bool) (slots : ℕ) (start : Lasting) (bytes : List ℕ) (old new : Outside S K D N) (status : Status)
-      → Does s k d n device policy (Run fresh slots) old new status → IsReady s k d n fresh start bytes old → AreFaultless s k d n old new → Completes s k d n (given device policy slots) start bytes old new status
+      → Does s k d n device policy (Run fresh slots) old new status → IsReady s k d n fresh start bytes old → AreFaultless s k d n old new → Completes s k d n (given device policy slots) fresh start bytes old new status
   does_complete device policy false slots start bytes old new status does ready fine =
       stored_completes (given device policy slots) start bytes old new ready.told ready.few ready.short fine status ready.store ready.tells_disk does
   does_complete device policy true slots start bytes old new status does ready fine =

@@ -21,7 +21,7 @@ use Rattle.keystore_program.specs.Drawn.{DrewAll}
 use Rattle.keystore_program.specs.Follows.{Follows}
 use Rattle.keystore_program.specs.Kept.{estranged_of, failed_of}
 use Rattle.keystore_program.specs.Lines.{AreLines, SCRIPT_BYTES, lines_of}
-use Rattle.keystore_program.specs.Runs.{Given, IsSetup}
+use Rattle.keystore_program.specs.Runs.{Given, IsFormatted, IsRead, IsSetup}
 
 -- how many entries settle an earlier change
 abbrev pub settlings_of : History → ℕ
@@ -45,6 +45,11 @@ pub record HasNoFault (before now : ℕ) : Type 0 where
 abbrev pub BeginsWith : {D : Type 0} → DiskGhosts D → Bool → D → Lasting → Type 0
 BeginsWith d false disk start = AllImages d disk (StandsFor start)
 BeginsWith d true disk start = start ≡ empty_lasting
+
+-- the store of the disk was read, after it was made where it is to be made anew
+abbrev pub IsOpenedOn : {D : Type 0} → DiskGhosts D → Bool → Setup → D → Type 0
+IsOpenedOn {D = D} d false setup disk = (opened : D) × IsRead d setup disk opened
+IsOpenedOn {D = D} d true setup disk = (formatted : D) × (opened : D) × IsFormatted d disk formatted × IsRead d setup formatted opened
 
 module _ {S K D N : Type 0} (s : SourceGhosts S) (k : SinkGhosts K) (d : DiskGhosts D) (n : EntropyGhosts N) where
   -- no call of the source, the sink, the disk or the entropy failed
@@ -76,6 +81,7 @@ module _ {S K D N : Type 0} (s : SourceGhosts S) (k : SinkGhosts K) (d : DiskGho
     pub holds : AllImages d new.disk (MayHold setup history)
 
   -- the run ended with status 0 and all of it, over the lasting part that its store stood for; or memory was wanting
-  pub data Completes (g : Given) (start : Lasting) (bytes : List ℕ) (old new : Outside S K D N) (status : Status) : Type 0 where
-    Whole : (setup : Setup) → IsSetup setup g → setup.start ≡ start → GivesAll setup bytes old new → status ≡ statuses.Ok → Completes g start bytes old new status
-    Wanting : status ≡ statuses.Memory → Completes g start bytes old new status
+  pub data Completes (g : Given) (fresh : Bool) (start : Lasting) (bytes : List ℕ) (old new : Outside S K D N) (status : Status) : Type 0 where
+    Whole : (setup : Setup) → IsSetup setup g → IsOpenedOn d fresh setup old.disk → setup.start ≡ start → GivesAll setup bytes old new → status ≡ statuses.Ok
+        → Completes g fresh start bytes old new status
+    Wanting : status ≡ statuses.Memory → Completes g fresh start bytes old new status

@@ -180,7 +180,7 @@ pub fn run_words<S: Source, K: Sink, D: Disk, N: Entropy>(
     ensures complete { (fresh : Bool) (slots : ℕ) (start : Lasting) (bytes : List ℕ) → form_said words.now ≡ Some (Form.Run fresh slots) →
         IsReady S.Source K.Sink D.Disk N.Entropy fresh start bytes (outside source.old sink.old disk.old entropy.old) →
         AreFaultless S.Source K.Sink D.Disk N.Entropy (outside source.old sink.old disk.old entropy.old) (outside source.new sink.new disk.new entropy.new) →
-        Completes S.Source K.Sink D.Disk N.Entropy (given device.now policy.now slots) start bytes
+        Completes S.Source K.Sink D.Disk N.Entropy (given device.now policy.now slots) fresh start bytes
         (outside source.old sink.old disk.old entropy.old) (outside source.new sink.new disk.new entropy.new) result }
 
     // A read failed exactly where the status says so, and so did a write. Where the status says that the disk failed it did.

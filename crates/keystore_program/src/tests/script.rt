@@ -125,7 +125,7 @@ impl Script {
         failing: &[u64],
     ) -> Result<(), Fail> {
         let given = self.run_by(rt, alloc, words, failing)?;
-        self.compare(rt, given.as_str());
+        self.compare(rt, given);
         Ok(())
     }
 
@@ -138,17 +138,18 @@ impl Script {
         disk: &mut D,
     ) -> Result<(), Fail> {
         let given = text_on(rt, alloc, words, self.asked.as_str(), disk)?;
-        self.compare(rt, given.as_str());
+        self.compare(rt, given);
         Ok(())
     }
 
     /// Compares what the lines got, line by line.
-    fn compare(&self, rt: &impl Abort, given: &str) {
-        let mut replies = given.split('\n');
+    fn compare(&self, rt: &impl Abort, given: String) {
+        let mut replies = given.as_str().split('\n');
         let mut asked = self.asked.as_str().split('\n');
         for want in self.wanted.as_str().split('\n') {
             let line = asked.next().unwrap_or("");
-            same(rt, line, replies.next().unwrap_or(""), want);
+            let reply = replies.next().unwrap_or("");
+            same(rt, line, reply, want);
         }
         assert_eq!(rt; given.len(), self.wanted.len());
     }
