@@ -1,5 +1,5 @@
 -- A listener since a service of connections began.
-use Rattle.std.specs.Prelude.{◌≡◌, ◌⊎◌, ◌<◌, ◌+◌, ℕ, Bool, true, false, ◌||◌, ◌==◌}
+use Rattle.std.specs.Prelude.{◌≡◌, ◌<◌, ◌+◌, ℕ, Bool, true, ◌||◌, ◌==◌}
 use Rattle.ks_outside.specs.Carried.{Listened}
 use Rattle.ks_outside.specs.declared.listener.Listener.{Ghosts as ListenerGhosts}
 use Rattle.connection_workers.specs.declared.intake.Start.{Start}

@@ -28,7 +28,6 @@ pub struct Intake<B> {
 /// An intake has no entries; it is known by what it began with.
 impl<B: Listener> History<(), Start<B>> for Intake<B> {
     ghost use Rattle.std.specs.Prelude.{[]};
-
     ghost use Rattle.connection_workers.specs.Intakes.{IsIntake};
 
     ghost entries = { λ _. [] };

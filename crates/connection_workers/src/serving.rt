@@ -44,8 +44,9 @@ fn let_all_in<B: HangsUp, A: Answerer + Drop>(
     ensures passes { AllLetIn lock.now workers.new }
     ensures same { SameAnswerers workers.old workers.new }
 {
-    for worker in workers {
-        worker.let_in(lock.another(maker));
+    'passes: for place in 0..workers.len() {
+        let pass = lock.another(maker);
+        workers[place].let_in(pass);
     }
 }
 
@@ -56,9 +57,12 @@ fn serve_together<R: Threads + Wait + Sync, B: HangsUp + Send, A: Answerer + Sen
     lock: &IntakeLock<B>,
     workers: &mut [Worker<B, A>],
 )
+where
+    B::L: Send,
     requires some { 0 < length workers.old }
     requires passes { AllLetIn lock.now workers.old }
     requires free { AllFree A.connected workers.old }
+    ensures count { length workers.new ≡ length workers.old }
     ensures served { AllServed A.answers A.connected workers.old workers.new }
 {
     let count = workers.len();
@@ -83,6 +87,22 @@ fn intake_of<B: HangsUp + Drop>(lock: IntakeLock<B>, closing: IntakeClosing<B>) 
     intake
 }
 
+/// Has the first worker serve what is left.
+fn finish<R: Wait, B: HangsUp, A: Answerer + Drop>(
+    rt: &R,
+    alloc: Global,
+    intake: &mut Intake<B>,
+    workers: &mut [Worker<B, A>],
+)
+    requires some { 0 < length workers.old }
+    requires free { AllFree A.connected workers.old }
+    ensures served { AllServed A.answers A.connected workers.old workers.new }
+    ensures goes_on { (start : Start B) → IsIntake B.Listener start intake.old → IsIntake B.Listener start intake.new }
+    ensures shut { is_shut intake.new ≡ true }
+{
+    workers[0].finish(rt, alloc, intake);
+}
+
 /// The listener of an intake that is shut, and how it ended.
 fn ended<B: HangsUp>(intake: Intake<B>) -> (B, Attendance)
     requires shut { is_shut intake ≡ true }
@@ -90,7 +110,9 @@ fn ended<B: HangsUp>(intake: Intake<B>) -> (B, Attendance)
         → IsAttended B.Listener start.connections start.begin.value result.0 result.1 }
 {
     let Intake {
-        listener, failed, ..
+        listener,
+        failed,
+        ..
     } = intake;
     if failed {
         (listener, Attendance::ListenFault)
@@ -101,17 +123,15 @@ fn ended<B: HangsUp>(intake: Intake<B>) -> (B, Attendance)
 
 /// Serves so many connections of a listener, or as many as come, by workers to whose answerers no client has come. Where no thread can be
 /// made they work one after another; what they leave the first of them serves in the end. It takes memory for a lock alone.
-pub fn serve_all<
-    R: Threads + Wait + Sync,
-    B: HangsUp + Send + Drop,
-    A: Answerer + Send + Drop,
->(
+pub fn serve_all<R: Threads + Wait + Sync, B: HangsUp + Send + Drop, A: Answerer + Send + Drop>(
     rt: &R,
     alloc: Global,
     listener: B,
     connections: u64,
     workers: &mut [Worker<B, A>],
 ) -> (B, Attendance)
+where
+    B::L: Send,
     requires some { 0 < length workers.old }
     requires free { AllFree A.connected workers.old }
     ensures attended { IsAttended B.Listener connections listener result.0 result.1 }
@@ -136,6 +156,6 @@ pub fn serve_all<
     let own = lock.another(&mut maker);
     let closing = lock.last_turn(rt, own, maker);
     let mut intake = intake_of(lock, closing);
-    workers[0].finish(rt, alloc, &mut intake);
+    finish(rt, alloc, &mut intake, workers);
     ended(intake)
 }
