@@ -41,7 +41,7 @@ fn says_full(reply: &Reply) -> bool
 }
 
 /// Whether an act is a connect.
-fn is_connect(act: &Act) -> bool
+pub(crate) fn is_connect(act: &Act) -> bool
     ensures { result ≡ acts.is_connect act.now }
 {
     match act {

@@ -1,11 +1,13 @@
 //! Connections in memory, and who answers a connect with client 1 and all else with no field.
 
-ghost use Rattle.std.specs.Prelude.{◌≡◌, ◌<◌, ◌^◌, length};
-ghost use Rattle.rule_model.specs.declared.event.Act.{Act as GhostAct};
-ghost use Rattle.rule_model.specs.declared.reply.Reply.{Reply as GhostReply};
-ghost use Rattle.wire_frames.specs.Spelling.{IsRequest};
+ghost use Rattle.std.specs.Prelude.{◌≡◌, ◌≢◌, ◌<◌, ◌^◌, true, false, length};
+ghost use Rattle.wire_frames.specs.Spelling.{is_framed};
 ghost use Rattle.wire_frames.specs.Replies.{reply_body};
+ghost use Rattle.rule_model.specs.Entries.{is_done};
+ghost use Rattle.rule_model.specs.declared.event.Act.TheVariants.{Disconnect};
+ghost use Rattle.connections.specs.Talks.{is_refusal};
 
+use crate::answering::is_connect;
 use crate::{Answerer, End, serve_link};
 use ks_outside::MemoryLink;
 use rule_model::{Act, Fields, NO_FIELDS, Reply};
@@ -27,6 +29,7 @@ struct Stub {
 #[tactic(auto, unfolding(wire_frames::specs::Replies::reply_body))]
 fn first_client() -> Reply
     ensures short { length (reply_body result) < 2 ^ 32 }
+    ensures done { is_done result ≡ true }
 {
     Reply::Done(Fields {
         client: Some(1),
@@ -38,6 +41,7 @@ fn first_client() -> Reply
 #[tactic(auto, unfolding(wire_frames::specs::Replies::reply_body))]
 fn nothing() -> Reply
     ensures short { length (reply_body result) < 2 ^ 32 }
+    ensures made { is_refusal result ≡ false }
 {
     Reply::Done(NO_FIELDS)
 }
@@ -46,9 +50,21 @@ fn nothing() -> Reply
 #[tactic(auto, unfolding(wire_frames::specs::Replies::reply_body))]
 fn full() -> Reply
     ensures short { length (reply_body result) < 2 ^ 32 }
+    ensures refused { is_done result ≡ false }
 {
     Reply::Stopped {
         code: Code::RunFull,
+    }
+}
+
+/// Whether an act is a disconnect.
+fn is_disconnect(act: &Act) -> bool
+    ensures yes { result ≡ true → is_framed act.now ≡ false }
+    ensures no { result ≡ false → act.now ≢ Disconnect }
+{
+    match act {
+        Act::Disconnect => true,
+        _ => false,
     }
 }
 
@@ -59,30 +75,20 @@ impl Answerer for Stub {
 
     fn answer<R: Wait>(self, _rt: &R, request: Request) -> (Stub, Reply) {
         let Stub { left, joined } = self;
-        match request.act() {
-            Act::Disconnect => (
-                Stub {
-                    left,
-                    joined: false,
-                },
-                nothing(),
-            ),
-            _ if left == 0 => (Stub { left, joined }, full()),
-            Act::Connect { .. } => (
-                Stub {
-                    left: left - 1,
-                    joined: true,
-                },
-                first_client(),
-            ),
-            _ => (
-                Stub {
-                    left: left - 1,
-                    joined,
-                },
-                nothing(),
-            ),
+        if is_disconnect(request.act()) {
+            let joined = false;
+            return (Stub { left, joined }, nothing());
         }
+        let connects = is_connect(request.act());
+        if left == 0 {
+            return (Stub { left, joined }, full());
+        }
+        let left = left - 1;
+        if connects {
+            let joined = true;
+            return (Stub { left, joined }, first_client());
+        }
+        (Stub { left, joined }, nothing())
     }
 }
 

@@ -13,11 +13,10 @@ const PIECE: usize = 16384;
 /// How long a read waits, in milliseconds.
 const PATIENCE: u64 = 500;
 
-/// Closes a connection so that what was written still comes to the peer. A socket that is closed with bytes unread takes back what is on its
+/// Ends a connection so that what was written still comes to the peer. A socket that is closed with bytes unread takes back what is on its
 /// way. So the writing side is shut down first; then what the peer still sends is read and thrown away, until its end, or a failure, or 64
-/// pieces of at most 16,384 bytes, for each of which is waited half a second at most; and then the socket is closed.
-pub(crate) fn close(stream: TcpStream) {
-    let mut stream = stream;
+/// pieces of at most 16,384 bytes, for each of which is waited half a second at most. The socket may be closed behind it.
+pub(crate) fn close(stream: &mut TcpStream) {
     if stream.shutdown(Shutdown::Write).is_err() {
         return;
     }

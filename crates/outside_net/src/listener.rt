@@ -4,7 +4,6 @@ ghost use Rattle.std.specs.Prelude.{◌≡◌, IfOk, IsSome};
 ghost use Rattle.ks_outside.specs.Faults.{HasCause, count_after};
 ghost use Rattle.ks_outside.specs.Listening.{given_after, ended_after};
 
-use crate::closing::close;
 use ks_outside::{Failed, FaultCount, Listener, StreamLink};
 use std::net::{Ipv4Addr, Net, TcpListener, TcpStream};
 
@@ -90,12 +89,12 @@ impl Listener for PortListener {
         }
     }
 
-    /// Closes the connection, so that what was written to it still comes to the peer.
+    /// Closes the connection.
     fn done(&mut self, link: StreamLink<TcpStream>)
         ensures gives { self.new.given ≡ self.old.given }
         ensures ends { self.new.ended ≡ self.old.ended }
         ensures faults { self.new.faults.count ≡ self.old.faults.count }
     {
-        close(link.into_stream());
+        drop(link);
     }
 }

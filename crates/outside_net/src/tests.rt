@@ -1,6 +1,6 @@
 //! A client over loopback.
 
-use crate::{PortListener, listen};
+use crate::{HangsUp, PortListener, listen};
 use ks_outside::{Link, Listener, StreamLink};
 use std::io::{Read, Write};
 use std::net::{Ipv4Addr, Net, TcpStream};
@@ -39,7 +39,7 @@ fn a_connection_over_loopback(rt: HostRuntime) -> Result<(), Fail> {
     assert_eq!(rt; (link.read(&mut heard), &heard), (Ok(5), b"hello"));
     assert_eq!(rt; link.write(b"world"), Ok(5));
     client.write_all(&[7; 40000])?;
-    listener.done(link);
+    listener.done(PortListener::hang_up(link));
     let mut answer = [0; 16];
     assert_eq!(rt; all_of(&mut client, &mut answer), Some(5));
     assert_eq!(rt; &answer[..5], b"world".as_slice());
