@@ -57,7 +57,10 @@ static PLANNED: [Call; 6] = [
 fn links_in_memory(rt: HostRuntime) -> Result<(), Fail> {
     let mut link = MemoryLink::with_room(rt.alloc(), b"abcde", 3, 1, &[2, 5])?;
     assert!(rt; answers_all(&mut link, &PLANNED));
-    assert_eq!(rt; (link.left(), link.written()), (b"".as_slice(), b"xyz".as_slice()));
+    assert_eq!(rt;
+        (link.left(), link.written()),
+        (b"".as_slice(), b"xyz".as_slice())
+    );
     assert_eq!(rt; (link.pieces(), link.faults()), ([3].as_slice(), 2));
     Ok(())
 }
@@ -122,11 +125,17 @@ fn a_listener_in_memory(rt: HostRuntime) -> Result<(), Fail> {
     let mut listener = MemoryListener::with_links(rt.alloc(), two(rt.alloc())?, &[2])?;
     assert_eq!(rt; next_left(&mut listener), Some(b"a".as_slice()));
     assert_eq!(rt; next_left(&mut listener), None);
-    assert_eq!(rt; (listener.faults(), listener.given(), listener.ended()), (1, 1, 0));
+    assert_eq!(rt;
+        (listener.faults(), listener.given(), listener.ended()),
+        (1, 1, 0)
+    );
     assert_eq!(rt; next_left(&mut listener), Some(b"b".as_slice()));
     assert_eq!(rt; next_left(&mut listener), None);
     assert_eq!(rt; next_left(&mut listener), None);
-    assert_eq!(rt; (listener.faults(), listener.given(), listener.ended()), (1, 2, 2));
+    assert_eq!(rt;
+        (listener.faults(), listener.given(), listener.ended()),
+        (1, 2, 2)
+    );
     assert_eq!(rt; listener.served().len(), 2);
     Ok(())
 }
@@ -165,7 +174,10 @@ fn clocks(rt: HostRuntime) {
         boot: 3,
         wall: None,
     };
-    assert_eq!(rt; MachineClock::new(&unset).now(), Reading { boot: 3, wall: 0 });
+    assert_eq!(rt;
+        MachineClock::new(&unset).now(),
+        Reading { boot: 3, wall: 0 }
+    );
     let machine = MachineClock::new(&rt);
     let (first, second) = (machine.now(), machine.now());
     assert!(rt; first.wall > 1_577_836_800_000 && first.boot <= second.boot);
