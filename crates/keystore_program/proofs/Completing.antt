@@ -24,10 +24,12 @@ use Rattle.rule_model.specs.Entries.{History}
 use Rattle.rule_model.specs.Legal.{Legal, LegalBefore}
 use Rattle.rule_model.specs.Settling.{is_disk_fault, is_faulted, is_unsettled}
 use Rattle.rule_model.specs.Setup.{Setup}
+use Rattle.keystore_core.specs.Complete.{HasNoFault}
+use Rattle.keystore_core.proofs.Completing.{none_rose}
 use Rattle.keystore_program.specs.declared.status.Status.{Status}
 use Rattle.keystore_program.specs.declared.status.Status.TheVariants as statuses
 use Rattle.keystore_program.specs.declared.words.Form.TheVariants.{Run}
-use Rattle.keystore_program.specs.Complete.{AreFaultless, Completes, GivesAll, HasNoFault, IsOpenedOn, IsPlain, IsReady, Wanting, Whole, settlings_of}
+use Rattle.keystore_program.specs.Complete.{AreFaultless, Completes, GivesAll, IsOpenedOn, IsPlain, IsReady, Wanting, Whole, settlings_of}
 use Rattle.keystore_program.specs.Drawn.{DrewAll}
 use Rattle.keystore_program.specs.Ends.{Ends, EndsOk}
 use Rattle.keystore_program.specs.Follows.{Follows}
@@ -112,10 +114,6 @@ all_known content bytes taken e known = subst (λ (o : Option (List ℕ)). IfSom
 
 -- ---- counts that stayed
 
-not_risen : {before now : ℕ} → HasNoFault before now → Rises before now → ⊥
-not_risen fine (inl rose) = omega (arith, rose, fine.same)
-not_risen fine (inr most) = omega (arith, most.0, fine.same, fine.below)
-
 -- as many as a count rose, which stayed
 none_counted : {before now : ℕ} (n : ℕ) → HasNoFault before now → (now < 2 ^ 64 - 1 → n + before ≤ now) → n ≡ 0
 none_counted n fine counted = omega (arith, fine.same, counted fine.below)
@@ -158,8 +156,8 @@ module _ {S K D N : Type 0} (s : SourceGhosts S) (k : SinkGhosts K) (d : DiskGho
         → Ends s k d n setup (record old { disk = begin }) new status → Completes s k d n g fresh start bytes old new status
     opened_completes setup begin statuses.Ok is opens starts tells_begin same ends = Whole setup is opens starts (whole setup begin tells_begin (no_fault_since same fine.disk) ends) refl
     opened_completes setup begin statuses.Memory is opens starts tells_begin same ends = Wanting refl
-    opened_completes setup begin statuses.ReadFault is opens starts tells_begin same ends = absurd (not_risen fine.source (ends.amid.took.faults.rises refl))
-    opened_completes setup begin statuses.WriteFault is opens starts tells_begin same ends = absurd (not_risen fine.sink (ends.put.faults.rises refl))
+    opened_completes setup begin statuses.ReadFault is opens starts tells_begin same ends = absurd (none_rose _ _ fine.source (ends.amid.took.faults.rises refl))
+    opened_completes setup begin statuses.WriteFault is opens starts tells_begin same ends = absurd (none_rose _ _ fine.sink (ends.put.faults.rises refl))
     opened_completes setup begin (statuses.LineTooLong line) is opens starts tells_begin same ends =
         let taken = front_taken (s.content old.source) (s.content new.source) bytes (ended ends.lines ++ ends.rest) told ends.amid.took.bytes in
         absurd (omega (arith, rest_short bytes taken.0 ends.rest ends.lines taken.1 ends.amid.short short ends.amid.free, ends.long))
@@ -175,7 +173,7 @@ module _ {S K D N : Type 0} (s : SourceGhosts S) (k : SinkGhosts K) (d : DiskGho
     -- one whose store was not opened
     refused_completes : (disk : D) (status : Status) → AllImages d disk (IsStoreOf start) → tells d disk ≡ true → d.fault_count disk ≡ d.fault_count old.disk → IsRefused d disk new.disk status → Completes s k d n g fresh start bytes old new status
     refused_completes disk statuses.Memory images tells_disk same refused = Wanting refl
-    refused_completes disk statuses.DiskFault images tells_disk same refused = absurd (not_risen (no_fault_since same fine.disk) refused.refuses)
+    refused_completes disk statuses.DiskFault images tells_disk same refused = absurd (none_rose _ _ (no_fault_since same fine.disk) refused.refuses)
     refused_completes disk (statuses.Corrupted offset) images tells_disk same refused = absurd (refused.refuses.no_store start images tells_disk)
     refused_completes disk statuses.Ok images tells_disk same refused = absurd refused.refuses
     refused_completes disk statuses.Usage images tells_disk same refused = absurd refused.refuses
@@ -198,7 +196,7 @@ module _ {S K D N : Type 0} (s : SourceGhosts S) (k : SinkGhosts K) (d : DiskGho
         (runs.read.unwritten.telling ∙ is.telling ∙ tells_disk) (runs.read.unwritten.count ∙ is.count) runs.ends
     fresh_completes status nothing tells_disk (Formatted formatted is (Refused untouched refused)) =
         refused_completes g true start bytes old new told few short fine formatted status (subst (λ (part : Lasting). AllImages d formatted (IsStoreOf part)) (sym nothing) is.empty) (is.telling ∙ tells_disk) is.count refused
-    fresh_completes status nothing tells_disk (Unformatted untouched torn) = absurd (not_risen fine.disk torn.rises)
+    fresh_completes status nothing tells_disk (Unformatted untouched torn) = absurd (none_rose _ _ fine.disk torn.rises)
 
   -- what a form of a run does is complete
   pub does_complete : (device : DeviceSecrets) (policy : List PolicyRow) (fresh : Bool) (slots : ℕ) (start : Lasting) (bytes : List ℕ) (old new : Outside S K D N) (status : Status)

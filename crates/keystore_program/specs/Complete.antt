@@ -1,5 +1,5 @@
 -- Completeness of a run: what it gives where no call fails and its script is within the limits.
-use Rattle.std.specs.Prelude.{◌≡◌, ℕ, ◌+◌, ◌-◌, ◌^◌, ◌<◌, Bool, true, false, List, [], ◌∷◌, length, Some}
+use Rattle.std.specs.Prelude.{◌≡◌, ℕ, ◌+◌, ◌<◌, Bool, true, false, List, [], ◌∷◌, length, Some}
 use Rattle.std.specs.Io.KnownBytes.{IsAtEnd}
 use Rattle.ks_outside.specs.Images.{AllImages, tells}
 use Rattle.ks_outside.specs.Shown.{Outside, Put}
@@ -14,6 +14,7 @@ use Rattle.rule_model.specs.Drawn.{undrawn_of}
 use Rattle.rule_model.specs.Entries.{History}
 use Rattle.rule_model.specs.Legal.{Legal}
 use Rattle.rule_model.specs.Setup.{Setup}
+use Rattle.keystore_core.specs.Complete.{HasNoFault}
 use Rattle.keystore_core.specs.Engine.{MayHold}
 use Rattle.keystore_program.specs.declared.status.Status.{Status}
 use Rattle.keystore_program.specs.declared.status.Status.TheVariants as statuses
@@ -35,11 +36,6 @@ pub record IsPlain (history : History) : Type 0 where
   pub failures : failed_of history ≡ 0
   pub estranged : estranged_of history ≡ 0
   pub undrawn : undrawn_of history ≡ 0
-
--- no call failed between two moments: a count of faults stayed, below its greatest value
-pub record HasNoFault (before now : ℕ) : Type 0 where
-  pub same : now ≡ before
-  pub below : now < 2 ^ 64 - 1
 
 -- what the store of a run stands for when it is opened: what the disk does, or nothing where it is made anew
 abbrev pub BeginsWith : {D : Type 0} → DiskGhosts D → Bool → D → Lasting → Type 0
