@@ -9,6 +9,8 @@
 
 mod intake;
 mod serving;
+#[cfg(test)]
+mod tests;
 mod worker;
 
 pub use intake::{Intake, IntakeLock, IntakePass, Start};
