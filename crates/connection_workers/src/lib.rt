@@ -9,8 +9,6 @@
 
 mod intake;
 mod serving;
-#[cfg(test)]
-mod tests;
 mod worker;
 
 pub use intake::{Intake, IntakeLock, IntakePass, Start};
