@@ -1,15 +1,20 @@
 #!/usr/bin/env python3
-"""Plays the session of docs/PROTOCOL.md and compares the bytes that come back; says nothing where they agree.
+"""Looks at the session of docs/PROTOCOL.md; says nothing where all of it agrees.
 
-    python3 tools/check_protocol.py [--port N]
+    python3 tools/check_protocol.py [--second | --port N]
 
-It plays it to the service on a port of this machine, which has an empty store and had no client yet, or, where none is given, to
-`tools/second_server.py`, which needs the Python package `cryptography`."""
+Without words it needs no service: `tools/keystore_client.py` has to write the page's requests and to read from its replies what the
+page says, and the mac is that of Python's own library. With --second it plays the session to `tools/second_server.py`, which needs the
+Python package `cryptography`; with --port to the service on a port of this machine, which has an empty store and had no client yet."""
 import argparse
+import hashlib
+import hmac
 import pathlib
 import socket
 import subprocess
 import sys
+
+from keystore_client import Client, Key, ServiceError, parameters
 
 TOP = pathlib.Path(__file__).resolve().parent.parent
 PAGE = TOP / "docs/PROTOCOL.md"
@@ -28,6 +33,50 @@ def session_in(page):
             continue
         turns[-1][1].extend(bytes.fromhex("".join(words)))
     return turns
+
+
+class Page:
+    """A stream that wants the page's requests, and gives its replies."""
+
+    def __init__(self, turns):
+        self.turns, self.left = list(turns), b""
+
+    def sendall(self, data):
+        check("a request of the client", (self.left, data), (b"", bytes(self.turns.pop(0)[1])))
+        self.left = bytes(self.turns.pop(0)[1])
+
+    def recv(self, count):
+        piece, self.left = self.left[:count], self.left[count:]
+        return piece
+
+
+def check(name, found, wanted):
+    if found != wanted:
+        sys.exit(f"check_protocol: {name} is {found} and not {wanted}")
+
+
+def refusal(call, *words):
+    try:
+        call(*words)
+    except ServiceError as error:
+        return error.code, error.rule
+    return None
+
+
+def read_page(turns):
+    """What the page says of its session."""
+    page = Page(turns)
+    client, key, material = Client(page), Key(alias="m"), b"\x0b" * 20
+    check("the client", client.connect_as(10001).fields, {"client": 1})
+    params = parameters(PURPOSE=[2, 3], ALGORITHM=128, DIGEST=[4], MIN_MAC_LENGTH=64, NO_AUTH_REQUIRED=True)
+    check("the key", client.importKey(key, params, material).fields, {"key": 1})
+    check("the operation", client.createOperation(key, parameters(PURPOSE=[2], MAC_LENGTH=256)).fields, {"op": 1})
+    check("the update", client.update(1, b"Hi ").fields, {"out": b""})
+    check("the mac", client.finish(1, b"There").out, hmac.new(material, b"Hi There", hashlib.sha256).digest())
+    check("the step behind it", refusal(client.update, 1, b""), (-28, "S1"))
+    check("the listing", client.listEntriesBatched().entries, [(b"m", 1)])
+    check("the end of the key", client.deleteKey(key).fields, {})
+    check("what is left of the page", page.turns, [])
 
 
 def exactly(stream, count):
@@ -51,16 +100,18 @@ def play(port, turns):
 
 
 def main():
-    parser = argparse.ArgumentParser(description="Plays the session of docs/PROTOCOL.md.")
-    parser.add_argument("--port", type=int, metavar="N", help="the port of a service; tools/second_server.py where none is given")
-    port = parser.parse_args().port
-    turns = session_in(PAGE)
-    if port is not None:
-        play(port, turns)
-        return
-    words = [sys.executable, TOP / "tools/second_server.py", "--connections", "1"]
-    with subprocess.Popen(words, stdout=subprocess.PIPE) as server:
-        play(int(server.stdout.readline()), turns)
+    parser = argparse.ArgumentParser(description="Looks at the session of docs/PROTOCOL.md.")
+    parser.add_argument("--second", action="store_true", help="play it to tools/second_server.py")
+    parser.add_argument("--port", type=int, metavar="N", help="play it to the service on this port")
+    words, turns = parser.parse_args(), session_in(PAGE)
+    if words.port is not None:
+        play(words.port, turns)
+    elif words.second:
+        server = [sys.executable, TOP / "tools/second_server.py", "--connections", "1"]
+        with subprocess.Popen(server, stdout=subprocess.PIPE) as second:
+            play(int(second.stdout.readline()), turns)
+    else:
+        read_page(turns)
 
 
 if __name__ == "__main__":
