@@ -1,13 +1,14 @@
 #!/usr/bin/env python3
 """Kills the program at random moments, and looks in the next run for what was acknowledged.
 
-    python3 tools/kill_test.py [--seed N] [--kills N] [--program PATH]
+    python3 tools/kill_test.py [--seed N] [--kills N] [--longest SECONDS] [--folder PATH] [--program PATH]
 
 A run gets line after line: keys with and without use limits are made, used, shared and deleted. After a random time it is killed
-(SIGKILL), wherever it is then, also while it opens its store. The next run is asked for every key: each change and each use whose
-reply was read is there, the one that was under way is there or not, and nothing else is. A key whose uses are used up cannot be used,
+(SIGKILL), wherever it is then, also while it opens its store. The next run is asked for every key: each key made or deleted and each
+use whose reply was read is there, the one that was under way is there or not, and nothing else is. (It is not asked for grants.) A key whose uses are used up cannot be used,
 by its alias or by its number, and over all runs no key gives more outputs than its limit. Each hundred kills begin with an
-empty store. The store is a file in memory, which outlives the process and no loss of power. The seed fixes what is asked and when the
+empty store. The store is a file in memory, which outlives the process and no loss of power; in a folder of a disk, which --folder
+names, most of a change is waiting for the disk, so that far more of them are under way at a kill. The seed fixes what is asked and when the
 run is killed, but not how far it is by then. The figures are printed; at the first thing lost it ends with status 1.
 """
 import argparse
@@ -15,15 +16,15 @@ import json
 import random
 import subprocess
 import sys
-import threading
+import tempfile
 from pathlib import Path
 
 from scratch import scratch_folder
 
 PROGRAM = Path(__file__).resolve().parent.parent / "crates/keystore_program/out/keystore_program"
 KILLS_PER_STORE = 100
-# How long a run may take before it is killed, in seconds: some end while the store is read, most amid their lines.
-LONGEST = 0.03
+# How `timeout` ends where it killed the run, which may be by the same signal.
+KILLED = (-9, 137)
 ALIASES = ["a", "b", "c", "d"]
 APP, KEY_ID = 0, 4
 UID, OTHER_UID = 10001, 10002
@@ -57,12 +58,11 @@ class Killed(Exception):
 
 
 class Run:
-    """A run that is killed after a while."""
+    """A run that is killed after a while. A process of its own kills it: a thread here would mostly do so while a reply is awaited."""
 
     def __init__(self, program, folder, seconds):
-        self.process = subprocess.Popen([program, "run"], stdin=subprocess.PIPE, stdout=subprocess.PIPE, stderr=subprocess.PIPE, cwd=folder)
-        self.timer = threading.Timer(seconds, self.process.kill)
-        self.timer.start()
+        words = ["timeout", "-s", "KILL", f"{seconds:.6f}", program, "run"]
+        self.process = subprocess.Popen(words, stdin=subprocess.PIPE, stdout=subprocess.PIPE, stderr=subprocess.PIPE, cwd=folder)
 
     def ask(self, **members):
         """The reply to a line; Killed where none was read to its end."""
@@ -79,10 +79,9 @@ class Run:
 
     def end(self):
         """Waits for the end, which is the kill."""
-        self.timer.join()
         with self.process:
             fault = self.process.communicate()[1].decode(errors="backslashreplace").strip()
-        if self.process.returncode != -9:
+        if self.process.returncode not in KILLED:
             raise Lost(f"a run ended by itself, with status {self.process.returncode}: {fault}")
 
 
@@ -181,8 +180,7 @@ class Client:
     def share(self, run, alias):
         act = self.random.choice(["grant", "ungrant"])
         bits = {"bits": 256} if act == "grant" else {}
-        reply = self.ask(run, c=1, do=act, key=descriptor(alias), uid=OTHER_UID, **bits)
-        self.changes += reply["code"] == 0
+        self.ask(run, c=1, do=act, key=descriptor(alias), uid=OTHER_UID, **bits)
 
     def step(self, run):
         alias = self.random.choice(ALIASES)
@@ -271,6 +269,9 @@ def main():
     parser = argparse.ArgumentParser(description="Kills the program at random moments, and looks for what was acknowledged.")
     parser.add_argument("--seed", type=int, default=7, metavar="N")
     parser.add_argument("--kills", type=int, default=1000, metavar="N")
+    # Some runs are killed while their store is read, most amid their lines.
+    parser.add_argument("--longest", type=float, default=0.03, metavar="SECONDS", help="after which a run is killed at the latest")
+    parser.add_argument("--folder", type=Path, default=None, metavar="PATH", help="where the stores stand, in place of memory")
     parser.add_argument("--program", type=Path, default=PROGRAM, metavar="PATH")
     words = parser.parse_args()
     program = words.program.resolve()
@@ -280,17 +281,17 @@ def main():
         for first in range(0, words.kills, KILLS_PER_STORE):
             client = Client(f"{words.seed} {first}")
             clients.append(client)
-            with scratch_folder() as folder:
+            with scratch_folder() if words.folder is None else tempfile.TemporaryDirectory(dir=words.folder) as folder:
                 subprocess.run([program, "init"], cwd=folder, check=True)
                 for _ in range(min(KILLS_PER_STORE, words.kills - first)):
-                    client.go(Run(program, folder, client.random.uniform(0, LONGEST)))
+                    client.go(Run(program, folder, client.random.uniform(0, words.longest)))
                     kills += 1
     except Lost as lost:
         print(f"after {kills} kills: {lost}")
         return 1
     counts = [sum(getattr(client, name) for client in clients) for name in ("answered", "changes", "uses", "under_way", "found")]
-    print("{} kills: {} lines answered, {} changes and {} uses acknowledged, all there;".format(kills, *counts[:3]))
-    print("{} changes under way at a kill, of which {} had come".format(*counts[3:]))
+    print("{} kills: {} lines answered, {} keys made or deleted and {} uses acknowledged, all there;".format(kills, *counts[:3]))
+    print("{} such changes under way at a kill, of which {} had come".format(*counts[3:]))
     return 0
 
 
