@@ -103,6 +103,17 @@ fn lasting(rt: &impl Abort, alloc: Global, calls: &[Call], asks: &str) -> Result
     text_on(rt, alloc, "run", asks, &mut disk)
 }
 
+/// What lasts after the calls up to one of them.
+fn lasting_until(rt: &impl Abort, alloc: Global, place: usize, asks: &str) -> Result<String, Fail> {
+    let mut calls = Vec::new(alloc);
+    for (number, call) in ACTS.iter().enumerate() {
+        if number <= place {
+            calls.push(*call)?;
+        }
+    }
+    lasting(rt, alloc, calls.as_slice(), asks)
+}
+
 /// What lasts without one of the calls.
 fn lasting_without(
     rt: &impl Abort,
@@ -143,24 +154,24 @@ fn fails_once(
     Ok(())
 }
 
-/// The disk stops before a call, and all later acts are answered so. What it holds is opened as another disk: it has all that
-/// was acknowledged, and the change that was under way or not.
+/// The disk stops behind so many calls, and all later acts are answered so. What it holds is opened as another disk: it has all
+/// that was acknowledged, and the change that was under way or not.
 fn stops(
     rt: &impl Abort,
     alloc: Global,
-    number: u64,
+    passed: u64,
     script: &str,
     asks: &str,
     ends: (&str, &str),
 ) -> Result<(), Fail> {
     let inner = MemoryDisk::with_room(alloc, ROOM, &[])?;
-    let mut stopped = StoppedDisk::new(inner, number - 1);
+    let mut stopped = StoppedDisk::new(inner, passed);
     let given = text_on(rt, alloc, "run --fresh", script, &mut stopped)?;
     let mut disk = stopped.into_inner();
     let lasts = text_on(rt, alloc, "run", asks, &mut disk)?;
-    assert!(rt; given.as_str().ends_with(FAILED), "{number}");
+    assert!(rt; given.as_str().ends_with(FAILED), "{passed}");
     let is_one = lasts.as_str() == ends.0 || lasts.as_str() == ends.1;
-    assert!(rt; is_one, "{number}");
+    assert!(rt; is_one, "{passed}");
     Ok(())
 }
 
@@ -173,14 +184,14 @@ fn what_is_opened_after_a_fault_is_what_was_acknowledged(rt: HostRuntime) -> Res
     let mut before = lasting(&rt, alloc, &ACTS[..4], asks.as_str())?;
     let mut number = BEFORE;
     for place in &WRITERS {
-        let after = lasting(&rt, alloc, &ACTS[..*place + 1], asks.as_str())?;
+        let after = lasting_until(&rt, alloc, *place, asks.as_str())?;
         let without = lasting_without(&rt, alloc, *place, asks.as_str())?;
         for _ in 0..A_RECORD {
-            number += 1;
-            let once = (without.as_str(), whole.as_str());
-            fails_once(&rt, alloc, number, script.as_str(), asks.as_str(), once)?;
             let ends = (before.as_str(), after.as_str());
             stops(&rt, alloc, number, script.as_str(), asks.as_str(), ends)?;
+            number = number.saturating_add(1);
+            let once = (without.as_str(), whole.as_str());
+            fails_once(&rt, alloc, number, script.as_str(), asks.as_str(), once)?;
         }
         before = after;
     }
