@@ -1,0 +1,9 @@
+pub mod Fitting
+pub mod Logs
+pub mod Entries
+pub mod Replying
+pub mod StepFacts
+pub mod Stepping
+pub mod Weights
+pub mod ReplyLengths
+pub mod StepNumbers

@@ -1,0 +1,17 @@
+pub mod Names
+pub mod Owning
+pub mod Calls
+pub mod Answers
+pub mod Facts
+pub mod Records
+pub mod Desks
+pub mod DeskWords
+pub mod Requests
+pub mod Rooms
+pub mod Turns
+pub mod Passes
+pub mod Away
+pub mod Asking
+pub mod Kinds
+pub mod Going
+pub mod Stamps
