@@ -2,6 +2,7 @@ pub mod Fitting
 pub mod Logs
 pub mod Entries
 pub mod Replying
+pub mod Waiting
 pub mod StepFacts
 pub mod Stepping
 pub mod Weights

@@ -1,5 +1,5 @@
 -- A desk after a step.
-use Rattle.std.proofs.Common.{◌≡◌, ℕ, ◌+◌, ◌*◌, ◌≤◌, ◌<◌, ◌==◌, ◌&&◌, Bool, true, false, not, if◌then◌else◌, List, [], ◌∷◌, ◌++◌, length, Option, Some, None, is_some, refl, sym, ap, ◌∙◌, subst, inl, inr, arith, ⊎_elim}
+use Rattle.std.proofs.Common.{◌≡◌, ℕ, ◌+◌, ◌*◌, ◌^◌, ◌≤◌, ◌<◌, ◌==◌, ◌&&◌, Bool, true, false, not, if◌then◌else◌, List, [], ◌∷◌, ◌++◌, length, Option, Some, None, is_some, unwrap_or, append_assoc, length-append, refl, sym, ap, ◌∙◌, subst, inl, inr, arith, ⊎_elim}
 use Rattle.cipher_ops.specs.declared.job.Done.{Done as JobDone}
 use Rattle.ks_outside.specs.declared.disk.Disk.{Ghosts as DiskGhosts}
 use Rattle.ks_outside.specs.declared.entropy.Entropy.{Ghosts as EntropyGhosts}
@@ -8,6 +8,7 @@ use Rattle.tags.specs.declared.settled.Settled.{Settled}
 use Rattle.rule_model.specs.declared.entry.Entry.{Entry}
 use Rattle.rule_model.specs.declared.entry.Entry.TheVariants.{Acted, Settling}
 use Rattle.rule_model.specs.declared.event.Act.{Act}
+use Rattle.rule_model.specs.declared.event.Act.TheVariants.{Connect, Leave}
 use Rattle.rule_model.specs.declared.event.Event.{Event}
 use Rattle.rule_model.specs.declared.field_sizes.FieldSizes.{FieldSizes}
 use Rattle.rule_model.specs.declared.reply.Reply.{Reply}
@@ -20,12 +21,15 @@ use Rattle.rule_model.specs.Setup.{Setup}
 use Rattle.keystore_core.specs.declared.engine.Engine.{Engine}
 use Rattle.keystore_core.specs.Engine.{Stands, StoreStands}
 use Rattle.service_book.specs.declared.entry.BookEntry.{BookEntry}
-use Rattle.service_book.specs.Book.{AreLater, Counts, Follows, IsCaused, IsCausedLog, IsOwnAct, behind, counts_after, history_of, log_of}
+use Rattle.service_book.specs.Book.{AreLater, Counts, Follows, IsCaused, IsCausedLog, IsOwnAct, behind, client_of, counts_after, history_of, log_of}
 use Rattle.shared_service.specs.declared.name.Name.{Name}
-use Rattle.shared_service.specs.Calls.{OneStep, entries_of, entry_by}
+use Rattle.service_book.specs.Limits.{acted_bytes, recorded}
+use Rattle.std.proofs.lemmas.List.{length-reverse}
+use Rattle.shared_service.specs.Calls.{OneStep, entries_of, entry_by, settling_by}
 use Rattle.shared_service.specs.Desks.{ComesInTurn, IsDesk, MayMake, counts_of}
 use Rattle.shared_service.specs.Facts.{AllFacts}
 use Rattle.shared_service.specs.Names.{IsSetupOf, counts_before}
+use Rattle.shared_service.proofs.Fitting.{same_if}
 use Rattle.shared_service.proofs.Logs.{acted_of, history_settled, history_step, log_step, settled_log, settling_of, step_log}
 use Rattle.shared_service.proofs.StepFacts.{facts_step}
 
@@ -56,9 +60,11 @@ follows_on start (last ∷ log) e ends later = by_entry last.entry ends where
 -- the client and the ticket of an act are read of the entries that have them, and a settling has none
 own_settled : (pass : ℕ) (s : OneStep) (settled : Option Settled) (act : Act) (client n : ℕ) (log : List BookEntry) → IsOwnAct act client n log → IsOwnAct act client n (settled_log pass s settled log)
 own_settled pass s None act client n log own = own
-own_settled pass s (Some settled) act client n log own = own_past act client n (settling_of pass s settled) log settled refl own where
-  own_past : (act : Act) (client n : ℕ) (e : BookEntry) (log : List BookEntry) (settled : Settled) → e.entry ≡ Settling settled → IsOwnAct act client n log → IsOwnAct act client n (e ∷ log)
-  own_past act client n e log settled is own = ?
+own_settled pass s (Some settled) act client n log own = by_act act own where
+  by_act : (act : Act) → IsOwnAct act client n log → IsOwnAct act client n (settling_of pass s settled ∷ log)
+  by_act (Leave ticket) own = own
+  by_act (Connect uid) own = own
+  by_act _ own = own ∙ ap (λ (o : Option ℕ). unwrap_or o 0) (sym (same_if (pass == n) (client_of n log)))
 
 -- the step that was made between these states of the devices
 abbrev pub Step : {D N : Type 0} → DiskGhosts D → EntropyGhosts N → D → D → N → N → Event → Option Settled → List ℕ → Reply → OneStep
@@ -69,6 +75,28 @@ module _ {D N : Type 0} (d : DiskGhosts D) (n : EntropyGhosts N) (name : Name) (
     (settled : Option Settled) (drawn : List ℕ) (reply : Reply) where
   abbrev This : OneStep
   This = Step d n disk disk' entropy entropy' event settled drawn reply
+
+  -- the book after it
+  pub step_grown : (mid new : List BookEntry) (entry : BookEntry) (copied : Reply) (copy : Event) (db da eb ea : ℕ) → db ≡ d.fault_count disk → da ≡ d.fault_count disk' → eb ≡ n.fault_count entropy → ea ≡ n.fault_count entropy'
+      → mid ≡ book ++ settling_by pass (record { disk = db; entropy = eb }) (record { disk = da; entropy = ea }) settled → new ≡ mid ++ entry ∷ []
+      → entry ≡ entry_by pass (record { disk = db; entropy = eb }) (record { disk = da; entropy = ea }) (Acted copy drawn copied) → copy ≡ event → copied ≡ reply → new ≡ book ++ entries_of pass This
+  step_grown mid new entry copied copy db da eb ea p q r t grows adds is same copies =
+      let both : mid ++ entry ∷ [] ≡ book ++ (settling_by pass (record { disk = db; entropy = eb }) (record { disk = da; entropy = ea }) settled ++ entry_by pass (record { disk = db; entropy = eb }) (record { disk = da; entropy = ea }) (Acted copy drawn copied) ∷ []) =
+      (λ i. grows i ++ is i ∷ []) ∙ append_assoc book _ _ in
+      adds ∙ (both ∙ (λ i. book ++ (settling_by pass (record { disk = p i; entropy = r i }) (record { disk = q i; entropy = t i }) settled ++ entry_by pass (record { disk = p i; entropy = r i }) (record { disk = q i; entropy = t i }) (Acted (same i) drawn (copies i)) ∷ [])))
+
+  -- the bytes that it records
+  recorded_settled : (log : List BookEntry) (v : Option Settled) → recorded (settled_log pass This v log) ≡ recorded log
+  recorded_settled log None = refl
+  recorded_settled log (Some v) = omega arith
+
+  pub step_small : recorded (log_of book) ≤ length book * 2 ^ 35 → acted_bytes event.act reply < 2 ^ 34 → recorded (log_of (book ++ entries_of pass This)) ≤ length (book ++ entries_of pass This) * 2 ^ 35
+  step_small before few =
+      let same : recorded (log_of (book ++ entries_of pass This)) ≡ recorded (step_log pass This (log_of book)) = ap recorded (log_step pass This book) in
+      let mid = recorded_settled (log_of book) settled in
+      let long = length-append book (entries_of pass This) in
+      let more = length-append (settling_by pass (counts_of d n disk entropy) (counts_of d n disk' entropy') settled) (acted_of pass This ∷ []) in
+      omega arith
 
   pub caused_step : (start : Counts) (log : List BookEntry) → IsCausedLog start log → EndsStep log → AreLater (counts_after start log) (counts_of d n disk entropy) → IsOwnAct event.act event.client pass log
       → CountsFaults (d.fault_count disk) (d.fault_count disk') (is_disk_fault reply) → CountsFaults (n.fault_count entropy) (n.fault_count entropy') (is_entropy_fault reply) → IsCausedLog start (step_log pass This log)

@@ -1,5 +1,5 @@
 -- The places of a book after a step.
-use Rattle.std.proofs.Common.{◌≡◌, ℕ, ◌+◌, ◌-◌, ◌*◌, ◌≤◌, ◌<◌, ◌^◌, ◌==◌, ◌&&◌, Bool, true, false, not, if◌then◌else◌, List, [], ◌∷◌, ◌++◌, length, Option, Some, None, is_some, refl, sym, ap, ◌∙◌, subst, inl, inr, arith, ⊎_elim}
+use Rattle.std.proofs.Common.{◌≡◌, ℕ, ◌+◌, ◌-◌, ◌*◌, ◌≤◌, ◌<◌, ◌^◌, ◌==◌, ◌&&◌, Bool, true, false, not, if◌then◌else◌, List, [], ◌∷◌, ◌++◌, length, Option, Some, None, is_some, length-append, refl, sym, ap, ◌∙◌, subst, inl, inr, arith, ⊎_elim}
 use Rattle.std.proofs.lemmas.Bool.{cases_Bool}
 use Rattle.std.specs.Prelude.{IsSome}
 use Rattle.tags.specs.declared.settled.Settled.{Settled}
@@ -12,8 +12,9 @@ use Rattle.rule_model.specs.declared.reply.Reply.{Reply}
 use Rattle.rule_model.specs.Acts.{is_connect, is_enter}
 use Rattle.rule_model.specs.Entries.{admits, is_done}
 use Rattle.service_book.specs.declared.entry.BookEntry.{BookEntry}
+use Rattle.service_book.specs.Book.{Counts}
 use Rattle.service_book.specs.Limits.{MOST_ENTRIES, clients_in, count, is_disconnect, is_leave, is_of, need_of, tickets_in}
-use Rattle.shared_service.specs.Calls.{OneStep, entry_by}
+use Rattle.shared_service.specs.Calls.{OneStep, entry_by, settling_by}
 use Rattle.shared_service.specs.Desks.{HasPlaces, is_set_aside, weight}
 use Rattle.shared_service.specs.Facts.{has}
 use Rattle.shared_service.proofs.Entries.{enter_asked, enter_no_leave}
@@ -28,6 +29,10 @@ one_if false = 0
 pub one_some : (settled : Option Settled) → IsSome settled → one_if (is_some settled) ≡ 1
 one_some None some = cc
 one_some (Some settled) some = refl
+
+pub settling_length : (pass : ℕ) (before behind : Counts) (settled : Option Settled) (book : List BookEntry) → length (book ++ settling_by pass before behind settled) ≡ length book + one_if (is_some settled)
+settling_length pass before behind None book = length-append book []
+settling_length pass before behind (Some settled) book = length-append book (entry_by pass before behind (Settling settled) ∷ [])
 
 count_next : (test : Entry → Bool) (e : BookEntry) (log : List BookEntry) → count test (e ∷ log) ≡ count test log + one_if (test e.entry)
 count_next test e log = by_test (test e.entry) where
