@@ -8,3 +8,5 @@ pub mod Stepping
 pub mod Weights
 pub mod ReplyLengths
 pub mod StepNumbers
+pub mod Requesting
+pub mod Truncating

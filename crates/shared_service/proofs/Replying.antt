@@ -52,7 +52,7 @@ stored_is bytes (Some change) (Done given) fields e = by_room _ e where
 stored_is bytes (Some change) (Broken rule code) fields e = cc
 stored_is bytes (Some change) (Stopped code) fields e = cc
 
-by_rules : (setup : Setup) (past : History) (event : Event) (drawn : List ℕ) (fields : Fields) → MayFollow setup past event drawn (Done fields) → Done fields ≡ answer_by_rules event.act setup past (caller_of past event) drawn
+pub by_rules : (setup : Setup) (past : History) (event : Event) (drawn : List ℕ) (fields : Fields) → MayFollow setup past event drawn (Done fields) → Done fields ≡ answer_by_rules event.act setup past (caller_of past event) drawn
 by_rules setup past event drawn fields may =
     let is = answered_done setup past event drawn fields may in
     stored_is _ _ (answer_by_rules event.act setup past (caller_of past event) drawn) fields

@@ -32,6 +32,13 @@ fn client_for(act: &Act, client: u64) -> u64
     }
 }
 
+/// Whether it is the disconnect of a connected client.
+fn is_parting(connected: bool, act: &Act) -> bool
+    ensures { (pass : ℕ) (log : List BookEntry) → connected ≡ owning.is_connected pass log → result ≡ owning.is_parting act.now pass log }
+{
+    if connected { is_disconnect(act) } else { false }
+}
+
 /// The disconnect of a client.
 fn disconnect_of(reading: Reading, client: u64) -> Event
     ensures { result ≡ parting reading client }
@@ -96,12 +103,15 @@ impl<D: Disk, N: Entropy> Desk<D, N> {
         ensures name { desk_name self.new ≡ desk_name self.old }
         ensures requests { Requests (desk_name self.old) pass (event_for reading request pass (log_of (desk_book self.old))) (desk_book self.old) (desk_book self.new) result }
     {
-        if connected && is_disconnect(request.act()) {
+        if is_parting(connected, request.act()) {
             return Requested::Made(self.part(pass, client, reading));
         }
         if self.book.is_full(&request) {
             return Requested::Full;
         }
+        let Ok(()) = self.reserve(request.act()) else {
+            return Requested::Poor;
+        };
         let frame = request.frame_length();
         let act = request.into_act();
         let event = Event {
@@ -110,9 +120,6 @@ impl<D: Disk, N: Entropy> Desk<D, N> {
             act,
         };
         let Ok(rooms) = self.rooms(&event) else {
-            return Requested::Poor;
-        };
-        let Ok(()) = self.reserve(&event.act) else {
             return Requested::Poor;
         };
         Requested::Made(self.go(pass, event, frame, rooms))
