@@ -10,3 +10,5 @@ pub mod ReplyLengths
 pub mod StepNumbers
 pub mod Requesting
 pub mod Truncating
+pub mod Seeing
+pub mod Calling

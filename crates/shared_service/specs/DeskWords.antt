@@ -20,3 +20,9 @@ module _ {D N : Type 0} {d : DiskGhosts D} {n : EntropyGhosts N} where
 
   abbrev pub desk_engine : Desk D N d n → Engine
   desk_engine desk = desk.engine
+
+  abbrev pub desk_disk : Desk D N d n → D
+  desk_disk desk = desk.disk
+
+  abbrev pub desk_entropy : Desk D N d n → N
+  desk_entropy desk = desk.entropy

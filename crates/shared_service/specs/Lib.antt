@@ -15,3 +15,4 @@ pub mod Asking
 pub mod Kinds
 pub mod Going
 pub mod Stamps
+pub mod Making

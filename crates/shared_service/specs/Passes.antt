@@ -8,6 +8,7 @@ use Rattle.rule_model.specs.Setup.{Setup}
 use Rattle.turn_lock.specs.declared.lock.RestingMaker.{RestingMaker}
 use Rattle.turn_lock.specs.Passes.{lock_id, name_of}
 use Rattle.turn_lock.specs.Resting.{IsRestingMakerAt, IsRestingPassAt, resting_front, resting_made, resting_number}
+use Rattle.keystore_core.specs.declared.engine.Engine.{Engine}
 use Rattle.service_book.specs.declared.entry.BookEntry.{BookEntry}
 use Rattle.service_book.specs.Book.{Counts}
 use Rattle.shared_service.specs.declared.name.Name.{Name}
@@ -33,6 +34,10 @@ module _ {D N : Type 0} {d : DiskGhosts D} {n : EntropyGhosts N} where
 
   abbrev pub service_lock : Shared D N d n → TableId
   service_lock shared = lock_id shared.lock
+
+  -- the engine as the service took it
+  abbrev pub engine_of : Shared D N d n → Engine
+  engine_of shared = names.engine_before (service_name shared)
 
   -- how many passes were made
   abbrev pub passes_of : Shared D N d n → ℕ

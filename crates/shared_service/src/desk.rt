@@ -14,6 +14,7 @@ use service_book::BookEntry;
 use std::alloc::Global;
 use turn_lock::History;
 
+mod making;
 mod requests;
 mod rooms;
 mod steps;
