@@ -14,7 +14,7 @@ use Rattle.rule_model.specs.Clients.{uid_of}
 use Rattle.rule_model.specs.Entries.{History, admits, after_settling, after_step, count_of, is_done}
 use Rattle.rule_model.specs.Jobs.{Stays}
 use Rattle.rule_model.specs.Kept.{open_of}
-use Rattle.rule_model.specs.Legal.{Legal, MayFollow, MayStep}
+use Rattle.rule_model.specs.Legal.{Legal, LegalBefore, MayFollow, MaySettleFirst, MayStep}
 use Rattle.rule_model.specs.Setup.{Setup}
 use Rattle.rule_model.specs.Tickets.{next_ticket}
 use Rattle.service_book.specs.declared.entry.BookEntry.{BookEntry}
@@ -58,7 +58,7 @@ and_both : (a b : Bool) → a && b ≡ true → (a ≡ true) × (b ≡ true)
 and_both true b e = (refl, e)
 and_both false b e = cc
 
-module _ (setup : Setup) (pass : ℕ) (s : OneStep) (log : List BookEntry) (facts : Facts setup log) (follows : MayFollow setup (history_of log) s.event s.drawn s.reply) (own : IsOwnAct s.event.act s.event.client pass log) (turn : ComesInTurn s.event.act pass log) where
+module _ (setup : Setup) (next : Option Event) (pass : ℕ) (s : OneStep) (log : List BookEntry) (facts : Facts setup log) (legal : LegalBefore setup next (history_of log)) (follows : MayFollow setup (history_of log) s.event s.drawn s.reply) (own : IsOwnAct s.event.act s.event.client pass log) (turn : ComesInTurn s.event.act pass log) where
   with_fields : (fields : Fields) → s.reply ≡ Done fields → MayFollow setup (history_of log) s.event s.drawn (Done fields)
   with_fields fields is = subst (MayFollow setup (history_of log) s.event s.drawn) is follows
 
@@ -121,13 +121,13 @@ module _ (setup : Setup) (pass : ℕ) (s : OneStep) (log : List BookEntry) (fact
   facts_acted still = record {
     tickets = tickets_acted;
     clients = clients_acted;
-    busy = waited_after setup pass s log facts follows own turn tickets_acted clients_acted;
+    busy = waited_after setup next pass s log facts legal follows own turn;
     still = still;
   }
 
 pub facts_step : (setup : Setup) (pass : ℕ) (s : OneStep) (log : List BookEntry) → AllFacts setup log → Legal setup (history_of log) → MayStep setup (history_of log) s.settled s.event s.drawn s.reply
     → Stays setup (history_of log) (after_step s.settled s.event s.drawn s.reply (history_of log)) → IsOwnAct s.event.act s.event.client pass log → ComesInTurn s.event.act pass log → AllFacts setup (step_log pass s log)
-facts_step setup pass s log all legal may stays own turn = by_settled s.settled may.follows stays where
+facts_step setup pass s log all legal may stays own turn = by_settled s.settled may.settles may.follows stays where
   first : (log : List BookEntry) → AllFacts setup log → Facts setup log
   first [] all = all
   first (e ∷ log) all = all.0
@@ -138,8 +138,8 @@ facts_step setup pass s log all legal may stays own turn = by_settled s.settled 
   turn_on : (v : Settled) (act : Act) → ComesInTurn act pass log → ComesInTurn act pass (settling_of pass s v ∷ log)
   turn_on v (Leave ticket) turn = same_if (pass == pass) (out_of pass log) ∙ turn
   turn_on v _ turn = (turn.0, same_if (pass == pass) (out_of pass log) ∙ turn.1)
-  by_settled : (v : Option Settled) → MayFollow setup (after_settling v (history_of log)) s.event s.drawn s.reply → Stays setup (history_of log) (after_step v s.event s.drawn s.reply (history_of log)) → AllFacts setup (acted_of pass s ∷ settled_log pass s v log)
-  by_settled None follows stays = (facts_acted setup pass s log (first log all) follows own turn stays, all)
-  by_settled (Some v) follows stays =
+  by_settled : (v : Option Settled) → MaySettleFirst v (history_of log) s.event → MayFollow setup (after_settling v (history_of log)) s.event s.drawn s.reply → Stays setup (history_of log) (after_step v s.event s.drawn s.reply (history_of log)) → AllFacts setup (acted_of pass s ∷ settled_log pass s v log)
+  by_settled None settles follows stays = (facts_acted setup None pass s log (first log all) legal follows own turn stays, all)
+  by_settled (Some v) settles follows stays =
       let mid = facts_settled pass s v log setup (first log all) in
-      (facts_acted setup pass s (settling_of pass s v ∷ log) mid follows (own_on v s.event.act own) (turn_on v s.event.act turn) stays, (mid, all))
+      (facts_acted setup (Some s.event) pass s (settling_of pass s v ∷ log) mid (settles, legal) follows (own_on v s.event.act own) (turn_on v s.event.act turn) stays, (mid, all))

@@ -79,11 +79,19 @@ idle_client setup log pass client (o ∷ opened) facts mine idle all = both (idl
         owner : (p : Option ℕ) → pass_of_ticket ticket log ≡ p → is_some (pass_of_ticket ticket log) ≡ true → IsWaitedFor log o (Some ticket) → ⊥
         owner None q known waits = let no : is_some (pass_of_ticket ticket log) ≡ false = ap is_some q in cc
         owner (Some p) q known waits =
-            let whose = waits.2 p q in
-            let here : pass_of_client client log ≡ Some p = ap (λ (c : ℕ). pass_of_client c log) (sym (Rattle.std.proofs.lemmas.Bool.eqb-true o.operation.client client own)) ∙ whose in
+            let client_is : o.operation.client ≡ client = Rattle.std.proofs.lemmas.Bool.eqb-true o.operation.client client own in
+            ⊎_elim
+            (λ (zero : o.operation.client ≡ 0).
+            let nobody : None ≡ Some pass = sym facts.clients.none_zero ∙ (ap (λ (c : ℕ). pass_of_client c log) (sym zero ∙ client_is) ∙ facts.clients.own_is pass client mine) in differ nobody)
+            (λ (whose : pass_of_client o.operation.client log ≡ Some p).
+            let here : pass_of_client client log ≡ Some p = ap (λ (c : ℕ). pass_of_client c log) (sym client_is) ∙ whose in
             let same : Some p ≡ Some pass = sym here ∙ facts.clients.own_is pass client mine in
             let out : out_of pass log ≡ Some ticket = facts.tickets.whole pass ticket waits.1 (q ∙ same) in
-            let no : None ≡ Some ticket = sym idle ∙ out in cc
+            differ (sym idle ∙ out))
+            (waits.2 p q)
+          where
+            differ : {m : ℕ} → None ≡ Some m → ⊥
+            differ e = cc
 
 -- ---- what a step needs and leaves
 

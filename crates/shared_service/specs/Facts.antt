@@ -1,5 +1,5 @@
 -- What holds of every log of a service, whose passes make one call after another: the newest entry stands first.
-use Rattle.std.specs.Prelude.{◌≡◌, ℕ, ◌+◌, ◌≤◌, ◌==◌, Bool, true, false, List, [], ◌∷◌, length, Option, Some, None, is_some, if◌then◌else◌}
+use Rattle.std.specs.Prelude.{◌≡◌, ◌⊎◌, ℕ, ◌+◌, ◌≤◌, ◌==◌, Bool, true, false, List, [], ◌∷◌, length, Option, Some, None, is_some, if◌then◌else◌}
 use Rattle.std.specs.List.{list_any}
 use Rattle.rule_model.specs.declared.entry.Entry.{Entry}
 use Rattle.rule_model.specs.declared.entry.Entry.TheVariants.{Acted, Settling}
@@ -92,7 +92,7 @@ abbrev pub IsWaitedFor : List BookEntry → Open → Option ℕ → Type 0
 IsWaitedFor log o None = Unit {0}
 IsWaitedFor log o (Some ticket) =
     ((entered : Entered) → ticket_at (history_of log) ticket ≡ Some entered → entered.op ≡ o.operation.number) × (is_some (ticket_at (history_of log) ticket) ≡ true)
-    × ((pass : ℕ) → pass_of_ticket ticket log ≡ Some pass → pass_of_client o.operation.client log ≡ Some pass)
+    × ((pass : ℕ) → pass_of_ticket ticket log ≡ Some pass → (o.operation.client ≡ 0) ⊎ (pass_of_client o.operation.client log ≡ Some pass))
 
 abbrev pub AllWaitedFor : List BookEntry → List Open → Type 0
 AllWaitedFor log [] = Unit {0}
