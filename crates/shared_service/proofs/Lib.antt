@@ -12,3 +12,4 @@ pub mod Requesting
 pub mod Truncating
 pub mod Seeing
 pub mod Calling
+pub mod Answering

@@ -1,9 +1,10 @@
 -- What an entry answers where no device failed in its step.
-use Rattle.std.specs.Prelude.{◌≡◌, ◌⊎◌, ◌<◌, ◌^◌, ◌-◌, ℕ, List, [], ◌∷◌}
+use Rattle.std.specs.Prelude.{◌≡◌, ◌⊎◌, ◌<◌, ◌^◌, ◌-◌, false, ℕ, List, [], ◌∷◌}
 use Rattle.tags.specs.declared.code.Code.TheVariants.{MemoryAllocationFailed}
 use Rattle.rule_model.specs.declared.entry.Entry.{Entry}
 use Rattle.rule_model.specs.declared.entry.Entry.TheVariants.{Acted, Settling}
 use Rattle.rule_model.specs.declared.reply.Reply.TheVariants.{Stopped}
+use Rattle.rule_model.specs.Acts.{is_restart}
 use Rattle.rule_model.specs.Entries.{History}
 use Rattle.rule_model.specs.Legal.{IsAnswered}
 use Rattle.rule_model.specs.Setup.{Setup}
@@ -17,10 +18,10 @@ pub record IsCalm (e : BookEntry) : Type 0 where
   pub disk_below : e.disk_before < 2 ^ 64 - 1
   pub entropy_below : e.entropy_before < 2 ^ 64 - 1
 
--- the answer of the rules, or want of memory
+-- the answer of the rules, or want of memory; no call makes a restart
 abbrev pub IsAnswer : Setup → History → Entry → Type 0
 IsAnswer setup past (Settling settled) = Unit {0}
-IsAnswer setup past (Acted event drawn reply) = IsAnswered setup past event drawn reply ⊎ (reply ≡ Stopped MemoryAllocationFailed)
+IsAnswer setup past (Acted event drawn reply) = is_restart event.act ≡ false → IsAnswered setup past event drawn reply ⊎ (reply ≡ Stopped MemoryAllocationFailed)
 
 -- each entry in whose step no device failed has the answer of the rules over those before it, or is for want of memory
 abbrev pub AreAnswers : Setup → List BookEntry → Type 0

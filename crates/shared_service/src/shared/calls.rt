@@ -1,7 +1,6 @@
 //! A call of the service.
 
 ghost use Rattle.std.specs.Prelude.{◌≡◌, ◌<◌, ◌^◌, length};
-ghost use mathlib.Core.List.{IsPrefix};
 ghost use Rattle.rule_model.specs.Legal.{Legal};
 ghost use Rattle.rule_model.specs.Setup.{Setup};
 ghost use Rattle.service_book.specs.Book.{IsCaused, history_of, log_of};
@@ -37,7 +36,6 @@ impl<D: Disk, N: Entropy> Shared<D, N> {
         ensures ours { IsOurs self.now result.0 }
         ensures number { number_of result.0 ≡ number_of pass }
         ensures calls { ∥ IsCall (number_of pass) reading request (front_of pass) (front_of result.0) result.1 ∥₁ }
-        ensures goes_on { IsPrefix (front_of pass) (front_of result.0) }
         ensures legal { (setup : Setup) → IsSetupOf self.now setup → ∥ Legal setup (history_of (log_of (front_of result.0))) ∥₁ }
         ensures caused { ∥ IsCaused (start_of self.now) (front_of result.0) ∥₁ }
         ensures complete { (setup : Setup) → IsSetupOf self.now setup → ∥ AreAnswers setup (log_of (front_of result.0)) ∥₁ }
