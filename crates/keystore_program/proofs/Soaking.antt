@@ -1,11 +1,13 @@
 -- The lines of a load, served one after another over an empty store.
-use Rattle.std.proofs.Common.{◌≡◌, ℕ, ◌+◌, ◌≤◌, ◌<◌, ◌⊎◌, inl, inr, Bool, false, List, [], ◌∷◌, ◌++◌, length, take, drop, Option, Some, None, Ok, is_some, refl, sym, ap, ◌∙◌, subst, arith, append_assoc, append-nil, length-append, length-take}
+use Rattle.std.proofs.Common.{◌≡◌, ℕ, ◌+◌, ◌≤◌, ◌<◌, ◌⊎◌, inl, inr, Bool, false, List, [], ◌∷◌, ◌++◌, length, max, take, drop, Option, Some, None, Ok, is_some, refl, sym, ap, ◌∙◌, subst, arith, append_assoc, append-nil, length-append, length-take}
 use Rattle.ks_outside.specs.Images.{AllImages, Passes, TornFrom}
 use Rattle.ks_outside.specs.declared.disk.Disk.{Ghosts as DiskGhosts}
 use Rattle.ks_outside.specs.declared.entropy.Entropy.{Ghosts as EntropyGhosts}
+use Rattle.ks_outside.specs.declared.sink.Sink.{Ghosts as SinkGhosts}
 use Rattle.tags.specs.declared.code.Code.{Code}
 use Rattle.tags.specs.declared.settled.Settled.{Settled}
 use Rattle.journal_records.specs.declared.change.Change.{Change}
+use Rattle.journal_records.specs.Spelling.{framed}
 use Rattle.use_journal.specs.Journal.{IsJournal, header, written}
 use Rattle.rule_model.specs.declared.reply.Reply.{Reply}
 use Rattle.rule_model.specs.Entries.{History}
@@ -15,13 +17,16 @@ use Rattle.soak_lines.specs.declared.summary.Summary.{Summary}
 use Rattle.soak_lines.specs.Summing.{HasSummed}
 use Rattle.keystore_program.specs.declared.answer.Answer.{Answer}
 use Rattle.keystore_program.specs.declared.session.Session.{Session}
+use Rattle.keystore_program.specs.declared.status.Status.{Status}
+use Rattle.keystore_program.specs.declared.status.Status.TheVariants as statuses
 use Rattle.keystore_program.specs.Answers.{IsAnswer, code_of}
 use Rattle.keystore_program.specs.Drawn.{DrewAll}
+use Rattle.keystore_program.specs.Ends.{is_read_fault}
 use Rattle.keystore_program.specs.Follows.{Follows}
 use Rattle.keystore_program.specs.Loading.{IsLoaded}
-use Rattle.keystore_program.specs.Runs.{IsStart}
+use Rattle.keystore_program.specs.Runs.{IsStart, is_disk_status}
 use Rattle.keystore_program.specs.Session.{Serves, StandsFor, devices}
-use Rattle.keystore_program.specs.Soak.{AreLasting, is_failure, number_of, numbers_of, text_of}
+use Rattle.keystore_program.specs.Soak.{AreLasting, Soaks, is_failure, number_of, numbers_of, text_of}
 use Rattle.keystore_program.proofs.DrawLemmas.{drew_none, drew_on}
 use Rattle.keystore_program.proofs.LineLemmas.{follows_more}
 use Rattle.keystore_program.proofs.Tickets.{none_settled}
@@ -94,8 +99,12 @@ module _ {D N : Type 0} (d : DiskGhosts D) (n : EntropyGhosts N) where
 -- ---- the bytes of an empty store
 
 header_first : (past : List Change) → 8 ≤ length (written past)
-header_first [] = omega arith
-header_first (change ∷ past) = omega (arith, header_first past, length-append (written past) _)
+header_first [] = let eight : length header ≡ 8 = refl in omega (arith, eight)
+header_first (change ∷ past) = omega (arith, header_first past, length-append (written past) (framed change))
+
+-- what a torn write of nine bytes at the front of nothing leaves
+nine_at_most : (before after : List ℕ) → before ≡ [] → length after ≤ max (length before) 9 → length after ≤ 9
+nine_at_most before after nothing most = subst (λ (bytes : List ℕ). length after ≤ max (length bytes) 9) nothing most
 
 area_within : (records image : List ℕ) (gate : ℕ) → take (length (records ++ gate ∷ [])) image ≡ records ++ gate ∷ [] → length records < length image
 area_within records image gate is = omega (arith, ap length is, length-take (length (records ++ gate ∷ [])) image, length-append records (gate ∷ []))
@@ -108,7 +117,25 @@ pub empty_bytes : {D : Type 0} (d : DiskGhosts D) (fresh formatted opened : D) (
 empty_bytes d fresh formatted opened setup image nothing never passes now images starts is =
     let start = starts image is in
     let small : length image ≤ 9 = elim (passes.since (d.moment formatted) image (now image (images image is))) [
-      | inl was ↦ (let e = never (d.moment formatted) image was in omega (arith, ap length e))
-      | inr torn ↦ (let e = nothing torn.0 torn.1 in omega (arith, ap length e, torn.2.no_longer))
+      | inl was ↦ (let none : length image ≡ 0 = ap length (never (d.moment formatted) image was) in omega (arith, none))
+      | inr torn ↦ nine_at_most torn.0 image (nothing torn.0 torn.1) torn.2.no_longer
     ] in
     omega (arith, small, start.bytes, header_first start.past, area_within (written start.past) image start.journal.area.gate start.journal.area.is)
+
+-- ---- the statuses of a load
+
+abbrev pub IsOtherStatus : Status → Type 0
+IsOtherStatus status = (is_disk_status status ≡ false) × (is_read_fault status ≡ false) × (status ≡ statuses.Usage → ⊥)
+
+-- a load tells no fault of the disk or the source, and its words are a form
+pub soaked : {K : Type 0} (k : SinkGhosts K) (seed lines : ℕ) (old new : K) (status : Status) → Soaks k seed lines old new status → IsOtherStatus status
+soaked k seed lines old new statuses.Ok soaks = (refl, refl, λ e. absurd (let no = e in cc))
+soaked k seed lines old new statuses.Memory soaks = (refl, refl, λ e. absurd (let no = e in cc))
+soaked k seed lines old new statuses.WriteFault soaks = (refl, refl, λ e. absurd (let no = e in cc))
+soaked k seed lines old new statuses.Usage soaks = absurd soaks
+soaked k seed lines old new statuses.ReadFault soaks = absurd soaks
+soaked k seed lines old new (statuses.LineTooLong line) soaks = absurd soaks
+soaked k seed lines old new statuses.DiskFault soaks = absurd soaks
+soaked k seed lines old new (statuses.Corrupted offset) soaks = absurd soaks
+soaked k seed lines old new statuses.ScriptTooLong soaks = absurd soaks
+soaked k seed lines old new statuses.ListenFault soaks = absurd soaks

@@ -1,5 +1,5 @@
 -- What a load leaves in a summary.
-use Rattle.std.specs.Prelude.{◌≡◌, ℕ, List, []}
+use Rattle.std.specs.Prelude.{ℕ, List, []}
 use Rattle.ks_outside.specs.declared.entropy.Entropy.{Ghosts}
 use Rattle.rule_model.specs.declared.reply.Reply.{Reply}
 use Rattle.rule_model.specs.Entries.{History}

@@ -2,7 +2,7 @@
 use Rattle.std.specs.Prelude.{◌≡◌, ℕ, ℤ, pos, Bool, true, false, List, [], ◌∷◌, ◌++◌, Option, Some, None, map, replicate}
 use Rattle.ks_outside.specs.Draws.{followed}
 use Rattle.ks_outside.specs.Seeded.{bytes_from}
-use Rattle.ks_outside.specs.Shown.{Outside, Put}
+use Rattle.ks_outside.specs.Shown.{Put}
 use Rattle.ks_outside.specs.declared.sink.Sink.{Ghosts as SinkGhosts}
 use Rattle.rand_chacha.specs.ChaCha.{of_seed}
 use Rattle.tags.specs.declared.code.Code.{Code}

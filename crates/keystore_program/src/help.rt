@@ -39,11 +39,11 @@ fn command(alloc: Global) -> Result<Command<'static>, AllocError> {
 }
 
 /// The help text, with its last LF.
-pub fn help(alloc: Global) -> Result<String, AllocError> {
+pub fn help_text(alloc: Global) -> Result<String, AllocError> {
     command(alloc)?.render_help()
 }
 
 /// The program's name and version, with its LF.
-pub fn version(alloc: Global) -> Result<String, AllocError> {
+pub fn version_text(alloc: Global) -> Result<String, AllocError> {
     command(alloc)?.render_version()
 }

@@ -20,7 +20,7 @@ mod tests;
 mod words;
 mod writer;
 
-use crate::help::{help, version};
+use crate::help::{help_text, version_text};
 use crate::run::run_words;
 use crate::status::Status;
 use device_files::{FileFault, read_device, read_policy};
@@ -43,9 +43,9 @@ fn text_asked(rt: &HostRuntime, words: &[String]) -> io::Result<Option<String>> 
     match words {
         [word] => {
             if word.as_str() == "--help" {
-                Ok(Some(help(rt.alloc())?))
+                Ok(Some(help_text(rt.alloc())?))
             } else if word.as_str() == "--version" {
-                Ok(Some(version(rt.alloc())?))
+                Ok(Some(version_text(rt.alloc())?))
             } else {
                 Ok(None)
             }
@@ -82,7 +82,7 @@ fn run_process(rt: &HostRuntime, device: &DeviceSecrets, policy: &Policy) -> io:
 
 /// Prints the help on standard error, where there is memory for it.
 fn print_help(rt: &HostRuntime) {
-    if let Ok(text) = help(rt.alloc()) {
+    if let Ok(text) = help_text(rt.alloc()) {
         let _ = eprint!(rt; "{text}");
     }
 }
