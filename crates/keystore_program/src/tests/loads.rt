@@ -24,8 +24,8 @@ static LOADS: [(&str, Status, &str); 4] = [
 #[test]
 fn the_help_has_the_words_of_the_forms(rt: HostRuntime) -> Result<(), Fail> {
     let text = help_text(rt.alloc())?;
-    for word in WORDS {
-        assert!(rt; text.as_str().contains(word), "{word}");
+    for word in &WORDS {
+        assert!(rt; text.as_str().contains(*word), "{word}");
     }
     Ok(())
 }
@@ -33,12 +33,12 @@ fn the_help_has_the_words_of_the_forms(rt: HostRuntime) -> Result<(), Fail> {
 #[test]
 fn a_load_prints_its_summary(rt: HostRuntime) -> Result<(), Fail> {
     let alloc = rt.alloc();
-    for (words, status, text) in LOADS {
+    for (words, status, text) in &LOADS {
         let mut source = MemorySource::new(b"", &[]);
         let mut sink = MemorySink::with_room(alloc, 256, 4, &[])?;
         let mut entropy = MemoryEntropy::counting();
         let ended = run_over(alloc, words, &mut source, &mut sink, &mut entropy)?;
-        assert_eq!(rt; ended, status, "{words}");
+        assert_eq!(rt; ended, *status, "{words}");
         assert!(rt; sink.written() == text.as_bytes(), "{words}");
     }
     Ok(())
