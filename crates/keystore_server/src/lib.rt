@@ -1,0 +1,12 @@
+//! Connections to a shared service.
+//!
+//! Its one contract is that of `serve_connection`: each request of the connection is one call of the service, made by its pass in their
+//! order; the bytes written are the frames of the replies; each end says what the stream had there; and whatever it is, the client that
+//! has come is disconnected (`specs/Calling.antt`, and `Serves` of `connections`).
+#![tactic(auto)]
+
+mod caller;
+mod serving;
+
+pub use caller::Caller;
+pub use serving::serve_connection;

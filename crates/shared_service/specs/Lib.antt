@@ -1,0 +1,4 @@
+pub mod Owning
+pub mod Calls
+pub mod Kinds
+pub mod Passes
