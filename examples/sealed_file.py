@@ -1,8 +1,9 @@
 #!/usr/bin/env python3
 """An app seals a file of a megabyte over the service's socket, opens it again, and sees that a changed byte is told.
 
-    ./keystore2 init
-    ./keystore2 serve 7878 1 1 &
+The program does not listen yet (`serve` is no form of it); until it does, the service is the one over the second model:
+
+    python3 tools/second_server.py --help
     python3 examples/sealed_file.py --port 7878
 """
 import argparse

@@ -1,5 +1,5 @@
 #!/usr/bin/env python3
-"""Runs `keystore2 serve` on a port that is free, and clients of it; says nothing where all is as it should be, and ends with status 1
+"""Once the program has the form `serve`: runs it on a port that is free, and clients of it; says nothing where all is as it should be, and ends with status 1
 else.
 
 The session of docs/PROTOCOL.md has its bytes back. While a client has sent half a frame and stays silent, another one seals a file of

@@ -1,5 +1,5 @@
 #!/usr/bin/env python3
-"""Measures `keystore2 serve`: pairs of a begin and a finish of a short mac, over one connection and over four at once.
+"""Measures `keystore2 serve`, once the program has that form: pairs of a begin and a finish of a short mac, over one connection and over four at once.
 
     python3 tools/service_speed.py [--seconds S] [--program PATH] [--port N]
 
