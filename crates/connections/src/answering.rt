@@ -5,7 +5,6 @@ ghost use Rattle.std.specs.List.{AllByRecursion};
 ghost use Rattle.wire_frames.specs.Spelling.{frame_of, IsRequest};
 ghost use Rattle.wire_frames.specs.Replies.{reply_body};
 ghost use Rattle.rule_model.specs.Acts as acts;
-ghost use Rattle.rule_model.specs.Entries as entries;
 ghost use Rattle.connections.specs.Talks as spec;
 ghost use Rattle.connections.specs.Steps.{Goes, StopsAmong, Tells, TellsLast};
 
@@ -57,16 +56,6 @@ fn is_due(joined: bool, act: &Act) -> bool
     if is_connect(act) { !joined } else { joined }
 }
 
-/// Whether a call was admitted.
-fn is_done(reply: &Reply) -> bool
-    ensures { result ≡ entries.is_done reply.now }
-{
-    match reply {
-        Reply::Done(_) => true,
-        _ => false,
-    }
-}
-
 /// Has one request answered, and says whether a client came by it.
 fn answer_one<R: Wait, A: Answerer>(rt: &R, answerer: A, request: Request) -> (A, Reply, bool)
     requires framed { IsRequest request }
@@ -77,7 +66,7 @@ fn answer_one<R: Wait, A: Answerer>(rt: &R, answerer: A, request: Request) -> (A
 {
     let connects = is_connect(request.act());
     let (answerer, reply) = answerer.answer(rt, request);
-    let joins = is_done(&reply) && connects;
+    let joins = reply.is_done() && connects;
     (answerer, reply, joins)
 }
 

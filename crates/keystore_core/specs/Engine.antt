@@ -1,5 +1,5 @@
 -- When an engine stands for a history.
-use Rattle.std.specs.Prelude.{◌≡◌, ◌≤◌, ◌⊎◌, ℕ, Bool, List, length, Option, Some, None, Result, Ok, Err}
+use Rattle.std.specs.Prelude.{◌≡◌, ◌≤◌, ◌⊎◌, ℕ, List, length, Option, Some, None, Result, Ok, Err}
 use Rattle.rule_model.specs.Entries.{History}
 use Rattle.rule_model.specs.Legal.{Legal}
 use Rattle.rule_model.specs.Uses.{IsStored}
@@ -12,7 +12,7 @@ use Rattle.journal_records.specs.LastingPart.{Lasting}
 use Rattle.journal_records.specs.declared.fault.StoreFault.{StoreFault}
 use Rattle.journal_records.specs.declared.fault.StoreFault.TheVariants as stores
 use Rattle.key_database.specs.declared.database.KeyDatabase.{KeyDatabase}
-use Rattle.key_database.specs.Stands.{Holds, is_unsettled, lasting, store_bytes}
+use Rattle.key_database.specs.Stands.{Holds, lasting, store_bytes}
 use Rattle.key_database.specs.Store.{IsBadStore, MayBe, StandsFor}
 use Rattle.rule_model.specs.Stored.{holding_of}
 use Rattle.rule_model.specs.Setup.{Setup}
@@ -33,15 +33,12 @@ pub record IsOver (setup : Setup) (device : DeviceSecrets) (policy : List Policy
   pub policy_is : setup.policy ≡ policy
   pub slots_are : setup.slots ≡ slots
 
--- the lasting part of an engine, how many bytes its store has, and whether a change waits to be settled
+-- the lasting part of an engine, and how many bytes its store has
 abbrev pub lasting_of : Engine → Lasting
 lasting_of engine = lasting engine.tables.keys
 
 abbrev pub bytes_of : Engine → ℕ
 bytes_of engine = store_bytes engine.tables.keys
-
-abbrev pub waits_in : Engine → Bool
-waits_in engine = is_unsettled engine.tables.keys
 
 -- what is fixed where an engine was opened for a device, under a policy and with so many slots
 abbrev pub IsOpened : Setup → DeviceSecrets → List PolicyRow → ℕ → Engine → Type 0

@@ -1,6 +1,6 @@
 //! The engine's step.
 
-ghost use Rattle.std.specs.Prelude.{◌≡◌, ℕ, ◌+◌, ◌^◌, ◌<◌, ◌≤◌, [], List, None, true, false, not, IfOk, IfSome, OnOk};
+ghost use Rattle.std.specs.Prelude.{◌≡◌, ℕ, ◌+◌, ◌^◌, ◌<◌, ◌≤◌, [], List, None, true, false, IfOk, IfSome, OnOk};
 ghost use Rattle.cipher_ops.specs.Jobs.{ticket_of};
 ghost use Rattle.ks_outside.specs.Shown.{Drew};
 ghost use Rattle.tags.specs.declared.code.Code.TheVariants.{SystemError};
@@ -84,7 +84,7 @@ fn entries_made(settled: Option<Settled>) -> u64
 }
 
 impl Engine {
-    ghost use Rattle.keystore_core.specs.Engine.{IsOpened, MayHoldEither, MayTake, OpensFor, OpensStore, OpenFaults, Stands, StandsForSome, StoreStands, entries_made, entries_of, tickets_of, waits_in};
+    ghost use Rattle.keystore_core.specs.Engine.{IsOpened, MayHoldEither, MayTake, OpensFor, OpensStore, OpenFaults, Stands, StandsForSome, StoreStands, entries_made, entries_of, tickets_of};
 
     /// Writes an empty store, and syncs. It takes no memory.
     pub fn format<D: Disk>(disk: &mut D) -> Result<(), Failed>
@@ -138,13 +138,6 @@ impl Engine {
             }),
             Err(NoMemory) => Err(OpenFault::Memory),
         }
-    }
-
-    /// Whether no change waits to be settled. It takes no memory.
-    pub fn is_settled(&self) -> bool
-        ensures { result ≡ not (waits_in self.now) }
-    {
-        self.tables.keys.is_settled()
     }
 
     /// The number that the next ticket takes.

@@ -6,7 +6,7 @@ ghost use Rattle.step_rules.specs.Table.{ends_operation as ends};
 ghost use Rattle.operation_slots.specs.Table.{has_room as is_free};
 ghost use Rattle.rule_model.specs.declared.event.Act.TheVariants as acts;
 ghost use Rattle.rule_model.specs.declared.reply.Reply.TheVariants as replies;
-ghost use Rattle.rule_model.specs.Entries.{History, is_done as is_admitted};
+ghost use Rattle.rule_model.specs.Entries.{History};
 ghost use Rattle.rule_model.specs.Setup.{Setup};
 ghost use Rattle.rule_model.specs.StepFacts as model;
 ghost use Rattle.keystore_core.specs.Drawn.{IsUndrawn};
@@ -73,16 +73,6 @@ fn is_waiting(operation: &Operation) -> bool
     ensures { result ≡ (is_some operation.now.challenge && not operation.now.shown) }
 {
     operation.challenge.is_some() && !operation.shown
-}
-
-/// Whether a reply admits its event.
-fn is_done(reply: &Reply) -> bool
-    ensures { result ≡ is_admitted reply.now }
-{
-    match reply {
-        Reply::Done(_) => true,
-        _ => false,
-    }
 }
 
 /// Whether a reply says that a device call failed.
@@ -281,7 +271,7 @@ impl Tables {
         let ticket = self.tickets.next();
         self.tickets.reserve()?;
         let reply = spend(&mut self.keys, disk, used, ticket);
-        if !is_done(&reply) {
+        if !reply.is_done() {
             return Ok(self.unspent(alloc, op, reply));
         }
         let job = self.send(Out { op, brought }, room);

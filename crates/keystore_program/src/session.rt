@@ -5,7 +5,7 @@ ghost use Rattle.ks_outside.specs.Shown.{Drew};
 ghost use Rattle.rule_model.specs.declared.event.Act.TheVariants as acts;
 ghost use Rattle.rule_model.specs.Drawn.{is_entropy_fault};
 ghost use Rattle.rule_model.specs.Acts as acts_spec;
-ghost use Rattle.rule_model.specs.Entries.{History, is_done as is_admitted};
+ghost use Rattle.rule_model.specs.Entries.{History};
 ghost use Rattle.rule_model.specs.Setup.{Setup};
 ghost use Rattle.keystore_program.specs.Follows as spec;
 ghost use Rattle.keystore_program.specs.SessionKept.{IsSession};
@@ -52,16 +52,6 @@ fn is_restart(act: &Act) -> bool
 {
     match act {
         Act::Restart { .. } => true,
-        _ => false,
-    }
-}
-
-/// Whether a reply admits its event.
-fn is_done(reply: &Reply) -> bool
-    ensures { result ≡ is_admitted reply.now }
-{
-    match reply {
-        Reply::Done(_) => true,
         _ => false,
     }
 }
@@ -163,7 +153,7 @@ impl Session {
         ensures drew { Drew N.Entropy entropy.old entropy.new result.drawn (is_entropy_fault result.reply) }
     {
         let stepped = self.engine.step(disk, entropy, event, None);
-        self.jobs.clear_if(is_done(&stepped.reply));
+        self.jobs.clear_if(stepped.reply.is_done());
         stepped
     }
 

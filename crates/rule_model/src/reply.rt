@@ -1,6 +1,7 @@
 //! The answers of the service: the fields of an admitted call, or the rule or the code that stopped it.
 
 ghost use Rattle.std.specs.Prelude.{◌≡◌};
+ghost use Rattle.rule_model.specs.Entries.{is_done};
 
 use std::alloc::Global;
 use std::marker::Model;
@@ -103,4 +104,16 @@ pub enum Reply {
     Broken { rule: Rule, code: Code },
     /// No rule is broken, and something else stopped the call.
     Stopped { code: Code },
+}
+
+impl Reply {
+    /// Whether it admits its event.
+    pub fn is_done(&self) -> bool
+        ensures { result ≡ is_done self.now }
+    {
+        match self {
+            Reply::Done(_) => true,
+            _ => false,
+        }
+    }
 }

@@ -1,9 +1,9 @@
 //! Room for a copy of a reply, which is taken before the reply is known.
 
 ghost use Rattle.std.specs.Prelude.{◌≡◌, IfOk};
-ghost use Rattle.rule_model.specs.ReplyRooms.{Fits, FieldsFit, sizes_of};
+ghost use Rattle.rule_model.specs.ReplyRooms.{Fits, FieldsFit, no_sizes, sizes_of};
 
-use crate::{Act, FieldSizes, Fields, Reply};
+use crate::{Act, FieldSizes, Fields, NO_SIZES, Reply};
 use entries::EntriesRoom;
 use std::alloc::Global;
 use std::marker::Model;
@@ -45,6 +45,21 @@ impl ReplyRoom {
         ensures { IfOk result (λ room. room ≡ sizes_of act.now out) }
     {
         ReplyRoom::with(alloc, FieldSizes::of(act, out))
+    }
+
+    /// Room for every reply without a field of bytes. It takes no memory.
+    pub fn empty(alloc: Global) -> ReplyRoom
+        ensures { result ≡ no_sizes }
+    {
+        ReplyRoom {
+            sizes: NO_SIZES,
+            alias: TextRoom::empty(alloc),
+            nonce: TextRoom::empty(alloc),
+            out: TextRoom::empty(alloc),
+            blob: TextRoom::empty(alloc),
+            list: TextRoom::empty(alloc),
+            entries: EntriesRoom::empty(alloc),
+        }
     }
 
     /// Room for every reply whose fields are no longer than these sizes.

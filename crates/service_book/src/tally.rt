@@ -2,10 +2,9 @@
 
 ghost use Rattle.std.specs.Prelude.{◌≡◌, ◌+◌, ◌<◌, ◌≤◌, ◌^◌, [], ◌∷◌, List, length};
 ghost use Rattle.rule_model.specs.Acts.{is_connect, is_enter};
-ghost use Rattle.rule_model.specs.Entries.{is_done};
 ghost use Rattle.wire_frames.specs.Spelling.{body_of};
 ghost use Rattle.service_book.specs.declared.entry.BookEntry.{BookEntry};
-ghost use Rattle.service_book.specs.Limits.{bytes_of, is_disconnect, is_leave, need_of, passes_limit, MOST_ENTRIES, MOST_BYTES, CALL_BYTES};
+ghost use Rattle.service_book.specs.Limits.{bytes_of, clients_in, is_disconnect, is_leave, need_of, passes_limit, tickets_in, MOST_ENTRIES, MOST_BYTES, CALL_BYTES};
 
 use rule_model::{Act, Entry, Reply};
 use wire_frames::Request;
@@ -33,16 +32,6 @@ pub struct Tally {
     ghost few_disconnects: { disconnects ≤ entries },
     ghost few_enters: { enters ≤ entries },
     ghost few_leaves: { leaves ≤ entries },
-}
-
-/// Whether an event was admitted.
-fn is_admitted(reply: &Reply) -> bool
-    ensures { result ≡ is_done reply.now }
-{
-    match reply {
-        Reply::Done(_) => true,
-        _ => false,
-    }
 }
 
 fn is_connect(act: &Act) -> bool
@@ -84,7 +73,7 @@ fn is_leave(act: &Act) -> bool
 }
 
 /// The most entries of a call.
-fn need_of(act: &Act) -> u64
+pub fn need_of(act: &Act) -> u64
     ensures need { result ≡ need_of act.now }
     ensures small { result ≤ 3 }
 {
@@ -129,7 +118,7 @@ impl Tally {
         let Entry::Acted { event, reply, .. } = entry else {
             return;
         };
-        let admitted = is_admitted(reply);
+        let admitted = reply.is_done();
         if admitted && is_connect(&event.act) {
             self.connects += 1;
         }
@@ -144,6 +133,22 @@ impl Tally {
         }
     }
 
+    /// How many clients are connected.
+    pub fn clients(&self) -> u64
+        ensures clients { (log : List BookEntry) → IsTally log self.now → result ≡ clients_in log }
+        ensures few { result ≤ entries_in self.now }
+    {
+        self.connects.saturating_sub(self.disconnects)
+    }
+
+    /// How many tickets are out.
+    pub fn tickets(&self) -> u64
+        ensures tickets { (log : List BookEntry) → IsTally log self.now → result ≡ tickets_in log }
+        ensures few { result ≤ entries_in self.now }
+    {
+        self.enters.saturating_sub(self.leaves)
+    }
+
     /// Whether a call passes a limit: with it, with the disconnect of each client and with the leave of each ticket that is out,
     /// the book would have more than 1,048,576 entries, or record more than 536,870,912 bytes.
     pub fn is_full(&self, request: &Request) -> bool
@@ -152,9 +157,8 @@ impl Tally {
         requires small { bytes_in self.now ≤ 2 ^ 62 }
         ensures { (log : List BookEntry) → IsTally log self.now → result ≡ passes_limit request.now log }
     {
-        let clients = self.connects.saturating_sub(self.disconnects);
-        let tickets = self.enters.saturating_sub(self.leaves);
-        let entries = self.entries + clients + tickets + need_of(request.act());
+        let tickets = self.tickets();
+        let entries = self.entries + self.clients() + tickets + need_of(request.act());
         let bytes = self.bytes + request.frame_length() + CALL_BYTES + CALL_BYTES * tickets;
         MOST_ENTRIES < entries || MOST_BYTES < bytes
     }

@@ -8,3 +8,4 @@ pub mod Parting
 pub mod Posing
 pub mod Counting
 pub mod Closings
+pub mod Resting

@@ -4,3 +4,4 @@ pub mod Steps
 pub mod Fronts
 pub mod Endings
 pub mod Passes
+pub mod Resting

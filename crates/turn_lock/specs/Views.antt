@@ -1,5 +1,6 @@
 -- Views, and what stands in them.
 use Rattle.std.specs.Prelude.{◌≡◌, ◌+◌, ℕ, List, [], ◌∷◌, Option, Some, None}
+use Rattle.atomic_table.specs.declared.badge.Badge.{Badge}
 use Rattle.atomic_table.specs.declared.shared.Seat.{Seat}
 use Rattle.turn_lock.specs.declared.view.Stage.{Stage}
 use Rattle.turn_lock.specs.declared.view.Stage.TheVariants.{Idle, Makes, Waits, Serves, Closes, Ends}
@@ -108,3 +109,11 @@ module _ {E K : Type 0} where
 -- the seat with this view, and with these slots in hand
 abbrev pub posed : {T E K : Type 0} → Seat (Option T) (View E K) → View E K → List (ℕ × Option T) → Seat (Option T) (View E K)
 posed seat v carried = record seat { me = (v, carried) }
+
+-- the hands of the one view of a badge, and the badge with this view
+abbrev pub hands_of : {E K : Type 0} → List (View E K) → List (Hand E K)
+hands_of [] = []
+hands_of (v ∷ vs) = v.hands
+
+abbrev pub badged : {E K : Type 0} → Badge (View E K) → View E K → Badge (View E K)
+badged badge v = record badge { views = v ∷ [] }

@@ -19,6 +19,8 @@ mod rule;
 mod view;
 
 pub use history::History;
-pub use lock::{Closing, LastTurn, Locked, Maker, Note, Pass, Turn, TurnLock};
+pub use lock::{
+    Closing, LastTurn, Locked, Maker, Note, Pass, RestingMaker, RestingPass, Turn, TurnLock,
+};
 pub use rule::{EndRule, Place, Turns};
 pub use view::{Hand, Stage, View};

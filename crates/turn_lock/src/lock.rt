@@ -1,16 +1,17 @@
 //! The lock, its passes and its turns.
 ghost use Rattle.std.specs.Prelude.{◌≡◌, [], ◌∷◌, None, length};
-ghost use Rattle.turn_lock.specs.Views.{view, number_to, unnumbered, blank, turn_in, log_in, posed};
+ghost use Rattle.turn_lock.specs.Views.{view, number_to, unnumbered, blank, turn_in, log_in, posed, badged, hands_of};
 ghost use Rattle.turn_lock.specs.declared.view.Stage.TheVariants.{Idle, Makes, Serves};
 
 use crate::rule::{Place, Turns};
 use crate::view::View;
-use atomic_table::{Seat, Table, TableRule};
+use atomic_table::{Badge, Seat, Table, TableRule};
 use std::alloc::Global;
 
 mod ending;
 mod making;
 mod notes;
+mod resting;
 mod turns;
 
 /// A ticket lock over a value of type `T`, whose history has entries `E` and whose name is a `K`.
@@ -42,6 +43,24 @@ pub struct Maker<T, E, K> {
     made: u64,
     ghost makes: { seat ≡ posed seat (view (Makes made) (blank seat.me.0.hands)) [] },
     ghost single: { length seat.me.0.hands ≡ 1 },
+}
+
+/// A pass between its turns. Its type names the entries, and not the value behind the lock.
+#[derive(Drop)]
+pub struct RestingPass<E, K> {
+    badge: Badge<View<E, K>>,
+    number: u64,
+    ghost rests: { badge ≡ badged badge (view Idle (number_to number (hands_of badge.views))) },
+    ghost single: { length (hands_of badge.views) ≡ 1 },
+}
+
+/// A maker that waits for the end. Its type names the entries, and not the value behind the lock.
+#[derive(Drop)]
+pub struct RestingMaker<E, K> {
+    badge: Badge<View<E, K>>,
+    made: u64,
+    ghost makes: { badge ≡ badged badge (view (Makes made) (blank (hands_of badge.views))) },
+    ghost single: { length (hands_of badge.views) ≡ 1 },
 }
 
 /// A copy of what a pass has seen, for another pass. It takes no turn.

@@ -77,6 +77,17 @@ impl EntriesRoom {
         })
     }
 
+    /// Room for no entry. It takes no memory.
+    pub(super) fn empty(alloc: Global) -> EntriesRoom
+        ensures { result.most ≡ 0 }
+    {
+        EntriesRoom {
+            most: 0,
+            aliases: Vec::new(alloc),
+            entries: Vec::new(alloc),
+        }
+    }
+
     /// The same entries. It takes no memory.
     fn copy(self, source: &[(Bytes, u64)]) -> Entries
         requires { AreWithin self.most source.now }

@@ -25,6 +25,16 @@ impl TextRoom {
         })
     }
 
+    /// Room for no byte. It takes no memory.
+    pub(super) fn empty(alloc: Global) -> TextRoom
+        ensures { result.most ≡ 0 }
+    {
+        TextRoom {
+            most: 0,
+            room: Vec::new(alloc),
+        }
+    }
+
     /// The same bytes. It takes no memory.
     pub(super) fn copy(self, bytes: &[u8]) -> Bytes
         requires { length bytes.now ≤ self.most }

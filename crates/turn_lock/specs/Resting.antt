@@ -1,0 +1,36 @@
+-- What contracts say of passes and makers at rest.
+use Rattle.std.specs.Prelude.{◌≡◌, ℕ, List}
+use Rattle.atomic_table.specs.Seated.{TableId}
+use Rattle.turn_lock.specs.declared.lock.Locked.{Locked}
+use Rattle.turn_lock.specs.declared.lock.RestingPass.{RestingPass}
+use Rattle.turn_lock.specs.declared.lock.RestingMaker.{RestingMaker}
+use Rattle.turn_lock.specs.Views.{AllNamed, front_in, hands_of}
+use Rattle.turn_lock.specs.Passes.{lock_id, name_of}
+
+module _ {E K : Type 0} where
+  abbrev pub resting_number : RestingPass E K → ℕ
+  resting_number pass = pass.number
+
+  -- the front of the history that it has seen
+  abbrev pub resting_front : RestingPass E K → List E
+  resting_front pass = front_in (hands_of pass.badge.views)
+
+  abbrev pub resting_made : RestingMaker E K → ℕ
+  resting_made maker = maker.made
+
+  -- of the lock with this identity and name
+  pub record IsRestingPassAt (lock : TableId) (name : K) (pass : RestingPass E K) : Type 0 where
+    pub here : pass.badge.table_id ≡ lock
+    pub named : AllNamed name (hands_of pass.badge.views)
+
+  pub record IsRestingMakerAt (lock : TableId) (name : K) (maker : RestingMaker E K) : Type 0 where
+    pub here : maker.badge.table_id ≡ lock
+    pub named : AllNamed name (hands_of maker.badge.views)
+
+module _ {S V E K P : Type 0} where
+  -- of this lock
+  abbrev pub IsRestingPassOf : Locked S V K P → RestingPass E K → Type 0
+  IsRestingPassOf lock pass = IsRestingPassAt (lock_id lock) (name_of lock) pass
+
+  abbrev pub IsRestingMakerOf : Locked S V K P → RestingMaker E K → Type 0
+  IsRestingMakerOf lock maker = IsRestingMakerAt (lock_id lock) (name_of lock) maker
