@@ -9,6 +9,7 @@ ghost use Rattle.rule_model.specs.Drawn.{is_entropy_fault};
 ghost use Rattle.rule_model.specs.Entries.{History, after_settling, after_step};
 ghost use Rattle.rule_model.specs.Jobs.{HasDone, HasJob, Stays};
 ghost use Rattle.rule_model.specs.Legal.{MayStep};
+ghost use Rattle.rule_model.specs.ReplyRooms.{Fits, sizes_of};
 ghost use Rattle.rule_model.specs.Setup.{Setup};
 ghost use Rattle.rule_model.specs.Settling.{is_disk_fault};
 ghost use Rattle.journal_records.specs.LastingPart.{Lasting, empty_lasting};
@@ -18,6 +19,7 @@ ghost use Rattle.ks_outside.specs.Images.{AllImages, Passes, TornFrom, tells};
 ghost use Rattle.keystore_core.specs.Complete.{GivesAnswer, HasNoFault};
 ghost use Rattle.keystore_core.specs.Restarting.{is_other_store};
 ghost use Rattle.keystore_core.specs.Engine.{entries_made as made_by, fault_of};
+ghost use Rattle.keystore_core.specs.Outputs.{HasOutRoom};
 ghost use Rattle.keystore_core.specs.Tables.{IsTables};
 
 use crate::tables::Tables;
@@ -28,6 +30,8 @@ use ks_outside::{Disk, Entropy, Failed};
 use rule_model::{Event, Reply, Stepped};
 use std::alloc::Global;
 use tags::{Bytes, Code, DeviceSecrets, NoMemory, Policy, Settled};
+
+mod most_out;
 
 /// The engine of the service.
 #[derive(Drop)]
@@ -171,7 +175,8 @@ impl Engine {
     /// for goes on by one step: what it settled, and the event with the bytes that were drawn for it and the reply. There is a
     /// job exactly where the reply gives a ticket, which an admitted enter alone does. It is the work of its operation, and
     /// stays so as long as the ticket is out. The bytes are those that the entropy gave, and a draw failed exactly where the
-    /// reply says so. Where no call failed, the reply is that of the rules, or memory was wanting.
+    /// reply says so. Where no call failed, the reply is that of the rules, or memory was wanting. Each
+    /// reply fits the room that can be taken for it before the step, by the act and for a leave by what its work puts out.
     pub fn step<D: Disk, N: Entropy>(
         &mut self,
         disk: &mut D,
@@ -189,6 +194,8 @@ impl Engine {
             HasJob setup (after_step result.settled event result.drawn result.reply past) result.reply result.job }
         ensures stays { (setup : Setup) (past : History) → Stands setup self.old past → HasDone setup past event.act done →
             Stays setup past (after_step result.settled event result.drawn result.reply past) }
+        ensures fits { (setup : Setup) (past : History) (out : ℕ) → Stands setup self.old past → HasDone setup past event.act done →
+            HasOutRoom setup past event.act out → Fits (sizes_of event.act out) result.reply }
         ensures number { IfSome result.job (λ job. ticket_of job ≡ tickets_of self.old + 1) }
         ensures entries { entries_of self.new ≡ entries_of self.old + entries_made result.settled }
         ensures store { (setup : Setup) (past : History) → Stands setup self.old past → StoreStands D.Disk setup self.old disk.old past →
