@@ -26,7 +26,7 @@ use Rattle.key_rules.specs.Table.{rules_of}
 use Rattle.key_rules.proofs.NewKeys.{fit_if_ok}
 use Rattle.keymint_ops.proofs.BlobSizes.{id_few}
 use Rattle.use_rules.specs.Plans.{nonce_wanted}
-use Rattle.use_rules.specs.Rules.{is_gcm, takes_nonce, gives_nonce, nonce_size as sized}
+use Rattle.use_rules.specs.Rules.{is_gcm}
 use Rattle.use_rules.specs.Table as begin_table
 use Rattle.use_rules.specs.Table.{asked_of, key_of}
 use Rattle.step_rules.specs.Table as step_table
@@ -181,18 +181,24 @@ next_short part domain nspace past short = least_short (filter (is_listed domain
 abbrev HasShortAlias : List ℕ × ℕ → Type 0
 HasShortAlias entry = length entry.0 ≤ 256
 
-listed_few : (most : ℕ) (part : Lasting) (domain nspace : ℕ) (past : Option (List ℕ)) → AreShort part
-    → (length (listed_from most part domain nspace past) ≤ most) × All HasShortAlias (listed_from most part domain nspace past)
+abbrev IsFew : ℕ → List (List ℕ × ℕ) → Type 0
+IsFew most entries = (length entries ≤ most) × All HasShortAlias entries
+
+more_few : (most : ℕ) (part : Lasting) (domain nspace : ℕ) (past : Option (List ℕ)) (found : Option KeyRecord) → next_key part domain nspace past ≡ found → IfSome found IsShort
+    → ((alias : List ℕ) → IsFew most (listed_from most part domain nspace (Some alias))) → IsFew (suc most) (listed_from (suc most) part domain nspace past)
 unfolding listed_from
-listed_few zero part domain nspace past short = (omega arith, All-nil HasShortAlias)
-listed_few (suc most) part domain nspace past short = by_next (next_key part domain nspace past) refl (next_short part domain nspace past short) where
-  by_next : (found : Option KeyRecord) → next_key part domain nspace past ≡ found → IfSome found IsShort
-      → (length (listed_from (suc most) part domain nspace past) ≤ suc most) × All HasShortAlias (listed_from (suc most) part domain nspace past)
-  unfolding listed_from
-  by_next None next own = rw next (omega arith, All-nil HasShortAlias)
-  by_next (Some key) next own =
-      let rest = listed_few most part domain nspace (Some key.alias) short in
-      rw next (omega (arith, rest.0), All-cons HasShortAlias (key.alias, key.id) (listed_from most part domain nspace (Some key.alias)) own.0 rest.1)
+more_few most part domain nspace past None next own rest = rw next (omega arith, All-nil HasShortAlias)
+more_few most part domain nspace past (Some key) next own rest =
+    rw next (omega (arith, (rest key.alias).0), All-cons HasShortAlias (key.alias, key.id) (listed_from most part domain nspace (Some key.alias)) own.0 (rest key.alias).1)
+
+none_few : (part : Lasting) (domain nspace : ℕ) (past : Option (List ℕ)) → IsFew 0 (listed_from 0 part domain nspace past)
+unfolding listed_from
+none_few part domain nspace past = (omega arith, All-nil HasShortAlias)
+
+listed_few : (most : ℕ) (part : Lasting) (domain nspace : ℕ) (past : Option (List ℕ)) → AreShort part → IsFew most (listed_from most part domain nspace past)
+listed_few zero part domain nspace past short = none_few part domain nspace past
+listed_few (suc most) part domain nspace past short =
+    more_few most part domain nspace past (next_key part domain nspace past) refl (next_short part domain nspace past short) (λ alias. listed_few most part domain nspace (Some alias) short)
 
 -- ---- a leave
 
