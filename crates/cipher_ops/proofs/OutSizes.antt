@@ -1,7 +1,7 @@
 -- How many bytes an update and a finish give at most, plan by plan.
 use Rattle.std.proofs.Common.{◌≡◌, ℕ, zero, suc, ◌+◌, ◌-◌, ◌*◌, ◌/◌, ◌%◌, ◌≤◌, ◌==◌, Bool, true, false, not, ◌&&◌, if◌then◌else◌, List, [], ◌∷◌, ◌++◌, length, take, drop, replicate, Option, Some, None, Result, Ok, Err, refl, arith, length-append, length-take, length-drop}
 use Rattle.std.proofs.lemmas.List.{length-replicate}
-use Rattle.std.specs.Prelude.{IfOk, IfSome, nat_lt}
+use Rattle.std.specs.Prelude.{IfOk, IfSome, nat_lt, slice_index}
 use Rattle.std.specs.Option.{ok_or}
 use Rattle.std.specs.Str.{bytes_eq}
 use Rattle.tags.specs.declared.code.Code.{Code}
@@ -155,7 +155,7 @@ opened_few m most None few fits = tt
 
 blocks_few : (seal padded : Bool) (made : List ℕ → List ℕ) (text : List ℕ) → ((t : List ℕ) → length (made t) ≤ length t) → Few (length text + 16) (coded (modes.completed seal padded made text))
 blocks_few true true made text within = omega (arith, within (pad text), pad_few text)
-blocks_few false true made text within = opened_few (length (made text)) (length text + 16) (unpad (made text)) (unpad_few _ (made text)) (omega (arith, within text))
+blocks_few false true made text within = opened_few (length (made text)) (length text + 16) (unpad (made text)) (unpad_few (slice_index (made text) (length (made text) - 1)) (made text)) (omega (arith, within text))
 blocks_few true false made text within = omega (arith, within text)
 blocks_few false false made text within = omega (arith, within text)
 
@@ -255,6 +255,3 @@ update_few plan key nonce before after input e =
       length-take (full_front plan after) made,
       fronts_few plan before after input e,
     )
-
-pub limited_few : (plan : Plan) (key nonce before after : List ℕ) → length (update_output plan true key nonce before after) ≤ 0
-limited_few plan key nonce before after = omega (arith, length-drop 0 (take 0 (raw plan key nonce after)), length-take 0 (raw plan key nonce after))

@@ -28,7 +28,7 @@ use Rattle.key_rules.specs.declared.facts.NewFacts.{NewFacts}
 use Rattle.key_rules.specs.declared.plan.KeyPlan.{KeyPlan}
 use Rattle.key_rules.specs.Creation.{IsFit, IsSmall, drawn_size, new_key, plan_of}
 use Rattle.key_rules.specs.Kept.{is_kept, kept, origin, own, set, set_missing, with_size}
-use Rattle.key_rules.specs.Rules.{each_short, has_allowed_size, has_short_ids, is_by_alias, list_in, names_new_key, names_place, read_or_empty}
+use Rattle.key_rules.specs.Rules.{each_short, has_allowed_size, has_short_ids, is_by_alias, list_in, names_algorithm, names_new_key, names_place, read_or_empty, takes_format}
 use Rattle.key_rules.specs.Table.{list_rules, rules_of}
 use Rattle.key_rules.proofs.Ids.{short_id}
 use Rattle.key_rules.proofs.Keys.{bits_few, generated_short}
@@ -52,8 +52,17 @@ pub record IsLetThrough (facts : NewFacts) : Type 0 where
   pub ids : has_short_ids (list_in facts.params) ≡ true
   pub size : has_allowed_size facts.import (list_in facts.params) ≡ true
 
-pub let_through : (facts : NewFacts) → is_ok (new_key facts) ≡ true → IsLetThrough facts
+third_held : (a b c : Bool) (rest : Ruling) (first second third : Rule × Code) → is_ok (if a then (if b then (if c then rest else Err third) else Err second) else Err first) ≡ true → c ≡ true
+third_held true true true rest first second third e = refl
+third_held true true false rest first second third e = cc
+third_held true false c rest first second third e = cc
+third_held false b c rest first second third e = cc
+
+size_allowed : (import : Option ImportFacts) (domain : ℕ) (early_ended : Bool) (list : List Param) → is_ok (first_broken K (list_rules import domain early_ended list)) ≡ true → has_allowed_size import list ≡ true
 unfolding list_rules
+size_allowed import domain early_ended list e = third_held (names_algorithm list) (takes_format import) (has_allowed_size import list) _ _ _ _ e
+
+pub let_through : (facts : NewFacts) → is_ok (new_key facts) ≡ true → IsLetThrough facts
 let_through facts e =
     let first = held _ _ _ (all_ok (first_broken K (rules_of facts)) (plan_of facts) e) in
     let second = held _ _ _ first.1 in
@@ -61,10 +70,7 @@ let_through facts e =
     let short = held _ _ _ third.1 in
     let reads = held _ _ _ short.1 in
     let ids = held _ _ _ reads.1 in
-    let fifth = held _ _ _ ids.1 in
-    let sixth = held _ _ _ fifth.1 in
-    let seventh = held _ _ _ sixth.1 in
-    record { named = second.0; few = leb-true (length facts.params) 4096 short.0; reads = reads.0; ids = ids.0; size = seventh.0 }
+    record { named = second.0; few = leb-true (length facts.params) 4096 short.0; reads = reads.0; ids = ids.0; size = size_allowed facts.import facts.descriptor.domain facts.early_ended (list_in facts.params) ids.1 }
 
 -- ---- the name
 
