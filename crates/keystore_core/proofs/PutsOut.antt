@@ -10,7 +10,7 @@ use Rattle.tags.specs.Plan.{OPERATION_BYTES}
 use Rattle.tags.specs.Table.{Ruling, first_broken}
 use Rattle.ks_outside.specs.declared.clock.Reading.{Reading}
 use Rattle.step_rules.specs.declared.facts.StepFacts.{StepFacts}
-use Rattle.step_rules.specs.Rules.{is_enter as enters_kind, is_total_within}
+use Rattle.step_rules.specs.Rules.{are_pieces_short, is_enter as enters_kind, is_total_within, may_take_aad}
 use Rattle.step_rules.specs.Table.{answer as answer_of_step, call_rules, enter_rules}
 use Rattle.cipher_ops.specs.declared.room.Work.{Work}
 use Rattle.cipher_ops.specs.declared.room.Work.TheVariants.{Aad, Text, Last}
@@ -46,10 +46,17 @@ use Rattle.keystore_core.proofs.Untold.{untold}
 
 -- ---- the rules of an enter that is let through
 
--- a row that does not stop the walk, and what comes behind it
-held : (holds : Bool) (rest : Ruling) (broken : Rule × Code) → is_ok (if holds then rest else Err broken) ≡ true → (holds ≡ true) × (is_ok rest ≡ true)
-held true rest broken e = (refl, e)
-held false rest broken e = cc
+rows_hold : (own idle short live shown aad total : Bool) (first second third fourth fifth sixth seventh : Rule × Code) (rest : Ruling)
+    → is_ok (if own then (if idle then (if short then (if live then (if shown then (if aad then (if total then rest else Err seventh) else Err sixth) else Err fifth) else Err fourth) else Err third) else Err second) else Err first) ≡ true
+    → (own ≡ true) × (total ≡ true)
+rows_hold false idle short live shown aad total first second third fourth fifth sixth seventh rest e = cc
+rows_hold true false short live shown aad total first second third fourth fifth sixth seventh rest e = cc
+rows_hold true true false live shown aad total first second third fourth fifth sixth seventh rest e = cc
+rows_hold true true true false shown aad total first second third fourth fifth sixth seventh rest e = cc
+rows_hold true true true true false aad total first second third fourth fifth sixth seventh rest e = cc
+rows_hold true true true true true false total first second third fourth fifth sixth seventh rest e = cc
+rows_hold true true true true true true false first second third fourth fifth sixth seventh rest e = cc
+rows_hold true true true true true true true first second third fourth fifth sixth seventh rest e = (refl, refl)
 
 record IsWithin (facts : StepFacts) : Type 0 where
   own : facts.own ≡ true
@@ -58,14 +65,9 @@ record IsWithin (facts : StepFacts) : Type 0 where
 within_if_ok : (facts : StepFacts) → enters_kind facts.kind ≡ true → is_ok (answer_of_step facts) ≡ true → IsWithin facts
 unfolding answer_of_step
 within_if_ok facts enter e =
-    let first = held _ _ _ (subst (λ b. is_ok (first_broken S (call_rules facts ++ (if b then enter_rules facts else []))) ≡ true) enter e) in
-    let second = held _ _ _ first.1 in
-    let third = held _ _ _ second.1 in
-    let fourth = held _ _ _ third.1 in
-    let fifth = held _ _ _ fourth.1 in
-    let sixth = held _ _ _ fifth.1 in
-    let seventh = held _ _ _ sixth.1 in
-    record { own = first.0; total = leb-true (facts.aad + facts.text + facts.input) OPERATION_BYTES seventh.0 }
+    let both = rows_hold facts.own (not facts.busy) (are_pieces_short facts) (not facts.ended) (not facts.waiting) (may_take_aad facts) (is_total_within facts) _ _ _ _ _ _ _ _
+    (subst (λ b. is_ok (first_broken S (call_rules facts ++ (if b then enter_rules facts else []))) ≡ true) enter e) in
+    record { own = both.0; total = leb-true (facts.aad + facts.text + facts.input) OPERATION_BYTES both.1 }
 
 -- the operation that a work enters is there, and has room for what the work brings
 record HasTaken (setup : Setup) (past : History) (op size : ℕ) : Type 0 where
