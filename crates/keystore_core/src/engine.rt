@@ -1,6 +1,6 @@
 //! The engine's step.
 
-ghost use Rattle.std.specs.Prelude.{◌≡◌, ℕ, ◌+◌, ◌^◌, ◌<◌, ◌≤◌, [], List, None, true, false, IfOk, IfSome, OnOk};
+ghost use Rattle.std.specs.Prelude.{◌≡◌, ℕ, ◌+◌, ◌^◌, ◌<◌, ◌≤◌, [], List, None, true, false, length, IfOk, IfSome, OnOk};
 ghost use Rattle.cipher_ops.specs.Jobs.{ticket_of};
 ghost use Rattle.ks_outside.specs.Shown.{Drew};
 ghost use Rattle.tags.specs.declared.code.Code.TheVariants.{SystemError};
@@ -85,6 +85,13 @@ fn entries_made(settled: Option<Settled>) -> u64
         Some(_) => 2,
         None => 1,
     }
+}
+
+/// A device's root of trust has 32 bytes, as its type says.
+fn root_is_whole(device: &DeviceSecrets)
+    ensures { length device.now.root ≡ 32 }
+{
+    let _root = device.root;
 }
 
 impl Engine {
@@ -212,6 +219,7 @@ impl Engine {
         ensures cause { CountsFaults (D.fault_count disk.old) (D.fault_count disk.new) (is_disk_fault result.reply) }
         ensures drew { Drew N.Entropy entropy.old entropy.new result.drawn (is_entropy_fault result.reply) }
     {
+        root_is_whole(&self.tables.device);
         let settled = match self.tables.settle_first(disk, &event.act) {
             Ok(settled) => settled,
             Err(Failed) => return self.not_settled(),

@@ -1,4 +1,4 @@
-use Rattle.std.proofs.Common.{◌≡◌, length, refl, rules, sym, ap, ◌∙◌}
+use Rattle.std.proofs.Common.{◌≡◌, length, refl, sym, ap, ◌∙◌}
 use Rattle.tags.specs.declared.secrets.DeviceSecrets.{DeviceSecrets}
 use Rattle.rule_model.specs.Entries.{after_settling}
 use Rattle.rule_model.specs.Stored.{holding_of}
@@ -106,5 +106,5 @@ returns-clause-fits g c = λ setup past out stands done room.
     let has = c.in-Ok.ensures.stands setup past stands.tables in
     let may = may_step setup past c.args.self.now c.settle_first.new.self c.args.event c.in-Ok.settled c.args.done stands has c.answer-answered.new.self c.answer-answered.result
     (c.answer-answered.ensures.answers setup (after_settling c.in-Ok.settled past) (rw c.entries_made.ensures (stands_mid setup past c.args.self.now c.settle_first.new.self c.args.event c.in-Ok.settled c.args.done stands has done))) in
-    let long : length c.args.self.now.tables.device.root ≡ 32 = search rules in
+    let long : length c.args.self.now.tables.device.root ≡ 32 = c.root_is_whole.ensures in
     step_fits setup past c.in-Ok.settled c.args.event c.answer-answered.result.drawn c.answer-answered.result.reply out stands.legal stands.stored (sym (ap (λ (d : DeviceSecrets). length d.root) stands.tables.keys.device_is) ∙ long) room may
