@@ -1,5 +1,5 @@
 -- How many bytes an update and a finish give at most, plan by plan.
-use Rattle.std.proofs.Common.{◌≡◌, ℕ, zero, suc, ◌+◌, ◌-◌, ◌*◌, ◌/◌, ◌%◌, ◌≤◌, ◌==◌, Bool, true, false, not, ◌&&◌, if◌then◌else◌, List, [], ◌∷◌, ◌++◌, length, take, drop, replicate, Option, Some, None, Result, Ok, Err, refl, arith, length-append, length-take, length-drop}
+use Rattle.std.proofs.Common.{◌≡◌, ℕ, zero, suc, ◌+◌, ◌-◌, ◌*◌, ◌/◌, ◌%◌, ◌≤◌, ◌==◌, Bool, true, false, not, ◌&&◌, if◌then◌else◌, List, [], ◌∷◌, length, take, drop, replicate, Option, Some, None, Result, Ok, Err, refl, arith, length-append, length-take, length-drop}
 use Rattle.std.proofs.lemmas.List.{length-replicate}
 use Rattle.std.specs.Prelude.{IfOk, IfSome, nat_lt, slice_index}
 use Rattle.std.specs.Option.{ok_or}
@@ -11,7 +11,6 @@ use Rattle.tags.specs.declared.plan.Plan.TheVariants.{Ecb, Cbc, Ctr, Gcm, HmacSi
 use Rattle.tags.specs.Plan.{is_whole}
 use Rattle.aes_core.specs.Cipher.{cipher, cipher_by, inverse_by, inverse_cipher}
 use Rattle.aes_core.specs.State.{add_round_key, state_of}
-use Rattle.block_modes.specs.declared.fault.ModeFault.{ModeFault}
 use Rattle.block_modes.specs.declared.fault.ModeFault.TheVariants.{Length, Padding}
 use Rattle.block_modes.specs.Modes.{cbc, cbc_blocks, cbc_open, cbc_open_blocks, ctr, ctr_pieces, ecb, ecb_blocks, next_counter}
 use Rattle.block_modes.specs.Output as modes
@@ -23,7 +22,7 @@ use Rattle.gcm_mode.specs.Blocks as gcm_blocks
 use Rattle.gcm_mode.specs.Counter as counter
 use Rattle.gcm_mode.specs.Gcm as gcm
 use Rattle.hmac_core.specs.Hmac.{hmac}
-use Rattle.cipher_ops.specs.Output.{behind, coded, finish_output, first_block, front, full_front, is_signature, raw, update_output, verified, whole}
+use Rattle.cipher_ops.specs.Output.{behind, coded, finish_output, front, full_front, is_signature, raw, update_output, verified, whole}
 use Rattle.cipher_ops.specs.Sizes.{finish_room, piece_room, taken}
 use Rattle.cipher_ops.proofs.GivenLemmas.{front_within}
 

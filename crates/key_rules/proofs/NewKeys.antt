@@ -1,5 +1,5 @@
 -- A new key that the rules let through: what its descriptor names, and how long its list, ids and material are.
-use Rattle.std.proofs.Common.{◌≡◌, ℕ, ◌+◌, ◌*◌, ◌≤◌, ◌==◌, Bool, true, false, not, ◌&&◌, ◌||◌, if◌then◌else◌, List, [], ◌++◌, length, Option, Some, None, Result, Ok, Err, refl, sym, ap, ◌∙◌, subst, arith}
+use Rattle.std.proofs.Common.{◌≡◌, ℕ, ◌+◌, ◌*◌, ◌≤◌, ◌==◌, Bool, true, false, not, ◌&&◌, ◌||◌, if◌then◌else◌, List, [], length, Option, Some, None, Result, Ok, Err, refl, arith}
 use Rattle.std.specs.Prelude.{IfSome, is_none, is_ok, nat_le, unwrap_or}
 use Rattle.std.proofs.lemmas.Bool.{and_parts, leb-true}
 use Rattle.tags.specs.declared.code.Code.{Code}
@@ -10,7 +10,7 @@ use Rattle.tags.specs.declared.rule.Rule.{Rule}
 use Rattle.tags.specs.declared.rule.RuleTable.TheVariants.{K}
 use Rattle.tags.specs.declared.tag.Tag.{Tag}
 use Rattle.tags.specs.declared.tag.Tag.TheVariants.{ApplicationData, ApplicationId, CreationDatetime, KeySize, Origin}
-use Rattle.tags.specs.Descriptor.{has_alias, has_alias_in, is_alias}
+use Rattle.tags.specs.Descriptor.{has_alias, has_alias_in}
 use Rattle.tags.specs.Table.{Ruling, first_broken, where_all_hold}
 use Rattle.tags.specs.Tag.{type_of}
 use Rattle.key_domains.specs.Domains.{domain_blob}
@@ -25,8 +25,7 @@ use Rattle.tag_lists.proofs.ReadSizes.{listed_small}
 use Rattle.tag_lists.proofs.Sizes.{small_filter, small_with}
 use Rattle.key_rules.specs.declared.facts.ImportFacts.{ImportFacts}
 use Rattle.key_rules.specs.declared.facts.NewFacts.{NewFacts}
-use Rattle.key_rules.specs.declared.plan.KeyPlan.{KeyPlan}
-use Rattle.key_rules.specs.Creation.{IsFit, IsSmall, drawn_size, new_key, plan_of}
+use Rattle.key_rules.specs.Creation.{IsFit, drawn_size, new_key, plan_of}
 use Rattle.key_rules.specs.Kept.{is_kept, kept, origin, own, set, set_missing, with_size}
 use Rattle.key_rules.specs.Rules.{each_short, has_allowed_size, has_short_ids, is_by_alias, list_in, names_algorithm, names_new_key, names_place, read_or_empty, takes_format}
 use Rattle.key_rules.specs.Table.{list_rules, rules_of}

@@ -1,6 +1,5 @@
 -- Each reply fits the room that is taken for it before the step.
-use Rattle.std.proofs.Common.{◌≡◌, ℕ, zero, suc, ◌+◌, ◌≤◌, Bool, true, false, ◌==◌, if◌then◌else◌, List, [], ◌∷◌, length, length-drop, length-take, take, drop, filter, find, Option, Some, None, Result, Ok, Err, is_ok, IsTrue, refl, sym, ap, ◌∙◌, subst, arith}
-use Rattle.std.specs.Option.{option_copied}
+use Rattle.std.proofs.Common.{◌≡◌, ℕ, zero, suc, ◌+◌, ◌≤◌, Bool, true, false, ◌==◌, if◌then◌else◌, List, [], ◌∷◌, length, length-drop, length-take, take, drop, filter, Option, Some, None, Result, Ok, Err, is_ok, refl, sym, subst, arith}
 use Rattle.std.specs.Ordering.{is_gt}
 use Rattle.std.specs.Prelude.{IfOk, IfSome, All}
 use Rattle.std.proofs.lemmas.List.Elements.{All-cons, All-nil}
@@ -21,7 +20,7 @@ use Rattle.key_blobs.specs.declared.sealed.Sealed.{Sealed}
 use Rattle.key_blobs.proofs.BlobSizes.{blob_few}
 use Rattle.key_rules.specs.declared.facts.NewFacts.{NewFacts}
 use Rattle.key_rules.specs.declared.plan.KeyPlan.{KeyPlan}
-use Rattle.key_rules.specs.Creation.{IsFit, new_key, plan_of}
+use Rattle.key_rules.specs.Creation.{IsFit, plan_of}
 use Rattle.key_rules.specs.Table.{rules_of}
 use Rattle.key_rules.proofs.NewKeys.{fit_if_ok}
 use Rattle.keymint_ops.proofs.BlobSizes.{id_few}
@@ -41,21 +40,19 @@ use Rattle.rule_model.specs.declared.event.Act.{Act}
 use Rattle.rule_model.specs.declared.event.Act.TheVariants.{Connect, GenerateKey, ImportKey, CreateOperation, EnterAad, EnterUpdate, EnterFinish, Abort, Disconnect, GetKeyEntry, DeleteKey, Grant, Ungrant, GetNumberOfEntries, ListEntriesBatched, ClearNamespace, UserRemoved, AddAuthToken, DeviceLocked, DeviceUnlocked, EarlyBootEnded, Leave, Restart}
 use Rattle.rule_model.specs.declared.event.Event.{Event}
 use Rattle.rule_model.specs.declared.facts.Caller.{Caller}
-use Rattle.rule_model.specs.declared.facts.Pieces.{Pieces}
 use Rattle.rule_model.specs.declared.field_sizes.FieldSizes.{FieldSizes}
-use Rattle.rule_model.specs.declared.reply.Fields.{Fields}
 use Rattle.rule_model.specs.declared.reply.Reply.{Reply}
 use Rattle.rule_model.specs.declared.reply.Reply.TheVariants.{Done, Broken, Stopped}
 use Rattle.rule_model.specs.Access.{id_by, key_in, owner_of}
 use Rattle.rule_model.specs.Acts.{fixed_for, is_begin}
-use Rattle.rule_model.specs.Answer.{answer, answer_by_rules, begun_with, drawn_nonce, given_or, leaving, made_in}
+use Rattle.rule_model.specs.Answer.{answer, answer_by_rules, begun_with, drawn_nonce, given_or, leaving}
 use Rattle.rule_model.specs.Blobs.{device_at, kept_as, root_of}
 use Rattle.rule_model.specs.Boot.{has_early_ended, last_tokens, other_triples}
-use Rattle.rule_model.specs.Calls.{accepted_in, add_auth_token_ruling, clear_namespace_ruling, counted_in, delete_key_ruling, disconnect_ruling, early_boot_ended_ruling, entry_fields, get_key_entry_ruling, grant_ruling, granted_in, key_entry, listed_in, listing_ruling, ungrant_ruling, user_call_ruling}
-use Rattle.rule_model.specs.Changes.{change_of, grant_number, material_of, new_blob, owner_for, planned}
+use Rattle.rule_model.specs.Calls.{accepted_in, add_auth_token_ruling, clear_namespace_ruling, counted_in, delete_key_ruling, disconnect_ruling, early_boot_ended_ruling, get_key_entry_ruling, grant_ruling, granted_in, key_entry, listed_in, listing_ruling, ungrant_ruling, user_call_ruling}
+use Rattle.rule_model.specs.Changes.{change_of, grant_number, new_blob, owner_for}
 use Rattle.rule_model.specs.Clients.{caller_of}
 use Rattle.rule_model.specs.Drawn.{no_pieces, size_of, wanted_by_key, wanted_by_rules}
-use Rattle.rule_model.specs.Entries.{History, after_settling, count_of}
+use Rattle.rule_model.specs.Entries.{History, count_of}
 use Rattle.rule_model.specs.Kept.{access_at, has_busy, kept, key_found, open_of, operation_at}
 use Rattle.rule_model.specs.Legal.{Legal, MayFollow, MayStep, Answered, WithoutMemory, WithoutEntropy, Faulted, NotSettled, NotRestarted}
 use Rattle.rule_model.specs.Listing.{listed_from, listing}
@@ -63,7 +60,7 @@ use Rattle.rule_model.specs.NewFacts.{import_of, new_facts}
 use Rattle.rule_model.specs.Operations.{challenge_of, nonce_size, output_of}
 use Rattle.rule_model.specs.Places.{has_grant_place, has_key_place}
 use Rattle.rule_model.specs.Replies.{broken_or, no_fields}
-use Rattle.rule_model.specs.ReplyRooms.{AreWithin, BLOB, Fits, FieldsFit, IsWithin, NONCE, no_sizes, sizes_of}
+use Rattle.rule_model.specs.ReplyRooms.{BLOB, Fits, IsWithin, NONCE, no_sizes, sizes_of}
 use Rattle.rule_model.specs.Setup.{Setup}
 use Rattle.rule_model.specs.Slots.{begin_facts, pruned_for}
 use Rattle.rule_model.specs.StepFacts.{brought_by, brought_by_abort, step_facts}
@@ -226,46 +223,46 @@ rules_fit : (act : Act) (setup : Setup) (past : History) (caller : Caller) (draw
     → length drawn ≡ size_of (if (fixed_for act).draws then wanted_by_rules act setup past caller else no_pieces) → HasOutRoom setup past act out → Fits (sizes_of act out) (answer_by_rules act setup past caller drawn)
 rules_fit (Connect uid) setup past caller drawn out short long drew room = record { alias = tt; nonce = tt; out = tt; blob = tt; list = tt; entries = tt }
 rules_fit (GenerateKey key params) setup past caller drawn out short long drew room = generated_fits setup past caller key params drawn long drew
-rules_fit (ImportKey key params format material) setup past caller drawn out short long drew room = 
+rules_fit (ImportKey key params format material) setup past caller drawn out short long drew room =
     imported_fits setup past caller key params format material drawn long drew
-rules_fit (CreateOperation key params forced) setup past caller drawn out short long drew room = 
+rules_fit (CreateOperation key params forced) setup past caller drawn out short long drew room =
     broken_fits (record no_sizes { nonce = NONCE }) (begin_table.answer (begin_facts setup past caller key params forced)) (begun_with (count_of is_begin past + 1) (challenge_of (begin_facts setup past caller key params forced) drawn) (drawn_nonce (begin_facts setup past caller key params forced) drawn) (pruned_for setup past (owner_of caller) forced))
     (record { alias = tt; nonce = nonce_fits (nonce_size (begin_facts setup past caller key params forced)) drawn (wanted_few (asked_of (begin_facts setup past caller key params forced)) (key_of (begin_facts setup past caller key params forced))); out = tt; blob = tt; list = tt; entries = tt })
-rules_fit (EnterAad op input) setup past caller drawn out short long drew room = 
+rules_fit (EnterAad op input) setup past caller drawn out short long drew room =
     broken_fits no_sizes (step_table.answer (step_facts setup past caller op (brought_by (Aad input)))) (Done (record no_fields { ticket = Some (next_ticket past) })) (record { alias = tt; nonce = tt; out = tt; blob = tt; list = tt; entries = tt })
-rules_fit (EnterUpdate op input) setup past caller drawn out short long drew room = 
+rules_fit (EnterUpdate op input) setup past caller drawn out short long drew room =
     broken_fits no_sizes (step_table.answer (step_facts setup past caller op (brought_by (Text input)))) (Done (record no_fields { ticket = Some (next_ticket past) })) (record { alias = tt; nonce = tt; out = tt; blob = tt; list = tt; entries = tt })
-rules_fit (EnterFinish op input signature) setup past caller drawn out short long drew room = 
+rules_fit (EnterFinish op input signature) setup past caller drawn out short long drew room =
     broken_fits no_sizes (step_table.answer (step_facts setup past caller op (brought_by (Last input signature)))) (Done (record no_fields { ticket = Some (next_ticket past) })) (record { alias = tt; nonce = tt; out = tt; blob = tt; list = tt; entries = tt })
-rules_fit (Abort op) setup past caller drawn out short long drew room = 
+rules_fit (Abort op) setup past caller drawn out short long drew room =
     broken_fits no_sizes (step_table.answer (step_facts setup past caller op brought_by_abort)) (Done no_fields) (record { alias = tt; nonce = tt; out = tt; blob = tt; list = tt; entries = tt })
-rules_fit Disconnect setup past caller drawn out short long drew room = 
+rules_fit Disconnect setup past caller drawn out short long drew room =
     broken_fits no_sizes (disconnect_ruling caller (has_busy setup past caller.client)) (Done no_fields) (record { alias = tt; nonce = tt; out = tt; blob = tt; list = tt; entries = tt })
-rules_fit (GetKeyEntry key) setup past caller drawn out short long drew room = 
+rules_fit (GetKeyEntry key) setup past caller drawn out short long drew room =
     broken_fits (sizes_of (GetKeyEntry key) 0) (get_key_entry_ruling setup.policy (kept setup past) caller key) (key_entry (key_found setup past caller key))
     (entry_fits key (key_found setup past caller key) (λ k e. found_short (kept setup past) (access_at setup past caller key) k short e))
-rules_fit (DeleteKey key) setup past caller drawn out short long drew room = 
+rules_fit (DeleteKey key) setup past caller drawn out short long drew room =
     broken_fits no_sizes (delete_key_ruling setup.policy (kept setup past) caller key) (Done no_fields) (record { alias = tt; nonce = tt; out = tt; blob = tt; list = tt; entries = tt })
-rules_fit (Grant key uid bits) setup past caller drawn out short long drew room = 
+rules_fit (Grant key uid bits) setup past caller drawn out short long drew room =
     broken_fits no_sizes (grant_ruling setup.policy (kept setup past) caller key bits) (granted_in (kept setup past) (id_by setup.policy (kept setup past) caller key) uid) (granted_fits (kept setup past) (id_by setup.policy (kept setup past) caller key) uid)
-rules_fit (Ungrant key uid) setup past caller drawn out short long drew room = 
+rules_fit (Ungrant key uid) setup past caller drawn out short long drew room =
     broken_fits no_sizes (ungrant_ruling setup.policy (kept setup past) caller key uid) (Done no_fields) (record { alias = tt; nonce = tt; out = tt; blob = tt; list = tt; entries = tt })
-rules_fit (GetNumberOfEntries domain nspace) setup past caller drawn out short long drew room = 
+rules_fit (GetNumberOfEntries domain nspace) setup past caller drawn out short long drew room =
     broken_fits no_sizes (listing_ruling setup.policy caller domain nspace) (counted_in (kept setup past) (owner_for (owner_of caller) domain nspace)) (record { alias = tt; nonce = tt; out = tt; blob = tt; list = tt; entries = tt })
-rules_fit (ListEntriesBatched domain nspace behind) setup past caller drawn out short long drew room = 
+rules_fit (ListEntriesBatched domain nspace behind) setup past caller drawn out short long drew room =
     broken_fits (sizes_of (ListEntriesBatched domain nspace behind) 0) (listing_ruling setup.policy caller domain nspace) (listed_in (kept setup past) (owner_for (owner_of caller) domain nspace) behind)
     (record { alias = tt; nonce = tt; out = tt; blob = tt; list = tt; entries = listed_few 256 (kept setup past) (owner_for (owner_of caller) domain nspace).0 (owner_for (owner_of caller) domain nspace).1 behind short })
-rules_fit (ClearNamespace domain nspace) setup past caller drawn out short long drew room = 
+rules_fit (ClearNamespace domain nspace) setup past caller drawn out short long drew room =
     broken_fits no_sizes (clear_namespace_ruling caller domain nspace) (Done no_fields) (record { alias = tt; nonce = tt; out = tt; blob = tt; list = tt; entries = tt })
-rules_fit (UserRemoved user) setup past caller drawn out short long drew room = 
+rules_fit (UserRemoved user) setup past caller drawn out short long drew room =
     broken_fits no_sizes (user_call_ruling caller user) (Done no_fields) (record { alias = tt; nonce = tt; out = tt; blob = tt; list = tt; entries = tt })
-rules_fit (AddAuthToken challenge user authenticator kind time mac) setup past caller drawn out short long drew room = 
+rules_fit (AddAuthToken challenge user authenticator kind time mac) setup past caller drawn out short long drew room =
     broken_fits no_sizes (add_auth_token_ruling setup.device.token caller (token_of challenge user authenticator kind time mac)) (accepted_in (last_tokens setup past) (token_of challenge user authenticator kind time mac)) (accepted_fits (last_tokens setup past) (token_of challenge user authenticator kind time mac))
-rules_fit (DeviceLocked user) setup past caller drawn out short long drew room = 
+rules_fit (DeviceLocked user) setup past caller drawn out short long drew room =
     broken_fits no_sizes (user_call_ruling caller user) (Done no_fields) (record { alias = tt; nonce = tt; out = tt; blob = tt; list = tt; entries = tt })
-rules_fit (DeviceUnlocked user) setup past caller drawn out short long drew room = 
+rules_fit (DeviceUnlocked user) setup past caller drawn out short long drew room =
     broken_fits no_sizes (user_call_ruling caller user) (Done no_fields) (record { alias = tt; nonce = tt; out = tt; blob = tt; list = tt; entries = tt })
-rules_fit EarlyBootEnded setup past caller drawn out short long drew room = 
+rules_fit EarlyBootEnded setup past caller drawn out short long drew room =
     broken_fits no_sizes (early_boot_ended_ruling caller) (Done no_fields) (record { alias = tt; nonce = tt; out = tt; blob = tt; list = tt; entries = tt })
 rules_fit (Leave ticket) setup past caller drawn out short long drew room = leave_fits setup past ticket out (ticket_at past ticket) room
 rules_fit (Restart root) setup past caller drawn out short long drew room = record { alias = tt; nonce = tt; out = tt; blob = tt; list = tt; entries = tt }

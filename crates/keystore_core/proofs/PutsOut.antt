@@ -1,6 +1,6 @@
 -- What the engine tells before an enter is enough for the output of its leave.
-use Rattle.std.proofs.Common.{◌≡◌, ℕ, ◌+◌, ◌≤◌, Bool, true, false, not, ◌==◌, if◌then◌else◌, List, [], ◌∷◌, ◌++◌, length, length-append, find, Option, Some, None, Result, Ok, Err, is_ok, refl, sym, ap, ◌∙◌, subst, arith}
-use Rattle.std.specs.Prelude.{IfOk, nat_le}
+use Rattle.std.proofs.Common.{◌≡◌, ℕ, ◌+◌, ◌≤◌, Bool, true, false, not, ◌==◌, if◌then◌else◌, List, [], ◌++◌, length, length-append, find, Option, Some, None, Err, is_ok, refl, sym, ap, ◌∙◌, subst, arith}
+use Rattle.std.specs.Prelude.{IfOk}
 use Rattle.std.proofs.lemmas.Bool.{eq-eqb, leb-true}
 use Rattle.tags.specs.declared.code.Code.{Code}
 use Rattle.tags.specs.declared.rule.Rule.{Rule}
@@ -14,8 +14,6 @@ use Rattle.step_rules.specs.Rules.{are_pieces_short, is_enter as enters_kind, is
 use Rattle.step_rules.specs.Table.{answer as answer_of_step, call_rules, enter_rules}
 use Rattle.cipher_ops.specs.declared.room.Work.{Work}
 use Rattle.cipher_ops.specs.declared.room.Work.TheVariants.{Aad, Text, Last}
-use Rattle.cipher_ops.specs.Output.{finish_output, update_output}
-use Rattle.rule_model.specs.declared.entry.Entry.TheVariants.{Acted, Settling}
 use Rattle.rule_model.specs.declared.event.Act.{Act}
 use Rattle.rule_model.specs.declared.event.Act.TheVariants.{EnterAad, EnterUpdate, EnterFinish}
 use Rattle.rule_model.specs.declared.event.Event.{Event}
@@ -24,21 +22,21 @@ use Rattle.rule_model.specs.declared.facts.Caller.{Caller}
 use Rattle.rule_model.specs.declared.reply.Fields.{Fields}
 use Rattle.rule_model.specs.declared.reply.Reply.TheVariants.{Done}
 use Rattle.rule_model.specs.Acts.{is_enter}
-use Rattle.rule_model.specs.Answer.{answer, answer_by_rules}
+use Rattle.rule_model.specs.Answer.{answer_by_rules}
 use Rattle.rule_model.specs.Clients.{caller_of}
 use Rattle.rule_model.specs.Entries.{History, after_settling, after_step, is_done}
 use Rattle.rule_model.specs.Kept.{is_live, open_of, operation_at}
 use Rattle.rule_model.specs.Legal.{IsAnswered, MayFollow, MayStep}
 use Rattle.rule_model.specs.Operations.{Open, as_entered, enters, has_number, open_after, output_of, step_of}
 use Rattle.rule_model.specs.Setup.{Setup}
-use Rattle.rule_model.specs.StepFacts.{brought_by, facts_of, input_of}
+use Rattle.rule_model.specs.StepFacts.{brought_by, facts_of}
 use Rattle.rule_model.specs.Tickets.{Entered, goes_out, ticket_after, ticket_at}
 use Rattle.rule_model.proofs.Admitted.{admitted_by_rules, answered_done, broken_done}
 use Rattle.keystore_core.specs.declared.operations.Operation.{Operation as Row}
 use Rattle.keystore_core.specs.declared.tables.Tables.{Tables}
 use Rattle.keystore_core.specs.Alike.{BothFound}
 use Rattle.keystore_core.specs.Operations.{IsRow}
-use Rattle.keystore_core.specs.Outputs.{FinishGives, PutsOut, RowGives, StepGives, UpdateGives, output_out, text_step}
+use Rattle.keystore_core.specs.Outputs.{PutsOut, RowGives, StepGives, output_out, text_step}
 use Rattle.keystore_core.specs.Tables.{TablesStand, row_at}
 use Rattle.keystore_core.proofs.Opened.{found_changed}
 use Rattle.keystore_core.proofs.Stepped.{row_found}

@@ -1,13 +1,11 @@
 -- The alias and the list of each key that lasts are short: those of a new key are by its rules, and no change makes them longer.
-use Rattle.std.proofs.Common.{◌≡◌, ℕ, ◌-◌, ◌≤◌, Bool, true, false, ◌==◌, ◌&&◌, not, if◌then◌else◌, List, [], ◌∷◌, map, filter, find, length, Option, Some, None, option_map, Result, Ok, Err, is_ok, refl, subst, arith}
+use Rattle.std.proofs.Common.{◌≡◌, ℕ, ◌-◌, ◌≤◌, Bool, true, false, ◌==◌, ◌&&◌, not, if◌then◌else◌, List, [], ◌∷◌, filter, find, length, Option, Some, None, option_map, Result, Ok, Err, is_ok, refl, subst, arith}
 use Rattle.std.specs.Option.{option_and_then}
 use Rattle.std.specs.Prelude.{nat_le}
 use Rattle.std.specs.Str.{is_utf8}
 use Rattle.std.proofs.lemmas.Bool.{and_parts, leb-true}
 use Rattle.tags.specs.declared.code.Code.{Code}
 use Rattle.tags.specs.declared.code.Code.TheVariants.{EntropyFault, MemoryAllocationFailed}
-use Rattle.tags.specs.declared.descriptor.Descriptor.{Descriptor}
-use Rattle.tags.specs.declared.policy.PolicyRow.{PolicyRow}
 use Rattle.tags.specs.declared.rule.Rule.{Rule}
 use Rattle.tags.specs.declared.secrets.DeviceSecrets.{DeviceSecrets}
 use Rattle.tags.specs.declared.settled.Settled.{Settled}
@@ -15,7 +13,6 @@ use Rattle.tags.specs.Descriptor.{is_alias}
 use Rattle.key_domains.specs.Domains.{domain_blob}
 use Rattle.grants.specs.declared.row.GrantRow.{GrantRow}
 use Rattle.grants.specs.Rows.{is_for}
-use Rattle.tag_lists.specs.Spelling.{spelling}
 use Rattle.journal_records.specs.declared.change.Change.{Change}
 use Rattle.journal_records.specs.declared.change.Change.TheVariants as changes
 use Rattle.journal_records.specs.declared.change.Change.TheVariants.{Create, Delete, Use, Grant as Granting, Ungrant as Ungranting, Clear, Removed}
@@ -24,7 +21,6 @@ use Rattle.journal_records.specs.Effects.{after, changed, granted, is_last_use, 
 use Rattle.journal_records.specs.LastingPart.{Lasting, empty_lasting, has_id, is_named, is_of_user, is_owned}
 use Rattle.journal_records.specs.Needs.{has_place_for, is_met, is_number_left, is_owner}
 use Rattle.key_rules.specs.declared.facts.NewFacts.{NewFacts}
-use Rattle.key_rules.specs.declared.plan.KeyPlan.{KeyPlan}
 use Rattle.key_rules.specs.Creation.{new_key, plan_of}
 use Rattle.key_rules.proofs.NewKeys.{fit_if_ok, named_short}
 use Rattle.rule_model.specs.declared.entry.Entry.TheVariants.{Acted, Settling}
@@ -38,7 +34,7 @@ use Rattle.rule_model.specs.Access.{id_by, owner_of}
 use Rattle.rule_model.specs.Answer.{answer, answer_by_rules, made_in}
 use Rattle.rule_model.specs.Blobs.{device_at}
 use Rattle.rule_model.specs.Boot.{has_early_ended}
-use Rattle.rule_model.specs.Changes.{after_change, alias_of, change_of, creating, grant_of, granting, new_blob, planned}
+use Rattle.rule_model.specs.Changes.{after_change, change_of, creating, grant_of, granting, new_blob, planned}
 use Rattle.rule_model.specs.Clients.{caller_of}
 use Rattle.rule_model.specs.Entries.{History, is_done}
 use Rattle.rule_model.specs.Kept.{kept, kept_settled, open_of}
