@@ -1,6 +1,6 @@
 //! The work of a job and the memory that it needs.
 
-ghost use Rattle.std.specs.Prelude.{◌≡◌, ℕ, ◌+◌, ◌≤◌, List, Option, length, IfOk};
+ghost use Rattle.std.specs.Prelude.{◌≡◌, ℕ, ◌+◌, ◌≤◌, List, Option, if◌then◌else◌, length, IfOk};
 ghost use Rattle.tags.specs.Plan.{OPERATION_BYTES};
 ghost use Rattle.cipher_ops.specs.Output.{finish_output, update_output};
 ghost use Rattle.cipher_ops.specs.Sizes as spec;
@@ -107,6 +107,7 @@ fn finish_room(plan: Plan, size: usize) -> usize
 /// How many bytes an update of so many bytes gives at most, on an operation of this plan and flag. It takes no memory.
 pub fn most_of_update(plan: Plan, limited: bool, input: u64) -> u64
     requires { input ≤ OPERATION_BYTES }
+    ensures size { result ≡ (if limited then 0 else spec.piece_room plan input) }
     ensures most { result ≤ 1048656 }
     ensures out { (key nonce before after : List ℕ) → length after ≡ length before + input →
         length (update_output plan limited key nonce before after) ≤ result }
@@ -121,6 +122,7 @@ pub fn most_of_update(plan: Plan, limited: bool, input: u64) -> u64
 /// text. It takes no memory.
 pub fn most_of_finish(plan: Plan, limited: bool, text: u64, input: u64) -> u64
     requires { text + input ≤ OPERATION_BYTES }
+    ensures size { result ≡ spec.finish_room plan (spec.taken limited text input) }
     ensures most { result ≤ 1048656 }
     ensures out { (key nonce aad before after : List ℕ) (signature : Option (List ℕ)) → length before ≡ text → length after ≡ text + input →
         IfOk (finish_output plan limited key nonce aad before after signature) (λ out. length out ≤ result) }

@@ -36,7 +36,8 @@ use Rattle.keystore_core.specs.declared.operations.Operation.{Operation as Row}
 use Rattle.keystore_core.specs.declared.tables.Tables.{Tables}
 use Rattle.keystore_core.specs.Alike.{BothFound}
 use Rattle.keystore_core.specs.Operations.{IsRow}
-use Rattle.keystore_core.specs.Outputs.{PutsOut, RowGives, StepGives, output_out, text_step}
+use Rattle.keystore_core.specs.declared.output.TextStep.{TextStep}
+use Rattle.keystore_core.specs.Outputs.{PutsOut, RowGives, StepGives, most_for, open_most, output_out, row_most, step_most, text_step, told_most}
 use Rattle.keystore_core.specs.Tables.{TablesStand, row_at}
 use Rattle.keystore_core.proofs.Opened.{found_changed}
 use Rattle.keystore_core.proofs.Stepped.{row_found}
@@ -116,6 +117,20 @@ finish_given (Some row) o input signature most both room gives =
 aad_given : (found : Option Open) (input : List ℕ) (most : ℕ) → IfOk (output_of found (Aad input)) (λ out. length out ≤ most)
 aad_given None input most = omega arith
 aad_given (Some o) input most = omega arith
+
+-- what is told by the row is told by the operation
+row_told : (row : Option Row) (o : Option Open) (size : ℕ) (last : Bool) → BothFound IsRow row o → row_most row size last ≡ open_most o size last
+row_told None None size last both = refl
+row_told (Some row) (Some o) size last both = rw (both.plan, both.limited, both.text_is) refl
+row_told None (Some o) size last both = absurd both
+row_told (Some row) None size last both = absurd both
+
+step_told : (setup : Setup) (past : History) (tables : Tables) (step : Option TextStep) → TablesStand setup tables past → told_most tables step ≡ step_most setup past step
+step_told setup past tables None stands = refl
+step_told setup past tables (Some step) stands = row_told (row_at tables step.op) (operation_at setup past step.op) step.size step.last (row_found setup past tables step.op stands)
+
+pub few_told : (setup : Setup) (past : History) (tables : Tables) (act : Act) (most : ℕ) → TablesStand setup tables past → most ≤ told_most tables (text_step act) → most ≤ most_for setup past act
+few_told setup past tables act most stands few = subst (λ n. most ≤ n) (step_told setup past tables (text_step act) stands) few
 
 -- ---- all of it
 

@@ -50,6 +50,7 @@ fn is_within(row: &Operation, size: u64) -> bool
 /// How many bytes a text gives at most on the operation of a row. One that is too long is not let through.
 fn most_of(row: &Operation, size: u64, last: bool) -> u64
     ensures most { result ≤ 1048656 }
+    ensures small { result ≤ spec.row_most (Some row.now) size last }
     ensures out { RowGives (Some row.now) size last result }
 {
     if !is_within(row, size) {
@@ -66,6 +67,7 @@ impl Tables {
     /// How many bytes the work of an act gives at most, where it enters an operation now. It takes no memory.
     pub fn most_out(&self, act: &Act) -> u64
         ensures most { result ≤ 1048656 }
+        ensures small { result ≤ spec.told_most self.now (spec.text_step act.now) }
         ensures out { StepGives self.now (spec.text_step act.now) result }
     {
         let Some(step) = text_step(act) else {
