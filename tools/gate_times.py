@@ -1,6 +1,6 @@
 #!/usr/bin/env python3
-"""Runs the gate, `rt ci`, at the top of the repository, passes its output on, and writes how long each part of it took:
-for each crate the processor seconds of its bodies, of its tests' proofs, of its edits and of its runs, and their sums.
+"""Runs the gate from nothing, `rt ci --anew`, at the top of the repository, passes its output on, and writes how long each part of it
+took: for each crate the processor seconds of its bodies, of its tests' proofs, of its edits and of its runs, and their sums.
 
     python3 tools/gate_times.py [FILE]
 
@@ -83,7 +83,7 @@ def table(seen, minutes):
 
 def main():
     start, seen = time.time(), {}
-    process = subprocess.Popen(["rt", "ci"], stdout=subprocess.PIPE, stderr=subprocess.STDOUT, text=True, errors="replace")
+    process = subprocess.Popen(["rt", "ci", "--anew"], stdout=subprocess.PIPE, stderr=subprocess.STDOUT, text=True, errors="replace")
     watcher = threading.Thread(target=watch, args=(process, seen), daemon=True)
     watcher.start()
     for line in process.stdout:
