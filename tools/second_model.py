@@ -8,10 +8,12 @@ counts 00, 01 .. ff, 00 ..; the draws whose numbers --fail gives, counted from 1
 of the Python package `cryptography`, the macs those of the standard library. Memory is never wanting here, and the
 limits of a line and of a script, which end the program's run, are not looked at. script_events.py reads the lines,
 model_rules.py has the rules of lists and lengths, model_keys.py the keys and grants, model_blobs.py their blobs,
-model_tokens.py the tokens, and model_outputs.py the outputs. Each reply is written before the next line is read.
+model_tokens.py the tokens, and model_outputs.py the outputs. Each reply is written before the next line is read. No disk
+stands behind it: failing_disk.py tells it which changes failed, and what the settled lines say of them.
 """
 import argparse
 import collections
+import copy
 import json
 import sys
 
@@ -78,6 +80,7 @@ class Service:
         self.step = 0
         self.seal_key = DEMO_SEAL_KEY
         self.root = DEMO_ROOT
+        self.waiting = None
         self.begin_boot()
 
     def begin_boot(self):
@@ -140,6 +143,36 @@ class Service:
             if denied.rule is None:
                 return {"code": denied.code}
             return {"code": denied.code, "rule": denied.rule}
+
+    # A disk that fails.
+
+    def fault(self, event):
+        """The step of an event that would be admitted and whose change failed on the disk: what settling may keep waits. Gives the
+        reply that it would have got."""
+        changed = copy.deepcopy(self)
+        reply = changed.reply(event)
+        self.step += 1
+        self.entropy = changed.entropy
+        if event["act"] == "restart":
+            return reply
+        self.waiting = changed.store
+        if event["act"] == "finish":
+            del self.operations[event["op"]]
+        return reply
+
+    def pass_over(self):
+        """The step of an event that is not made, since settling failed."""
+        self.step += 1
+
+    def settle(self, is_kept):
+        """Settles the change that waits, which is an entry of its own; operations use the same keys then."""
+        self.step += 1
+        if is_kept:
+            self.store = self.waiting
+            for operation in self.operations.values():
+                if operation.key is not None:
+                    operation.key = self.store.made[operation.key.number - 1]
+        self.waiting = None
 
     def connect(self, event):
         self.uids.append(event["uid"])
