@@ -45,7 +45,7 @@ use Rattle.rule_model.specs.declared.reply.Reply.{Reply}
 use Rattle.rule_model.specs.declared.reply.Reply.TheVariants.{Done, Broken, Stopped}
 use Rattle.rule_model.specs.Access.{id_by, key_in, owner_of}
 use Rattle.rule_model.specs.Acts.{fixed_for, is_begin}
-use Rattle.rule_model.specs.Answer.{answer, answer_by_rules, begun_with, drawn_nonce, given_or, leaving}
+use Rattle.rule_model.specs.Answer.{answer_by_rules, begun_with, drawn_nonce, given_or, leaving}
 use Rattle.rule_model.specs.Blobs.{device_at, kept_as, root_of}
 use Rattle.rule_model.specs.Boot.{has_early_ended, last_tokens, other_triples}
 use Rattle.rule_model.specs.Calls.{accepted_in, add_auth_token_ruling, clear_namespace_ruling, counted_in, delete_key_ruling, disconnect_ruling, early_boot_ended_ruling, get_key_entry_ruling, grant_ruling, granted_in, key_entry, listed_in, listing_ruling, ungrant_ruling, user_call_ruling}
@@ -55,7 +55,7 @@ use Rattle.rule_model.specs.Drawn.{no_pieces, size_of, wanted_by_key, wanted_by_
 use Rattle.rule_model.specs.Entries.{History, count_of}
 use Rattle.rule_model.specs.Kept.{access_at, has_busy, kept, key_found, open_of, operation_at}
 use Rattle.rule_model.specs.Legal.{Legal, MayFollow, MayStep, Answered, WithoutMemory, WithoutEntropy, Faulted, NotSettled, NotRestarted}
-use Rattle.rule_model.specs.Listing.{listed_from, listing}
+use Rattle.rule_model.specs.Listing.{listed_from}
 use Rattle.rule_model.specs.NewFacts.{import_of, new_facts}
 use Rattle.rule_model.specs.Operations.{challenge_of, nonce_size, output_of}
 use Rattle.rule_model.specs.Places.{has_grant_place, has_key_place}
