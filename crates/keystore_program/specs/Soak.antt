@@ -1,5 +1,5 @@
 -- What the load of a seed leaves: the summary of the text with which a legal history over an empty store follows its lines.
-use Rattle.std.specs.Prelude.{◌≡◌, ℕ, ℤ, pos, Bool, true, false, List, [], ◌∷◌, ◌++◌, Option, Some, None, map, replicate}
+use Rattle.std.specs.Prelude.{◌≡◌, ℕ, ℤ, pos, Bool, true, false, ◌||◌, is_some, List, [], ◌∷◌, ◌++◌, Option, Some, None, map, replicate}
 use Rattle.ks_outside.specs.Draws.{followed}
 use Rattle.ks_outside.specs.Seeded.{bytes_from}
 use Rattle.ks_outside.specs.Shown.{Put}
@@ -19,6 +19,7 @@ use Rattle.rule_model.specs.Setup.{Setup}
 use Rattle.script_lines.specs.Replies.{line_of}
 use Rattle.soak_lines.specs.Lines.{lines_of, seed_of}
 use Rattle.soak_lines.specs.Summary.{summary_of}
+use Rattle.keystore_program.specs.declared.answer.Answer.{Answer}
 use Rattle.keystore_program.specs.declared.status.Status.{Status}
 use Rattle.keystore_program.specs.declared.status.Status.TheVariants as statuses
 use Rattle.keystore_program.specs.Answers.{code_of}
@@ -37,6 +38,10 @@ is_failure (Some MemoryAllocationFailed) = true
 is_failure (Some SystemError) = true
 is_failure (Some EntropyFault) = true
 is_failure _ = false
+
+-- the answer has one of these codes, or settles an earlier change
+abbrev pub tells_failure : Answer → Bool
+tells_failure answer = is_some answer.settled || is_failure answer.code
 
 -- the number in a reply line
 abbrev pub number_of : Option Code → ℤ

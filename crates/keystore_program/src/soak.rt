@@ -1,14 +1,15 @@
 //! The load of a seed: its lines are served over a store in memory, and the summary of what they were answered is written.
 
-ghost use Rattle.std.specs.Prelude.{◌≡◌, ◌+◌, ◌-◌, ◌*◌, ◌^◌, ◌<◌, ◌≤◌, [], length, IfOk, OnOk, string_bytes};
+ghost use Rattle.std.specs.Prelude.{◌≡◌, ◌+◌, ◌-◌, ◌*◌, ◌^◌, ◌<◌, ◌≤◌, [], length, IfOk, string_bytes};
 ghost use Rattle.ks_outside.specs.Faults.{CountsFaults};
 ghost use Rattle.rule_model.specs.Setup.{Setup};
 ghost use Rattle.keystore_program.specs.Ends.{is_write_fault};
-ghost use Rattle.keystore_program.specs.Loading.{IsLoaded};
+ghost use Rattle.keystore_program.specs.Loading.{IsEmptyDisk, IsLoadSession, IsLoaded};
 ghost use Rattle.keystore_program.specs.Session.{StandsFor, entries_in};
 ghost use Rattle.keystore_program.specs.Soak as spec;
 ghost use Rattle.keystore_program.specs.Soak.{IsSummaryOf, Soaks};
 
+use crate::answer::Answer;
 use crate::session::Session;
 use crate::status::Status;
 use crate::writer::write_all;
@@ -41,6 +42,13 @@ fn is_failure(code: Option<Code>) -> bool
     }
 }
 
+/// Whether an answer tells of a failure, now or before: an earlier change is settled only where a call of the disk failed.
+fn tells_failure(answer: &Answer) -> bool
+    ensures { result ≡ spec.tells_failure answer.now }
+{
+    answer.settled.is_some() || is_failure(answer.code)
+}
+
 /// The number in a reply line.
 fn number_of(code: Option<Code>) -> i32
     ensures { result ≡ spec.number_of code }
@@ -51,8 +59,8 @@ fn number_of(code: Option<Code>) -> i32
     }
 }
 
-/// Serves the lines of a load one after another, and sums up what they are answered. A load is not gone on with behind a reply that
-/// tells of a failure.
+/// Serves the lines of a load one after another, and sums up what they are answered. A load is not gone on with behind an answer
+/// that tells of a failure.
 fn serve_load<D: Disk, N: Entropy>(
     alloc: Global,
     script: &mut SoakScript,
@@ -63,17 +71,34 @@ fn serve_load<D: Disk, N: Entropy>(
     requires few { length script.old ≤ 100007 }
     requires fresh { entries_in session.old ≡ 0 }
     ensures loaded { (setup : Setup) → StandsFor D.Disk setup session.old disk.old [] →
-        OnOk result (IsLoaded N.Entropy setup script.old entropy.old entropy.new) }
+        IfOk result (IsLoaded N.Entropy setup script.old entropy.old entropy.new) }
 {
     let mut summary = Summary::new(alloc);
     'lines: while let Some(line) = script.next(alloc)? {
         let answer = session.answer(alloc, disk, entropy, line.as_bytes())?;
-        if answer.settled.is_some() || is_failure(answer.code) {
+        if tells_failure(&answer) {
             return Err(NoMemory);
         }
         summary.add(number_of(answer.code), answer.text.as_slice())?;
     }
     Ok(summary)
+}
+
+/// The session of a load, over an empty store that is made on an empty disk.
+fn session_over<D: Disk>(alloc: Global, disk: &mut D) -> Result<Session, NoMemory>
+    requires empty { IsEmptyDisk D.Disk disk.old }
+    ensures session { IfOk result (IsLoadSession D.Disk disk.new) }
+    ensures fresh { IfOk result (λ session. entries_in session ≡ 0) }
+{
+    let device = DeviceSecrets::demo();
+    let policy = Policy::demo(alloc)?;
+    let Ok(()) = Engine::format(disk) else {
+        return Err(NoMemory);
+    };
+    let Ok(engine) = Engine::open(alloc, &device, &policy, SLOTS, disk) else {
+        return Err(NoMemory);
+    };
+    Ok(Session::new(alloc, engine))
 }
 
 /// The summary of a load, which is served over an empty store in memory. It is not made where memory is wanting, which a call of
@@ -82,20 +107,13 @@ fn summary_of(alloc: Global, seed: u64, lines: u64) -> Result<String, NoMemory>
     requires few { lines ≤ 100000 }
     ensures summary { IfOk result (λ text. IsSummaryOf seed lines (string_bytes text)) }
 {
-    let device = DeviceSecrets::demo();
-    let policy = Policy::demo(alloc)?;
     let mut disk = MemoryDisk::with_room(alloc, NO_ROOM, &[])?;
-    let Ok(()) = Engine::format(&mut disk) else {
-        return Err(NoMemory);
-    };
-    let Ok(engine) = Engine::open(alloc, &device, &policy, SLOTS, &mut disk) else {
-        return Err(NoMemory);
-    };
-    let mut session = Session::new(alloc, engine);
+    let mut session = session_over(alloc, &mut disk)?;
     let mut entropy = SeededEntropy::new(seed_of(seed, 1));
     let mut script = SoakScript::new(seed, lines);
     let summary = serve_load(alloc, &mut script, &mut session, &mut disk, &mut entropy)?;
-    Ok(summary.text(alloc)?)
+    let text = summary.text(alloc)?;
+    Ok(text)
 }
 
 /// Writes the summary of the load of a seed, of so many lines behind its opening.
