@@ -27,7 +27,7 @@ use Rattle.keystore_core.specs.declared.engine.Engine.{Engine}
 use Rattle.keystore_core.specs.Engine.{Stands, StoreStands, lasting_of}
 use Rattle.script_lines.specs.Replies.{line_of}
 use Rattle.soak_lines.specs.declared.summary.Summary.{Summary}
-use Rattle.soak_lines.specs.Lines.{Place, after_line, lines_from, lines_of, seed_of}
+use Rattle.soak_lines.specs.Lines.{Place, after_line, lines_from, lines_of, opening, seed_of}
 use Rattle.soak_lines.specs.Summary.{summary_of}
 use Rattle.soak_lines.specs.Summing.{HasSummed}
 use Rattle.keystore_program.specs.declared.answer.Answer.{Answer}
@@ -40,7 +40,7 @@ use Rattle.keystore_program.specs.Ends.{is_read_fault}
 use Rattle.keystore_program.specs.Follows.{Follows}
 use Rattle.keystore_program.specs.Jobs.{JobsStand}
 use Rattle.keystore_program.specs.Loading.{IsEmptyDisk, IsLoadSession, IsLoaded}
-use Rattle.keystore_program.specs.Runs.{IsCause, IsStart, is_disk_status}
+use Rattle.keystore_program.specs.Runs.{IsStart, is_disk_status}
 use Rattle.keystore_program.specs.Session.{Serves, StandsFor, devices, engine_of, jobs_of}
 use Rattle.keystore_program.specs.Soak.{AreLasting, IsCutSummary, IsLoadSetup, IsSummaryOf, Soaks, demo_device, demo_policy, is_failure, number_of, numbers_of, tells_failure, text_of}
 use Rattle.keystore_program.proofs.DrawLemmas.{drew_none, drew_on}
@@ -128,8 +128,9 @@ length_from (suc n) place = ap suc (length_from n (after_line place))
 pub few_lines : (seed lines : ℕ) (script : List (List ℕ)) → script ≡ lines_of seed lines → lines ≤ 100000 → length script ≤ 100007
 few_lines seed lines script is few =
     let start : Place = record { number = 7; begins = 0; generator = of_seed (seed_of seed 0) } in
-    let count : length (lines_of seed lines) ≡ 7 + length (lines_from lines start) = refl in
-    omega (arith, ap length is, count, length_from lines start, few)
+    let whole : length (lines_of seed lines) ≡ length opening + length (lines_from lines start) = length-append opening (lines_from lines start) in
+    let seven : length opening ≡ 7 = refl in
+    omega (arith, ap length is, whole, seven, length_from lines start, few)
 
 -- ---- the store of a load
 
@@ -267,7 +268,3 @@ module _ {K : Type 0} (k : SinkGhosts K) where
   soak_source seed lines old new (statuses.Corrupted offset) soaks = absurd soaks
   soak_source seed lines old new statuses.ScriptTooLong soaks = absurd soaks
   soak_source seed lines old new statuses.ListenFault soaks = absurd soaks
-
--- an unchanged disk under a status that tells no fault of it
-pub no_cause : (count : ℕ) (told : Bool) → told ≡ false → IsCause count count told
-no_cause count told e = record { later = omega arith; rises = λ f. absurd (let no : ◌≡◌ {A = Bool} true false = sym f ∙ e in cc) }
