@@ -82,27 +82,30 @@ module _ {D N : Type 0} (d : DiskGhosts D) (n : EntropyGhosts N) where
   }
 
   -- one line more
-  pub loads_on : (setup : Setup) (all left rest : List (List ℕ)) (session session' : Session) (disk disk' : D) (old now now' : N) (summary summary' : Summary) (line : List ℕ) (answer : Answer)
-      → (loading : Loading setup all left session disk old now summary) → left ≡ line ∷ rest
-      → Serves d n setup loading.past session' line (devices disk now) (devices disk' now') (Ok answer.text) → IsAnswer answer → tells_failure answer ≡ false
-      → HasSummed (number_of answer.code ∷ numbers_of loading.replies) (text_of loading.replies ++ answer.text) summary'
+  pub loads_on : (setup : Setup) (all left rest : List (List ℕ)) (session session' : Session) (disk disk' : D) (old now now' : N) (summary summary' : Summary)
+      (line bytes said : List ℕ) (answer : Answer) (code : ℤ) (told : Bool)
+      → (loading : Loading setup all left session disk old now summary) → left ≡ line ∷ rest → bytes ≡ line
+      → Serves d n setup loading.past session' bytes (devices disk now) (devices disk' now') (Ok answer.text) → IsAnswer answer
+      → told ≡ tells_failure answer → told ≡ false → code ≡ number_of answer.code → said ≡ answer.text
+      → HasSummed (code ∷ numbers_of loading.replies) (text_of loading.replies ++ said) summary'
       → Loading setup all rest session' disk' old now' summary'
-  loads_on setup all left rest session session' disk disk' old now now' summary summary' line answer loading next serves is fine summed =
-      let goes = serves.1 in
-      let fine_both = neither (is_some answer.settled) (is_failure answer.code) fine in
-      let text : answer.text ≡ line_of None is.reply = is.text_is ∙ ap (λ (settled : Option Settled). line_of settled is.reply) (none_settled answer.settled fine_both.0) in
+  loads_on setup all left rest session session' disk disk' old now now' summary summary' line bytes said answer code told loading next bytes_are serves is told_is fine code_is said_is summed =
+      let served = subst (λ (b : List ℕ). Serves d n setup loading.past session' b (devices disk now) (devices disk' now') (Ok answer.text)) bytes_are serves in
+      let goes = served.1 in
+      let both = neither (is_some answer.settled) (is_failure answer.code) (sym told_is ∙ fine) in
+      let text : answer.text ≡ line_of None is.reply = is.text_is ∙ ap (λ (settled : Option Settled). line_of settled is.reply) (none_settled answer.settled both.0) in
       record {
         lines = loading.lines ++ line ∷ [];
         split = loading.split ∙ ap (λ (ls : List (List ℕ)). loading.lines ++ ls) next ∙ sym (append_assoc loading.lines (line ∷ []) rest);
-        past = serves.0;
+        past = served.0;
         replies = is.reply ∷ loading.replies;
         stands = goes.stands;
-        follows = subst (λ (t : List ℕ). Follows [] (loading.lines ++ line ∷ []) serves.0 (text_of loading.replies ++ t)) text
-            (follows_more [] loading.lines line loading.past serves.0 (text_of loading.replies) answer.text loading.follows goes.says);
-        drew = drew_on n old now now' loading.past serves.0 loading.drew goes.drew;
-        lasting = (subst (λ (code : Option Code). is_failure code ≡ false) is.code_is fine_both.1, loading.lasting);
-        summed = subst (λ (t : List ℕ). HasSummed (numbers_of (is.reply ∷ loading.replies)) (text_of loading.replies ++ t) summary') text
-            (subst (λ (code : Option Code). HasSummed (number_of code ∷ numbers_of loading.replies) (text_of loading.replies ++ answer.text) summary') is.code_is summed);
+        follows = subst (λ (t : List ℕ). Follows [] (loading.lines ++ line ∷ []) served.0 (text_of loading.replies ++ t)) text
+            (follows_more [] loading.lines line loading.past served.0 (text_of loading.replies) answer.text loading.follows goes.says);
+        drew = drew_on n old now now' loading.past served.0 loading.drew goes.drew;
+        lasting = (subst (λ (c : Option Code). is_failure c ≡ false) is.code_is both.1, loading.lasting);
+        summed = subst (λ (t : List ℕ). HasSummed (numbers_of (is.reply ∷ loading.replies)) (text_of loading.replies ++ t) summary') (said_is ∙ text)
+            (subst (λ (z : ℤ). HasSummed (z ∷ numbers_of loading.replies) (text_of loading.replies ++ said) summary') (code_is ∙ ap number_of is.code_is) summed);
       }
 
   -- all lines were served

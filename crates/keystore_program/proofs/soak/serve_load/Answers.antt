@@ -4,7 +4,27 @@ use Rattle.keystore_program.proofs.soak.serve_load.Goals as goal
 
 pub lines-init : goal.lines-init
 lines-init g c = record {
-  loading = λ setup for. loads_none g.D.Disk g.N.Entropy setup _ _ _ _ c.new.result for c.new.ensures.summed;
-  count = omega (arith, c.requires.few, c.new.ensures.lines);
-  entries = omega (arith, c.requires.fresh, c.new.ensures.lines);
+  loading = λ setup for. loads_none g.D.Disk g.N.Entropy setup _ _ _ _ c.new-summary.result for c.new-summary.ensures.summed;
+  count = omega (arith, c.requires.few, c.new-summary.ensures.lines);
+  entries = omega (arith, c.requires.fresh, c.new-summary.ensures.lines);
+}
+
+pub lines-preserved : goal.lines-preserved
+lines-preserved g c =
+    let next = rw c.in-Some.is at c.in_ok-next.ensures.next in
+    record {
+      loading = λ setup for.
+          let before = c.lines.invariant.loading setup for in
+          loads_on g.D.Disk g.N.Entropy setup _ _ _ _ _ _ _ _ _ _ _ _ _ _ _ c.in_ok-answer.answer _ _ before next c.as_bytes.ensures.value
+          (c.in_ok-answer.ensures.serves setup before.past before.stands) c.in_ok-answer.ensures.answer
+          c.tells_failure.ensures c.if-tells_failure.false c.number_of.ensures c.as_slice.ensures (c.in_ok-add.ensures.summed _ _ before.summed);
+      count = omega (arith, c.lines.invariant.count, ap length next, c.in_ok-add.ensures.lines);
+      entries = omega (arith, c.lines.invariant.entries, c.in_ok-answer.ensures.entries, c.in_ok-add.ensures.lines);
+    }
+
+pub returns : goal.returns
+returns g c = record {
+  loaded = λ setup for.
+      let none = rw c.in_default.is at c.in_ok-next.ensures.next in
+      loads_all g.D.Disk g.N.Entropy setup _ _ _ _ _ _ _ (c.lines.invariant.loading setup for) none.0;
 }
