@@ -41,7 +41,7 @@ returns-in-Some-Run-false-default-clause-complete g c = λ fresh slots start byt
     (returns-in-Some-Run-false-default-clause-does g c (Run fresh slots) said) ready fine
 
 pub returns-in-Some-Soak-clause-usage : goal.returns-in-Some-Soak-clause-usage
-returns-in-Some-Soak-clause-usage g c = (λ e. absurd (soak_usage g.K.Sink _ _ _ _ _ c.soak.ensures.soaks e), λ none. absurd (let no = (none, c.in-Some-Soak.ensures.form) in cc no))
+returns-in-Some-Soak-clause-usage g c = (λ e. absurd (soak_usage g.K.Sink _ _ _ _ _ c.soak.ensures.soaks e), λ none. absurd (cc (none, c.in-Some-Soak.ensures.form)))
 
 pub returns-in-Some-Soak-clause-untouched : goal.returns-in-Some-Soak-clause-untouched
 returns-in-Some-Soak-clause-untouched g c = λ e. absurd (soak_usage g.K.Sink _ _ _ _ _ c.soak.ensures.soaks e)
@@ -54,7 +54,9 @@ returns-in-Some-Soak-clause-does g c = λ form said.
     same (record { source = refl; disk = refl; entropy = refl }, c.soak.ensures.soaks)
 
 pub returns-in-Some-Soak-clause-source_faults : goal.returns-in-Some-Soak-clause-source_faults
-returns-in-Some-Soak-clause-source_faults g c = subst (λ (told : Bool). CountsFaults _ _ told) (sym (soak_source g.K.Sink _ _ _ _ _ c.soak.ensures.soaks)) (counts_none _)
+returns-in-Some-Soak-clause-source_faults g c =
+    let count = g.S.Source.fault_count c.args.source.now in
+    subst (λ (told : Bool). CountsFaults count count told) (sym (soak_source g.K.Sink _ _ _ _ _ c.soak.ensures.soaks)) (counts_none count)
 
 pub returns-in-Some-Soak-clause-disk_faults : goal.returns-in-Some-Soak-clause-disk_faults
 returns-in-Some-Soak-clause-disk_faults g c = fine _ (soak_disk g.K.Sink _ _ _ _ _ c.soak.ensures.soaks) (omega arith)
