@@ -7,5 +7,6 @@ pub mod Numbers
 pub mod Openings
 pub mod Tickets
 pub mod Sessions
+pub mod Soaking
 pub mod Windows
 pub mod Writing

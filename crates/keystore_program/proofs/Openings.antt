@@ -78,7 +78,7 @@ module _ {D : Type 0} (d : DiskGhosts D) where
 
 -- ---- the status that tells a fault of the disk
 
-fine : {before now : ℕ} (told : Bool) → told ≡ false → before ≤ now → IsCause before now told
+pub fine : {before now : ℕ} (told : Bool) → told ≡ false → before ≤ now → IsCause before now told
 fine told e later = record { later = later; rises = λ f. absurd (let no : ◌≡◌ {A = Bool} true false = sym f ∙ e in cc) }
 
 module _ {S K D N : Type 0} (s : SourceGhosts S) (k : SinkGhosts K) (d : DiskGhosts D) (n : EntropyGhosts N) where

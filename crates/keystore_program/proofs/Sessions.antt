@@ -21,6 +21,8 @@ use Rattle.rule_model.specs.Setup.{Setup}
 use Rattle.script_lines.specs.Lines.{event_of}
 use Rattle.script_lines.specs.Replies.{line_of, malformed_line}
 use Rattle.keystore_program.specs.declared.session.Session.{Session}
+use Rattle.keystore_program.specs.declared.answer.Answer.{Answer}
+use Rattle.keystore_program.specs.Answers.{text_in}
 use Rattle.keystore_program.specs.Follows.{SaysStep, leave_at, ticket_due}
 use Rattle.keystore_program.specs.Serving.{IsServedInPart, IsUnserved}
 use Rattle.keystore_program.specs.Kept.{KeepsMore}
@@ -47,6 +49,11 @@ no_fault hold ticket (Stopped code) due = absurd (let no = due in cc)
 
 pub no_disk_fault : (hold : Bool) (ticket : ℕ) (reply : Reply) → Some ticket ≡ ticket_due hold reply → is_disk_fault reply ≡ false
 no_disk_fault hold ticket reply due = (no_fault hold ticket reply due).1
+
+-- the text of an answer
+pub text_same : (result : Result Answer NoMemory) (text : List ℕ) → IfOk result (λ answer. answer.text ≡ text) → IfOk (text_in result) (λ out. out ≡ text)
+text_same (Ok answer) text is = is
+text_same (Err fault) text is = is
 
 module _ {D N : Type 0} (d : DiskGhosts D) (n : Ghosts N) (setup : Setup) where
   -- a session stands for the history after a step

@@ -1,3 +1,4 @@
+pub mod Answers
 pub mod Complete
 pub mod Drawn
 pub mod Ends
@@ -8,10 +9,12 @@ pub mod Held
 pub mod Jobs
 pub mod Kept
 pub mod Lines
+pub mod Loading
 pub mod Runs
 pub mod Serving
 pub mod Session
 pub mod SessionKept
+pub mod Soak
 pub mod Status
 pub mod Window
 pub mod Words

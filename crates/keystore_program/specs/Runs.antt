@@ -20,9 +20,10 @@ use Rattle.keystore_core.specs.declared.engine.OpenFault.TheVariants as faults
 use Rattle.keystore_program.specs.declared.status.Status.{Status}
 use Rattle.keystore_program.specs.declared.status.Status.TheVariants as statuses
 use Rattle.keystore_program.specs.declared.words.Form.{Form}
-use Rattle.keystore_program.specs.declared.words.Form.TheVariants.{Init, Run}
+use Rattle.keystore_program.specs.declared.words.Form.TheVariants.{Init, Run, Soak}
 use Rattle.keystore_program.specs.Ends.{Ends}
 use Rattle.keystore_program.specs.Kept.{IsUnwritten}
+use Rattle.keystore_program.specs.Soak.{Soaks}
 
 -- a count of faults never falls, and where this is told it rose
 pub record IsCause (before now : ℕ) (told : Bool) : Type 0 where
@@ -141,8 +142,15 @@ module _ {S K D N : Type 0} (s : SourceGhosts S) (k : SinkGhosts K) (d : DiskGho
     Formatted : (formatted : D) → IsFormatted d old.disk formatted → Runs g (λ opened. opened) (record old { disk = formatted }) new status → RunsFresh g old new status
     Unformatted : IsUntouched old new → IsTorn d old.disk new.disk status → RunsFresh g old new status
 
+  -- nothing was read, drawn or asked of the disk
+  pub record IsApart (old new : Outside S K D N) : Type 0 where
+    pub source : new.source ≡ old.source
+    pub disk : new.disk ≡ old.disk
+    pub entropy : new.entropy ≡ old.entropy
+
   -- what a form does; the disk's part of a run over the store that is there is told from the call on
   abbrev pub Does : DeviceSecrets → List PolicyRow → Form → Outside S K D N → Outside S K D N → Status → Type 0
   Does device policy Init old new status = IsUntouched old new × Formats d old.disk new.disk status
   Does device policy (Run false slots) old new status = Runs (given device policy slots) (λ opened. old.disk) old new status
   Does device policy (Run true slots) old new status = RunsFresh (given device policy slots) old new status
+  Does device policy (Soak seed lines) old new status = IsApart old new × Soaks k seed lines old.sink new.sink status

@@ -6,17 +6,21 @@
 //! and the system's random device to it.
 #![tactic(auto)]
 
+mod answer;
+mod help;
 mod jobs;
 mod reader;
 mod run;
 mod serve;
 mod session;
+mod soak;
 mod status;
 #[cfg(test)]
 mod tests;
 mod words;
 mod writer;
 
+use crate::help::{help_text, version_text};
 use crate::run::run_words;
 use crate::status::Status;
 use device_files::{FileFault, read_device, read_policy};
@@ -34,10 +38,32 @@ fn words_of(rt: &HostRuntime) -> io::Result<Vec<String>> {
     Ok(words)
 }
 
+/// The text that the words ask for in place of a form: the help, or the version.
+fn text_asked(rt: &HostRuntime, words: &[String]) -> io::Result<Option<String>> {
+    match words {
+        [word] => {
+            if word.as_str() == "--help" {
+                Ok(Some(help_text(rt.alloc())?))
+            } else if word.as_str() == "--version" {
+                Ok(Some(version_text(rt.alloc())?))
+            } else {
+                Ok(None)
+            }
+        }
+        _ => Ok(None),
+    }
+}
+
 /// Serves the words over standard input and output, and the store of the current folder.
 fn run_process(rt: &HostRuntime, device: &DeviceSecrets, policy: &Policy) -> io::Result<Status> {
     let alloc = rt.alloc();
     let words = words_of(rt)?;
+    if let Some(text) = text_asked(rt, words.as_slice())? {
+        return match print!(rt; "{text}") {
+            Ok(()) => Ok(Status::Ok),
+            Err(_) => Ok(Status::WriteFault),
+        };
+    }
     let mut source = ReaderSource::new(rt.reader());
     let mut sink = WriterSink::new(io::writer(rt));
     let mut disk = open_store(rt, "store.ks");
@@ -54,10 +80,20 @@ fn run_process(rt: &HostRuntime, device: &DeviceSecrets, policy: &Policy) -> io:
     ))
 }
 
-/// Tells a status on standard error, and ends with its number.
+/// Prints the help on standard error, where there is memory for it.
+fn print_help(rt: &HostRuntime) {
+    if let Ok(text) = help_text(rt.alloc()) {
+        let _ = eprint!(rt; "{text}");
+    }
+}
+
+/// Tells a status on standard error, with the help where the words are no form, and ends with its number.
 fn ended(rt: &HostRuntime, status: Status) -> ExitCode {
     if status != Status::Ok {
         let _ = eprintln!(rt; "keystore2: {status}");
+    }
+    if status == Status::Usage {
+        print_help(rt);
     }
     ExitCode::from(status.number())
 }

@@ -14,6 +14,7 @@ ghost use Rattle.keystore_program.specs.Words.{form_of as form_said};
 use crate::reader::{Found, LineReader};
 use crate::serve::serve_line;
 use crate::session::Session;
+use crate::soak::soak;
 use crate::status::Status;
 use crate::words::{Form, form_of};
 use keystore_core::{Engine, OpenFault};
@@ -155,7 +156,8 @@ fn serve_fresh<S: Source, K: Sink, D: Disk, N: Entropy>(
 /// the script of `source` over it, with 16 slots or those of `--slots N`; with `--fresh` it writes an empty store first, which
 /// erases the one that was there. Each reply line is written to `sink` before the next line is read, and behind what its line
 /// changes of what lasts. What a line draws is taken from `entropy` when the line is served, and nothing else is. Nothing is
-/// written to the sink by a run that ends before its store is open.
+/// written to the sink by a run that ends before its store is open. `soak SEED N` serves a load over a store in memory of its own,
+/// and writes its summary: the source, the disk and the entropy are not touched.
 pub fn run_words<S: Source, K: Sink, D: Disk, N: Entropy>(
     alloc: Global,
     words: &[String],
@@ -200,5 +202,6 @@ pub fn run_words<S: Source, K: Sink, D: Disk, N: Entropy>(
         Some(Form::Run { fresh: true, slots }) => serve_fresh(
             alloc, device, policy, slots, source, sink, disk, entropy,
         ),
+        Some(Form::Soak { seed, lines }) => soak(alloc, seed, lines, sink),
     }
 }

@@ -1,20 +1,22 @@
 //! A session: an engine that takes the lines of a script.
 
-ghost use Rattle.std.specs.Prelude.{◌≡◌, ◌+◌, ◌-◌, ◌^◌, ◌<◌, ◌≤◌, [], Some, None, true, false, OnOk};
+ghost use Rattle.std.specs.Prelude.{◌≡◌, ◌+◌, ◌-◌, ◌^◌, ◌<◌, ◌≤◌, [], Some, None, true, false, IfOk, OnOk};
 ghost use Rattle.ks_outside.specs.Shown.{Drew};
 ghost use Rattle.rule_model.specs.declared.event.Act.TheVariants as acts;
 ghost use Rattle.rule_model.specs.Drawn.{is_entropy_fault};
 ghost use Rattle.rule_model.specs.Acts as acts_spec;
 ghost use Rattle.rule_model.specs.Entries.{History};
 ghost use Rattle.rule_model.specs.Setup.{Setup};
+ghost use Rattle.keystore_program.specs.Answers.{IsAnswer, text_in};
 ghost use Rattle.keystore_program.specs.Follows as spec;
 ghost use Rattle.keystore_program.specs.SessionKept.{IsSession};
 
+use crate::answer::{Answer, answer_of, malformed};
 use crate::jobs::{Jobs, run_job};
 use keystore_core::Engine;
 use ks_outside::{Disk, Entropy};
 use rule_model::{Act, Event, Line, Reading, Reply, Stepped};
-use script_lines::{LineFault, event_of, line_of, malformed_line};
+use script_lines::{LineFault, event_of};
 use std::alloc::Global;
 use tags::{Bytes, NoMemory};
 
@@ -185,10 +187,11 @@ impl Session {
         disk: &mut D,
         entropy: &mut N,
         line: Line,
-    ) -> Result<Bytes, NoMemory>
+    ) -> Result<Answer, NoMemory>
         requires few { entries_in self.old < 2 ^ 62 - 2 }
         ensures serves { (setup : Setup) (past : History) → StandsFor D.Disk setup self.old disk.old past →
-            ServesBy D.Disk N.Entropy setup past self.new (Some line) (devices disk.old entropy.old) (devices disk.new entropy.new) result }
+            ServesBy D.Disk N.Entropy setup past self.new (Some line) (devices disk.old entropy.old) (devices disk.new entropy.new) (text_in result) }
+        ensures answer { IfOk result IsAnswer }
         ensures entries { entries_in self.new ≤ entries_in self.old + 3 }
     {
         let Line { event, hold } = line;
@@ -196,14 +199,14 @@ impl Session {
         self.reserve()?;
         let stepped = self.step(disk, entropy, event);
         let Some(ticket) = ticket_due(hold, &stepped.reply) else {
-            return line_of(alloc, &stepped);
+            return answer_of(alloc, &stepped);
         };
         let left = self.leave(disk, entropy, leave_at(reading, ticket), ticket);
         let both = Stepped {
             settled: stepped.settled,
             ..left
         };
-        line_of(alloc, &both)
+        answer_of(alloc, &both)
     }
 
     /// Makes the steps of one line and gives their reply lines: of a line that enters without holding, the enter and its
@@ -212,6 +215,27 @@ impl Session {
     /// entropy gave was drawn for these entries. One of them is the reply to a failed draw exactly where a draw failed, or to
     /// a failed call of the disk exactly where one failed, and one at most. What they change of what lasts is on the disk
     /// before their text is given.
+    pub fn answer<D: Disk, N: Entropy>(
+        &mut self,
+        alloc: Global,
+        disk: &mut D,
+        entropy: &mut N,
+        line: &[u8],
+    ) -> Result<Answer, NoMemory>
+        requires few { entries_in self.old < 2 ^ 62 - 2 }
+        ensures serves { (setup : Setup) (past : History) → StandsFor D.Disk setup self.old disk.old past →
+            Serves D.Disk N.Entropy setup past self.new line.now (devices disk.old entropy.old) (devices disk.new entropy.new) (text_in result) }
+        ensures answer { IfOk result IsAnswer }
+        ensures entries { entries_in self.new ≤ entries_in self.old + 3 }
+    {
+        match event_of(alloc, line) {
+            Ok(line) => self.serve(alloc, disk, entropy, line),
+            Err(LineFault::Malformed) => malformed(alloc),
+            Err(LineFault::Memory) => Err(NoMemory),
+        }
+    }
+
+    /// The same, of which the text alone is given.
     pub fn line<D: Disk, N: Entropy>(
         &mut self,
         alloc: Global,
@@ -224,10 +248,9 @@ impl Session {
             Serves D.Disk N.Entropy setup past self.new line.now (devices disk.old entropy.old) (devices disk.new entropy.new) result }
         ensures entries { entries_in self.new ≤ entries_in self.old + 3 }
     {
-        match event_of(alloc, line) {
-            Ok(line) => self.serve(alloc, disk, entropy, line),
-            Err(LineFault::Malformed) => Bytes::copy_of(alloc, malformed_line()),
-            Err(LineFault::Memory) => Err(NoMemory),
+        match self.answer(alloc, disk, entropy, line) {
+            Ok(answer) => Ok(answer.text),
+            Err(NoMemory) => Err(NoMemory),
         }
     }
 }

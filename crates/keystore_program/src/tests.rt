@@ -7,6 +7,7 @@ mod draws;
 mod faults;
 mod lengths;
 mod lines;
+mod loads;
 mod macs;
 mod orders;
 mod script;

@@ -12,7 +12,5 @@ mod summary;
 #[cfg(test)]
 mod tests;
 
-pub use call::{Call, Words};
-pub use line::SoakLine;
 pub use script::{MOST_LINES, SoakScript, seed_of};
 pub use summary::Summary;

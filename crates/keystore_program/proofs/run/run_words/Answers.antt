@@ -1,10 +1,13 @@
-use Rattle.std.proofs.Common.{◌≡◌, true, false, subst, refl}
+use Rattle.std.proofs.Common.{◌≡◌, ◌≤◌, Bool, true, false, None, subst, sym, refl, arith}
+use Rattle.ks_outside.specs.Faults.{CountsFaults}
+use Rattle.ks_outside.proofs.Shown.{counts_none}
 use Rattle.keystore_program.specs.declared.words.Form.{Form}
-use Rattle.keystore_program.specs.declared.words.Form.TheVariants.{Run}
+use Rattle.keystore_program.specs.declared.words.Form.TheVariants.{Run, Soak}
 use Rattle.keystore_program.specs.Ends.{outside}
 use Rattle.keystore_program.specs.Runs.{Does}
 use Rattle.keystore_program.proofs.Completing.{does_complete}
-use Rattle.keystore_program.proofs.Openings.{fresh_cause, runs_cause}
+use Rattle.keystore_program.proofs.Openings.{fine, fresh_cause, runs_cause}
+use Rattle.keystore_program.proofs.Soaking.{soak_disk, soak_source, soak_usage}
 use Rattle.keystore_program.proofs.run.run_words.Goals as goal
 
 pub returns-in-Some-Run-true-default-clause-does : goal.returns-in-Some-Run-true-default-clause-does
@@ -36,3 +39,24 @@ pub returns-in-Some-Run-false-default-clause-complete : goal.returns-in-Some-Run
 returns-in-Some-Run-false-default-clause-complete g c = λ fresh slots start bytes said ready fine.
     does_complete g.S.Source g.K.Sink g.D.Disk g.N.Entropy c.args.device.now c.args.policy.now fresh slots start bytes _ _ _
     (returns-in-Some-Run-false-default-clause-does g c (Run fresh slots) said) ready fine
+
+pub returns-in-Some-Soak-clause-usage : goal.returns-in-Some-Soak-clause-usage
+returns-in-Some-Soak-clause-usage g c = (λ e. absurd (soak_usage g.K.Sink _ _ _ _ _ c.soak.ensures.soaks e), λ none. absurd (cc (none, c.in-Some-Soak.ensures.form)))
+
+pub returns-in-Some-Soak-clause-untouched : goal.returns-in-Some-Soak-clause-untouched
+returns-in-Some-Soak-clause-untouched g c = λ e. absurd (soak_usage g.K.Sink _ _ _ _ _ c.soak.ensures.soaks e)
+
+pub returns-in-Some-Soak-clause-does : goal.returns-in-Some-Soak-clause-does
+returns-in-Some-Soak-clause-does g c = λ form said.
+    let same : Soak c.in-Some-Soak.seed c.in-Some-Soak.lines ≡ form = cc (said, c.in-Some-Soak.ensures.form, c.in-Some-Soak.field-0-is) in
+    subst (λ (form : Form). Does g.S.Source g.K.Sink g.D.Disk g.N.Entropy c.args.device.now c.args.policy.now form
+    (outside c.args.source.now c.args.sink.now c.args.disk.now c.args.entropy.now) (outside c.args.source.now c.soak.new.sink c.args.disk.now c.args.entropy.now) c.soak.result)
+    same (record { source = refl; disk = refl; entropy = refl }, c.soak.ensures.soaks)
+
+pub returns-in-Some-Soak-clause-source_faults : goal.returns-in-Some-Soak-clause-source_faults
+returns-in-Some-Soak-clause-source_faults g c =
+    let count = g.S.Source.fault_count c.args.source.now in
+    subst (λ (told : Bool). CountsFaults count count told) (sym (soak_source g.K.Sink _ _ _ _ _ c.soak.ensures.soaks)) (counts_none count)
+
+pub returns-in-Some-Soak-clause-disk_faults : goal.returns-in-Some-Soak-clause-disk_faults
+returns-in-Some-Soak-clause-disk_faults g c = fine _ (soak_disk g.K.Sink _ _ _ _ _ c.soak.ensures.soaks) (omega arith)

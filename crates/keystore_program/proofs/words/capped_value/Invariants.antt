@@ -4,6 +4,6 @@ use Rattle.keystore_program.proofs.words.capped_value.Given as goal
 
 abbrev pub invariant-loop-byte : goal.invariant-loop-byte
 invariant-loop-byte l = record {
-  few : l.value ≤ 65;
-  same : min (value_on l.value (drop l.byte-index l.digits)) 65 ≡ min (value_on 0 l.digits) 65;
+  few : l.value ≤ l.cap;
+  same : min (value_on l.value (drop l.byte-index l.digits)) l.cap ≡ min (value_on 0 l.digits) l.cap;
 }

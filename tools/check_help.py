@@ -1,0 +1,94 @@
+#!/usr/bin/env python3
+"""Runs the examples of the program's help text, and compares the summary of a load with the one that is known.
+
+    python3 tools/check_help.py [--program PATH]
+
+It says nothing where all is well, and ends with status 1 at the first difference.
+"""
+import argparse
+import pathlib
+import shlex
+import subprocess
+import sys
+
+from scratch import scratch_folder
+
+TOP = pathlib.Path(__file__).resolve().parent.parent
+WORDS = ["init", "run", "soak"]
+# The summary of seed 7 with 1,000 lines, of a model that was written independently of the service.
+SUMMARY_OF_7 = (
+    "code -28 count 466\n"
+    "code 0 count 541\n"
+    "sha256 d502d8cafd43b8c8f032620c78e28bd5aa96b2d2f19097d0bc92d6160f212f9d\n"
+)
+NO_FORMS = [
+    [], ["soak"], ["soak", "7"], ["soak", "7", "0"], ["soak", "7", "100001"], ["soak", "+7", "1"], ["soak", "7", "1", "1"],
+    ["soak", "18446744073709551616", "1"], ["soak", "000000000000000000007", "1"], ["soak", "", "1"], ["help"], ["--help", "init"],
+]
+
+
+class Differs(Exception):
+    """The program does otherwise than it must."""
+
+
+def ended_run(program, words, folder, script=None):
+    """What the program writes, its status, and what it tells on standard error."""
+    with open(script or "/dev/null", "rb") as source:
+        ended = subprocess.run([program, *words], stdin=source, cwd=folder, capture_output=True, text=True, check=False)
+    return ended.stdout, ended.returncode, ended.stderr
+
+
+def check(name, given, wanted):
+    if given != wanted:
+        raise Differs(f"{name}: gave {given} and not {wanted}")
+
+
+def examples_in(text):
+    lines = text.split("Examples:\n", 1)[1].splitlines()
+    return [shlex.split(line) for line in lines if line.startswith("  keystore2 ")]
+
+
+def run_example(program, words, folder):
+    """Runs the words of an example; `< FILE` at its end is its script, a file of the repository."""
+    script = None
+    if "<" in words:
+        words, script = words[:words.index("<")], TOP / words[-1]
+    output, status, fault = ended_run(program, words[1:], folder, script)
+    check(" ".join(words), (status, fault), (0, ""))
+    expected = script and script.with_suffix(".expected")
+    if expected and "?" not in expected.read_text(encoding="utf-8"):
+        check(" ".join(words), output, expected.read_text(encoding="utf-8"))
+
+
+def check_all(program):
+    with scratch_folder() as folder:
+        text, status, fault = ended_run(program, ["--help"], folder)
+        check("--help", (status, fault), (0, ""))
+        for word in WORDS:
+            check(f"the help of {word}", f"\n  {word} " in text, True)
+        for words in examples_in(text):
+            run_example(program, words, folder)
+        output, status, fault = ended_run(program, ["--version"], folder)
+        check("--version", (output.split()[0], status, fault), ("keystore2", 0, ""))
+        for words in NO_FORMS:
+            check(" ".join(words), ended_run(program, words, folder), ("", 2, "keystore2: usage\n" + text))
+        for _ in range(2):
+            check("soak 7 1000", ended_run(program, ["soak", "7", "1000"], folder), (SUMMARY_OF_7, 0, ""))
+        leading = ended_run(program, ["soak", "00000000000000000007", "0001000"], folder)
+        check("soak with leading zeros", leading, (SUMMARY_OF_7, 0, ""))
+
+
+def main():
+    parser = argparse.ArgumentParser(description=__doc__.split("\n")[0])
+    parser.add_argument("--program", default=TOP / "keystore2")
+    program = pathlib.Path(parser.parse_args().program).resolve()
+    try:
+        check_all(program)
+    except Differs as differs:
+        print(f"tools/check_help.py: {differs}", file=sys.stderr)
+        return 1
+    return 0
+
+
+if __name__ == "__main__":
+    sys.exit(main())
