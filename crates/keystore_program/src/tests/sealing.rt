@@ -109,8 +109,7 @@ fn pieces(alloc: Global, before: &str, text: &str, ends: &[usize]) -> Result<Str
         out.push_str(before)?;
         let digits = text.as_bytes().get(from..*to).unwrap_or(b"");
         out.push_str(String::from_utf8_lossy(alloc, digits)?.as_str())?;
-        out.push_str(""}
-")?;
+        out.push_str("\"}\n")?;
         from = *to;
     }
     Ok(out)
@@ -119,10 +118,9 @@ fn pieces(alloc: Global, before: &str, text: &str, ends: &[usize]) -> Result<Str
 /// The digits that replies tell as bytes, joined.
 fn joined(alloc: Global, replies: &str) -> Result<String, Fail> {
     let mut out = String::from_str(alloc, "")?;
-    for reply in replies.split('
-') {
+    for reply in replies.split('\n') {
         let rest = reply.strip_prefix(TOLD_PIECE).unwrap_or("");
-        out.push_str(rest.strip_suffix(""}").unwrap_or(""))?;
+        out.push_str(rest.strip_suffix("\"}").unwrap_or(""))?;
     }
     Ok(out)
 }

@@ -3,8 +3,8 @@
 ghost use Rattle.std.specs.Prelude.{IfOk};
 ghost use Rattle.key_blobs.specs.Text.{IsShort};
 
-use crate::test_blobs::{KNOWN, Known, REFUSED};
-use crate::{BlobFault, Opened, Sealed, seal, unseal};
+use crate::made_blobs::{KNOWN, Known, REFUSED};
+use key_blobs::{BlobFault, Opened, Sealed, seal, unseal};
 use std::alloc::Global;
 use std::process::Abort;
 use std::test::Fail;
