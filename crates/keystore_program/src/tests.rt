@@ -1,4 +1,5 @@
-//! Scripts from their bytes to their text, and each status.
+//! Scripts from their bytes to their text, and each status. Further scripts are in `checks/finished-again.jsonl`, without its last LF,
+//! and `checks/replaced-key.jsonl`.
 
 mod answered;
 mod blobs;
@@ -18,7 +19,7 @@ mod uses;
 
 use crate::status::Status;
 use disk_model::MemoryDisk;
-use script::{CONNECT, FRESH, Outside, ROOM};
+use script::{CONNECT, Ended, FRESH, Outside, ROOM};
 use std::alloc::Global;
 use std::process::Abort;
 use std::test::Fail;
@@ -57,7 +58,7 @@ type Case = (
     &'static str,
 );
 
-static CASES: [Case; 16] = [
+static CASES: [Case; 13] = [
     ("", (&[], &[]), Status::Ok, ""),
     ("\n", (&[], &[]), Status::Ok, MALFORMED),
     ("{}", (&[], &[]), Status::Ok, MALFORMED),
@@ -87,52 +88,6 @@ static CASES: [Case; 16] = [
         "{\"code\":-28,\"rule\":\"S1\"}\n",
     ),
     (WHOLE, (&[], &[]), Status::Ok, KNOWN),
-    // without its last LF
-    (
-        r#"{"t":[0,1000],"do":"connect","uid":10001}
-{"t":[0,1000],"c":1,"do":"importKey","key":{"domain":0,"alias":"m"},"params":[["PURPOSE",2],["PURPOSE",3],["ALGORITHM",128],["DIGEST",4],["MIN_MAC_LENGTH",64],["NO_AUTH_REQUIRED",true]],"format":3,"material":"0b0b0b0b0b0b0b0b0b0b0b0b0b0b0b0b0b0b0b0b"}
-{"t":[0,1000],"c":1,"do":"createOperation","key":{"domain":0,"alias":"m"},"params":[["PURPOSE",2],["MAC_LENGTH",256]]}
-{"t":[0,1000],"c":1,"do":"finish","op":1,"input":"4869205468657265"}"#,
-        (&[], &[]),
-        Status::Ok,
-        KNOWN,
-    ),
-    // a finish once more
-    (
-        r#"{"t":[0,1000],"do":"connect","uid":10001}
-{"t":[0,1000],"c":1,"do":"importKey","key":{"domain":0,"alias":"m"},"params":[["PURPOSE",2],["PURPOSE",3],["ALGORITHM",128],["DIGEST",4],["MIN_MAC_LENGTH",64],["NO_AUTH_REQUIRED",true]],"format":3,"material":"0b0b0b0b0b0b0b0b0b0b0b0b0b0b0b0b0b0b0b0b"}
-{"t":[0,1000],"c":1,"do":"createOperation","key":{"domain":0,"alias":"m"},"params":[["PURPOSE",2],["MAC_LENGTH",256]]}
-{"t":[0,1000],"c":1,"do":"finish","op":1,"input":"4869205468657265"}
-{"t":[0,1000],"c":1,"do":"finish","op":1,"input":"4869205468657265"}
-"#,
-        (&[], &[]),
-        Status::Ok,
-        r#"{"client":1,"code":0}
-{"code":0,"key":1}
-{"code":0,"op":1}
-{"code":0,"out":"b0344c61d8db38535ca8afceaf0bf12b881dc200c9833da726e9376c2e32cff7"}
-{"code":-28,"rule":"S1"}
-"#,
-    ),
-    // another client's finish, and one behind the end of the key
-    (
-        r#"{"t":[0,1000],"do":"connect","uid":10001}
-{"t":[0,1000],"c":1,"do":"importKey","key":{"domain":0,"alias":"m"},"params":[["PURPOSE",2],["PURPOSE",3],["ALGORITHM",128],["DIGEST",4],["MIN_MAC_LENGTH",64],["NO_AUTH_REQUIRED",true]],"format":3,"material":"0b0b0b0b0b0b0b0b0b0b0b0b0b0b0b0b0b0b0b0b"}
-{"t":[0,1000],"c":1,"do":"createOperation","key":{"domain":0,"alias":"m"},"params":[["PURPOSE",2],["MAC_LENGTH",256]]}
-{"t":[0,1000],"c":2,"do":"finish","op":1,"input":"4869205468657265"}
-{"t":[0,1000],"c":1,"do":"importKey","key":{"domain":0,"alias":"m"},"params":[["PURPOSE",2],["PURPOSE",3],["ALGORITHM",128],["DIGEST",4],["MIN_MAC_LENGTH",64],["NO_AUTH_REQUIRED",true]],"format":3,"material":"0b0b0b0b0b0b0b0b0b0b0b0b0b0b0b0b0b0b0b0b"}
-{"t":[0,1000],"c":1,"do":"finish","op":1,"input":"4869205468657265"}
-"#,
-        (&[], &[]),
-        Status::Ok,
-        r#"{"client":1,"code":0}
-{"code":0,"key":1}
-{"code":0,"op":1}
-{"code":-28,"rule":"S1"}
-{"code":0,"key":2}
-{"code":-33,"rule":"S4"}
-"#,
-    ),
     // a fault ends a run after what was answered
     (TWO, (&[1], &[]), Status::ReadFault, ""),
     (TWO, (&[2], &[]), Status::ReadFault, BOTH),
@@ -140,7 +95,13 @@ static CASES: [Case; 16] = [
     (TWO, (&[], &[2]), Status::WriteFault, CONNECTED),
 ];
 
-/// Runs over an empty disk, and compares the status and the text; words that are no form read nothing.
+/// Whether a run ends with this status and this text; words that are no form read nothing.
+fn is_end(ended: Ended, status: Status, text: &str, whole: usize) -> bool {
+    let is_untouched = status != Status::Usage || ended.left == whole;
+    ended.status == status && ended.text.as_str() == text && is_untouched
+}
+
+/// Runs over an empty disk, and compares the status and the text.
 fn check_end(
     rt: &impl Abort,
     alloc: Global,
@@ -150,11 +111,9 @@ fn check_end(
 ) -> Result<(), Fail> {
     let mut disk = MemoryDisk::with_room(alloc, ROOM, &[])?;
     let ended = outside.run(alloc, &mut disk)?;
-    assert_eq!(rt; ended.status, status, "{} {text}", outside.words);
-    assert!(rt; ended.text.as_str() == text, "{}", ended.text);
-    if status == Status::Usage {
-        assert_eq!(rt; ended.left, outside.script.len());
-    }
+    drop(disk);
+    let same = is_end(ended, status, text, outside.script.len());
+    assert!(rt; same, "{} and not {text}", outside.words);
     Ok(())
 }
 

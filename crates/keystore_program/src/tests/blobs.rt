@@ -1,17 +1,16 @@
-//! Keys that are kept in sealed blobs. Blobs of another tool are in `checks/made-elsewhere.jsonl`.
+//! Keys that are kept in sealed blobs. More of them are in `checks/application-data.jsonl` and `checks/handed-blobs.jsonl`, blobs of
+//! another tool in `checks/made-elsewhere.jsonl`.
 
 use super::script::{BEGIN, BEGUN, CONNECT, CONNECTED, FINISH, IMPORTED, MAC, Row, check_each};
 use std::test::Fail;
 
 const SYSTEM: &str = r#"{"t":[0,1000],"do":"connect","uid":1000}"#;
 
-const NO_BLOB: &str = r#"{"code":-33,"rule":"B7"}"#;
-
 const NOT_OWN: &str = r#"{"code":-33,"rule":"B8"}"#;
 
 static BLOBS: [&[Row]; 2] = [
     &[
-        // A key opens for the application id and data that it was made with; one of no bytes is another than none.
+        // A key opens for the application id that it was made with.
         (CONNECT, CONNECTED),
         (
             r#"{"t":[0,1000],"c":1,"do":"importKey","key":{"domain":0,"alias":"m"},"params":[["PURPOSE",2],["PURPOSE",3],["ALGORITHM",128],["DIGEST",4],["MIN_MAC_LENGTH",64],["NO_AUTH_REQUIRED",true],["APPLICATION_ID","6162"]],"format":3,"material":"0b0b0b0b0b0b0b0b0b0b0b0b0b0b0b0b0b0b0b0b"}"#,
@@ -26,27 +25,10 @@ static BLOBS: [&[Row]; 2] = [
             r#"{"t":[0,1000],"c":1,"do":"createOperation","key":{"domain":0,"alias":"m"},"params":[["PURPOSE",2],["MAC_LENGTH",256],["APPLICATION_ID","6163"]]}"#,
             NOT_OWN,
         ),
-        (
-            r#"{"t":[0,1000],"c":1,"do":"createOperation","key":{"domain":0,"alias":"m"},"params":[["PURPOSE",2],["MAC_LENGTH",256],["APPLICATION_ID","6162"],["APPLICATION_DATA",""]]}"#,
-            NOT_OWN,
-        ),
         (FINISH, MAC),
-        (
-            r#"{"t":[0,1000],"c":1,"do":"importKey","key":{"domain":0,"alias":"d"},"params":[["PURPOSE",2],["ALGORITHM",128],["DIGEST",4],["MIN_MAC_LENGTH",64],["NO_AUTH_REQUIRED",true],["APPLICATION_DATA",""]],"format":3,"material":"0b0b0b0b0b0b0b0b0b0b0b0b0b0b0b0b0b0b0b0b"}"#,
-            r#"{"code":0,"key":2}"#,
-        ),
-        (
-            r#"{"t":[0,1000],"c":1,"do":"createOperation","key":{"domain":0,"alias":"d"},"params":[["PURPOSE",2],["MAC_LENGTH",256]]}"#,
-            NOT_OWN,
-        ),
-        (
-            r#"{"t":[0,1000],"c":1,"do":"createOperation","key":{"domain":0,"alias":"d"},"params":[["PURPOSE",2],["MAC_LENGTH",256],["APPLICATION_DATA",""]]}"#,
-            r#"{"code":0,"op":2}"#,
-        ),
     ],
     &[
-        // A key that is made in BLOB is handed out as its blob, of which no record is kept, and used by who may hand
-        // blobs in.
+        // A key that is made in BLOB is handed out as its blob, and used by who may hand blobs in.
         (SYSTEM, CONNECTED),
         (
             r#"{"t":[0,1000],"c":1,"do":"generateKey","key":{"domain":3,"nspace":100},"params":[["PURPOSE",0],["PURPOSE",1],["ALGORITHM",32],["KEY_SIZE",256],["BLOCK_MODE",32],["PADDING",1],["MIN_MAC_LENGTH",128],["NO_AUTH_REQUIRED",true]]}"#,
@@ -58,39 +40,11 @@ static BLOBS: [&[Row]; 2] = [
         ),
         (
             r#"{"t":[0,1000],"c":1,"do":"createOperation","key":{"domain":3,"nspace":100,"blob":"4b534231202122232425262728292a2bb0fa2bec25bd883f079661ef9fd0be5a89a6710db5ad17507e11a81cdc5fbe85bc630d34902a7a34009017aed48f1a90a435bde94dc1a2f1b83f3dfcc50695917188c302fc8baa3d5b9a80fc53dbe44399b934da7aa2959edcd2215a9bd2ab3cbf32385ebf1b15813b76b86f00016ac98f720d177c96504176919d935bc52eccf10bd8343e8925b2ca4b43f509270876cd3b4f9167476a43022f2515b89ab32f922bd0b9b8df25f35d54"},"params":[["PURPOSE",0],["BLOCK_MODE",32],["PADDING",1],["MAC_LENGTH",128]]}"#,
-            NO_BLOB,
-        ),
-        (
-            r#"{"t":[0,1000],"c":1,"do":"createOperation","key":{"domain":3,"nspace":100,"blob":"4c534231202122232425262728292a2bb0fa2bec25bd883f079661ef9fd0be5a89a6710db5ad17507e11a81cdc5fbe85bc630d34902a7a34009017aed48f1a90a435bde94dc1a2f1b83f3dfcc50695917188c302fc8baa3d5b9a80fc53dbe44399b934da7aa2959edcd2215a9bd2ab3cbf32385ebf1b15813b76b86f00016ac98f720d177c96504176919d935bc52eccf10bd8343e8925b2ca4b43f509270876cd3b4f9167476a43022f2515b89ab32f922bd0b9b8df25f35d55"},"params":[["PURPOSE",0],["BLOCK_MODE",32],["PADDING",1],["MAC_LENGTH",128]]}"#,
-            NO_BLOB,
-        ),
-        (
-            r#"{"t":[0,1000],"c":1,"do":"createOperation","key":{"domain":3,"nspace":100,"blob":""},"params":[["PURPOSE",0],["BLOCK_MODE",32],["PADDING",1],["MAC_LENGTH",128]]}"#,
-            NO_BLOB,
-        ),
-        (
-            r#"{"t":[0,1000],"c":1,"do":"createOperation","key":{"domain":3,"nspace":100},"params":[["PURPOSE",0],["BLOCK_MODE",32],["PADDING",1],["MAC_LENGTH",128]]}"#,
-            r#"{"code":20,"rule":"B2"}"#,
-        ),
-        (
-            r#"{"t":[0,1000],"c":1,"do":"createOperation","key":{"domain":3,"nspace":0,"blob":"4b534231202122232425262728292a2bb0fa2bec25bd883f079661ef9fd0be5a89a6710db5ad17507e11a81cdc5fbe85bc630d34902a7a34009017aed48f1a90a435bde94dc1a2f1b83f3dfcc50695917188c302fc8baa3d5b9a80fc53dbe44399b934da7aa2959edcd2215a9bd2ab3cbf32385ebf1b15813b76b86f00016ac98f720d177c96504176919d935bc52eccf10bd8343e8925b2ca4b43f509270876cd3b4f9167476a43022f2515b89ab32f922bd0b9b8df25f35d55"},"params":[["PURPOSE",0],["BLOCK_MODE",32],["PADDING",1],["MAC_LENGTH",128]]}"#,
-            r#"{"code":6,"rule":"B3"}"#,
-        ),
-        (
-            r#"{"t":[0,1000],"c":1,"do":"createOperation","key":{"domain":3,"nspace":100,"blob":"4b534231202122232425262728292a2bb0fa2bec25bd883f079661ef9fd0be5a89a6710db5ad17507e11a81cdc5fbe85bc630d34902a7a34009017aed48f1a90a435bde94dc1a2f1b83f3dfcc50695917188c302fc8baa3d5b9a80fc53dbe44399b934da7aa2959edcd2215a9bd2ab3cbf32385ebf1b15813b76b86f00016ac98f720d177c96504176919d935bc52eccf10bd8343e8925b2ca4b43f509270876cd3b4f9167476a43022f2515b89ab32f922bd0b9b8df25f35d55"},"params":[["PURPOSE",0],["BLOCK_MODE",32],["PADDING",1],["MAC_LENGTH",128],["APPLICATION_ID","6162"]]}"#,
-            NOT_OWN,
+            r#"{"code":-33,"rule":"B7"}"#,
         ),
         (
             r#"{"t":[0,1000],"c":1,"do":"generateKey","key":{"domain":3,"nspace":100},"params":[["PURPOSE",0],["PURPOSE",1],["ALGORITHM",32],["KEY_SIZE",256],["BLOCK_MODE",32],["PADDING",1],["MIN_MAC_LENGTH",128],["NO_AUTH_REQUIRED",true],["MAX_USES_PER_BOOT",1]]}"#,
             r#"{"code":-39,"rule":"K14"}"#,
-        ),
-        (
-            r#"{"t":[0,1000],"c":1,"do":"generateKey","key":{"domain":3,"nspace":100,"blob":"6b"},"params":[["PURPOSE",0],["PURPOSE",1],["ALGORITHM",32],["KEY_SIZE",256],["BLOCK_MODE",32],["PADDING",1],["MIN_MAC_LENGTH",128],["NO_AUTH_REQUIRED",true]]}"#,
-            r#"{"code":20,"rule":"K2"}"#,
-        ),
-        (
-            r#"{"t":[0,1000],"c":1,"do":"getNumberOfEntries","domain":2,"nspace":100}"#,
-            r#"{"code":0,"count":0}"#,
         ),
         (CONNECT, r#"{"client":2,"code":0}"#),
         (

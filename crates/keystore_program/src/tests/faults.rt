@@ -64,6 +64,10 @@ const A_RECORD: u64 = 4;
 
 const FAILED: &str = "{\"code\":4}\n";
 
+const KEPT: &str = "{\"settled\":\"kept\"}\n";
+
+const LOST: &str = "{\"settled\":\"lost\"}\n";
+
 /// The calls before a place, without that of another place.
 fn script_of(alloc: Global, end: usize, without: usize) -> Result<String, Fail> {
     let mut script = String::from_str(alloc, "")?;
@@ -98,7 +102,45 @@ fn lasting(rt: &impl Abort, alloc: Global, end: usize, without: usize) -> Result
     asked(rt, alloc, &mut disk)
 }
 
-/// One call of the disk fails: what is opened then has the change where the settling said that it was kept.
+/// One call of the disk fails: what the script gets, and what lasts.
+fn after_fault(
+    rt: &impl Abort,
+    alloc: Global,
+    number: u64,
+    outside: Outside,
+) -> Result<(String, String), Fail> {
+    let failing = [number];
+    let mut disk = MemoryDisk::with_room(alloc, ROOM, &failing)?;
+    let given = text_on(rt, alloc, outside, &mut disk)?;
+    let lasts = asked(rt, alloc, &mut disk)?;
+    Ok((given, lasts))
+}
+
+/// The disk stops behind so many calls: what the script gets, and what lasts on the disk that is opened then.
+fn after_stop(
+    rt: &impl Abort,
+    alloc: Global,
+    passed: u64,
+    outside: Outside,
+) -> Result<(String, String), Fail> {
+    let inner = MemoryDisk::with_room(alloc, ROOM, &[])?;
+    let mut stopped = StoppedDisk::new(inner, passed);
+    let given = text_on(rt, alloc, outside, &mut stopped)?;
+    let mut disk = stopped.into_inner();
+    let lasts = asked(rt, alloc, &mut disk)?;
+    Ok((given, lasts))
+}
+
+/// Whether what is opened has the change exactly where the settling said that it was kept.
+fn is_settled_so(given: &str, lasts: &str, ends: (&str, &str)) -> bool {
+    match given.split_once(FAILED) {
+        Some((_, then)) if then.starts_with(KEPT) => lasts == ends.1,
+        Some((_, then)) => then.starts_with(LOST) && lasts == ends.0,
+        None => false,
+    }
+}
+
+/// One call of the disk fails.
 fn fails_once(
     rt: &impl Abort,
     alloc: Global,
@@ -106,23 +148,15 @@ fn fails_once(
     outside: Outside,
     ends: (&str, &str),
 ) -> Result<(), Fail> {
-    let failing = [number];
-    let mut disk = MemoryDisk::with_room(alloc, ROOM, &failing)?;
-    let given = text_on(rt, alloc, outside, &mut disk)?;
-    let lasts = asked(rt, alloc, &mut disk)?;
-    let (_, then) = given.as_str().split_once(FAILED).unwrap_or(("", ""));
-    let wanted = if then.starts_with("{\"settled\":\"kept\"}\n") {
-        ends.1
-    } else {
-        assert!(rt; then.starts_with("{\"settled\":\"lost\"}\n"), "{number}");
-        ends.0
-    };
-    assert!(rt; lasts.as_str() == wanted, "{number}");
+    let (given, lasts) = after_fault(rt, alloc, number, outside)?;
+    let same = is_settled_so(given.as_str(), lasts.as_str(), ends);
+    drop((given, lasts));
+    assert!(rt; same, "{number}");
     Ok(())
 }
 
-/// The disk stops behind so many calls, and all later acts are answered so. What it holds is opened as another disk: it has all
-/// that was acknowledged, and the change that was under way or not.
+/// The disk stops, and all later acts are answered so. What it holds has all that was acknowledged, and the change that was under way or
+/// not.
 fn stops(
     rt: &impl Abort,
     alloc: Global,
@@ -130,14 +164,11 @@ fn stops(
     outside: Outside,
     ends: (&str, &str),
 ) -> Result<(), Fail> {
-    let inner = MemoryDisk::with_room(alloc, ROOM, &[])?;
-    let mut stopped = StoppedDisk::new(inner, passed);
-    let given = text_on(rt, alloc, outside, &mut stopped)?;
-    let mut disk = stopped.into_inner();
-    let lasts = asked(rt, alloc, &mut disk)?;
-    assert!(rt; given.as_str().ends_with(FAILED), "{passed}");
+    let (given, lasts) = after_stop(rt, alloc, passed, outside)?;
     let is_one = lasts.as_str() == ends.0 || lasts.as_str() == ends.1;
-    assert!(rt; is_one, "{passed}");
+    let same = is_one && given.as_str().ends_with(FAILED);
+    drop((given, lasts));
+    assert!(rt; same, "{passed}");
     Ok(())
 }
 

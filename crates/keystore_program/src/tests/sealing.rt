@@ -1,14 +1,20 @@
-//! AES in Galois/Counter Mode: texts that are sealed and opened again, and tags that do not match.
+//! AES in Galois/Counter Mode: texts that are sealed and opened again, and tags that do not match. More
+//! of these are in `checks/openings.jsonl`.
 
-use super::script::{Outside, Row, check_each, text_on, BEGUN, CONNECT, CONNECTED, DONE, FRESH, IMPORTED, NOTHING_OUT, NOT_OPEN, ROOM};
+use super::script::{
+    BEGUN, CONNECT, CONNECTED, FRESH, IMPORTED, NOTHING_OUT, Outside, ROOM, Row, check_each,
+    text_on,
+};
 use disk_model::MemoryDisk;
 use std::alloc::Global;
 use std::process::Abort;
 use std::test::Fail;
 
-const SEAL: &str = r#"{"t":[0,1000],"c":1,"do":"createOperation","key":{"domain":0,"alias":"z"},"params":[["PURPOSE",0],["BLOCK_MODE",32],["PADDING",1],["MAC_LENGTH",128],["NONCE","000000000000000000000000"]]}"#;
+const SEAL: &str =
+    r#"{"t":[0,1000],"c":1,"do":"createOperation","key":{"domain":0,"alias":"z"},"params":[["PURPOSE",0],["BLOCK_MODE",32],["PADDING",1],["MAC_LENGTH",128],["NONCE","000000000000000000000000"]]}"#;
 
-const OPEN: &str = r#"{"t":[0,1000],"c":1,"do":"createOperation","key":{"domain":0,"alias":"z"},"params":[["PURPOSE",1],["BLOCK_MODE",32],["PADDING",1],["MAC_LENGTH",128],["NONCE","000000000000000000000000"]]}"#;
+const OPEN: &str =
+    r#"{"t":[0,1000],"c":1,"do":"createOperation","key":{"domain":0,"alias":"z"},"params":[["PURPOSE",1],["BLOCK_MODE",32],["PADDING",1],["MAC_LENGTH",128],["NONCE","000000000000000000000000"]]}"#;
 
 const EIGHT_ZEROS: &str = r#"{"code":0,"out":"0000000000000000"}"#;
 
@@ -16,30 +22,51 @@ const WRONG_TAG: &str = r#"{"code":-30}"#;
 
 /// The Galois/Counter Mode of Operation, test cases 1 and 2: an opening keeps back as many bytes as a tag has.
 static TAGS: [&[Row]; 1] = [&[
-(CONNECT, CONNECTED),
-(r#"{"t":[0,1000],"c":1,"do":"importKey","key":{"domain":0,"alias":"z"},"params":[["PURPOSE",0],["PURPOSE",1],["ALGORITHM",32],["BLOCK_MODE",1],["BLOCK_MODE",2],["BLOCK_MODE",3],["BLOCK_MODE",32],["PADDING",1],["PADDING",64],["MIN_MAC_LENGTH",96],["CALLER_NONCE",true],["NO_AUTH_REQUIRED",true]],"format":3,"material":"00000000000000000000000000000000"}"#, IMPORTED),
-(SEAL, BEGUN),
-(r#"{"t":[0,1000],"c":1,"do":"finish","op":1,"input":""}"#, r#"{"code":0,"out":"58e2fccefa7e3061367f1d57a4e7455a"}"#),
-(SEAL, r#"{"code":0,"op":2}"#),
-(r#"{"t":[0,1000],"c":1,"do":"update","op":2,"input":"00000000000000000000000000000000"}"#, r#"{"code":0,"out":"0388dace60b6a392f328c2b971b2fe78"}"#),
-(r#"{"t":[0,1000],"c":1,"do":"finish","op":2,"input":""}"#, r#"{"code":0,"out":"ab6e47d42cec13bdf53a67b21257bddf"}"#),
-(OPEN, r#"{"code":0,"op":3}"#),
-(r#"{"t":[0,1000],"c":1,"do":"update","op":3,"input":"0388dace60b6a392f328c2b971b2fe78ab6e47d42cec13bd"}"#, EIGHT_ZEROS),
-(r#"{"t":[0,1000],"c":1,"do":"update","op":3,"input":"f53a67b21257bddf"}"#, EIGHT_ZEROS),
-(r#"{"t":[0,1000],"c":1,"do":"finish","op":3,"input":""}"#, NOTHING_OUT),
-(OPEN, r#"{"code":0,"op":4}"#),
-(r#"{"t":[0,1000],"c":1,"do":"update","op":4,"input":"0388dace60b6a392f328c2b971b2fe78ab6e47d42cec13bd"}"#, EIGHT_ZEROS),
-(r#"{"t":[0,1000],"c":1,"do":"update","op":4,"input":"f53a67b21257bdde"}"#, EIGHT_ZEROS),
-(r#"{"t":[0,1000],"c":1,"do":"finish","op":4,"input":""}"#, WRONG_TAG),
-(r#"{"t":[0,1000],"c":1,"do":"finish","op":4,"input":""}"#, NOT_OPEN),
-(OPEN, r#"{"code":0,"op":5}"#),
-(r#"{"t":[0,1000],"c":1,"do":"updateAad","op":5,"input":"00"}"#, DONE),
-(r#"{"t":[0,1000],"c":1,"do":"finish","op":5,"input":"58e2fccefa7e3061367f1d57a4e7455a"}"#, WRONG_TAG),
-(OPEN, r#"{"code":0,"op":6}"#),
-(r#"{"t":[0,1000],"c":1,"do":"finish","op":6,"input":"58e2fccefa7e3061367f1d57a4e7455a"}"#, NOTHING_OUT),
-(r#"{"t":[0,1000],"c":1,"do":"createOperation","key":{"domain":0,"alias":"z"},"params":[["PURPOSE",1],["BLOCK_MODE",32],["PADDING",1],["MAC_LENGTH",96],["NONCE","000000000000000000000000"]]}"#, r#"{"code":0,"op":7}"#),
-(r#"{"t":[0,1000],"c":1,"do":"update","op":7,"input":"0388dace60b6a392f328c2b971b2fe78ab6e47d42cec13bd"}"#, r#"{"code":0,"out":"000000000000000000000000"}"#),
-(r#"{"t":[0,1000],"c":1,"do":"finish","op":7,"input":"f53a67b2"}"#, r#"{"code":0,"out":"00000000"}"#),
+    (CONNECT, CONNECTED),
+    (
+        r#"{"t":[0,1000],"c":1,"do":"importKey","key":{"domain":0,"alias":"z"},"params":[["PURPOSE",0],["PURPOSE",1],["ALGORITHM",32],["BLOCK_MODE",1],["BLOCK_MODE",2],["BLOCK_MODE",3],["BLOCK_MODE",32],["PADDING",1],["PADDING",64],["MIN_MAC_LENGTH",96],["CALLER_NONCE",true],["NO_AUTH_REQUIRED",true]],"format":3,"material":"00000000000000000000000000000000"}"#,
+        IMPORTED,
+    ),
+    (SEAL, BEGUN),
+    (
+        r#"{"t":[0,1000],"c":1,"do":"finish","op":1,"input":""}"#,
+        r#"{"code":0,"out":"58e2fccefa7e3061367f1d57a4e7455a"}"#,
+    ),
+    (SEAL, r#"{"code":0,"op":2}"#),
+    (
+        r#"{"t":[0,1000],"c":1,"do":"update","op":2,"input":"00000000000000000000000000000000"}"#,
+        r#"{"code":0,"out":"0388dace60b6a392f328c2b971b2fe78"}"#,
+    ),
+    (
+        r#"{"t":[0,1000],"c":1,"do":"finish","op":2,"input":""}"#,
+        r#"{"code":0,"out":"ab6e47d42cec13bdf53a67b21257bddf"}"#,
+    ),
+    (OPEN, r#"{"code":0,"op":3}"#),
+    (
+        r#"{"t":[0,1000],"c":1,"do":"update","op":3,"input":"0388dace60b6a392f328c2b971b2fe78ab6e47d42cec13bd"}"#,
+        EIGHT_ZEROS,
+    ),
+    (
+        r#"{"t":[0,1000],"c":1,"do":"update","op":3,"input":"f53a67b21257bddf"}"#,
+        EIGHT_ZEROS,
+    ),
+    (
+        r#"{"t":[0,1000],"c":1,"do":"finish","op":3,"input":""}"#,
+        NOTHING_OUT,
+    ),
+    (OPEN, r#"{"code":0,"op":4}"#),
+    (
+        r#"{"t":[0,1000],"c":1,"do":"update","op":4,"input":"0388dace60b6a392f328c2b971b2fe78ab6e47d42cec13bd"}"#,
+        EIGHT_ZEROS,
+    ),
+    (
+        r#"{"t":[0,1000],"c":1,"do":"update","op":4,"input":"f53a67b21257bdde"}"#,
+        EIGHT_ZEROS,
+    ),
+    (
+        r#"{"t":[0,1000],"c":1,"do":"finish","op":4,"input":""}"#,
+        WRONG_TAG,
+    ),
 ]];
 
 #[test]
@@ -54,41 +81,35 @@ const COUNTING: &str =
     "000102030405060708090a0b0c0d0e0f101112131415161718191a1b1c1d1e1f202122232425262728292a2b2c2d2e2f303132333435363738393a3b3c3d3e3f404142434445464748494a4b4c4d4e4f505152535455565758595a5b5c5d5e5f606162636465666768696a6b6c6d6e6f707172737475767778797a7b7c7d7e7f808182838485868788898a8b8c8d8e8f909192939495969798999a9b9c9d9e9fa0a1a2a3a4a5a6a7a8a9aaabacadaeafb0b1b2b3b4b5b6b7b8b9babbbcbdbebfc0c1c2c3c4c5c6c7c8c9cacbcccdcecfd0d1d2d3d4d5d6d7d8d9dadbdcdddedfe0e1e2e3e4e5e6e7e8e9eaebecedeeeff0f1f2f3f4f5f6f7f8f9fafbfcfdfeff";
 
 /// A key and a nonce that are drawn, and what they get.
-const START: &str =
-    r#"{"t":[0,1000],"do":"connect","uid":10001}
+const START: &str = r#"{"t":[0,1000],"do":"connect","uid":10001}
 {"t":[0,1000],"c":1,"do":"generateKey","key":{"domain":0,"alias":"k"},"params":[["PURPOSE",0],["PURPOSE",1],["ALGORITHM",32],["KEY_SIZE",256],["BLOCK_MODE",32],["PADDING",1],["MIN_MAC_LENGTH",128],["NO_AUTH_REQUIRED",true]]}
 {"t":[0,1000],"c":1,"do":"createOperation","key":{"domain":0,"alias":"k"},"params":[["PURPOSE",0],["BLOCK_MODE",32],["PADDING",1],["MAC_LENGTH",128]]}
 "#;
 
-const STARTED: &str =
-    r#"{"client":1,"code":0}
+const STARTED: &str = r#"{"client":1,"code":0}
 {"code":0,"key":1}
 {"code":0,"nonce":"2c2d2e2f3031323334353637","op":1}
 "#;
 
 /// The key is listed, and begins an opening.
-const BETWEEN: &str =
-    r#"{"t":[0,1000],"c":1,"do":"finish","op":1}
+const BETWEEN: &str = r#"{"t":[0,1000],"c":1,"do":"finish","op":1}
 {"t":[0,1000],"c":1,"do":"listEntriesBatched","domain":0}
 {"t":[0,1000],"c":1,"do":"createOperation","key":{"domain":0,"alias":"k"},"params":[["PURPOSE",1],["BLOCK_MODE",32],["PADDING",1],["MAC_LENGTH",128],["NONCE","2c2d2e2f3031323334353637"]]}
 "#;
 
-const LISTED: &str =
-    r#"{"code":0,"entries":[["k",1]]}
+const LISTED: &str = r#"{"code":0,"entries":[["k",1]]}
 {"code":0,"op":2}
 "#;
 
 /// The key ends.
-const END: &str =
-    r#"{"t":[0,1000],"c":1,"do":"finish","op":2}
+const END: &str = r#"{"t":[0,1000],"c":1,"do":"finish","op":2}
 {"t":[0,1000],"c":1,"do":"deleteKey","key":{"domain":0,"alias":"k"}}
 {"t":[0,1000],"c":1,"do":"listEntriesBatched","domain":0}
 {"t":[0,1000],"c":1,"do":"getNumberOfEntries","domain":0}
 {"t":[0,1000],"c":1,"do":"getKeyEntry","key":{"domain":0,"alias":"k"}}
 "#;
 
-const ENDED: &str =
-    r#"{"code":0}
+const ENDED: &str = r#"{"code":0}
 {"code":0,"entries":[]}
 {"code":0,"count":0}
 {"code":7,"rule":"A5"}
@@ -161,7 +182,15 @@ fn a_file_is_sealed_in_pieces_and_opened_again(rt: HostRuntime) -> Result<(), Fa
     let wanted = told(alloc, text.as_str(), sealed.as_str())?;
     let given = text_of(&rt, alloc, script.as_str())?;
     assert!(rt; given.as_str() == wanted.as_str(), "{given}");
-    assert!(rt; sealed.as_str().starts_with("52fc27156694e2cb3ec197ed37ee6417"));
-    assert!(rt; sealed.as_str().ends_with("b5088d127906caefa5e7df825b2b625b"));
+    assert!(rt;
+        sealed
+            .as_str()
+            .starts_with("52fc27156694e2cb3ec197ed37ee6417")
+    );
+    assert!(rt;
+        sealed
+            .as_str()
+            .ends_with("b5088d127906caefa5e7df825b2b625b")
+    );
     Ok(())
 }

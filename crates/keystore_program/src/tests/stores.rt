@@ -15,11 +15,11 @@ use std::test::Fail;
 const EMPTY: [u8; 9] = [0x4b, 0x53, 0x4a, 0x52, 0x4e, 0x4c, 0x30, 0x31, 0];
 
 /// Runs a script by these words, and compares the status; nothing is written.
-fn check_end(
+fn check_end<'a>(
     rt: &impl Abort,
     alloc: Global,
-    words: &str,
-    script: &str,
+    words: &'a str,
+    script: &'a str,
     disk: &mut MemoryDisk,
     status: Status,
 ) -> Result<(), Fail> {
