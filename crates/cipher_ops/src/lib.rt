@@ -10,8 +10,6 @@ mod job;
 mod mac;
 mod room;
 mod state;
-#[cfg(test)]
-mod tests;
 mod transform;
 
 pub use job::{Done, Job};

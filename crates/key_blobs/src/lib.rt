@@ -11,10 +11,6 @@ mod opening;
 mod reading;
 mod sealed;
 mod sealing;
-#[cfg(test)]
-mod test_blobs;
-#[cfg(test)]
-mod tests;
 
 pub use fault::BlobFault;
 pub use opening::unseal;

@@ -40,65 +40,113 @@ fn breaks(facts: &BeginFacts, number: u8, code: Code) -> bool {
     check_begin(facts) == Err((Rule { table, number }, code))
 }
 
+/// What the facts break once a key has no slot, does not fit and does not open, and then where their list does not read.
+fn lists_break(mut facts: BeginFacts) -> [bool; 7] {
+    facts.room = false;
+    let slots = breaks(&facts, 22, Code::BackendBusy);
+    facts.fits = false;
+    let fits = breaks(&facts, 8, Code::InvalidKeyBlob);
+    facts.opened = None;
+    let opens = breaks(&facts, 7, Code::InvalidKeyBlob);
+    let nonce = nonce_given(&facts).is_none() && nonce_wanted(&facts) == 0;
+    facts.asked = Err(Code::InvalidInputLength);
+    let length = breaks(&facts, 6, Code::InvalidInputLength);
+    facts.asked = Err(Code::InvalidTag);
+    let tag = breaks(&facts, 6, Code::InvalidTag);
+    facts.asked = Err(Code::InvalidKeyArgument);
+    let argument = breaks(&facts, 6, Code::InvalidKeyArgument);
+    [slots, fits, opens, nonce, length, tag, argument]
+}
+
+/// What they break where the caller may not force, where no key is found, where its domain is no app's, where its alias is no UTF-8,
+/// and where the client is not connected.
+fn access_breaks(mut facts: BeginFacts, aliases: [Descriptor; 2]) -> [bool; 6] {
+    facts.asked = Err(Code::InvalidTag);
+    facts.forced = true;
+    let forced = breaks(&facts, 5, Code::PermissionDenied);
+    facts.found = false;
+    let found = breaks(&facts, 4, Code::KeyNotFound);
+    facts.descriptor.domain = 2;
+    let owner = breaks(&facts, 3, Code::PermissionDenied);
+    let [first, second] = aliases;
+    facts.descriptor = first;
+    let alias = breaks(&facts, 2, Code::InvalidArgument);
+    facts.descriptor = second;
+    let other = breaks(&facts, 2, Code::InvalidArgument);
+    facts.connected = false;
+    let client = breaks(&facts, 1, Code::InvalidArgument);
+    [forced, found, owner, alias, other, client]
+}
+
 #[test]
 fn a_call_breaks_the_rules_before_its_lists(rt: HostRuntime) -> Result<(), Fail> {
     let alloc = rt.alloc();
-    let mut facts = begin(alloc, &[(Tag::Purpose, 2), (Tag::MacLength, 256)], MAC_KEY)?;
+    let facts = begin(alloc, SIGN, MAC_KEY)?;
+    let plan = check_begin(&facts);
+    let broken = lists_break(facts);
     let sign = Plan::HmacSign {
         digest: 4,
         size: 32,
     };
-    assert_eq!(rt; check_begin(&facts), Ok(sign));
-    facts.room = false;
-    assert!(rt; breaks(&facts, 22, Code::BackendBusy));
-    facts.fits = false;
-    assert!(rt; breaks(&facts, 8, Code::InvalidKeyBlob));
-    facts.opened = None;
-    assert!(rt; breaks(&facts, 7, Code::InvalidKeyBlob));
-    assert!(rt; nonce_given(&facts).is_none() && nonce_wanted(&facts) == 0);
-    for code in [
-        Code::InvalidInputLength,
-        Code::InvalidTag,
-        Code::InvalidKeyArgument,
-    ] {
-        facts.asked = Err(code);
-        assert!(rt; breaks(&facts, 6, code));
-    }
-    facts.forced = true;
-    assert!(rt; breaks(&facts, 5, Code::PermissionDenied));
-    facts.found = false;
-    assert!(rt; breaks(&facts, 4, Code::KeyNotFound));
-    facts.descriptor.domain = 2;
-    assert!(rt; breaks(&facts, 3, Code::PermissionDenied));
-    for alias in [b"\xff".as_slice(), b"\xed\xa0\x80"] {
-        facts.descriptor = app_key(alloc, alias)?;
-        assert!(rt;
-            breaks(&facts, 2, Code::InvalidArgument),
-            "of alias {alias:?}"
-        );
-    }
-    facts.connected = false;
-    assert!(rt; breaks(&facts, 1, Code::InvalidArgument));
+    assert_eq!(rt; (plan, broken), (Ok(sign), [true; 7]));
+    let aliases = [app_key(alloc, b"\xff")?, app_key(alloc, b"\xed\xa0\x80")?];
+    let broken = access_breaks(begin(alloc, SIGN, MAC_KEY)?, aliases);
+    assert_eq!(rt; broken, [true; 6]);
     Ok(())
 }
 
-/// A domain, whether there is an alias, the bits of the policy's row, the caller's bits, whether the begin forces, and the
-/// rule that is broken with its code.
-type Access = (u32, bool, Option<u32>, u32, bool, Option<(u8, Code)>);
+/// A domain, whether there is an alias and a blob, the bits of the policy's row, the caller's bits, whether the begin
+/// forces, and the rule that is broken with its code.
+type Access = (u32, (bool, bool), Option<u32>, u32, bool, Broken);
 
-static ACCESSES: [Access; 14] = [
-    (0, true, None, 256, false, None),
-    (0, false, None, 256, false, Some((2, Code::InvalidArgument))),
-    (0, true, None, 320, true, None),
-    (0, true, None, 429, true, Some((5, Code::PermissionDenied))),
-    (0, true, None, 64, true, Some((5, Code::PermissionDenied))),
-    (0, true, None, 255, false, Some((5, Code::PermissionDenied))),
-    (1, false, None, 256, false, None),
-    (2, true, Some(0), 256, false, None),
-    (2, true, None, 256, false, Some((3, Code::PermissionDenied))),
+static ACCESSES: [Access; 21] = [
+    (0, (true, false), None, 256, false, None),
+    (
+        0,
+        (false, false),
+        None,
+        256,
+        false,
+        Some((2, Code::InvalidArgument)),
+    ),
+    (0, (true, false), None, 320, true, None),
+    (
+        0,
+        (true, false),
+        None,
+        429,
+        true,
+        Some((5, Code::PermissionDenied)),
+    ),
+    (
+        0,
+        (true, false),
+        None,
+        64,
+        true,
+        Some((5, Code::PermissionDenied)),
+    ),
+    (
+        0,
+        (true, false),
+        None,
+        255,
+        false,
+        Some((5, Code::PermissionDenied)),
+    ),
+    (1, (false, false), None, 256, false, None),
+    (2, (true, false), Some(0), 256, false, None),
     (
         2,
+        (true, false),
+        None,
+        256,
         false,
+        Some((3, Code::PermissionDenied)),
+    ),
+    (
+        2,
+        (false, false),
         Some(509),
         509,
         false,
@@ -106,76 +154,113 @@ static ACCESSES: [Access; 14] = [
     ),
     (
         3,
-        true,
+        (true, false),
         Some(509),
         509,
         false,
         Some((2, Code::InvalidArgument)),
     ),
-    (4, false, None, 256, false, None),
-    (4, false, None, 0, false, Some((5, Code::PermissionDenied))),
-    (5, true, None, 256, false, Some((2, Code::InvalidArgument))),
+    (4, (false, false), None, 256, false, None),
+    (
+        4,
+        (false, false),
+        None,
+        0,
+        false,
+        Some((5, Code::PermissionDenied)),
+    ),
+    (
+        5,
+        (true, false),
+        None,
+        256,
+        false,
+        Some((2, Code::InvalidArgument)),
+    ),
+    // a blob is handed in where the policy lets it
+    (3, (true, true), Some(16), 272, false, None),
+    (
+        3,
+        (true, false),
+        Some(16),
+        272,
+        false,
+        Some((2, Code::InvalidArgument)),
+    ),
+    (
+        3,
+        (true, false),
+        None,
+        0,
+        false,
+        Some((2, Code::InvalidArgument)),
+    ),
+    (
+        3,
+        (true, true),
+        None,
+        272,
+        false,
+        Some((3, Code::PermissionDenied)),
+    ),
+    (
+        3,
+        (true, true),
+        Some(493),
+        493,
+        false,
+        Some((3, Code::PermissionDenied)),
+    ),
+    (
+        3,
+        (true, true),
+        Some(0),
+        272,
+        false,
+        Some((3, Code::PermissionDenied)),
+    ),
+    (
+        3,
+        (true, true),
+        Some(16),
+        16,
+        false,
+        Some((5, Code::PermissionDenied)),
+    ),
 ];
+
+/// The facts of a begin where one of the caller's keys is found.
+fn at_access(mut facts: BeginFacts, alloc: Global, access: &Access) -> BeginFacts {
+    let (domain, (named, given), row, bits, forced, _) = access;
+    facts.descriptor.domain = *domain;
+    facts.descriptor.nspace = 100;
+    if !*named {
+        facts.descriptor.alias = None;
+    }
+    if *given {
+        facts.descriptor.blob = Some(Bytes::empty(alloc));
+    }
+    facts.row = *row;
+    facts.bits = Permissions::of_bits(*bits);
+    facts.forced = *forced;
+    facts
+}
+
+/// Whether facts break this rule first, or none.
+fn breaks_so(facts: BeginFacts, broken: Broken) -> bool {
+    match broken {
+        None => check_begin(&facts).is_ok(),
+        Some((number, code)) => breaks(&facts, number, code),
+    }
+}
 
 #[test]
 fn each_domain_has_its_form_and_its_rights(rt: HostRuntime) -> Result<(), Fail> {
     let alloc = rt.alloc();
-    let mut facts = begin(alloc, &[(Tag::Purpose, 2), (Tag::MacLength, 256)], MAC_KEY)?;
-    for (domain, named, row, bits, forced, broken) in &ACCESSES {
-        facts.descriptor = Descriptor {
-            domain: *domain,
-            nspace: 100,
-            alias: if *named {
-                Some(Bytes::of(Vec::from_slice(alloc, b"a")?))
-            } else {
-                None
-            },
-            blob: None,
-        };
-        facts.row = *row;
-        facts.bits = Permissions::of_bits(*bits);
-        facts.forced = *forced;
-        let right = match broken {
-            None => check_begin(&facts).is_ok(),
-            Some((number, code)) => breaks(&facts, *number, *code),
-        };
-        assert!(rt; right, "of domain {domain} with {bits}");
-    }
-    Ok(())
-}
-
-/// Whether a blob is given in BLOB, the bits of the policy's row, those of the caller, and the rule that is broken with its
-/// code.
-type Handed = (bool, Option<u32>, u32, Option<(u8, Code)>);
-
-static HANDED: [Handed; 7] = [
-    (true, Some(16), 272, None),
-    (false, Some(16), 272, Some((2, Code::InvalidArgument))),
-    (false, None, 0, Some((2, Code::InvalidArgument))),
-    (true, None, 272, Some((3, Code::PermissionDenied))),
-    (true, Some(493), 493, Some((3, Code::PermissionDenied))),
-    (true, Some(0), 272, Some((3, Code::PermissionDenied))),
-    (true, Some(16), 16, Some((5, Code::PermissionDenied))),
-];
-
-#[test]
-fn a_blob_is_handed_in_where_the_policy_lets_it(rt: HostRuntime) -> Result<(), Fail> {
-    let alloc = rt.alloc();
-    let mut facts = begin(alloc, &[(Tag::Purpose, 2), (Tag::MacLength, 256)], MAC_KEY)?;
-    facts.descriptor.domain = 3;
-    for (given, row, bits, broken) in &HANDED {
-        facts.descriptor.blob = if *given {
-            Some(Bytes::empty(alloc))
-        } else {
-            None
-        };
-        facts.row = *row;
-        facts.bits = Permissions::of_bits(*bits);
-        let right = match broken {
-            None => check_begin(&facts).is_ok(),
-            Some((number, code)) => breaks(&facts, *number, *code),
-        };
-        assert!(rt; right, "with row {row:?} and {bits}");
+    for (row, access) in ACCESSES.iter().enumerate() {
+        let facts = at_access(begin(alloc, SIGN, MAC_KEY)?, alloc, access);
+        let right = breaks_so(facts, access.5);
+        assert!(rt; right, "in row {row}");
     }
     Ok(())
 }
@@ -258,6 +343,8 @@ const OTHER_USER: Broken = Some((12, Code::InvalidUserId));
 
 const NO_TOKEN: Broken = Some((15, Code::KeyUserNotAuthenticated));
 
+const NO_PURPOSE: Broken = Some((9, Code::UnsupportedPurpose));
+
 const NONE_LEFT: Broken = Some((16, Code::KeyMaxOpsExceeded));
 
 type Broken = Option<(u8, Code)>;
@@ -266,7 +353,7 @@ type Broken = Option<(u8, Code)>;
 /// boot has ended, the user is unlocked, and a token is timely; and the rule that is broken first.
 type Condition = (Pairs, Pairs, (u64, u32, u64), (bool, bool, bool), Broken);
 
-static CONDITIONS: [Condition; 28] = [
+static CONDITIONS: [Condition; 30] = [
     (SIGN, DATED, (999, 0, 0), (false, false, false), EARLY),
     (SIGN, DATED, (1000, 0, 0), (false, false, false), None),
     (SIGN, DATED, (2000, 0, 0), (false, false, false), None),
@@ -355,45 +442,50 @@ static CONDITIONS: [Condition; 28] = [
     (SIGN, OF_NOBODY, (0, 0, 9), (true, false, false), None),
     (SIGN, NEVER, (0, 0, 0), (true, false, false), NONE_LEFT),
     (SIGN, MAC_KEY, (0, 0, 9), (true, false, false), None),
+    // a key without an algorithm, and one without a purpose
+    (
+        ENCRYPT,
+        &[(Tag::Purpose, 0)],
+        (1000, 0, 0),
+        (false, false, false),
+        NO_PURPOSE,
+    ),
+    (
+        &[],
+        &[(Tag::Algorithm, 128)],
+        (1000, 0, 0),
+        (false, false, false),
+        NO_PURPOSE,
+    ),
 ];
+
+/// Whether facts under these conditions break this rule first, or none, and whether they want a challenge.
+fn meets(
+    facts: BeginFacts,
+    readings: (u64, u32, u64),
+    states: (bool, bool, bool),
+    broken: Broken,
+) -> (bool, bool) {
+    let facts = BeginFacts {
+        wall: readings.0,
+        user: readings.1,
+        begins: readings.2,
+        early_ended: states.0,
+        unlocked: states.1,
+        timely: states.2,
+        ..facts
+    };
+    let each_time = challenge_wanted(&facts) == 8;
+    (breaks_so(facts, broken), each_time)
+}
 
 #[test]
 fn a_key_works_when_and_for_whom_it_is_made(rt: HostRuntime) -> Result<(), Fail> {
     let alloc = rt.alloc();
-    for (row, (asked, key, (wall, user, begins), (ended, unlocked, timely), broken)) in CONDITIONS
-        .iter()
-        .enumerate()
-    {
-        let facts = BeginFacts {
-            wall: *wall,
-            user: *user,
-            begins: *begins,
-            early_ended: *ended,
-            unlocked: *unlocked,
-            timely: *timely,
-            ..begin(alloc, asked, key)?
-        };
-        let right = match broken {
-            None => check_begin(&facts).is_ok(),
-            Some((number, code)) => breaks(&facts, *number, *code),
-        };
-        assert!(rt; right, "in row {row}");
-        let each_time = row == 24;
-        assert!(rt;
-            (challenge_wanted(&facts) == 8) == each_time,
-            "in row {row}"
-        );
+    for (row, (asked, key, readings, states, broken)) in CONDITIONS.iter().enumerate() {
+        let facts = begin(alloc, asked, key)?;
+        let met = meets(facts, *readings, *states, *broken);
+        assert_eq!(rt; met, (true, row == 24), "in row {row}");
     }
-    Ok(())
-}
-
-#[test]
-fn a_key_without_an_algorithm_or_purposes_has_no_operation(rt: HostRuntime) -> Result<(), Fail> {
-    let alloc = rt.alloc();
-    let asked = &[(Tag::Purpose, 0), (Tag::BlockMode, 1), (Tag::Padding, 1)];
-    let facts = begin(alloc, asked, &[(Tag::Purpose, 0)])?;
-    assert!(rt; breaks(&facts, 9, Code::UnsupportedPurpose));
-    let facts = begin(alloc, &[], &[(Tag::Algorithm, 128)])?;
-    assert!(rt; breaks(&facts, 9, Code::UnsupportedPurpose));
     Ok(())
 }

@@ -1,4 +1,4 @@
-//! What begins: the plan, its nonce, and its start.
+//! What begins: the plan and its nonce.
 
 ghost use Rattle.std.specs.Prelude.{◌≡◌, length, IfOk, true};
 ghost use Rattle.tag_lists.specs.Lookups.{IsKey};
@@ -25,13 +25,14 @@ fn facts_of(
 ) -> Result<BeginFacts, Fail>
     ensures { IfOk result (λ facts. facts.fits ≡ true → IsKey (key_of facts) size) }
 {
+    let descriptor = app_key(alloc, b"a")?;
     let params = encoded(alloc, asked, &[], nonce)?;
     let asked = read_asked(alloc, &params).map_err(|_| "memory")?;
     let key = AuthList::read(alloc, &encoded(alloc, key, &[], None)?).map_err(|_| "a list")?;
     let fits = usable(&key, size);
     Ok(BeginFacts {
         connected: true,
-        descriptor: app_key(alloc, b"a")?,
+        descriptor,
         row: None,
         found: true,
         bits: Permissions::of_bits(256),
@@ -47,26 +48,6 @@ fn facts_of(
         begins: 0,
         room: true,
     })
-}
-
-/// The plan of a begin, which starts with a nonce of sevens where one is drawn.
-fn started(
-    alloc: Global,
-    facts: &BeginFacts,
-    material: &[u8],
-) -> Result<Result<Begin, BeginFault>, Fail>
-    requires { facts.now.fits ≡ true → IsKey (key_of facts.now) (length material.now) }
-{
-    match plan_begin(alloc, facts, material) {
-        Err(fault) => Ok(Err(fault)),
-        Ok(begin) => {
-            let drawn = vec![in alloc; 7u8; begin.wanted]?;
-            let _state = begin
-                .start(alloc, false, material, &drawn)
-                .map_err(|_| "memory")?;
-            Ok(Ok(begin))
-        }
-    }
 }
 
 /// The operation's list, the nonce in it, the key's list and its bytes; and the plan with the bytes that are drawn, or the
@@ -474,19 +455,29 @@ fn is_begun(begin: &Begin, plan: Plan, wanted: usize, nonce: Option<&[u8]>) -> b
     same && begin.plan == plan && begin.wanted == wanted
 }
 
+/// Whether a begin is answered as its row says.
+fn is_answered(
+    answer: Result<Begin, BeginFault>,
+    nonce: Option<&[u8]>,
+    expected: Result<(Plan, usize), (u8, Code)>,
+) -> bool {
+    match (answer, expected) {
+        (Ok(begin), Ok((plan, wanted))) => is_begun(&begin, plan, wanted, nonce),
+        (Err(BeginFault::Broken(rule, own)), Err((number, code))) => {
+            rule.table == RuleTable::B && rule.number == number && own == code
+        }
+        _ => false,
+    }
+}
+
 #[test]
 fn an_operation_begins_with_the_nonce_of_its_mode(rt: HostRuntime) -> Result<(), Fail> {
     let alloc = rt.alloc();
     for (row, (asked, nonce, key, size, expected)) in ROWS.iter().enumerate() {
-        let facts = facts_of(alloc, asked, *nonce, key, *size)?;
         let material = vec![in alloc; 1u8; *size]?;
-        let right = match (started(alloc, &facts, &material)?, *expected) {
-            (Ok(begin), Ok((plan, wanted))) => is_begun(&begin, plan, wanted, *nonce),
-            (Err(BeginFault::Broken(rule, own)), Err((number, code))) => {
-                rule.table == RuleTable::B && rule.number == number && own == code
-            }
-            _ => false,
-        };
+        let facts = facts_of(alloc, asked, *nonce, key, *size)?;
+        let right = is_answered(plan_begin(alloc, &facts, &material), *nonce, *expected);
+        drop((facts, material));
         assert!(rt; right, "in row {row}");
     }
     Ok(())

@@ -1,12 +1,12 @@
 //! Which keys a token fits and opens in time, and a store that is full.
 
+use crate::spelled::{Pairs, encoded};
 use auth_tokens::AuthToken;
 use std::alloc::Global;
-use std::process::Abort;
 use std::test::Fail;
 use tag_lists::AuthList;
 use tags::Tag;
-use token_store::{TokenStore, TokensFull, fits};
+use token_store::{TokenStore, fits};
 
 /// A token of this user, authenticator, kind and time.
 fn token(fields: (u64, u64, u32, u64)) -> AuthToken {
@@ -21,20 +21,33 @@ fn token(fields: (u64, u64, u32, u64)) -> AuthToken {
     }
 }
 
-/// A key's USER_SECURE_IDs (0 for none), USER_AUTH_TYPE and AUTH_TIMEOUT, and for each token the reading, whether the
-/// token fits the key and whether it is timely where it is the only one.
+/// A key's list, and for each token the reading, whether the token fits the key and whether it is timely where it is the only one.
 struct Key {
-    users: [u64; 2],
-    kinds: Option<u32>,
-    seconds: Option<u32>,
+    list: Pairs,
     rows: &'static [((u64, u64, u32, u64), u64, bool, bool)],
 }
 
+/// A key of the first user, for a second.
+const FIRST: Pairs = &[
+    (Tag::UserSecureId, 1),
+    (Tag::UserAuthType, 1),
+    (Tag::AuthTimeout, 1),
+];
+
+/// One of the 257th user.
+const LAST: Pairs = &[
+    (Tag::UserSecureId, 257),
+    (Tag::UserAuthType, 3),
+    (Tag::AuthTimeout, 1),
+];
+
 static KEYS: [Key; 7] = [
     Key {
-        users: [7, 0],
-        kinds: Some(1),
-        seconds: Some(10),
+        list: &[
+            (Tag::UserSecureId, 7),
+            (Tag::UserAuthType, 1),
+            (Tag::AuthTimeout, 10),
+        ],
         rows: &[
             // from the token's very time on for ten seconds
             ((7, 0, 1, 5000), 4999, true, false),
@@ -59,9 +72,12 @@ static KEYS: [Key; 7] = [
         ],
     },
     Key {
-        users: [5, 7],
-        kinds: Some(0x8000_0006),
-        seconds: Some(0),
+        list: &[
+            (Tag::UserSecureId, 5),
+            (Tag::UserSecureId, 7),
+            (Tag::UserAuthType, 0x8000_0006),
+            (Tag::AuthTimeout, 0),
+        ],
         rows: &[
             ((5, 0, 2, 9), 9, true, true),
             ((7, 0, 4, 9), 9, true, true),
@@ -72,9 +88,11 @@ static KEYS: [Key; 7] = [
         ],
     },
     Key {
-        users: [7, 0],
-        kinds: Some(1),
-        seconds: Some(u32::MAX),
+        list: &[
+            (Tag::UserSecureId, 7),
+            (Tag::UserAuthType, 1),
+            (Tag::AuthTimeout, 4_294_967_295),
+        ],
         rows: &[
             ((7, 0, 1, 5), 4_294_967_295_005, true, true),
             ((7, 0, 1, 5), 4_294_967_295_006, true, false),
@@ -82,18 +100,14 @@ static KEYS: [Key; 7] = [
     },
     // a key that asks for no user, takes every kind or none, or asks for a token of each operation
     Key {
-        users: [0, 0],
-        kinds: Some(1),
-        seconds: Some(10),
+        list: &[(Tag::UserAuthType, 1), (Tag::AuthTimeout, 10)],
         rows: &[
             ((7, 0, 1, 9), 9, false, false),
             ((0, 0, 1, 9), 9, false, false),
         ],
     },
     Key {
-        users: [7, 0],
-        kinds: None,
-        seconds: Some(10),
+        list: &[(Tag::UserSecureId, 7), (Tag::AuthTimeout, 10)],
         rows: &[
             ((7, 0, 1, 9), 9, true, true),
             ((7, 0, 0x8000_0000, 9), 9, true, true),
@@ -102,66 +116,57 @@ static KEYS: [Key; 7] = [
         ],
     },
     Key {
-        users: [7, 0],
-        kinds: Some(0),
-        seconds: Some(10),
+        list: &[
+            (Tag::UserSecureId, 7),
+            (Tag::UserAuthType, 0),
+            (Tag::AuthTimeout, 10),
+        ],
         rows: &[((7, 0, 1, 9), 9, false, false)],
     },
     Key {
-        users: [7, 0],
-        kinds: Some(1),
-        seconds: None,
+        list: &[(Tag::UserSecureId, 7), (Tag::UserAuthType, 1)],
         rows: &[((7, 0, 1, 9), 9, true, false)],
     },
 ];
 
-/// Adds a parameter of four bytes to the bytes of a list, and tells how many were added.
-fn put_number(out: &mut Vec<u8>, tag: Tag, value: Option<u32>) -> Result<u16, Fail> {
-    let Some(value) = value else {
-        return Ok(0);
-    };
-    out.extend_from_slice(&tag.number().to_be_bytes())?;
-    out.extend_from_slice(&value.to_be_bytes())?;
-    Ok(1)
+/// The list of a key.
+fn list_of(alloc: Global, list: Pairs) -> Result<AuthList, Fail> {
+    Ok(AuthList::read(alloc, &encoded(alloc, list, &[], None)?)?)
 }
 
-/// The list of a key.
-fn list_of(
-    alloc: Global,
-    users: &[u64; 2],
-    kinds: Option<u32>,
-    seconds: Option<u32>,
-) -> Result<AuthList, Fail> {
-    let mut params = Vec::new(alloc);
-    let mut count = 0u16;
-    for user in users {
-        if *user != 0 {
-            params.extend_from_slice(&Tag::UserSecureId.number().to_be_bytes())?;
-            params.extend_from_slice(&user.to_be_bytes())?;
-            count = count.wrapping_add(1);
+/// Whether a token is timely for a key at a reading: in a store without it, with it alone, and in one that is cleared.
+fn timely(store: &mut TokenStore, list: &AuthList, token: AuthToken, boot: u64) -> [bool; 3] {
+    let before = store.timely(list, boot);
+    let added = store.add(token).is_ok();
+    let with = added && store.timely(list, boot);
+    store.clear();
+    [before, with, store.timely(list, boot)]
+}
+
+/// The number of the first row of a key that is told otherwise.
+fn first_other(store: &mut TokenStore, list: &AuthList, key: &Key) -> Option<usize> {
+    let mut other = None;
+    for (number, (fields, boot, fitting, is_timely)) in key.rows.iter().enumerate() {
+        let token = token(*fields);
+        let same = fits(&token, list) == *fitting
+            && timely(store, list, token, *boot) == [false, *is_timely, false];
+        if other.is_none() && !same {
+            other = Some(number);
         }
     }
-    let kind_count = put_number(&mut params, Tag::UserAuthType, kinds)?;
-    let timeout_count = put_number(&mut params, Tag::AuthTimeout, seconds)?;
-    count = count.wrapping_add(kind_count).wrapping_add(timeout_count);
-    let mut bytes = Vec::from_slice(alloc, &count.to_be_bytes())?;
-    bytes.extend_from_slice(&params)?;
-    Ok(AuthList::read(alloc, &bytes)?)
+    other
 }
 
 #[test]
 fn a_token_is_timely_for_the_keys_that_it_fits(rt: HostRuntime) -> Result<(), Fail> {
-    let mut store = TokenStore::with_room(rt.alloc())?;
-    for key in &KEYS {
-        let list = list_of(rt.alloc(), &key.users, key.kinds, key.seconds)?;
-        for (fields, boot, fitting, timely) in key.rows {
-            let token = token(*fields);
-            assert!(rt; !store.timely(&list, *boot), "nothing at {boot}");
-            assert_eq!(rt; store.add(token), Ok(()));
-            assert_eq!(rt; fits(&token, &list), *fitting, "fits at {boot}");
-            assert_eq!(rt; store.timely(&list, *boot), *timely, "timely at {boot}");
-            store.clear();
-        }
+    let alloc = rt.alloc();
+    for (number, key) in KEYS.iter().enumerate() {
+        let list = list_of(alloc, key.list)?;
+        let mut store = TokenStore::with_room(alloc)?;
+        let other = first_other(&mut store, &list, key);
+        drop(store);
+        drop(list);
+        assert_eq!(rt; other, None, "of key {number}");
     }
     Ok(())
 }
@@ -175,26 +180,46 @@ fn add_users(store: &mut TokenStore) -> bool {
     taken
 }
 
+/// Tokens for a store with one of each user from 1 to 256, whether each is taken, and which of the readings 1000, 1500, 2000, 2500 and
+/// 3000 it then opens for a key of the first user with a timeout of a second. Another user, authenticator or kind has no room; the
+/// last token of a triple counts, be its time later or earlier.
+static MORE: [((u64, u64, u32, u64), bool, [bool; 5]); 6] = [
+    ((257, 0, 1, 1000), false, [true, true, true, false, false]),
+    ((256, 257, 1, 1000), false, [true, true, true, false, false]),
+    ((1, 0, 3, 1000), false, [true, true, true, false, false]),
+    ((1, 0, 1, 2000), true, [false, false, true, true, true]),
+    ((1, 0, 1, 500), true, [true, true, false, false, false]),
+    ((257, 0, 1, 1000), false, [true, true, false, false, false]),
+];
+
+/// Whether a full store takes these tokens so, and one that is cleared takes the last.
+fn takes_more(mut store: TokenStore, list: &AuthList, last: &AuthList) -> bool {
+    let mut same = add_users(&mut store) && !store.timely(last, 2000);
+    for (fields, taken, opens) in &MORE {
+        same = same && store.add(token(*fields)).is_ok() == *taken;
+        let told = [
+            store.timely(list, 1000),
+            store.timely(list, 1500),
+            store.timely(list, 2000),
+            store.timely(list, 2500),
+            store.timely(list, 3000),
+        ];
+        same = same && told == *opens;
+    }
+    same = same && !store.timely(last, 2000);
+    store.clear();
+    same = same && !store.timely(list, 1500) && store.add(token((257, 0, 1, 1000))).is_ok();
+    same && store.timely(last, 2000)
+}
+
 #[test]
 fn a_known_triple_is_replaced_and_a_257th_refused(rt: HostRuntime) -> Result<(), Fail> {
-    let first = list_of(rt.alloc(), &[1, 0], Some(1), Some(1))?;
-    let last = list_of(rt.alloc(), &[257, 0], Some(3), Some(1))?;
-    let mut store = TokenStore::with_room(rt.alloc())?;
-    assert!(rt; add_users(&mut store));
-    // another user, another authenticator, another kind
-    assert_eq!(rt; store.add(token((257, 0, 1, 1000))), Err(TokensFull));
-    assert_eq!(rt; store.add(token((256, 257, 1, 1000))), Err(TokensFull));
-    assert_eq!(rt; store.add(token((1, 0, 3, 1000))), Err(TokensFull));
-    assert!(rt; store.timely(&first, 2000) && !store.timely(&last, 2000));
-    // the last token counts, be its time later or earlier
-    assert_eq!(rt; store.add(token((1, 0, 1, 2000))), Ok(()));
-    assert!(rt; store.timely(&first, 3000) && !store.timely(&first, 1999));
-    assert_eq!(rt; store.add(token((1, 0, 1, 500))), Ok(()));
-    assert!(rt; store.timely(&first, 1500) && !store.timely(&first, 2000));
-    assert_eq!(rt; store.add(token((257, 0, 1, 1000))), Err(TokensFull));
-    store.clear();
-    assert!(rt; !store.timely(&first, 1500));
-    assert_eq!(rt; store.add(token((257, 0, 1, 1000))), Ok(()));
-    assert!(rt; store.timely(&last, 2000));
+    let alloc = rt.alloc();
+    let first = list_of(alloc, FIRST)?;
+    let last = list_of(alloc, LAST)?;
+    let store = TokenStore::with_room(alloc)?;
+    let same = takes_more(store, &first, &last);
+    drop((first, last));
+    assert!(rt; same);
     Ok(())
 }

@@ -1,4 +1,4 @@
-//! Tests of the crates of the outside, words, rules, keys, access, tokens and slots, over their public calls. A crate with tests is
+//! Tests of the crates of the outside, words, ciphers, rules, keys, access, tokens and slots, over their public calls. A crate with tests is
 //! proved a second time with them, so these stand in a crate that has nothing else. It has no contract.
 #![tactic(auto)]
 
@@ -9,13 +9,23 @@ mod beginnings;
 #[cfg(test)]
 mod blobs;
 #[cfg(test)]
+mod blocks;
+#[cfg(test)]
 mod descriptors;
+#[cfg(test)]
+mod foreign_blobs;
+#[cfg(test)]
+mod hashes;
 #[cfg(test)]
 mod kept_tokens;
 #[cfg(test)]
 mod links;
 #[cfg(test)]
 mod lists;
+#[cfg(test)]
+mod macs;
+#[cfg(test)]
+mod made_blobs;
 #[cfg(test)]
 mod new_keys;
 #[cfg(test)]

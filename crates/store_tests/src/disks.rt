@@ -12,11 +12,25 @@ const ROOM: Room = Room {
     pages: 4,
 };
 
-/// The bytes of a disk.
-fn bytes_of<D: Disk>(alloc: Global, disk: &mut D) -> Result<Vec<u8>, AllocError> {
+/// Whether a disk has these bytes and no more.
+fn holds<D: Disk>(alloc: Global, disk: &mut D, bytes: &[u8]) -> bool {
     match read_synced(alloc, disk) {
-        Ok(bytes) => Ok(bytes),
-        Err(_) => Err(AllocError),
+        Ok(found) => found.as_slice() == bytes,
+        Err(_) => false,
+    }
+}
+
+/// Whether a crash after so many writes and syncs leaves these bytes.
+fn leaves(
+    alloc: Global,
+    disk: &MemoryDisk,
+    calls: usize,
+    choices: &[Choice],
+    bytes: &[u8],
+) -> bool {
+    match disk.image_after(calls.min(disk.count()), choices) {
+        Ok(mut image) => holds(alloc, &mut image, bytes),
+        Err(_) => false,
     }
 }
 
@@ -104,17 +118,27 @@ static FAR_APART: [(Ask, Result<u64, Failed>); 7] = [
     (Ask::Sync, Ok(0)),
 ];
 
+/// Whether a disk takes pieces at places far apart, and reads over the end of a page and of the disk.
+fn takes_far_apart(mut disk: MemoryDisk) -> bool {
+    let taken = first_other(&mut disk, &FAR_APART);
+    let (mut page, mut end) = ([9; 6], [9; 6]);
+    let reads = (
+        disk.read(4093, &mut page),
+        disk.read(1_342_181_373, &mut end),
+    );
+    let counts = (disk.count(), disk.faults());
+    taken.is_none()
+        && reads == (Ok(6), Ok(5))
+        && page == [0, b'1', b'2', b'3', b'4', 0]
+        && end == [0, b'w', b'x', b'y', b'z', 0]
+        && counts == (3, 1)
+}
+
 // Places past a gigabyte cost a page each; what was never written reads 00; a read goes over the end of a page.
 #[test]
 fn places_far_apart(rt: HostRuntime) -> Result<(), Fail> {
-    let mut disk = MemoryDisk::with_room(rt.alloc(), ROOM, &[])?;
-    assert_eq!(rt; first_other(&mut disk, &FAR_APART), None);
-    let mut out = [9; 6];
-    assert_eq!(rt; disk.read(4093, &mut out), Ok(6));
-    assert_eq!(rt; out, [0, b'1', b'2', b'3', b'4', 0]);
-    assert_eq!(rt; disk.read(1_342_181_373, &mut out), Ok(5));
-    assert_eq!(rt; out, [0, b'w', b'x', b'y', b'z', 0]);
-    assert_eq!(rt; (disk.count(), disk.faults()), (3, 1));
+    let disk = MemoryDisk::with_room(rt.alloc(), ROOM, &[])?;
+    assert!(rt; takes_far_apart(disk));
     Ok(())
 }
 
@@ -138,26 +162,25 @@ static SOME_FAIL: [(Ask, Result<u64, Failed>); 5] = [
     (Ask::Read { at: 0, count: 1 }, Err(Failed)),
 ];
 
+/// Whether calls fail as they are to, and what was written before a sync that failed is lost in a crash, and kept by the next sync.
+fn keeps_what_is_pending(alloc: Global, mut disk: MemoryDisk) -> bool {
+    let old = [Choice::New, Choice::New, Choice::Old];
+    let failed = first_other(&mut disk, &SOME_FAIL);
+    let counts = (disk.count(), disk.faults());
+    let lost = leaves(alloc, &disk, 3, &old, b"abcde");
+    let synced = disk.sync();
+    let kept = leaves(alloc, &disk, 4, &old, b"aXYZe");
+    failed.is_none() && counts == (3, 4) && lost && synced == Ok(()) && kept
+}
+
 // A call that fails changes nothing, and a sync that fails leaves what was pending pending.
 #[test]
 fn calls_that_fail(rt: HostRuntime) -> Result<(), Fail> {
-    let mut disk = five(rt.alloc(), &[3, 5, 6, 7])?;
-    assert_eq!(rt; first_other(&mut disk, &SOME_FAIL), None);
-    assert_eq!(rt; (disk.count(), disk.faults()), (3, 4));
-    let old = [Choice::New, Choice::New, Choice::Old];
-    let mut left = disk.image_after(disk.count().min(3), &old)?;
-    assert_eq!(rt;
-        bytes_of(rt.alloc(), &mut left)?.as_slice(),
-        b"abcde".as_slice()
-    );
-    assert_eq!(rt; disk.sync(), Ok(()));
-    let mut last = disk.image_after(disk.count(), &old)?;
-    assert_eq!(rt;
-        bytes_of(rt.alloc(), &mut last)?.as_slice(),
-        b"aXYZe".as_slice()
-    );
+    let disk = five(rt.alloc(), &[3, 5, 6, 7])?;
+    assert!(rt; keeps_what_is_pending(rt.alloc(), disk));
     Ok(())
 }
+
 /// A crash: after how many of the writes and syncs, what each write's range holds, and the bytes that are left.
 struct Crash {
     calls: usize,
@@ -214,49 +237,89 @@ static CRASHES: [Crash; 9] = [
     },
 ];
 
+/// The number of the first crash that leaves other bytes.
+fn first_other_crash(alloc: Global, mut disk: MemoryDisk) -> Option<usize> {
+    let calls = (
+        disk.write_at(1, b"XYZ"),
+        disk.write_at(7, b"fg"),
+        disk.sync(),
+    );
+    let mut other = if calls == (Ok(()), Ok(()), Ok(())) {
+        None
+    } else {
+        Some(0)
+    };
+    for (number, crash) in CRASHES.iter().enumerate() {
+        let same = leaves(alloc, &disk, crash.calls, crash.choices, crash.left);
+        if other.is_none() && !same {
+            other = Some(number);
+        }
+    }
+    other
+}
+
 #[test]
 fn images_at_each_moment(rt: HostRuntime) -> Result<(), Fail> {
-    let mut disk = five(rt.alloc(), &[])?;
-    assert_eq!(rt; disk.write_at(1, b"XYZ"), Ok(()));
-    assert_eq!(rt; disk.write_at(7, b"fg"), Ok(()));
-    assert_eq!(rt; disk.sync(), Ok(()));
-    for crash in &CRASHES {
-        let mut image = disk.image_after(crash.calls.min(disk.count()), crash.choices)?;
-        assert_eq!(rt; bytes_of(rt.alloc(), &mut image)?.as_slice(), crash.left);
-    }
+    let disk = five(rt.alloc(), &[])?;
+    assert_eq!(rt; first_other_crash(rt.alloc(), disk), None);
     Ok(())
+}
+
+/// Whether a disk whose third call fails passes three calls on, and then no more.
+fn stops_behind_three(alloc: Global, disk: MemoryDisk) -> bool {
+    let mut disk = StoppedDisk::new(disk, 3);
+    let writes = (
+        write_synced(&mut disk, 0, b"x"),
+        write_synced(&mut disk, 0, b"y"),
+        write_synced(&mut disk, 0, b"z"),
+    );
+    let (length, faults) = (disk.len(), disk.faults());
+    let mut below = disk.into_inner();
+    writes == (Err(Failed), Ok(()), Err(Failed))
+        && (length, faults, below.faults()) == (Err(Failed), 3, 1)
+        && holds(alloc, &mut below, b"ybcde")
 }
 
 // The first k calls are passed on, and every later one fails without a call of the disk below.
 #[test]
 fn a_disk_that_stops(rt: HostRuntime) -> Result<(), Fail> {
-    let mut disk = StoppedDisk::new(five(rt.alloc(), &[3])?, 3);
-    assert_eq!(rt; write_synced(&mut disk, 0, b"x"), Err(Failed));
-    assert_eq!(rt; write_synced(&mut disk, 0, b"y"), Ok(()));
-    assert_eq!(rt; write_synced(&mut disk, 0, b"z"), Err(Failed));
-    assert_eq!(rt; (disk.len(), disk.faults()), (Err(Failed), 3));
-    let mut below = disk.into_inner();
-    assert_eq!(rt; below.faults(), 1);
-    assert_eq!(rt;
-        bytes_of(rt.alloc(), &mut below)?.as_slice(),
-        b"ybcde".as_slice()
-    );
+    let disk = five(rt.alloc(), &[3])?;
+    assert!(rt; stops_behind_three(rt.alloc(), disk));
     Ok(())
+}
+
+/// What five bytes read, one by one, also behind three that are written far behind them.
+fn synced_bytes(mut disk: MemoryDisk) -> [Result<Option<u8>, Failed>; 4] {
+    let (last, none) = (
+        read_synced_byte(&mut disk, 4),
+        read_synced_byte(&mut disk, 5),
+    );
+    let _ = write_synced(&mut disk, 1023, b"end");
+    let (between, end) = (
+        read_synced_byte(&mut disk, 1022),
+        read_synced_byte(&mut disk, 1025),
+    );
+    [last, none, between, end]
+}
+
+/// Whether reading fails on a disk that stops behind three calls.
+fn is_not_read(alloc: Global, disk: MemoryDisk) -> bool {
+    let mut stopped = StoppedDisk::new(disk, 3);
+    let all = read_synced(alloc, &mut stopped).is_err();
+    let byte = read_synced_byte(&mut stopped, 0);
+    all && (byte, stopped.faults()) == (Err(Failed), 2)
 }
 
 #[test]
 fn what_was_synced_is_read(rt: HostRuntime) -> Result<(), Fail> {
-    let mut disk = five(rt.alloc(), &[])?;
-    assert_eq!(rt; read_synced_byte(&mut disk, 4), Ok(Some(b'e')));
-    assert_eq!(rt; read_synced_byte(&mut disk, 5), Ok(None));
-    assert_eq!(rt; write_synced(&mut disk, 1023, b"end"), Ok(()));
-    assert_eq!(rt; bytes_of(rt.alloc(), &mut disk)?.len(), 1026);
-    assert_eq!(rt; read_synced_byte(&mut disk, 1022), Ok(Some(0)));
-    assert_eq!(rt; read_synced_byte(&mut disk, 1025), Ok(Some(b'd')));
-    let mut stopped = StoppedDisk::new(disk, 3);
-    assert_eq!(rt; read_synced(rt.alloc(), &mut stopped).is_err(), true);
-    assert_eq!(rt; read_synced_byte(&mut stopped, 0), Err(Failed));
-    assert_eq!(rt; stopped.faults(), 2);
+    let disk = five(rt.alloc(), &[])?;
+    assert_eq!(rt;
+        synced_bytes(disk),
+        [Ok(Some(b'e')), Ok(None), Ok(Some(0)), Ok(Some(b'd'))]
+    );
+    let mut long = MemoryDisk::with_room(rt.alloc(), ROOM, &[])?;
+    let _ = write_synced(&mut long, 1023, b"end");
+    assert!(rt; is_not_read(rt.alloc(), long));
     Ok(())
 }
 

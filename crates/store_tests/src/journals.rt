@@ -116,34 +116,36 @@ static FAULTS: [Fault; 8] = [
 
 /// Whether the use is refused, settles as the row says, and is in the journal that is opened then exactly where it
 /// was kept; and whether the journal goes on.
-fn is_settled_so(alloc: Global, fault: &Fault) -> Result<bool, StoreFault> {
-    let (mut disk, mut journal) = fresh(alloc, fault.failing)?;
-    add(&mut journal, &mut disk, KEY)?;
+fn is_settled_so(alloc: Global, fault: &Fault) -> bool {
+    let Ok((mut disk, mut journal)) = fresh(alloc, fault.failing) else {
+        return false;
+    };
+    let added = add(&mut journal, &mut disk, KEY);
     let refused = add(&mut journal, &mut disk, USE);
+    let mut failed = true;
     for _ in 0..fault.failed {
-        if settle(&mut journal, &mut disk) != Err(StoreFault::Device) {
-            return Ok(false);
-        }
+        let settled = settle(&mut journal, &mut disk);
+        failed = failed && settled == Err(StoreFault::Device);
     }
-    let settled = settle(&mut journal, &mut disk)?;
-    let kept = match settled {
+    let settled = settle(&mut journal, &mut disk);
+    let then = count(alloc, &mut disk);
+    let more = add(&mut journal, &mut disk, GRANT);
+    let last = count(alloc, &mut disk);
+    let kept = match fault.settled {
         Settled::Kept => 1,
         Settled::Lost => 0,
     };
-    let then = count(alloc, &mut disk)?;
-    add(&mut journal, &mut disk, GRANT)?;
-    let last = count(alloc, &mut disk)?;
-    Ok(
-        refused == Err(StoreFault::Device)
-            && settled == fault.settled
-            && (then, last) == (1 + kept, 2 + kept),
-    )
+    (added, more) == (Ok(()), Ok(()))
+        && refused == Err(StoreFault::Device)
+        && failed
+        && settled == Ok(fault.settled)
+        && (then, last) == (Ok(1 + kept), Ok(2 + kept))
 }
 
 #[test]
 fn each_call_of_an_append_fails(rt: HostRuntime) {
     for fault in &FAULTS {
-        assert_eq!(rt; is_settled_so(rt.alloc(), fault), Ok(true));
+        assert!(rt; is_settled_so(rt.alloc(), fault));
     }
 }
 
@@ -186,21 +188,38 @@ fn changes_left(
     count(alloc, &mut image)
 }
 
-#[test]
-fn an_image_of_each_moment_opens(rt: HostRuntime) {
-    let alloc = rt.alloc();
-    let Ok((mut disk, mut journal)) = fresh(alloc, &[]) else {
-        return;
-    };
-    assert_eq!(rt; add(&mut journal, &mut disk, KEY), Ok(()));
-    assert_eq!(rt; add(&mut journal, &mut disk, USE), Ok(()));
-    for crash in &CRASHES {
-        let choices = [crash.choice; 11];
-        for moment in 0..crash.changes.len() {
-            let left = changes_left(alloc, &disk, 3 + moment, &choices);
-            assert_eq!(rt; left, Ok(crash.changes[moment]));
-        }
+/// A disk whose journal got a key and a use of it.
+fn used(alloc: Global) -> Result<MemoryDisk<'static>, StoreFault> {
+    let (mut disk, mut journal) = fresh(alloc, &[])?;
+    let added = add(&mut journal, &mut disk, KEY);
+    let used = add(&mut journal, &mut disk, USE);
+    match (added, used) {
+        (Ok(()), Ok(())) => Ok(disk),
+        _ => Err(StoreFault::Device),
     }
+}
+
+/// Whether a crash at each moment leaves what its row says.
+fn leaves_so(alloc: Global, disk: &MemoryDisk, crash: &Crash) -> bool {
+    let choices = [crash.choice; 11];
+    let mut same = true;
+    for (moment, changes) in crash.changes.iter().enumerate() {
+        let left = changes_left(alloc, disk, moment.saturating_add(3), &choices);
+        same = same && left == Ok(*changes);
+    }
+    same
+}
+
+#[test]
+fn an_image_of_each_moment_opens(rt: HostRuntime) -> Result<(), Fail> {
+    let disk = used(rt.alloc()).map_err(|_| "a disk")?;
+    let mut same = true;
+    for crash in &CRASHES {
+        same = same && leaves_so(rt.alloc(), &disk, crash);
+    }
+    drop(disk);
+    assert!(rt; same);
+    Ok(())
 }
 
 /// A store of three records, `THREE` of `tools/read_store.py`; its gates stand at 8, 53, 83 and 97.

@@ -3,11 +3,29 @@
 
 ghost use Rattle.std.specs.Prelude.{◌≡◌, ◌≤◌, ℕ, None, length, IfOk};
 
-use super::{BEGIN, CONNECT, FINISH, IMPORT, run_over};
+use super::script::{ROOM, run_on};
 use crate::status::Status;
+use disk_model::MemoryDisk;
 use ks_outside::{Failed, FaultCount, MemoryEntropy, Sink, Source};
 use std::cell::Cell;
 use std::test::Fail;
+
+/// A connect, an import, a begin and a finish, each with its LF.
+static LINES: [&str; 4] = [
+    concat!(r#"{"t":[0,1000],"do":"connect","uid":10001}"#, "\n"),
+    concat!(
+        r#"{"t":[0,1000],"c":1,"do":"importKey","key":{"domain":0,"alias":"m"},"params":[["PURPOSE",2],["PURPOSE",3],["ALGORITHM",128],["DIGEST",4],["MIN_MAC_LENGTH",64],["NO_AUTH_REQUIRED",true]],"format":3,"material":"0b0b0b0b0b0b0b0b0b0b0b0b0b0b0b0b0b0b0b0b"}"#,
+        "\n"
+    ),
+    concat!(
+        r#"{"t":[0,1000],"c":1,"do":"createOperation","key":{"domain":0,"alias":"m"},"params":[["PURPOSE",2],["MAC_LENGTH",256]]}"#,
+        "\n"
+    ),
+    concat!(
+        r#"{"t":[0,1000],"c":1,"do":"finish","op":1,"input":"4869205468657265"}"#,
+        "\n"
+    ),
+];
 
 /// A client that sends a line and waits for its answer.
 #[derive(Drop)]
@@ -72,7 +90,7 @@ fn each_line_is_answered_before_the_next_read(rt: HostRuntime) -> Result<(), Fai
     let alloc = rt.alloc();
     let answered = Cell::new(0usize);
     let mut source = Asking {
-        lines: &[CONNECT, IMPORT, BEGIN, FINISH],
+        lines: &LINES,
         asked: 0,
         answered: &answered,
         faults: FaultCount::new(),
@@ -80,8 +98,17 @@ fn each_line_is_answered_before_the_next_read(rt: HostRuntime) -> Result<(), Fai
     let mut sink = Answering {
         answered: &answered,
     };
+    let mut disk = MemoryDisk::with_room(alloc, ROOM, &[])?;
     let mut entropy = MemoryEntropy::counting();
-    let ended = run_over(alloc, "run --fresh", &mut source, &mut sink, &mut entropy)?;
+    let words = "run --fresh";
+    let ended = run_on(
+        alloc,
+        words,
+        &mut source,
+        &mut sink,
+        &mut disk,
+        &mut entropy,
+    )?;
     assert_eq!(rt; ended, Status::Ok);
     assert_eq!(rt; answered.get(), 4);
     Ok(())

@@ -1,14 +1,15 @@
-//! Lines with the events that they spell, and replies with their lines.
+//! Lines with the events that they spell, and a reply with its line. Acts that are spelled wrongly are in
+//! `checks/malformed-lines.jsonl`.
 
 use rule_model::{Entries, Fields, NO_FIELDS, Reply, Stepped};
 use script_lines::{LineFault, event_of, line_of, malformed_line};
 use std::alloc::Global;
 use std::test::Fail;
-use tags::{Bytes, Code, NoMemory, Rule, RuleTable, Settled};
+use tags::{Bytes, NoMemory};
 
-/// Lines of one HMAC key, from the client to the mac, and what each spells. A member that no act has is not looked at,
-/// and of two of one name the last counts.
-static LINES: [(&str, &str); 4] = [
+/// Lines of one HMAC key, from the client to the mac, a line of each act with all its members, and what each spells. A
+/// member that no act has is not looked at, and of two of one name the last counts.
+static LINES: [(&str, &str); 31] = [
     (
         r#"{"t":[0,1000],"do":"connect","uid":10001,"x":1}"#,
         "Line { event: Event { reading: Reading { boot: 0, wall: 1000 }, client: 0, act: Connect { uid: 10001 } }, hold: false }",
@@ -25,139 +26,123 @@ static LINES: [(&str, &str); 4] = [
         r#"{"do":"finish","op":1,"c":2,"c":1,"t":[0,1000],"input":"4869205468657265","hold":false}"#,
         "Line { event: Event { reading: Reading { boot: 0, wall: 1000 }, client: 1, act: EnterFinish { op: 1, input: Bytes { bytes: [72, 105, 32, 84, 104, 101, 114, 101] }, signature: None } }, hold: false }",
     ),
-];
-
-/// A line of each act with all its members, and the act that it spells, built or not.
-static ACTS: [(&str, &str); 27] = [
     (
         r#"{"t":[0,1000],"do":"connect","uid":10001}"#,
-        "Connect { uid: 10001 }",
+        "Line { event: Event { reading: Reading { boot: 0, wall: 1000 }, client: 0, act: Connect { uid: 10001 } }, hold: false }",
     ),
-    (r#"{"t":[0,1000],"c":1,"do":"disconnect"}"#, "Disconnect"),
+    (
+        r#"{"t":[0,1000],"c":1,"do":"disconnect"}"#,
+        "Line { event: Event { reading: Reading { boot: 0, wall: 1000 }, client: 1, act: Disconnect }, hold: false }",
+    ),
     (
         r#"{"t":[0,1000],"c":1,"do":"generateKey","key":{"domain":2,"nspace":100,"alias":"k"}}"#,
-        "GenerateKey { key: Descriptor { domain: 2, nspace: 100, alias: Some(Bytes { bytes: [107] }), blob: None }, params: Bytes { bytes: [0, 0] } }",
+        "Line { event: Event { reading: Reading { boot: 0, wall: 1000 }, client: 1, act: GenerateKey { key: Descriptor { domain: 2, nspace: 100, alias: Some(Bytes { bytes: [107] }), blob: None }, params: Bytes { bytes: [0, 0] } } }, hold: false }",
     ),
     (
         r#"{"t":[0,1000],"c":1,"do":"generateKey","key":{"domain":3},"params":"0002fF"}"#,
-        "GenerateKey { key: Descriptor { domain: 3, nspace: 0, alias: None, blob: None }, params: Bytes { bytes: [0, 2, 255] } }",
+        "Line { event: Event { reading: Reading { boot: 0, wall: 1000 }, client: 1, act: GenerateKey { key: Descriptor { domain: 3, nspace: 0, alias: None, blob: None }, params: Bytes { bytes: [0, 2, 255] } } }, hold: false }",
     ),
     (
         r#"{"t":[0,1000],"c":1,"do":"generateKey","key":{"domain":3},"params":[["USER_SECURE_ID",7],["NONCE","abcd"],["PURPOSE",1],["CALLER_NONCE",true],["ACTIVE_DATETIME",18446744073709551615]]}"#,
-        "GenerateKey { key: Descriptor { domain: 3, nspace: 0, alias: None, blob: None }, params: Bytes { bytes: [0, 5, 160, 0, 1, 246, 0, 0, 0, 0, 0, 0, 0, 7, 144, 0, 3, 233, 0, 2, 171, 205, 32, 0, 0, 1, 0, 0, 0, 1, 112, 0, 0, 7, 1, 96, 0, 1, 144, 255, 255, 255, 255, 255, 255, 255, 255] } }",
+        "Line { event: Event { reading: Reading { boot: 0, wall: 1000 }, client: 1, act: GenerateKey { key: Descriptor { domain: 3, nspace: 0, alias: None, blob: None }, params: Bytes { bytes: [0, 5, 160, 0, 1, 246, 0, 0, 0, 0, 0, 0, 0, 7, 144, 0, 3, 233, 0, 2, 171, 205, 32, 0, 0, 1, 0, 0, 0, 1, 112, 0, 0, 7, 1, 96, 0, 1, 144, 255, 255, 255, 255, 255, 255, 255, 255] } } }, hold: false }",
     ),
     (
         r#"{"t":[0,1000],"c":1,"do":"importKey","key":{"domain":4,"nspace":18446744073709551615},"format":1,"material":"00"}"#,
-        "ImportKey { key: Descriptor { domain: 4, nspace: 18446744073709551615, alias: None, blob: None }, params: Bytes { bytes: [0, 0] }, format: 1, material: Bytes { bytes: [0] } }",
+        "Line { event: Event { reading: Reading { boot: 0, wall: 1000 }, client: 1, act: ImportKey { key: Descriptor { domain: 4, nspace: 18446744073709551615, alias: None, blob: None }, params: Bytes { bytes: [0, 0] }, format: 1, material: Bytes { bytes: [0] } } }, hold: false }",
     ),
     (
         r#"{"t":[0,1000],"c":1,"do":"createOperation","key":{"domain":3,"blob":"4b53"},"params":[],"forced":true}"#,
-        "CreateOperation { key: Descriptor { domain: 3, nspace: 0, alias: None, blob: Some(Bytes { bytes: [75, 83] }) }, params: Bytes { bytes: [0, 0] }, forced: true }",
+        "Line { event: Event { reading: Reading { boot: 0, wall: 1000 }, client: 1, act: CreateOperation { key: Descriptor { domain: 3, nspace: 0, alias: None, blob: Some(Bytes { bytes: [75, 83] }) }, params: Bytes { bytes: [0, 0] }, forced: true } }, hold: false }",
     ),
     (
         r#"{"t":[0,1000],"c":1,"do":"updateAad","op":1,"input":"AaBb"}"#,
-        "EnterAad { op: 1, input: Bytes { bytes: [170, 187] } }",
+        "Line { event: Event { reading: Reading { boot: 0, wall: 1000 }, client: 1, act: EnterAad { op: 1, input: Bytes { bytes: [170, 187] } } }, hold: false }",
     ),
     (
         r#"{"t":[0,1000],"c":1,"do":"update","op":2}"#,
-        "EnterUpdate { op: 2, input: Bytes { bytes: [] } }",
+        "Line { event: Event { reading: Reading { boot: 0, wall: 1000 }, client: 1, act: EnterUpdate { op: 2, input: Bytes { bytes: [] } } }, hold: false }",
     ),
     (
         r#"{"t":[0,1000],"c":1,"do":"finish","op":3,"input":"","signature":"00ff"}"#,
-        "EnterFinish { op: 3, input: Bytes { bytes: [] }, signature: Some(Bytes { bytes: [0, 255] }) }",
+        "Line { event: Event { reading: Reading { boot: 0, wall: 1000 }, client: 1, act: EnterFinish { op: 3, input: Bytes { bytes: [] }, signature: Some(Bytes { bytes: [0, 255] }) } }, hold: false }",
     ),
     (
         r#"{"t":[0,1000],"c":1,"do":"finish","op":3}"#,
-        "EnterFinish { op: 3, input: Bytes { bytes: [] }, signature: None }",
+        "Line { event: Event { reading: Reading { boot: 0, wall: 1000 }, client: 1, act: EnterFinish { op: 3, input: Bytes { bytes: [] }, signature: None } }, hold: false }",
     ),
     (
         r#"{"t":[0,1000],"c":1,"do":"abort","op":4}"#,
-        "Abort { op: 4 }",
+        "Line { event: Event { reading: Reading { boot: 0, wall: 1000 }, client: 1, act: Abort { op: 4 } }, hold: false }",
     ),
     (
         r#"{"t":[0,1000],"c":1,"do":"getKeyEntry","key":{"domain":1,"nspace":9}}"#,
-        "GetKeyEntry { key: Descriptor { domain: 1, nspace: 9, alias: None, blob: None } }",
+        "Line { event: Event { reading: Reading { boot: 0, wall: 1000 }, client: 1, act: GetKeyEntry { key: Descriptor { domain: 1, nspace: 9, alias: None, blob: None } } }, hold: false }",
     ),
     (
         r#"{"t":[0,1000],"c":1,"do":"deleteKey","key":{"domain":0,"alias":""}}"#,
-        "DeleteKey { key: Descriptor { domain: 0, nspace: 0, alias: Some(Bytes { bytes: [] }), blob: None } }",
+        "Line { event: Event { reading: Reading { boot: 0, wall: 1000 }, client: 1, act: DeleteKey { key: Descriptor { domain: 0, nspace: 0, alias: Some(Bytes { bytes: [] }), blob: None } } }, hold: false }",
     ),
     (
         r#"{"t":[0,1000],"c":1,"do":"grant","key":{"domain":0},"uid":10002,"bits":260}"#,
-        "Grant { key: Descriptor { domain: 0, nspace: 0, alias: None, blob: None }, uid: 10002, bits: 260 }",
+        "Line { event: Event { reading: Reading { boot: 0, wall: 1000 }, client: 1, act: Grant { key: Descriptor { domain: 0, nspace: 0, alias: None, blob: None }, uid: 10002, bits: 260 } }, hold: false }",
     ),
     (
         r#"{"t":[0,1000],"c":1,"do":"ungrant","key":{"domain":0},"uid":4294967295}"#,
-        "Ungrant { key: Descriptor { domain: 0, nspace: 0, alias: None, blob: None }, uid: 4294967295 }",
+        "Line { event: Event { reading: Reading { boot: 0, wall: 1000 }, client: 1, act: Ungrant { key: Descriptor { domain: 0, nspace: 0, alias: None, blob: None }, uid: 4294967295 } }, hold: false }",
     ),
     (
         r#"{"t":[0,1000],"c":1,"do":"getNumberOfEntries","domain":2,"nspace":100}"#,
-        "GetNumberOfEntries { domain: 2, nspace: 100 }",
+        "Line { event: Event { reading: Reading { boot: 0, wall: 1000 }, client: 1, act: GetNumberOfEntries { domain: 2, nspace: 100 } }, hold: false }",
     ),
     (
         r#"{"t":[0,1000],"c":1,"do":"listEntriesBatched","domain":0}"#,
-        "ListEntriesBatched { domain: 0, nspace: 0, past: None }",
+        "Line { event: Event { reading: Reading { boot: 0, wall: 1000 }, client: 1, act: ListEntriesBatched { domain: 0, nspace: 0, past: None } }, hold: false }",
     ),
     (
         r#"{"t":[0,1000],"c":1,"do":"listEntriesBatched","domain":0,"nspace":1,"past":"\u00e9"}"#,
-        "ListEntriesBatched { domain: 0, nspace: 1, past: Some(Bytes { bytes: [195, 169] }) }",
+        "Line { event: Event { reading: Reading { boot: 0, wall: 1000 }, client: 1, act: ListEntriesBatched { domain: 0, nspace: 1, past: Some(Bytes { bytes: [195, 169] }) } }, hold: false }",
     ),
     (
         r#"{"t":[0,1000],"c":1,"do":"addAuthToken","challenge":1,"user":2,"authenticator":3,"kind":4,"time":5,"mac":"0101010101010101010101010101010101010101010101010101010101010102"}"#,
-        "AddAuthToken { challenge: 1, user: 2, authenticator: 3, kind: 4, time: 5, mac: [1, 1, 1, 1, 1, 1, 1, 1, 1, 1, 1, 1, 1, 1, 1, 1, 1, 1, 1, 1, 1, 1, 1, 1, 1, 1, 1, 1, 1, 1, 1, 2] }",
+        "Line { event: Event { reading: Reading { boot: 0, wall: 1000 }, client: 1, act: AddAuthToken { challenge: 1, user: 2, authenticator: 3, kind: 4, time: 5, mac: [1, 1, 1, 1, 1, 1, 1, 1, 1, 1, 1, 1, 1, 1, 1, 1, 1, 1, 1, 1, 1, 1, 1, 1, 1, 1, 1, 1, 1, 1, 1, 2] } }, hold: false }",
     ),
     (
         r#"{"t":[0,1000],"c":1,"do":"deviceLocked","user":42950}"#,
-        "DeviceLocked { user: 42950 }",
+        "Line { event: Event { reading: Reading { boot: 0, wall: 1000 }, client: 1, act: DeviceLocked { user: 42950 } }, hold: false }",
     ),
     (
         r#"{"t":[0,1000],"c":1,"do":"deviceUnlocked","user":0}"#,
-        "DeviceUnlocked { user: 0 }",
+        "Line { event: Event { reading: Reading { boot: 0, wall: 1000 }, client: 1, act: DeviceUnlocked { user: 0 } }, hold: false }",
     ),
     (
         r#"{"t":[0,1000],"c":1,"do":"earlyBootEnded"}"#,
-        "EarlyBootEnded",
+        "Line { event: Event { reading: Reading { boot: 0, wall: 1000 }, client: 1, act: EarlyBootEnded }, hold: false }",
     ),
     (
         r#"{"t":[0,1000],"c":1,"do":"clearNamespace","domain":0,"nspace":10001}"#,
-        "ClearNamespace { domain: 0, nspace: 10001 }",
+        "Line { event: Event { reading: Reading { boot: 0, wall: 1000 }, client: 1, act: ClearNamespace { domain: 0, nspace: 10001 } }, hold: false }",
     ),
     (
         r#"{"t":[0,1000],"c":1,"do":"userRemoved","user":1}"#,
-        "UserRemoved { user: 1 }",
+        "Line { event: Event { reading: Reading { boot: 0, wall: 1000 }, client: 1, act: UserRemoved { user: 1 } }, hold: false }",
     ),
     (
         r#"{"t":[0,1000],"do":"leave","ticket":1}"#,
-        "Leave { ticket: 1 }",
+        "Line { event: Event { reading: Reading { boot: 0, wall: 1000 }, client: 0, act: Leave { ticket: 1 } }, hold: false }",
     ),
     (
         r#"{"t":[0,1000],"do":"restart","root":"0404040404040404040404040404040404040404040404040404040404040405"}"#,
-        "Restart { root: Some([4, 4, 4, 4, 4, 4, 4, 4, 4, 4, 4, 4, 4, 4, 4, 4, 4, 4, 4, 4, 4, 4, 4, 4, 4, 4, 4, 4, 4, 4, 4, 5]) }",
+        "Line { event: Event { reading: Reading { boot: 0, wall: 1000 }, client: 0, act: Restart { root: Some([4, 4, 4, 4, 4, 4, 4, 4, 4, 4, 4, 4, 4, 4, 4, 4, 4, 4, 4, 4, 4, 4, 4, 4, 4, 4, 4, 4, 4, 4, 4, 5]) } }, hold: false }",
     ),
 ];
-
-/// Acts that are spelled wrongly; more are in `checks/malformed-lines.jsonl`.
-static BAD_ACTS: [&str; 6] = [
-    r#"{"t":[0,1000],"c":1,"do":"deleteKey","key":{}}"#,
-    r#"{"t":[0,1000],"c":1,"do":"deleteKey","key":{"domain":0,"nspace":null}}"#,
-    r#"{"t":[0,1000],"c":1,"do":"deleteKey","key":{"domain":0,"alias":null}}"#,
-    r#"{"t":[0,1000],"c":1,"do":"deleteKey","key":{"domain":0,"blob":1}}"#,
-    r#"{"t":[0,1000],"c":1,"do":"addAuthToken","challenge":1,"user":2,"authenticator":3,"kind":4,"time":5,"mac":"01"}"#,
-    r#"{"t":[0,1000],"do":"restart","root":null}"#,
-];
-
-fn bytes(alloc: Global, text: &str) -> Result<Option<Bytes>, NoMemory> {
-    Ok(Some(Bytes::copy_of(alloc, text.as_bytes())?))
-}
 
 #[test]
 fn each_line_spells_its_event(rt: HostRuntime) -> Result<(), Fail> {
     let alloc = rt.alloc();
-    for row in &LINES {
-        let (line, want) = *row;
+    for (line, want) in &LINES {
         let spelled = event_of(alloc, line.as_bytes())?;
         let text = format!(in alloc; "{spelled:?}")?;
-        assert!(rt; text.as_str() == want, "{text}");
+        assert!(rt; text.as_str() == *want, "{text}");
     }
     let line = b"{\"t\":[0,1000],\"do\":\"connect\",\"uid\":1,\"x\":\"\xff\"}";
     let other = event_of(alloc, line);
@@ -165,30 +150,8 @@ fn each_line_spells_its_event(rt: HostRuntime) -> Result<(), Fail> {
     Ok(())
 }
 
-#[test]
-fn each_act_with_its_members(rt: HostRuntime) -> Result<(), Fail> {
-    let alloc = rt.alloc();
-    for row in &ACTS {
-        let (line, want) = *row;
-        let spelled = event_of(alloc, line.as_bytes())?;
-        let text = format!(in alloc; "{:?}", spelled.event.act)?;
-        assert!(rt; text.as_str() == want, "{text}");
-    }
-    for line in &BAD_ACTS {
-        let spelled = event_of(alloc, line.as_bytes());
-        assert!(rt; matches!(spelled, Err(LineFault::Malformed)), "{line}");
-    }
-    Ok(())
-}
-
-fn lines_of(alloc: Global, settled: Option<Settled>, reply: Reply) -> Result<Vec<u8>, NoMemory> {
-    let stepped = Stepped {
-        settled,
-        reply,
-        job: None,
-        drawn: Bytes::empty(alloc),
-    };
-    Ok(line_of(alloc, &stepped)?.into_vec())
+fn bytes(alloc: Global, text: &str) -> Result<Option<Bytes>, NoMemory> {
+    Ok(Some(Bytes::copy_of(alloc, text.as_bytes())?))
 }
 
 fn two_entries(alloc: Global) -> Result<Entries, NoMemory> {
@@ -225,65 +188,21 @@ fn all_fields(alloc: Global) -> Result<Fields, NoMemory> {
     Ok(fields)
 }
 
-/// Whether the line of a reply is this text.
-fn says(
-    alloc: Global,
-    settled: Option<Settled>,
-    reply: Reply,
-    text: &str,
-) -> Result<bool, NoMemory> {
-    Ok(lines_of(alloc, settled, reply)?.as_slice() == text.as_bytes())
-}
+/// The line of a reply with all fields.
+const WHOLE: &str =
+    "{\"alias\":\"k\",\"blob\":\"4b534231\",\"challenge\":868365761009226259,\"client\":1,\"code\":0,\"count\":8,\"domain\":0,\"entries\":[[\"a\\\"\",1],[\"\u{e9}\",18446744073709551615]],\"grant\":7,\"key\":2,\"list\":\"0a\",\"nonce\":\"4a5a\",\"nspace\":11,\"op\":3,\"out\":\"\",\"pruned\":6,\"ticket\":5,\"uses\":9}\n";
 
 #[test]
-fn replies(rt: HostRuntime) -> Result<(), Fail> {
+fn a_reply_has_its_fields_in_their_order(rt: HostRuntime) -> Result<(), Fail> {
     let alloc = rt.alloc();
+    let stepped = Stepped {
+        settled: None,
+        reply: Reply::Done(all_fields(alloc)?),
+        job: None,
+        drawn: Bytes::empty(alloc),
+    };
+    let line = line_of(alloc, &stepped)?;
+    assert!(rt; line.as_slice() == WHOLE.as_bytes());
     assert!(rt; malformed_line() == b"{\"code\":20,\"rule\":\"L1\"}\n".as_slice());
-    let rule = Rule {
-        table: RuleTable::B,
-        number: 11,
-    };
-    let done = says(alloc, None, Reply::Done(NO_FIELDS), "{\"code\":0}\n")?;
-    let whole = says(
-        alloc,
-        None,
-        Reply::Done(all_fields(alloc)?),
-        "{\"alias\":\"k\",\"blob\":\"4b534231\",\"challenge\":868365761009226259,\"client\":1,\"code\":0,\"count\":8,\"domain\":0,\"entries\":[[\"a\\\"\",1],[\"\u{e9}\",18446744073709551615]],\"grant\":7,\"key\":2,\"list\":\"0a\",\"nonce\":\"4a5a\",\"nspace\":11,\"op\":3,\"out\":\"\",\"pruned\":6,\"ticket\":5,\"uses\":9}\n",
-    )?;
-    let expired = Reply::Broken {
-        rule,
-        code: Code::KeyExpired,
-    };
-    let broken = says(alloc, None, expired, "{\"code\":-25,\"rule\":\"B11\"}\n")?;
-    assert!(rt; done && whole && broken);
-    Ok(())
-}
-
-#[test]
-fn replies_behind_a_settled_write(rt: HostRuntime) -> Result<(), Fail> {
-    let alloc = rt.alloc();
-    let none = Reply::Stopped {
-        code: Code::NoTicket,
-    };
-    let kept = says(
-        alloc,
-        Some(Settled::Kept),
-        none,
-        "{\"settled\":\"kept\"}\n{\"code\":1006}\n",
-    )?;
-    let missing = Reply::Broken {
-        rule: Rule {
-            table: RuleTable::B,
-            number: 11,
-        },
-        code: Code::KeyNotFound,
-    };
-    let lost = says(
-        alloc,
-        Some(Settled::Lost),
-        missing,
-        "{\"settled\":\"lost\"}\n{\"code\":7,\"rule\":\"B11\"}\n",
-    )?;
-    assert!(rt; kept && lost);
     Ok(())
 }

@@ -1,325 +1,222 @@
-//! Scripts from their calls, and the replies that they are to get.
+//! What stands outside of a run, and scripts by their lines, each with what it is to get.
 
-use super::{run_on, run_over};
+use crate::run::run_words;
 use crate::status::Status;
-use ks_outside::{Disk, MemoryEntropy, MemorySink, MemorySource};
+use disk_model::{MemoryDisk, Room};
+use ks_outside::{Disk, Entropy, MemoryEntropy, MemorySink, MemorySource, Sink, Source};
 use std::alloc::Global;
 use std::process::Abort;
 use std::test::Fail;
+use tags::{DeviceSecrets, Policy};
 
-/// The parameters of an AES key of all modes.
-pub const AES: &str =
-    "PURPOSE=0 PURPOSE=1 ALGORITHM=32 BLOCK_MODE=1 BLOCK_MODE=2 BLOCK_MODE=3 BLOCK_MODE=32 PADDING=1 PADDING=64 MIN_MAC_LENGTH=96 CALLER_NONCE NO_AUTH_REQUIRED";
+/// What a disk of a test has room for.
+pub const ROOM: Room = Room {
+    calls: 256,
+    bytes: 65_536,
+    pages: 16,
+};
 
-/// The parameters of an HMAC-SHA256 key.
+/// An app connects, imports the key of the first case of RFC 4231, begins a mac with it, and finishes that with the case's text.
+pub const CONNECT: &str = r#"{"t":[0,1000],"do":"connect","uid":10001}"#;
+
+pub const IMPORT: &str =
+    r#"{"t":[0,1000],"c":1,"do":"importKey","key":{"domain":0,"alias":"m"},"params":[["PURPOSE",2],["PURPOSE",3],["ALGORITHM",128],["DIGEST",4],["MIN_MAC_LENGTH",64],["NO_AUTH_REQUIRED",true]],"format":3,"material":"0b0b0b0b0b0b0b0b0b0b0b0b0b0b0b0b0b0b0b0b"}"#;
+
+pub const BEGIN: &str =
+    r#"{"t":[0,1000],"c":1,"do":"createOperation","key":{"domain":0,"alias":"m"},"params":[["PURPOSE",2],["MAC_LENGTH",256]]}"#;
+
+pub const FINISH: &str = r#"{"t":[0,1000],"c":1,"do":"finish","op":1,"input":"4869205468657265"}"#;
+
+/// What these are to get.
+pub const CONNECTED: &str = r#"{"client":1,"code":0}"#;
+
+pub const IMPORTED: &str = r#"{"code":0,"key":1}"#;
+
+pub const BEGUN: &str = r#"{"code":0,"op":1}"#;
+
 pub const MAC: &str =
-    "PURPOSE=2 PURPOSE=3 ALGORITHM=128 DIGEST=4 MIN_MAC_LENGTH=64 NO_AUTH_REQUIRED";
+    r#"{"code":0,"out":"b0344c61d8db38535ca8afceaf0bf12b881dc200c9833da726e9376c2e32cff7"}"#;
 
-/// A call of a client, whose number comes first. Bytes are in hex, parameters as in `PURPOSE=2 NONCE:00ff CALLER_NONCE`.
-#[derive(Clone, Copy, Debug)]
-pub enum Call<'a> {
-    /// a uid connects
-    Connect(u32),
-    /// an alias, and the parameters of a new key
-    Generate(u64, &'a str, &'a str),
-    /// an alias, the parameters of a new key, and its material
-    Import(u64, &'a str, &'a str, &'a str),
-    /// the alias of a key, and an operation's parameters
-    Begin(u64, &'a str, &'a str),
-    /// an operation, and additional data
-    Aad(u64, u64, &'a str),
-    /// an operation, and text
-    Update(u64, u64, &'a str),
-    /// an operation, and its last text
-    Finish(u64, u64, &'a str),
-    /// an operation, its last text, and a signature
-    Verify(u64, u64, &'a str, &'a str),
-    /// an operation, and text, held
-    Hold(u64, u64, &'a str),
-    /// an operation, and its last text, held
-    HoldLast(u64, u64, &'a str),
-    /// an operation
-    Abort(u64, u64),
-    /// a ticket comes back
-    Leave(u64),
-    /// a client goes
-    Disconnect(u64),
-    /// a line as it stands
-    Line(&'a str),
+/// What others are to get.
+pub const DONE: &str = r#"{"code":0}"#;
+
+pub const NOTHING_OUT: &str = r#"{"code":0,"out":""}"#;
+
+pub const NO_KEY: &str = r#"{"code":7,"rule":"B4"}"#;
+
+pub const NOT_OPEN: &str = r#"{"code":-28,"rule":"S1"}"#;
+
+/// What stands outside of a run but for its disk: its words, its script, and which reads, writes and draws fail, by
+/// their numbers from 1.
+#[derive(Clone, Copy)]
+pub struct Outside<'a> {
+    pub words: &'a str,
+    pub script: &'a str,
+    pub reads: &'a [u64],
+    pub writes: &'a [u64],
+    pub draws: &'a [u64],
 }
 
-/// A call, and the line that it is to get.
-pub type Row = (Call<'static>, &'static str);
+/// A run over a fresh store in which nothing fails.
+pub const FRESH: Outside<'static> = Outside {
+    words: "run --fresh",
+    script: "",
+    reads: &[],
+    writes: &[],
+    draws: &[],
+};
 
-/// The lines of a script, and those that it is to get.
+/// How a run ended.
 #[derive(Drop)]
-pub struct Script {
-    pub asked: String,
-    pub wanted: String,
+pub struct Ended {
+    pub status: Status,
+    /// what was written
+    pub text: String,
+    /// how many bytes of the script were not read
+    pub left: usize,
 }
 
-impl Script {
-    pub fn new(alloc: Global) -> Result<Script, Fail> {
-        Ok(Script {
-            asked: String::from_str(alloc, "")?,
-            wanted: String::from_str(alloc, "")?,
+impl Outside<'_> {
+    /// Runs over a disk.
+    pub fn run<D: Disk>(&self, alloc: Global, disk: &mut D) -> Result<Ended, Fail> {
+        let mut source = MemorySource::new(self.script.as_bytes(), self.reads);
+        let room = self.script.len().saturating_add(16_384);
+        let mut sink = MemorySink::with_room(alloc, room, room, self.writes)?;
+        let mut entropy = MemoryEntropy::failing(self.draws);
+        let status = run_on(
+            alloc,
+            self.words,
+            &mut source,
+            &mut sink,
+            disk,
+            &mut entropy,
+        )?;
+        Ok(Ended {
+            status,
+            text: String::from_utf8_lossy(alloc, sink.written())?,
+            left: source.left().len(),
         })
     }
-
-    /// Adds a call.
-    pub fn ask(&mut self, alloc: Global, call: Call) -> Result<(), Fail> {
-        let line = line_of(alloc, call)?;
-        self.asked.push_str(line.as_str())?;
-        Ok(())
-    }
-
-    /// Adds the line that a call is to get.
-    pub fn want(&mut self, reply: &str) -> Result<(), Fail> {
-        self.wanted.push_str(reply)?;
-        self.wanted.push('\n')?;
-        Ok(())
-    }
-
-    /// Adds calls, each with its line.
-    pub fn add(&mut self, alloc: Global, rows: &[Row]) -> Result<(), Fail> {
-        for row in rows {
-            self.ask(alloc, row.0)?;
-            self.want(row.1)?;
-        }
-        Ok(())
-    }
-
-    /// What the lines get where the draws with these numbers fail.
-    pub fn run(&self, rt: &impl Abort, alloc: Global, failing: &[u64]) -> Result<String, Fail> {
-        self.run_by(rt, alloc, "run --fresh", failing)
-    }
-
-    /// What they get by these words.
-    fn run_by(
-        &self,
-        rt: &impl Abort,
-        alloc: Global,
-        words: &str,
-        failing: &[u64],
-    ) -> Result<String, Fail> {
-        let mut source = MemorySource::new(self.asked.as_bytes(), &[]);
-        let room = self.asked.len();
-        let mut sink = MemorySink::with_room(alloc, room, room, &[])?;
-        let mut entropy = MemoryEntropy::failing(failing);
-        let ended = run_over(alloc, words, &mut source, &mut sink, &mut entropy)?;
-        assert_eq!(rt; ended, Status::Ok);
-        Ok(String::from_utf8_lossy(alloc, sink.written())?)
-    }
-
-    /// Runs the lines, and compares what each gets.
-    pub fn check(&self, rt: &impl Abort, alloc: Global, failing: &[u64]) -> Result<(), Fail> {
-        self.check_by(rt, alloc, "run --fresh", failing)
-    }
-
-    /// The same by these words.
-    pub fn check_by(
-        &self,
-        rt: &impl Abort,
-        alloc: Global,
-        words: &str,
-        failing: &[u64],
-    ) -> Result<(), Fail> {
-        let given = self.run_by(rt, alloc, words, failing)?;
-        self.compare(rt, given);
-        Ok(())
-    }
-
-    /// The same by these words over a disk.
-    pub fn check_on<D: Disk>(
-        &self,
-        rt: &impl Abort,
-        alloc: Global,
-        words: &str,
-        disk: &mut D,
-    ) -> Result<(), Fail> {
-        let given = text_on(rt, alloc, words, self.asked.as_str(), disk)?;
-        self.compare(rt, given);
-        Ok(())
-    }
-
-    /// Compares what the lines got, line by line.
-    fn compare(&self, rt: &impl Abort, given: String) {
-        let mut replies = given.as_str().split('\n');
-        let mut asked = self.asked.as_str().split('\n');
-        for want in self.wanted.as_str().split('\n') {
-            let line = asked.next().unwrap_or("");
-            let reply = replies.next().unwrap_or("");
-            same(rt, line, reply, want);
-        }
-        assert_eq!(rt; given.len(), self.wanted.len());
-    }
 }
 
-/// What a script gets over a disk.
+/// Runs these words over the demo device and policy.
+pub fn run_on<S: Source, K: Sink, D: Disk, N: Entropy>(
+    alloc: Global,
+    text: &str,
+    source: &mut S,
+    sink: &mut K,
+    disk: &mut D,
+    entropy: &mut N,
+) -> Result<Status, Fail> {
+    let mut words = Vec::new(alloc);
+    for word in text.split_whitespace() {
+        words.push(String::from_str(alloc, word)?)?;
+    }
+    let policy = Policy::demo(alloc)?;
+    Ok(run_words(
+        alloc,
+        words.as_slice(),
+        &DeviceSecrets::demo(),
+        &policy,
+        source,
+        sink,
+        disk,
+        entropy,
+    ))
+}
+
+/// A line, and the line that it is to get, or two where a write settles first.
+pub type Row = (&'static str, &'static str);
+
+/// The lines of runs in turn over one disk.
+pub type Runs = &'static [&'static [Row]];
+
+/// What a script writes over a disk in a run that reads it to its end.
 pub fn text_on<D: Disk>(
     rt: &impl Abort,
     alloc: Global,
-    words: &str,
-    script: &str,
+    outside: Outside,
     disk: &mut D,
 ) -> Result<String, Fail> {
-    let mut source = MemorySource::new(script.as_bytes(), &[]);
-    let mut sink = MemorySink::with_room(alloc, 16_384, 256, &[])?;
-    let mut entropy = MemoryEntropy::counting();
-    let ended = run_on(alloc, words, &mut source, &mut sink, disk, &mut entropy)?;
-    assert_eq!(rt; ended, Status::Ok);
-    Ok(String::from_utf8_lossy(alloc, sink.written())?)
+    let ended = outside.run(alloc, disk)?;
+    assert_eq!(rt; ended.status, Status::Ok, "{}", outside.words);
+    Ok(ended.text)
 }
 
-/// A script whose client 1 is connected, with the uid 10001.
-pub fn connected(alloc: Global) -> Result<Script, Fail> {
-    let mut script = Script::new(alloc)?;
-    script.ask(alloc, Call::Connect(10001))?;
-    script.want("{\"client\":1,\"code\":0}")?;
-    Ok(script)
+/// What stands behind a reply and its LF.
+fn behind<'a>(text: &'a str, reply: &str) -> Option<&'a str> {
+    text.strip_prefix(reply)?.strip_prefix('\n')
 }
 
-/// The line that tells bytes.
-pub fn out_line(alloc: Global, hex: &str) -> Result<String, Fail> {
-    Ok(format!(in alloc; "{{\"code\":0,\"out\":\"{hex}\"}}")?)
-}
-
-/// The bytes that a line tells, or the line where it tells none.
-fn told(reply: &str) -> &str {
-    match reply.strip_prefix("{\"code\":0,\"out\":\"") {
-        Some(rest) => rest.strip_suffix("\"}").unwrap_or(reply),
-        None => reply,
+/// Compares a text with the replies that lines are to get.
+fn compare(rt: &impl Abort, rows: &[Row], text: &str) {
+    let mut rest = text;
+    for (line, reply) in rows {
+        let more = behind(rest, reply);
+        assert!(rt;
+            more.is_some(),
+            "{line}\n    is to get {reply}\n    and not {rest}"
+        );
+        rest = more.unwrap_or("");
     }
+    assert!(rt; rest.is_empty(), "{rest}");
 }
 
-/// The bytes that the lines behind those that were wanted tell, joined; all lines where they are not those wanted.
-pub fn joined(alloc: Global, script: &Script, given: &str) -> Result<String, Fail> {
-    let mut out = String::from_str(alloc, "")?;
-    match given.strip_prefix(script.wanted.as_str()) {
-        None => out.push_str(given)?,
-        Some(rest) => {
-            for reply in rest.split('\n') {
-                out.push_str(told(reply))?;
-            }
-        }
-    }
-    Ok(out)
-}
-
-fn same(rt: &impl Abort, line: &str, reply: &str, want: &str) {
-    assert!(rt;
-        reply == want,
-        "{line}\n    gave {reply}\n    and not {want}"
-    );
-}
-
-/// Runs calls as one script, where the draws with these numbers fail.
-pub fn check(rt: &impl Abort, alloc: Global, rows: &[Row], failing: &[u64]) -> Result<(), Fail> {
-    let mut script = Script::new(alloc)?;
-    script.add(alloc, rows)?;
-    script.check(rt, alloc, failing)
-}
-
-/// Parameters without those that a change names with a minus, and with the others that it has.
-pub fn edited(alloc: Global, list: &str, change: &str) -> Result<String, Fail> {
-    let mut out = String::from_str(alloc, "")?;
-    for word in list.split_whitespace() {
-        if !change.split_whitespace().any(|part| drops(part, word)) {
-            out.push(' ')?;
-            out.push_str(word)?;
-        }
-    }
-    for word in change.split_whitespace() {
-        if !word.starts_with('-') {
-            out.push(' ')?;
-            out.push_str(word)?;
-        }
-    }
-    Ok(out)
-}
-
-fn drops(part: &str, word: &str) -> bool {
-    match part.strip_prefix('-') {
-        Some(name) => word.starts_with(name),
-        None => false,
-    }
-}
-
-/// One parameter as a pair of JSON.
-fn pair(alloc: Global, word: &str) -> Result<String, Fail> {
-    if let Some((name, number)) = word.split_once('=') {
-        return Ok(format!(in alloc; "[\"{name}\",{number}]")?);
-    }
-    if let Some((name, hex)) = word.split_once(':') {
-        return Ok(format!(in alloc; "[\"{name}\",\"{hex}\"]")?);
-    }
-    Ok(format!(in alloc; "[\"{word}\",true]")?)
-}
-
-/// Parameters as pairs of JSON.
-fn pairs(alloc: Global, list: &str) -> Result<String, Fail> {
-    let mut out = String::from_str(alloc, "")?;
-    for word in list.split_whitespace() {
-        if !out.is_empty() {
-            out.push(',')?;
-        }
-        out.push_str(pair(alloc, word)?.as_str())?;
-    }
-    Ok(out)
-}
-
-/// The members of an act on a key.
-fn key_act(
+/// Runs lines over a disk, and compares what each gets.
+fn check_on<D: Disk>(
+    rt: &impl Abort,
     alloc: Global,
-    name: &str,
-    client: u64,
-    alias: &str,
-    list: &str,
-) -> Result<String, Fail> {
-    let list = pairs(alloc, list)?;
-    Ok(format!(in alloc;
-        "\"c\":{client},\"do\":\"{name}\",\"key\":{{\"domain\":0,\"alias\":\"{alias}\"}},\"params\":[{list}]"
-    )?)
+    outside: Outside,
+    rows: &[Row],
+    disk: &mut D,
+) -> Result<(), Fail> {
+    let mut script = String::from_str(alloc, "")?;
+    for (line, _) in rows {
+        script.push_str(line)?;
+        script.push('\n')?;
+    }
+    let script = script.as_str();
+    let text = text_on(rt, alloc, Outside { script, ..outside }, disk)?;
+    compare(rt, rows, text.as_str());
+    Ok(())
 }
 
-/// The members of an act on an operation.
-fn step_act(alloc: Global, name: &str, client: u64, op: u64, hex: &str) -> Result<String, Fail> {
-    Ok(format!(in alloc; "\"c\":{client},\"do\":\"{name}\",\"op\":{op},\"input\":\"{hex}\"")?)
+/// The same over an empty disk.
+pub fn check(rt: &impl Abort, alloc: Global, outside: Outside, rows: &[Row]) -> Result<(), Fail> {
+    let mut disk = MemoryDisk::with_room(alloc, ROOM, &[])?;
+    check_on(rt, alloc, outside, rows, &mut disk)
 }
 
-/// The line of a call, with its LF.
-pub fn line_of(alloc: Global, call: Call) -> Result<String, Fail> {
-    let members = match call {
-        Call::Line(text) => return Ok(format!(in alloc; "{text}\n")?),
-        Call::Connect(uid) => format!(in alloc; "\"do\":\"connect\",\"uid\":{uid}")?,
-        Call::Generate(client, alias, list) => key_act(alloc, "generateKey", client, alias, list)?,
-        Call::Import(client, alias, list, hex) => {
-            let key = key_act(alloc, "importKey", client, alias, list)?;
-            format!(in alloc; "{key},\"format\":3,\"material\":\"{hex}\"")?
-        }
-        Call::Begin(client, alias, list) => {
-            key_act(alloc, "createOperation", client, alias, list)?
-        }
-        Call::Aad(client, op, hex) => step_act(alloc, "updateAad", client, op, hex)?,
-        Call::Update(client, op, hex) => step_act(alloc, "update", client, op, hex)?,
-        Call::Finish(client, op, hex) => step_act(alloc, "finish", client, op, hex)?,
-        Call::Verify(client, op, hex, signature) => {
-            let step = step_act(alloc, "finish", client, op, hex)?;
-            format!(in alloc; "{step},\"signature\":\"{signature}\"")?
-        }
-        Call::Hold(client, op, hex) => {
-            let step = step_act(alloc, "update", client, op, hex)?;
-            format!(in alloc; "{step},\"hold\":true")?
-        }
-        Call::HoldLast(client, op, hex) => {
-            let step = step_act(alloc, "finish", client, op, hex)?;
-            format!(in alloc; "{step},\"hold\":true")?
-        }
-        Call::Abort(client, op) => format!(in alloc;
-            "\"c\":{client},\"do\":\"abort\",\"op\":{op}"
-        )?,
-        Call::Leave(ticket) => format!(in alloc; "\"do\":\"leave\",\"ticket\":{ticket}")?,
-        Call::Disconnect(client) => format!(in alloc; "\"c\":{client},\"do\":\"disconnect\"")?,
-    };
-    Ok(format!(in alloc; "{{\"t\":[0,1000],{members}}}\n")?)
+/// Runs the lines of each case over a fresh store, and compares what each gets.
+pub fn check_each(rt: &impl Abort, alloc: Global, cases: &[&[Row]]) -> Result<(), Fail> {
+    for rows in cases {
+        check(rt, alloc, FRESH, rows)?;
+    }
+    Ok(())
+}
+
+/// Runs lines in turn over one disk, whose calls with these numbers fail, the first over a fresh store, and compares
+/// what each gets.
+pub fn check_runs(
+    rt: &impl Abort,
+    alloc: Global,
+    failing: &[u64],
+    runs: &[&[Row]],
+) -> Result<(), Fail> {
+    let mut disk = MemoryDisk::with_room(alloc, ROOM, failing)?;
+    let mut outside = FRESH;
+    for rows in runs {
+        check_on(rt, alloc, outside, rows, &mut disk)?;
+        outside.words = "run";
+    }
+    Ok(())
+}
+
+/// A text in whose place of each of these words another text stands.
+pub fn filled(alloc: Global, text: &str, parts: &[(&str, &str)]) -> Result<String, Fail> {
+    let mut out = String::from_str(alloc, text)?;
+    for (word, part) in parts {
+        out = out.as_str().replace(alloc, *word, part)?;
+    }
+    Ok(out)
 }

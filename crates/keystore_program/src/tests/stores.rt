@@ -1,9 +1,12 @@
 //! Stores that outlive a run.
 
-use super::{BEGIN, BEGUN, CONNECT, CONNECTED, FINISH, IMPORT, IMPORTED, MAC, ROOM, run_on};
+use super::script::{
+    BEGIN, BEGUN, CONNECT, CONNECTED, DONE, FINISH, FRESH, IMPORT, IMPORTED, MAC, NO_KEY, Outside,
+    ROOM, Runs, check_runs,
+};
 use crate::status::Status;
 use disk_model::MemoryDisk;
-use ks_outside::{Disk, MemoryEntropy, MemorySink, MemorySource};
+use ks_outside::Disk;
 use std::alloc::Global;
 use std::process::Abort;
 use std::test::Fail;
@@ -11,36 +14,35 @@ use std::test::Fail;
 /// The journal of an empty store: its header and the byte that closes it.
 const EMPTY: [u8; 9] = [0x4b, 0x53, 0x4a, 0x52, 0x4e, 0x4c, 0x30, 0x31, 0];
 
-/// A journal that is cut within the record of its first change.
-const CUT: [u8; 16] = [
-    0x4b, 0x53, 0x4a, 0x52, 0x4e, 0x4c, 0x30, 0x31, 0x4b, 0, 0, 0, 9, 3, 0, 0,
-];
-
-/// Runs the words over a disk, and compares the status and the text.
-fn run_case(
+/// Runs a script by these words, and compares the status; nothing is written.
+fn check_end<'a>(
     rt: &impl Abort,
     alloc: Global,
-    words: &str,
-    script: &str,
+    words: &'a str,
+    script: &'a str,
     disk: &mut MemoryDisk,
     status: Status,
-    text: &str,
 ) -> Result<(), Fail> {
-    let mut source = MemorySource::new(script.as_bytes(), &[]);
-    let mut sink = MemorySink::with_room(alloc, 4096, 64, &[])?;
-    let mut entropy = MemoryEntropy::counting();
-    let ended = run_on(alloc, words, &mut source, &mut sink, disk, &mut entropy)?;
-    assert_eq!(rt; ended, status, "{text}");
-    assert_eq!(rt; sink.written(), text.as_bytes());
+    let outside = Outside {
+        words,
+        script,
+        ..FRESH
+    };
+    let ended = outside.run(alloc, disk)?;
+    assert_eq!(rt; ended.status, status, "{words}");
+    assert!(rt; ended.text.is_empty(), "{}", ended.text);
     Ok(())
 }
+
+/// Words that make an empty store.
+static BEGINNINGS: [&str; 2] = ["init", "run --fresh"];
 
 #[test]
 fn an_empty_store_begins_with_its_header_and_ends_there(rt: HostRuntime) -> Result<(), Fail> {
     let alloc = rt.alloc();
-    for words in ["init", "run --fresh"] {
+    for words in &BEGINNINGS {
         let mut disk = MemoryDisk::with_room(alloc, ROOM, &[])?;
-        run_case(&rt, alloc, words, "", &mut disk, Status::Ok, "")?;
+        check_end(&rt, alloc, words, "", &mut disk, Status::Ok)?;
         let mut bytes = [0xffu8; 9];
         assert_eq!(rt; disk.read(0, &mut bytes), Ok(9));
         assert_eq!(rt; bytes, EMPTY);
@@ -49,143 +51,141 @@ fn an_empty_store_begins_with_its_header_and_ends_there(rt: HostRuntime) -> Resu
     Ok(())
 }
 
+/// Stores that are cut, the first one within the record of its first change, and where that is seen.
+static CUT: [(&[u8], u64); 4] = [
+    (
+        &[
+            0x4b, 0x53, 0x4a, 0x52, 0x4e, 0x4c, 0x30, 0x31, 0x4b, 0, 0, 0, 9, 3, 0, 0,
+        ],
+        8,
+    ),
+    (&[], 0),
+    (&[0x4b, 0x53, 0x4a, 0x52, 0x4e, 0x4c, 0x30], 0),
+    (&[0x4b, 0x53, 0x4a, 0x52, 0x4e, 0x4c, 0x30, 0x31], 8),
+];
+
 #[test]
 fn a_cut_store_is_refused_at_its_place_and_nothing_is_written(rt: HostRuntime) -> Result<(), Fail> {
     let alloc = rt.alloc();
-    let cases: [(&[u8], u64); 4] = [(&CUT, 8), (&[], 0), (&EMPTY[..7], 0), (&EMPTY[..8], 8)];
-    for (bytes, offset) in cases {
+    for (bytes, offset) in &CUT {
         let mut disk = MemoryDisk::with_room(alloc, ROOM, &[])?;
         assert_eq!(rt; disk.write_at(0, bytes), Ok(()));
-        let status = Status::Corrupted { offset };
-        run_case(&rt, alloc, "run", CONNECT, &mut disk, status, "")?;
+        let status = Status::Corrupted { offset: *offset };
+        check_end(&rt, alloc, "run", CONNECT, &mut disk, status)?;
         assert_eq!(rt; disk.len(), Ok(bytes.len() as u64));
     }
     Ok(())
 }
 
+/// The first two calls of a device format it, and the third opens the store: words in turn, each with the status where this call fails.
+static FAULTS: [(u64, &[(&str, Status)]); 5] = [
+    (1, &[("init", Status::DiskFault)]),
+    (2, &[("init", Status::DiskFault)]),
+    (1, &[("run --fresh", Status::DiskFault)]),
+    (2, &[("run --fresh", Status::DiskFault)]),
+    (3, &[("init", Status::Ok), ("run", Status::DiskFault)]),
+];
+
 #[test]
 fn a_device_that_fails_before_the_store_is_open_ends_the_run(rt: HostRuntime) -> Result<(), Fail> {
     let alloc = rt.alloc();
-    for failing in [[1u64], [2]] {
-        for words in ["init", "run --fresh"] {
-            let mut disk = MemoryDisk::with_room(alloc, ROOM, &failing)?;
-            run_case(&rt, alloc, words, CONNECT, &mut disk, Status::DiskFault, "")?;
+    for (call, runs) in &FAULTS {
+        let failing = [*call];
+        let mut disk = MemoryDisk::with_room(alloc, ROOM, &failing)?;
+        for (words, status) in *runs {
+            check_end(&rt, alloc, words, CONNECT, &mut disk, *status)?;
         }
     }
-    let mut disk = MemoryDisk::with_room(alloc, ROOM, &[3])?;
-    run_case(&rt, alloc, "init", "", &mut disk, Status::Ok, "")?;
-    run_case(&rt, alloc, "run", CONNECT, &mut disk, Status::DiskFault, "")
+    Ok(())
 }
 
-/// Two scripts and their texts; the second is run over what the first left.
-type Runs = (&'static [&'static str], &'static [&'static str]);
+/// The system, another app, and what they and the owner do.
+const SYSTEM: &str = r#"{"t":[0,1000],"do":"connect","uid":1000}"#;
+
+const OTHER: &str = r#"{"t":[0,1000],"do":"connect","uid":10002}"#;
 
 const GRANT: &str =
-    "{\"t\":[0,1000],\"c\":1,\"do\":\"grant\",\"key\":{\"domain\":0,\"alias\":\"m\"},\"uid\":10002,\"bits\":256}\n";
+    r#"{"t":[0,1000],"c":1,"do":"grant","key":{"domain":0,"alias":"m"},"uid":10002,"bits":256}"#;
 
 const UNGRANT: &str =
-    "{\"t\":[0,1000],\"c\":1,\"do\":\"ungrant\",\"key\":{\"domain\":0,\"alias\":\"m\"},\"uid\":10002}\n";
+    r#"{"t":[0,1000],"c":1,"do":"ungrant","key":{"domain":0,"alias":"m"},"uid":10002}"#;
 
-const DELETE: &str =
-    "{\"t\":[0,1000],\"c\":1,\"do\":\"deleteKey\",\"key\":{\"domain\":0,\"alias\":\"m\"}}\n";
+const DELETE: &str = r#"{"t":[0,1000],"c":1,"do":"deleteKey","key":{"domain":0,"alias":"m"}}"#;
 
-const SYSTEM: &str = "{\"t\":[0,1000],\"do\":\"connect\",\"uid\":1000}\n";
+const CLEAR: &str = r#"{"t":[0,1000],"c":2,"do":"clearNamespace","domain":0,"nspace":10001}"#;
 
-const CLEAR: &str =
-    "{\"t\":[0,1000],\"c\":2,\"do\":\"clearNamespace\",\"domain\":0,\"nspace\":10001}\n";
-
-const REMOVE: &str = "{\"t\":[0,1000],\"c\":2,\"do\":\"userRemoved\",\"user\":0}\n";
-
-const OTHER: &str = "{\"t\":[0,1000],\"do\":\"connect\",\"uid\":10002}\n";
+const REMOVE: &str = r#"{"t":[0,1000],"c":2,"do":"userRemoved","user":0}"#;
 
 const BEGIN_GRANTED: &str =
-    "{\"t\":[0,1000],\"c\":1,\"do\":\"createOperation\",\"key\":{\"domain\":1,\"nspace\":1},\"params\":[[\"PURPOSE\",2],[\"MAC_LENGTH\",256]]}\n";
+    r#"{"t":[0,1000],"c":1,"do":"createOperation","key":{"domain":1,"nspace":1},"params":[["PURPOSE",2],["MAC_LENGTH",256]]}"#;
 
-const DONE: &str = "{\"code\":0}\n";
+const IMPORTED_AGAIN: &str = r#"{"code":0,"key":2}"#;
 
-const NO_KEY: &str = "{\"code\":7,\"rule\":\"B4\"}\n";
+const SYSTEM_CONNECTED: &str = r#"{"client":2,"code":0}"#;
 
-const IMPORTED_AGAIN: &str = "{\"code\":0,\"key\":2}\n";
+const GRANTED: &str = r#"{"code":0,"grant":1}"#;
 
 /// Each change of what lasts, made by a run, and seen by the next: a new key, a new one under its name, a key's end, a grant and
 /// its end, the end of an owner's keys and of a user's.
-static RUNS: [(Runs, Runs); 7] = [
-    (
-        (&[CONNECT, IMPORT], &[CONNECTED, IMPORTED]),
-        (&[CONNECT, BEGIN, FINISH], &[CONNECTED, BEGUN, MAC]),
-    ),
-    (
-        (
-            &[CONNECT, IMPORT, IMPORT],
-            &[CONNECTED, IMPORTED, IMPORTED_AGAIN],
-        ),
-        (&[CONNECT, BEGIN, FINISH], &[CONNECTED, BEGUN, MAC]),
-    ),
-    (
-        (&[CONNECT, IMPORT, DELETE], &[CONNECTED, IMPORTED, DONE]),
-        (
-            &[CONNECT, BEGIN, IMPORT],
-            &[CONNECTED, NO_KEY, IMPORTED_AGAIN],
-        ),
-    ),
-    (
-        (
-            &[CONNECT, IMPORT, GRANT],
-            &[CONNECTED, IMPORTED, "{\"code\":0,\"grant\":1}\n"],
-        ),
-        (&[OTHER, BEGIN_GRANTED, FINISH], &[CONNECTED, BEGUN, MAC]),
-    ),
-    (
-        (
-            &[CONNECT, IMPORT, GRANT, UNGRANT],
-            &[CONNECTED, IMPORTED, "{\"code\":0,\"grant\":1}\n", DONE],
-        ),
-        (&[OTHER, BEGIN_GRANTED], &[CONNECTED, NO_KEY]),
-    ),
-    (
-        (
-            &[CONNECT, SYSTEM, IMPORT, CLEAR],
-            &[CONNECTED, "{\"client\":2,\"code\":0}\n", IMPORTED, DONE],
-        ),
-        (&[CONNECT, BEGIN], &[CONNECTED, NO_KEY]),
-    ),
-    (
-        (
-            &[CONNECT, SYSTEM, IMPORT, REMOVE],
-            &[CONNECTED, "{\"client\":2,\"code\":0}\n", IMPORTED, DONE],
-        ),
-        (&[CONNECT, BEGIN], &[CONNECTED, NO_KEY]),
-    ),
+static LASTING: [Runs; 7] = [
+    &[
+        &[(CONNECT, CONNECTED), (IMPORT, IMPORTED)],
+        &[(CONNECT, CONNECTED), (BEGIN, BEGUN), (FINISH, MAC)],
+    ],
+    &[
+        &[
+            (CONNECT, CONNECTED),
+            (IMPORT, IMPORTED),
+            (IMPORT, IMPORTED_AGAIN),
+        ],
+        &[(CONNECT, CONNECTED), (BEGIN, BEGUN), (FINISH, MAC)],
+    ],
+    &[
+        &[(CONNECT, CONNECTED), (IMPORT, IMPORTED), (DELETE, DONE)],
+        &[
+            (CONNECT, CONNECTED),
+            (BEGIN, NO_KEY),
+            (IMPORT, IMPORTED_AGAIN),
+        ],
+    ],
+    &[
+        &[(CONNECT, CONNECTED), (IMPORT, IMPORTED), (GRANT, GRANTED)],
+        &[(OTHER, CONNECTED), (BEGIN_GRANTED, BEGUN), (FINISH, MAC)],
+    ],
+    &[
+        &[
+            (CONNECT, CONNECTED),
+            (IMPORT, IMPORTED),
+            (GRANT, GRANTED),
+            (UNGRANT, DONE),
+        ],
+        &[(OTHER, CONNECTED), (BEGIN_GRANTED, NO_KEY)],
+    ],
+    &[
+        &[
+            (CONNECT, CONNECTED),
+            (SYSTEM, SYSTEM_CONNECTED),
+            (IMPORT, IMPORTED),
+            (CLEAR, DONE),
+        ],
+        &[(CONNECT, CONNECTED), (BEGIN, NO_KEY)],
+    ],
+    &[
+        &[
+            (CONNECT, CONNECTED),
+            (SYSTEM, SYSTEM_CONNECTED),
+            (IMPORT, IMPORTED),
+            (REMOVE, DONE),
+        ],
+        &[(CONNECT, CONNECTED), (BEGIN, NO_KEY)],
+    ],
 ];
-
-/// Runs scripts over a disk, and compares their texts.
-fn run_lines(
-    rt: &impl Abort,
-    alloc: Global,
-    words: &str,
-    runs: &Runs,
-    disk: &mut MemoryDisk,
-) -> Result<(), Fail> {
-    let script = runs.0.concat(alloc)?;
-    let text = runs.1.concat(alloc)?;
-    run_case(
-        rt,
-        alloc,
-        words,
-        script.as_str(),
-        disk,
-        Status::Ok,
-        text.as_str(),
-    )
-}
 
 #[test]
 fn what_lasts_is_there_in_the_next_run(rt: HostRuntime) -> Result<(), Fail> {
     let alloc = rt.alloc();
-    let mut disk = MemoryDisk::with_room(alloc, ROOM, &[])?;
-    for (first, second) in &RUNS {
-        run_lines(&rt, alloc, "run --fresh", first, &mut disk)?;
-        run_lines(&rt, alloc, "run", second, &mut disk)?;
+    for runs in &LASTING {
+        check_runs(&rt, alloc, &[], runs)?;
     }
     Ok(())
 }

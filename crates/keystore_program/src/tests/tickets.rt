@@ -1,143 +1,148 @@
-//! Works that are held, the number of open operations, and clients that go.
+//! Works that are held, and the number of open operations. Works that come back in another order, and clients that go, are in
+//! `checks/crossed-works.jsonl` and `checks/gone-clients.jsonl`; `tools/held_orders.py` takes six works in every order.
 
-use super::script::{AES, Call, MAC, Row, Script, check, connected};
-use std::alloc::Global;
+use super::script::{
+    BEGIN, BEGUN, CONNECT, CONNECTED, DONE, IMPORT, IMPORTED, MAC, NOT_OPEN, NOTHING_OUT, Row,
+    check_each,
+};
 use std::test::Fail;
 
-pub const SIGN: &str = "PURPOSE=2 MAC_LENGTH=256";
+const DISCONNECT: &str = r#"{"t":[0,1000],"c":1,"do":"disconnect"}"#;
 
-pub const SEAL: &str =
-    "PURPOSE=0 BLOCK_MODE=32 PADDING=1 MAC_LENGTH=128 NONCE:000000000000000000000000";
+const BUSY: &str = r#"{"code":19,"rule":"S2"}"#;
 
-pub const OPEN: &str =
-    "PURPOSE=1 BLOCK_MODE=32 PADDING=1 MAC_LENGTH=128 NONCE:000000000000000000000000";
+const NO_TICKET: &str = r#"{"code":1006}"#;
 
-pub const SECRET: &str = "0b0b0b0b0b0b0b0b0b0b0b0b0b0b0b0b0b0b0b0b";
-
-pub const ZEROS: &str = "00000000000000000000000000000000";
-
-const DONE: &str = "{\"code\":0}";
-
-const NOTHING_OUT: &str = "{\"code\":0,\"out\":\"\"}";
-
-const BUSY: &str = "{\"code\":19,\"rule\":\"S2\"}";
-
-const NOT_OWN: &str = "{\"code\":-28,\"rule\":\"S1\"}";
-
-const NO_TICKET: &str = "{\"code\":1006}";
-
-const SEALED: &str = "{\"code\":0,\"out\":\"0388dace60b6a392f328c2b971b2fe78\"}";
-
-const TAG: &str = "{\"code\":0,\"out\":\"ab6e47d42cec13bdf53a67b21257bddf\"}";
-
-/// A work that is out lets no step in; what came back is no longer out.
-static HELD: [Row; 16] = [
-    (Call::Connect(10001), "{\"client\":1,\"code\":0}"),
-    (Call::Import(1, "m", MAC, SECRET), "{\"code\":0,\"key\":1}"),
-    (Call::Begin(1, "m", SIGN), "{\"code\":0,\"op\":1}"),
-    (Call::Hold(1, 1, ""), "{\"code\":0,\"ticket\":1}"),
-    (Call::Update(1, 1, "00"), BUSY),
-    (Call::Abort(1, 1), BUSY),
-    (Call::Leave(2), NO_TICKET),
-    (Call::Leave(1), NOTHING_OUT),
-    (Call::Update(1, 1, ""), NOTHING_OUT),
-    (Call::Leave(1), NO_TICKET),
-    (
-        Call::HoldLast(1, 1, "4869205468657265"),
-        "{\"code\":0,\"ticket\":3}",
-    ),
-    (Call::Disconnect(1), "{\"code\":19,\"rule\":\"A10\"}"),
-    (
-        Call::Leave(3),
-        "{\"code\":0,\"out\":\"b0344c61d8db38535ca8afceaf0bf12b881dc200c9833da726e9376c2e32cff7\"}",
-    ),
-    (Call::Leave(3), NO_TICKET),
-    (Call::Abort(1, 1), NOT_OWN),
-    (Call::Disconnect(1), DONE),
+static HELD: [&[Row]; 2] = [
+    &[
+        // A work that is out lets no step in; what came back is no longer out.
+        (CONNECT, CONNECTED),
+        (IMPORT, IMPORTED),
+        (BEGIN, BEGUN),
+        (
+            r#"{"t":[0,1000],"c":1,"do":"update","op":1,"input":"","hold":true}"#,
+            r#"{"code":0,"ticket":1}"#,
+        ),
+        (
+            r#"{"t":[0,1000],"c":1,"do":"update","op":1,"input":"00"}"#,
+            BUSY,
+        ),
+        (r#"{"t":[0,1000],"c":1,"do":"abort","op":1}"#, BUSY),
+        (r#"{"t":[0,1000],"do":"leave","ticket":2}"#, NO_TICKET),
+        (r#"{"t":[0,1000],"do":"leave","ticket":1}"#, NOTHING_OUT),
+        (
+            r#"{"t":[0,1000],"c":1,"do":"update","op":1,"input":""}"#,
+            NOTHING_OUT,
+        ),
+        (r#"{"t":[0,1000],"do":"leave","ticket":1}"#, NO_TICKET),
+        (
+            r#"{"t":[0,1000],"c":1,"do":"finish","op":1,"input":"4869205468657265","hold":true}"#,
+            r#"{"code":0,"ticket":3}"#,
+        ),
+        (DISCONNECT, r#"{"code":19,"rule":"A10"}"#),
+        (r#"{"t":[0,1000],"do":"leave","ticket":3}"#, MAC),
+        (r#"{"t":[0,1000],"do":"leave","ticket":3}"#, NO_TICKET),
+        (r#"{"t":[0,1000],"c":1,"do":"abort","op":1}"#, NOT_OPEN),
+        (DISCONNECT, DONE),
+    ],
+    &[
+        // The seventeenth operation prunes the first, and none that is busy is pruned.
+        (CONNECT, CONNECTED),
+        (IMPORT, IMPORTED),
+        (BEGIN, BEGUN),
+        (BEGIN, r#"{"code":0,"op":2}"#),
+        (BEGIN, r#"{"code":0,"op":3}"#),
+        (BEGIN, r#"{"code":0,"op":4}"#),
+        (BEGIN, r#"{"code":0,"op":5}"#),
+        (BEGIN, r#"{"code":0,"op":6}"#),
+        (BEGIN, r#"{"code":0,"op":7}"#),
+        (BEGIN, r#"{"code":0,"op":8}"#),
+        (BEGIN, r#"{"code":0,"op":9}"#),
+        (BEGIN, r#"{"code":0,"op":10}"#),
+        (BEGIN, r#"{"code":0,"op":11}"#),
+        (BEGIN, r#"{"code":0,"op":12}"#),
+        (BEGIN, r#"{"code":0,"op":13}"#),
+        (BEGIN, r#"{"code":0,"op":14}"#),
+        (BEGIN, r#"{"code":0,"op":15}"#),
+        (BEGIN, r#"{"code":0,"op":16}"#),
+        (BEGIN, r#"{"code":0,"op":17,"pruned":1}"#),
+        (
+            r#"{"t":[0,1000],"c":1,"do":"update","op":1,"input":"00"}"#,
+            NOT_OPEN,
+        ),
+        (
+            r#"{"t":[0,1000],"c":1,"do":"update","op":2,"hold":true}"#,
+            r#"{"code":0,"ticket":1}"#,
+        ),
+        (
+            r#"{"t":[0,1000],"c":1,"do":"update","op":3,"hold":true}"#,
+            r#"{"code":0,"ticket":2}"#,
+        ),
+        (
+            r#"{"t":[0,1000],"c":1,"do":"update","op":4,"hold":true}"#,
+            r#"{"code":0,"ticket":3}"#,
+        ),
+        (
+            r#"{"t":[0,1000],"c":1,"do":"update","op":5,"hold":true}"#,
+            r#"{"code":0,"ticket":4}"#,
+        ),
+        (
+            r#"{"t":[0,1000],"c":1,"do":"update","op":6,"hold":true}"#,
+            r#"{"code":0,"ticket":5}"#,
+        ),
+        (
+            r#"{"t":[0,1000],"c":1,"do":"update","op":7,"hold":true}"#,
+            r#"{"code":0,"ticket":6}"#,
+        ),
+        (
+            r#"{"t":[0,1000],"c":1,"do":"update","op":8,"hold":true}"#,
+            r#"{"code":0,"ticket":7}"#,
+        ),
+        (
+            r#"{"t":[0,1000],"c":1,"do":"update","op":9,"hold":true}"#,
+            r#"{"code":0,"ticket":8}"#,
+        ),
+        (
+            r#"{"t":[0,1000],"c":1,"do":"update","op":10,"hold":true}"#,
+            r#"{"code":0,"ticket":9}"#,
+        ),
+        (
+            r#"{"t":[0,1000],"c":1,"do":"update","op":11,"hold":true}"#,
+            r#"{"code":0,"ticket":10}"#,
+        ),
+        (
+            r#"{"t":[0,1000],"c":1,"do":"update","op":12,"hold":true}"#,
+            r#"{"code":0,"ticket":11}"#,
+        ),
+        (
+            r#"{"t":[0,1000],"c":1,"do":"update","op":13,"hold":true}"#,
+            r#"{"code":0,"ticket":12}"#,
+        ),
+        (
+            r#"{"t":[0,1000],"c":1,"do":"update","op":14,"hold":true}"#,
+            r#"{"code":0,"ticket":13}"#,
+        ),
+        (
+            r#"{"t":[0,1000],"c":1,"do":"update","op":15,"hold":true}"#,
+            r#"{"code":0,"ticket":14}"#,
+        ),
+        (
+            r#"{"t":[0,1000],"c":1,"do":"update","op":16,"hold":true}"#,
+            r#"{"code":0,"ticket":15}"#,
+        ),
+        (
+            r#"{"t":[0,1000],"c":1,"do":"update","op":17,"hold":true}"#,
+            r#"{"code":0,"ticket":16}"#,
+        ),
+        (BEGIN, r#"{"code":18,"rule":"B22"}"#),
+        (r#"{"t":[0,1000],"do":"leave","ticket":7}"#, NOTHING_OUT),
+        (BEGIN, r#"{"code":18,"rule":"B22"}"#),
+    ],
 ];
 
 #[test]
-fn a_work_that_is_out_keeps_others_away(rt: HostRuntime) -> Result<(), Fail> {
-    check(&rt, rt.alloc(), &HELD, &[])
-}
-
-/// Works of three operations come back in another order than they went out; one of them has a wrong tag.
-static CROSSED: [Row; 14] = [
-    (Call::Connect(10001), "{\"client\":1,\"code\":0}"),
-    (Call::Import(1, "a", AES, ZEROS), "{\"code\":0,\"key\":1}"),
-    (Call::Begin(1, "a", SEAL), "{\"code\":0,\"op\":1}"),
-    (Call::Begin(1, "a", SEAL), "{\"code\":0,\"op\":2}"),
-    (Call::Begin(1, "a", OPEN), "{\"code\":0,\"op\":3}"),
-    (Call::Hold(1, 1, ZEROS), "{\"code\":0,\"ticket\":1}"),
-    (Call::Hold(1, 2, ""), "{\"code\":0,\"ticket\":2}"),
-    (Call::HoldLast(1, 3, ZEROS), "{\"code\":0,\"ticket\":3}"),
-    (Call::Leave(3), "{\"code\":-30}"),
-    (Call::Leave(1), SEALED),
-    (Call::Leave(2), NOTHING_OUT),
-    (Call::Abort(1, 3), NOT_OWN),
-    (Call::Finish(1, 1, ""), TAG),
-    (Call::Update(1, 2, ZEROS), SEALED),
-];
-
-#[test]
-fn works_come_back_in_any_order(rt: HostRuntime) -> Result<(), Fail> {
-    check(&rt, rt.alloc(), &CROSSED, &[])
-}
-
-/// A client goes with its operations, and its number is not given again.
-static GONE: [Row; 9] = [
-    (Call::Disconnect(1), "{\"code\":20,\"rule\":\"A1\"}"),
-    (Call::Connect(10001), "{\"client\":1,\"code\":0}"),
-    (Call::Import(1, "m", MAC, SECRET), "{\"code\":0,\"key\":1}"),
-    (Call::Begin(1, "m", SIGN), "{\"code\":0,\"op\":1}"),
-    (Call::Disconnect(1), DONE),
-    (Call::Disconnect(1), "{\"code\":20,\"rule\":\"A1\"}"),
-    (Call::Update(1, 1, ""), NOT_OWN),
-    (Call::Connect(10001), "{\"client\":2,\"code\":0}"),
-    (Call::Begin(2, "m", SIGN), "{\"code\":0,\"op\":2}"),
-];
-
-#[test]
-fn a_client_goes_with_its_operations(rt: HostRuntime) -> Result<(), Fail> {
-    check(&rt, rt.alloc(), &GONE, &[])
-}
-
-/// A client with as many operations as there are slots, begun in the steps from 3 on.
-fn with_sixteen(alloc: Global) -> Result<Script, Fail> {
-    let mut script = connected(alloc)?;
-    script.ask(alloc, Call::Import(1, "m", MAC, SECRET))?;
-    script.want("{\"code\":0,\"key\":1}")?;
-    for number in 1..17u64 {
-        script.ask(alloc, Call::Begin(1, "m", SIGN))?;
-        script.want(format!(in alloc; "{{\"code\":0,\"op\":{number}}}")?.as_str())?;
-    }
-    Ok(script)
-}
-
-#[test]
-fn the_seventeenth_operation_prunes_the_first(rt: HostRuntime) -> Result<(), Fail> {
-    let alloc = rt.alloc();
-    let mut script = with_sixteen(alloc)?;
-    script.ask(alloc, Call::Begin(1, "m", SIGN))?;
-    script.want("{\"code\":0,\"op\":17,\"pruned\":1}")?;
-    script.ask(alloc, Call::Update(1, 1, "00"))?;
-    script.want(NOT_OWN)?;
-    script.check(&rt, alloc, &[])
-}
-
-#[test]
-fn no_operation_that_is_busy_is_pruned(rt: HostRuntime) -> Result<(), Fail> {
-    let alloc = rt.alloc();
-    let mut script = with_sixteen(alloc)?;
-    for number in 1..17u64 {
-        script.ask(alloc, Call::Hold(1, number, "00"))?;
-        script.want(format!(in alloc; "{{\"code\":0,\"ticket\":{number}}}")?.as_str())?;
-    }
-    script.ask(alloc, Call::Begin(1, "m", SIGN))?;
-    script.want("{\"code\":18,\"rule\":\"B22\"}")?;
-    script.ask(alloc, Call::Leave(7))?;
-    script.want(NOTHING_OUT)?;
-    script.ask(alloc, Call::Begin(1, "m", SIGN))?;
-    script.want("{\"code\":18,\"rule\":\"B22\"}")?;
-    script.check(&rt, alloc, &[])
+fn a_work_that_is_out_keeps_others_away_and_the_seventeenth_prunes_an_idle_one(
+    rt: HostRuntime,
+) -> Result<(), Fail> {
+    check_each(&rt, rt.alloc(), &HELD)
 }

@@ -3,8 +3,8 @@
 ghost use Rattle.std.specs.Prelude.{IfOk};
 ghost use Rattle.key_blobs.specs.Text.{IsShort};
 
-use crate::test_blobs::{KNOWN, Known, REFUSED};
-use crate::{BlobFault, Opened, Sealed, seal, unseal};
+use crate::made_blobs::{KNOWN, Known, REFUSED};
+use key_blobs::{BlobFault, Opened, Sealed, seal, unseal};
 use std::alloc::Global;
 use std::process::Abort;
 use std::test::Fail;
@@ -68,6 +68,29 @@ fn blobs_of_another_tool_open_and_are_made_again(rt: HostRuntime) -> Result<(), 
     Ok(())
 }
 
+/// What is wrong with a blob that is changed at a place, and with its front up to there.
+fn faults_at(
+    alloc: Global,
+    blob: &[u8],
+    place: usize,
+) -> Result<(Option<BlobFault>, Option<BlobFault>), Fail> {
+    let mut changed = Vec::from_slice(alloc, blob)?;
+    for byte in changed.iter_mut().skip(place).take(1) {
+        *byte ^= 1;
+    }
+    let front = blob.get(..place).unwrap_or(&[]);
+    Ok((fault(alloc, &changed), fault(alloc, front)))
+}
+
+/// What is told of a place where one fault ends and the other begins.
+fn told_before(place: usize, end: usize) -> Option<BlobFault> {
+    Some(if place < end {
+        BlobFault::Format
+    } else {
+        BlobFault::Tag
+    })
+}
+
 #[test]
 fn what_is_wrong_is_told_in_its_order(rt: HostRuntime) -> Result<(), Fail> {
     for (what, told, blob) in &REFUSED {
@@ -75,24 +98,9 @@ fn what_is_wrong_is_told_in_its_order(rt: HostRuntime) -> Result<(), Fail> {
     }
     let blob = KNOWN[1].blob;
     for place in 0..blob.len() {
-        let mut changed = Vec::from_slice(rt.alloc(), blob)?;
-        changed[place] ^= 1;
-        let told = if place < 4 {
-            BlobFault::Format
-        } else {
-            BlobFault::Tag
-        };
-        assert_eq!(rt; fault(rt.alloc(), &changed), Some(told), "byte {place}");
-        let cut = if place < 32 {
-            BlobFault::Format
-        } else {
-            BlobFault::Tag
-        };
-        assert_eq!(rt;
-            fault(rt.alloc(), &blob[..place]),
-            Some(cut),
-            "the first {place} bytes"
-        );
+        let faults = faults_at(rt.alloc(), blob, place)?;
+        let told = (told_before(place, 4), told_before(place, 32));
+        assert_eq!(rt; faults, told, "at {place}");
     }
     Ok(())
 }
