@@ -7,13 +7,16 @@ took: for each crate the processor seconds of its bodies, of its tests' proofs, 
 FILE is where the table goes, as Markdown; without it, standard output has it last. The seconds are those of the processes
 that the gate starts, read from /proc twice a second, so a process that is shorter than that is missed. A process that is
 ending has no words any more, and is not looked at again. An edit is told from a crate by its folder: the gate checks it on
-a copy. To compile what a program's check proved counts with the runs."""
+a copy. To compile what a program's check proved counts with the runs. Below the table stands after how many minutes the program
+was proved with all that it stands on, which is what a first `./keystore2` waits for at most."""
 import collections
 import os
 import subprocess
 import sys
 import threading
 import time
+
+import build
 
 TICKS = os.sysconf("SC_CLK_TCK")
 PARTS = ("bodies", "tests", "edits", "runs")
@@ -58,16 +61,18 @@ def place(words, folder):
     return crate, "edits" if os.path.basename(folder).startswith("rt-edit-") else "bodies"
 
 
-def watch(process, seen):
+def watch(process, seen, last):
+    start = time.time()
     while process.poll() is None:
         for pid, (words, folder, seconds) in below(process.pid).items():
             at = place(words, folder)
             if at:
                 seen[pid, *at] = max(seconds, seen.get((pid, *at), 0))
+                last[at] = (time.time() - start) / 60
         time.sleep(0.5)
 
 
-def table(seen, minutes):
+def table(seen, last, minutes):
     sums = collections.defaultdict(lambda: dict.fromkeys(PARTS, 0.0))
     for (_pid, crate, part), seconds in seen.items():
         sums[crate][part] += seconds
@@ -77,19 +82,20 @@ def table(seen, minutes):
         rows.append(f"| {crate} | " + " | ".join(f"{it:.0f}" for it in [*parts, sum(parts)]) + " |")
     totals = [sum(it[part] for it in sums.values()) for part in PARTS]
     rows.append("| all | " + " | ".join(f"{it:.0f}" for it in [*totals, sum(totals)]) + " |")
-    rows.append(f"\nSeconds of processor; {minutes:.1f} minutes by the clock on {os.cpu_count()} processors.")
+    proved = max(last.get((it, "bodies"), 0) for it in build.needed(build.libraries(), build.PROGRAM))
+    rows.append(f"\nSeconds of processor; {minutes:.1f} minutes by the clock on {os.cpu_count()} processors; the program was proved after {proved:.1f}.")
     return "\n".join(rows) + "\n"
 
 
 def main():
-    start, seen = time.time(), {}
+    start, seen, last = time.time(), {}, {}
     process = subprocess.Popen(["rt", "ci", "--anew"], stdout=subprocess.PIPE, stderr=subprocess.STDOUT, text=True, errors="replace")
-    watcher = threading.Thread(target=watch, args=(process, seen), daemon=True)
+    watcher = threading.Thread(target=watch, args=(process, seen, last), daemon=True)
     watcher.start()
     for line in process.stdout:
         print(line, end="", flush=True)
     status = process.wait()
-    text = table(seen, (time.time() - start) / 60)
+    text = table(seen, last, (time.time() - start) / 60)
     if len(sys.argv) > 1:
         with open(sys.argv[1], "w", encoding="utf-8") as out:
             out.write(text)

@@ -165,7 +165,8 @@ class Service:
         self.step += 1
 
     def settle(self, is_kept):
-        """Settles the change that waits, whose operations use the same keys then."""
+        """Settles the change that waits, which is an entry of its own; operations use the same keys then."""
+        self.step += 1
         if is_kept:
             self.store = self.waiting
             for operation in self.operations.values():
