@@ -1,6 +1,6 @@
 -- The lines of a load, served one after another over an empty store.
-use Rattle.std.proofs.Common.{◌≡◌, ℕ, ℤ, zero, suc, ◌+◌, ◌≤◌, ◌<◌, ◌⊎◌, inl, inr, Bool, true, false, ◌||◌, List, [], ◌∷◌, ◌++◌, length, max, take, drop, replicate, Option, Some, None, Ok, is_some, refl, sym, ap, ◌∙◌, subst, arith, append_assoc, append-nil, length-append, length-take}
-use Rattle.ks_outside.specs.Draws.{Draws, followed}
+use Rattle.std.proofs.Common.{◌≡◌, ℕ, ℤ, zero, suc, ◌+◌, ◌≤◌, ◌<◌, inl, inr, Bool, true, false, ◌||◌, List, [], ◌∷◌, ◌++◌, length, max, take, replicate, Option, Some, None, Ok, is_some, refl, sym, ap, ◌∙◌, subst, arith, append_assoc, append-nil, length-append, length-take}
+use Rattle.ks_outside.specs.Draws.{Draws}
 use Rattle.ks_outside.specs.Images.{AllImages, Passes, TornFrom, tells}
 use Rattle.ks_outside.specs.Seeded.{bytes_from}
 use Rattle.ks_outside.specs.Shown.{Put}
@@ -34,7 +34,7 @@ use Rattle.keystore_program.specs.declared.answer.Answer.{Answer}
 use Rattle.keystore_program.specs.declared.session.Session.{Session}
 use Rattle.keystore_program.specs.declared.status.Status.{Status}
 use Rattle.keystore_program.specs.declared.status.Status.TheVariants as statuses
-use Rattle.keystore_program.specs.Answers.{IsAnswer, code_of}
+use Rattle.keystore_program.specs.Answers.{IsAnswer}
 use Rattle.keystore_program.specs.Drawn.{DrewAll}
 use Rattle.keystore_program.specs.Ends.{is_read_fault}
 use Rattle.keystore_program.specs.Follows.{Follows}
@@ -42,7 +42,7 @@ use Rattle.keystore_program.specs.Jobs.{JobsStand}
 use Rattle.keystore_program.specs.Loading.{IsEmptyDisk, IsLoadSession, IsLoaded}
 use Rattle.keystore_program.specs.Runs.{IsStart, is_disk_status}
 use Rattle.keystore_program.specs.Session.{Serves, StandsFor, devices, engine_of, jobs_of}
-use Rattle.keystore_program.specs.Soak.{AreLasting, IsCutSummary, IsLoadSetup, IsSummaryOf, Soaks, demo_device, demo_policy, is_failure, number_of, numbers_of, tells_failure, text_of}
+use Rattle.keystore_program.specs.Soak.{AreLasting, IsLoadSetup, IsSummaryOf, Soaks, demo_device, demo_policy, is_failure, number_of, numbers_of, tells_failure, text_of}
 use Rattle.keystore_program.proofs.DrawLemmas.{drew_none, drew_on}
 use Rattle.keystore_program.proofs.LineLemmas.{follows_more}
 use Rattle.keystore_program.proofs.Openings.{opened_images, session_stands, setup_of}

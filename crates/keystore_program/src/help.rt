@@ -21,10 +21,12 @@ Examples:
 /// The command, whose subcommands are the first words of the forms.
 fn command(alloc: Global) -> Result<Command<'static>, AllocError> {
     let init = Command::new(alloc, "init").about("Makes an empty store; what it held is lost");
-    let run = Command::new(alloc, "run")
-        .about("Serves a script over the store, which --fresh makes anew, with N slots for operations");
-    let soak = Command::new(alloc, "soak")
-        .about("Serves the load of a seed over a store in memory, and prints its summary");
+    let run = Command::new(alloc, "run").about(
+        "Serves a script over the store, which --fresh makes anew, with N slots for operations",
+    );
+    let soak = Command::new(alloc, "soak").about(
+        "Serves the load of a seed over a store in memory, and prints its summary",
+    );
     Command::new(alloc, "keystore2")
         .version("0.1.0")
         .about("The key service of an Android device for symmetric keys, over a script of calls")

@@ -1,4 +1,4 @@
-use Rattle.std.proofs.Common.{◌≡◌, ◌≤◌, Bool, true, false, None, subst, sym, refl, arith}
+use Rattle.std.proofs.Common.{◌≡◌, Bool, true, false, subst, sym, refl, arith}
 use Rattle.ks_outside.specs.Faults.{CountsFaults}
 use Rattle.ks_outside.proofs.Shown.{counts_none}
 use Rattle.keystore_program.specs.declared.words.Form.{Form}
