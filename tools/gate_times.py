@@ -1,8 +1,10 @@
 #!/usr/bin/env python3
-"""Runs the gate from nothing, `rt ci --anew`, at the top of the repository, passes its output on, and writes how long each part of it
-took: for each crate the processor seconds of its bodies, of its tests' proofs, of its edits and of its runs, and their sums.
+"""Runs the gate, `rt ci`, at the top of the repository, passes its output on, and writes how long each part of it took: for each
+crate the processor seconds of its bodies, of its tests' proofs, of its edits and of its runs, and their sums.
 
-    python3 tools/gate_times.py [FILE]
+    python3 tools/gate_times.py [FILE [--anew]]
+
+What an earlier run on the machine kept is not done again, unless `--anew` says so; then nothing is kept for a later one either.
 
 FILE is where the table goes, as Markdown; without it, standard output has it last. The seconds are those of the processes
 that the gate starts, read from /proc twice a second, so a process that is shorter than that is missed. A process that is
@@ -89,7 +91,7 @@ def table(seen, last, minutes):
 
 def main():
     start, seen, last = time.time(), {}, {}
-    process = subprocess.Popen(["rt", "ci", "--anew"], stdout=subprocess.PIPE, stderr=subprocess.STDOUT, text=True, errors="replace")
+    process = subprocess.Popen(["rt", "ci", *sys.argv[2:]], stdout=subprocess.PIPE, stderr=subprocess.STDOUT, text=True, errors="replace")
     watcher = threading.Thread(target=watch, args=(process, seen, last), daemon=True)
     watcher.start()
     for line in process.stdout:
