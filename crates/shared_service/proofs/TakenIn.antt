@@ -1,0 +1,37 @@
+-- The passes that the last turn has taken in, from the last one on.
+use Rattle.std.proofs.Common.{◌≡◌, ℕ, ◌+◌, ◌<◌, ◌≤◌, List, [], ◌∷◌, ◌++◌, length, get_or, refl, sym, ap, ◌∙◌, subst, arith, length-append}
+use Rattle.std.proofs.lemmas.List.{get_or_append_left}
+use Rattle.std.proofs.Math.Seq.{get_or-append_seam}
+use mathlib.Core.Logic.{dite}
+use native.Mathlib.Decide.{ℕ_discrete}
+
+-- All were given, and these are left; T holds of the others. What T speaks of may become another, of which it holds still.
+pub record IsTaking {A : Type 0} (T : A → Type 0) (all left : List A) : Type 0 where
+  pub within : length left ≤ length all
+  pub same : (k : ℕ) (d : A) → k < length left → get_or all k d ≡ get_or left k d
+  pub took : (k : ℕ) (d : A) → length left ≤ k → k < length all → T (get_or all k d)
+
+pub takes_none : {A : Type 0} (T : A → Type 0) (all : List A) → IsTaking T all all
+takes_none T all = record { within = omega arith; same = λ k d lt. refl; took = λ k d ge lt. absurd (omega arith) }
+
+pub takes_one : {A : Type 0} (T T' : A → Type 0) (all left left' : List A) (p : A) → IsTaking T all left → left ≡ left' ++ p ∷ [] → T' p → ((x : A) → T x → T' x) → IsTaking T' all left'
+takes_one {A} T T' all left left' p t e took kept =
+    let long : length left ≡ length left' + 1 = ap length e ∙ length-append left' (p ∷ []) in
+    let within = t.within in
+    record {
+      within = omega arith;
+      same = λ k d lt. t.same k d (omega arith) ∙ (ap (λ (l : List A). get_or l k d) e ∙ get_or_append_left left' (p ∷ []) d k lt);
+      took = λ k d ge lt. dite (ℕ_discrete k (length left'))
+          (λ at.
+          let here : get_or all k d ≡ p = t.same k d (omega arith) ∙ (ap (λ (l : List A). get_or l k d) e ∙ (ap (λ (n : ℕ). get_or (left' ++ p ∷ []) n d) at ∙ get_or-append_seam left' p [] d)) in
+          subst T' (sym here) took)
+          (λ ne. kept (get_or all k d) (t.took k d (omega arith) lt));
+    }
+
+-- what is left is of those that were given
+pub left_each : {A : Type 0} (T P : A → Type 0) (all left left' : List A) (p : A) → IsTaking T all left → left ≡ left' ++ p ∷ [] → ((k : ℕ) (d : A) → k < length all → P (get_or all k d)) → P p
+left_each {A} T P all left left' p t e each =
+    let long : length left ≡ length left' + 1 = ap length e ∙ length-append left' (p ∷ []) in
+    let within = t.within in
+    let here : get_or all (length left') p ≡ p = t.same (length left') p (omega arith) ∙ (ap (λ (l : List A). get_or l (length left') p) e ∙ get_or-append_seam left' p [] p) in
+    subst P here (each (length left') p (omega arith))
