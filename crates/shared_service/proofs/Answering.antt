@@ -32,7 +32,7 @@ by_kind setup past e event drawn reply calm causes goes (NotRestarted code is) =
 
 newest_answer : (setup : Setup) (next : Option Event) (e : BookEntry) (entry : Entry) (log : List BookEntry) → LegalBefore setup next (entry ∷ history_of log) → IsMadeBy e entry log → IsCalm e → IsAnswer setup (history_of log) entry
 newest_answer setup next e (Settling settled) log legal made calm = tt
-newest_answer setup next e (Acted event drawn reply) log legal made calm goes = by_kind setup (history_of log) e event drawn reply calm made.0 goes legal.0
+newest_answer setup next e (Acted event drawn reply) log legal made calm = λ goes. by_kind setup (history_of log) e event drawn reply calm made.0 goes legal.0
 
 -- what stands before an entry is legal before it
 before : (setup : Setup) (next : Option Event) (entry : Entry) (past : History) → LegalBefore setup next (entry ∷ past) → (later : Option Event) × LegalBefore setup later past

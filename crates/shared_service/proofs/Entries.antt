@@ -92,7 +92,7 @@ quiet_stopped : (act : Act) → is_leave act ≡ false → stopped_ticket act �
 quiet_stopped (Leave ticket) l = cc
 quiet_stopped _ l = refl
 
-quiet_change : (event : Event) (drawn : List ℕ) (reply : Reply) → is_leave event.act ≡ false → is_restart event.act ≡ false → admits is_enter (Acted event drawn reply) ≡ false → ticket_change event reply ≡ SameTickets
+pub quiet_change : (event : Event) (drawn : List ℕ) (reply : Reply) → is_leave event.act ≡ false → is_restart event.act ≡ false → admits is_enter (Acted event drawn reply) ≡ false → ticket_change event reply ≡ SameTickets
 quiet_change event drawn (Done fields) l r e = quiet_done event.act fields l r e
 quiet_change event drawn (Broken rule code) l r e = refl
 quiet_change event drawn (Stopped code) l r e = quiet_stopped event.act l

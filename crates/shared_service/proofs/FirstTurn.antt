@@ -192,7 +192,7 @@ entered_made name pass client connected next reading act front log book reply jo
     let mine : is_enter s.event.act ≡ true = ap (λ (e : Event). is_enter e.act) same ∙ enters in
     let given : ticket_in s.reply ≡ Some x.ticket = ap ticket_in asked.made.reply_is ∙ goes.0 in
     let grows = extends (entries_of pass s) asked.made.grown in
-    let was : next ≡ (client, connected) = is ∙ enter_after act reply (client, connected) enters in
+    let was : ◌≡◌ {A = ℕ × Bool} next (client, connected) = is ∙ enter_after act reply (client, connected) enters in
     let after : next ≡ client_after (kind_of s.event.act) s.reply (client, connected) =
     is ∙ (λ i. client_after (kind_of (sym same i).act) (sym asked.made.reply_is i) (client, connected)) in
     let now = caller_after pass s log book client connected next asked.made.grown caller.client_is caller.connected_is after in

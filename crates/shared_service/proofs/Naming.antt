@@ -14,15 +14,15 @@ use Rattle.shared_service.specs.Requests.{IsCaller}
 named_once : {E K : Type 0} (hands : List (Hand E K)) (a b : K) → length hands ≡ 1 → AllNamed a hands → AllNamed b hands → a ≡ b
 named_once [] a b one p q = absurd (none one)
   where
-    none : 0 ≡ 1 → ⊥
+    none : ◌≡◌ {A = ℕ} 0 1 → ⊥
     none e = omega arith
 named_once (h ∷ hands) a b one p q = sym p.0 ∙ q.0
 
 -- what is seen under one name of the pass is seen under each
 pub seen_named : (pass : RestingPass BookEntry Name) (lock other : TableId) (name named : Name) (number : ℕ) (front : List BookEntry) (client : ℕ) (connected : Bool) → IsRestingPassAt lock name pass → IsRestingPassAt other named pass
     → ∥ HasSeen name number front client connected ∥₁ → ∥ HasSeen named number front client connected ∥₁
-seen_named pass lock other name named number front client connected at as seen =
-    subst (λ (n : Name). ∥ HasSeen n number front client connected ∥₁) (named_once _ name named pass.single at.named as.named) seen
+seen_named pass lock other name named number front client connected at there seen =
+    subst (λ (n : Name). ∥ HasSeen n number front client connected ∥₁) (named_once _ name named pass.single at.named there.named) seen
 
 pub caller_prop : (pass client : ℕ) (connected : Bool) (log : List BookEntry) → IsProp (IsCaller pass client connected log)
 caller_prop pass client connected log = hlevel props

@@ -24,8 +24,8 @@ use Rattle.rule_model.specs.declared.reply.Fields.{Fields}
 use Rattle.rule_model.specs.declared.reply.Reply.{Reply}
 use Rattle.rule_model.specs.declared.reply.Reply.TheVariants.{Done, Broken, Stopped}
 use Rattle.rule_model.specs.Access.{id_by}
-use Rattle.rule_model.specs.Acts.{fixed_for, is_built, is_connect, is_enter, is_restart}
-use Rattle.rule_model.specs.Answer.{answer, answer_by_rules, answer_stored, given_or, leaving, malformed, out_of}
+use Rattle.rule_model.specs.Acts.{fixed_for, is_connect, is_enter, is_restart}
+use Rattle.rule_model.specs.Answer.{answer, answer_by_rules, answer_stored, given_or, leaving, out_of}
 use Rattle.rule_model.specs.Calls.{disconnect_ruling, grant_ruling, granted_in, key_entry}
 use Rattle.rule_model.specs.Clients.{caller_of, uid_of}
 use Rattle.rule_model.specs.Drawn.{size_of, wanted}
@@ -38,7 +38,7 @@ use Rattle.rule_model.specs.Replies.{broken_or, no_fields}
 use Rattle.rule_model.specs.Setup.{Setup}
 use Rattle.rule_model.specs.Stored.{change_by, where_stored}
 use Rattle.rule_model.specs.Tickets.{ComesBack, Entered, next_ticket, stopped_ticket, ticket_at, ticket_change, admitted_ticket}
-use Rattle.rule_model.proofs.Admitted.{answered_done, broken_done, broken_fields, built_is}
+use Rattle.rule_model.proofs.Admitted.{answered_done, broken_done, broken_fields}
 use Rattle.service_book.specs.Limits.{is_disconnect, is_leave}
 
 -- ---- an admitted answer is by the rules
@@ -55,8 +55,7 @@ stored_is bytes (Some change) (Stopped code) fields e = cc
 pub by_rules : (setup : Setup) (past : History) (event : Event) (drawn : List ℕ) (fields : Fields) → MayFollow setup past event drawn (Done fields) → Done fields ≡ answer_by_rules event.act setup past (caller_of past event) drawn
 by_rules setup past event drawn fields may =
     let is = answered_done setup past event drawn fields may in
-    stored_is _ _ (answer_by_rules event.act setup past (caller_of past event) drawn) fields
-    (built_is (is_built event.act) (answer_stored event.act setup past (caller_of past event) drawn) fields is.is_answer)
+    stored_is _ _ (answer_by_rules event.act setup past (caller_of past event) drawn) fields is.is_answer
 
 -- the ticket of an admitted enter
 entering_ticket : {T : Type 0} (ruling : Result T (Rule × Code)) (given fields : Fields) (next : ℕ) → given.ticket ≡ Some next → Done fields ≡ broken_or ruling (Done given) → fields.ticket ≡ Some next
@@ -252,8 +251,7 @@ system_lacks : Lacks (Stopped SystemError)
 system_lacks e = cc
 
 pub never_no_ticket : (setup : Setup) (past : History) (event : Event) (drawn : List ℕ) (reply : Reply) → is_leave event.act ≡ false → MayFollow setup past event drawn reply → reply ≢ Stopped NoTicket
-never_no_ticket setup past event drawn reply l (Answered is) = subst Lacks (sym is.is_answer) (if_no (is_built event.act) (answer_stored event.act setup past (caller_of past event) drawn) malformed
-    (stored_no _ _ (answer_by_rules event.act setup past (caller_of past event) drawn) (rules_no event.act setup past (caller_of past event) drawn l)) (broken_lacks _ _))
+never_no_ticket setup past event drawn reply l (Answered is) = subst Lacks (sym is.is_answer) (stored_no _ _ (answer_by_rules event.act setup past (caller_of past event) drawn) (rules_no event.act setup past (caller_of past event) drawn l))
 never_no_ticket setup past event drawn reply l (WithoutMemory is) = subst Lacks (sym is.is_want) want_lacks
 never_no_ticket setup past event drawn reply l (WithoutEntropy is) = subst Lacks (sym is.is_fault) entropy_lacks
 never_no_ticket setup past event drawn reply l (Faulted is) = subst Lacks (sym is.is_fault) system_lacks

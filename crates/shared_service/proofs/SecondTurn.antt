@@ -126,7 +126,7 @@ pub caller_left : (name : Name) (pass client : ℕ) (connected : Bool) (reading 
     → IsEntered name pass client connected reading act old front first ticket room → IsFrontOf by pass front book → HasLeft name pass client reading ticket book new reply → IsCaller pass client connected (log_of new)
 caller_left name pass client connected reading act old front book new first ticket room reply entered begins left =
     let leaves : left.s.event.act ≡ Leave ticket = ap (λ (e : Event). e.act) left.event_is in
-    let after : (client, connected) ≡ client_after (kind_of left.s.event.act) left.s.reply (client, connected) =
+    let after : ◌≡◌ {A = ℕ × Bool} (client, connected) (client_after (kind_of left.s.event.act) left.s.reply (client, connected)) =
     sym (leave_after ticket left.s.reply (client, connected)) ∙ ap (λ (a : Act). client_after (kind_of a) left.s.reply (client, connected)) (sym leaves) in
     let now = caller_after pass left.s book new client connected (client, connected) left.grown
     (entered.client_is ∙ ap (λ (o : Option ℕ). unwrap_or o 0) (same_client pass front book begins.owned)) (entered.connected_is ∙ same_connected pass front book begins.owned) after in

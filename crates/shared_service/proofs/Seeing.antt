@@ -77,10 +77,10 @@ module _ (pass : ℕ) (s : OneStep) (log : List BookEntry) where
       ∙ ap (λ (o : Option ℕ). if is_leave s.event.act then None else later_ticket (ticket_given (Acted s.event s.drawn s.reply)) o) (settled_out s.settled)
 
 -- the client that the pass keeps is its own after the step
-after_reply : (act : Act) (reply : Reply) (before : Option ℕ) (connected : Bool) → client_after (kind_of act) reply (unwrap_or before 0, connected)
-    ≡ (unwrap_or (later_client (if is_connect act then Rattle.service_book.specs.Book.client_in reply else None) before) 0, if is_done reply && is_connect act then true else if is_done reply && is_disconnect act then false else connected)
+after_reply : (act : Act) (reply : Reply) (before : Option ℕ) (connected : Bool) → ◌≡◌ {A = ℕ × Bool} (client_after (kind_of act) reply (unwrap_or before 0, connected))
+    (unwrap_or (later_client (if is_connect act then Rattle.service_book.specs.Book.client_in reply else None) before) 0, if is_done reply && is_connect act then true else if is_done reply && is_disconnect act then false else connected)
 after_reply (Connect uid) (Done fields) before connected = by_client fields.client where
-  by_client : (given : Option ℕ) → (unwrap_or given (unwrap_or before 0), true) ≡ (unwrap_or (later_client given before) 0, true)
+  by_client : (given : Option ℕ) → ◌≡◌ {A = ℕ × Bool} (unwrap_or given (unwrap_or before 0), true) (unwrap_or (later_client given before) 0, true)
   by_client None = refl
   by_client (Some client) = refl
 after_reply (Connect uid) (Broken rule code) before connected = refl
@@ -96,7 +96,7 @@ pub caller_after : (pass : ℕ) (s : OneStep) (old new : List BookEntry) (client
     → connected ≡ is_connected pass (log_of old) → next ≡ client_after (kind_of s.event.act) s.reply (client, connected) → (next.0 ≡ unwrap_or (client_of pass (log_of new)) 0) × (next.1 ≡ is_connected pass (log_of new))
 caller_after pass s old new client connected next grown client_is connected_is is =
     let log : log_of new ≡ step_log pass s (log_of old) = ap log_of grown ∙ log_step pass s old in
-    let before : (client, connected) ≡ (unwrap_or (client_of pass (log_of old)) 0, is_connected pass (log_of old)) = λ i. (client_is i, connected_is i) in
+    let before : ◌≡◌ {A = ℕ × Bool} (client, connected) (unwrap_or (client_of pass (log_of old)) 0, is_connected pass (log_of old)) = λ i. (client_is i, connected_is i) in
     let both = is ∙ (ap (client_after (kind_of s.event.act) s.reply) before ∙ after_reply s.event.act s.reply (client_of pass (log_of old)) (is_connected pass (log_of old))) in
     (ap (λ (p : ℕ × Bool). p.0) both ∙ sym (ap (λ (l : List BookEntry). unwrap_or (client_of pass l) 0) log ∙ ap (λ (o : Option ℕ). unwrap_or o 0) (step_client pass s (log_of old))),
     ap (λ (p : ℕ × Bool). p.1) both ∙ sym (ap (is_connected pass) log ∙ step_connected pass s (log_of old)))

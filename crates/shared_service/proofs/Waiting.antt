@@ -61,10 +61,10 @@ waited_settled pass s v log (o ∷ opened) all = (one_settled pass s v log o o.t
 
 pub all_left : (log : List BookEntry) (test : Open → Bool) (opened : List Open) → AllWaitedFor log opened → AllWaitedFor log (filter test opened)
 all_left log test [] all = tt
-all_left log test (o ∷ opened) all = by_test (test o) where
-  by_test : (b : Bool) → AllWaitedFor log (if b then o ∷ filter test opened else filter test opened)
-  by_test true = (all.0, all_left log test opened all.1)
-  by_test false = all_left log test opened all.1
+all_left log test (o ∷ opened) all = by_test (test o) (all_left log test opened all.1) where
+  by_test : (b : Bool) → AllWaitedFor log (filter test opened) → AllWaitedFor log (if b then o ∷ filter test opened else filter test opened)
+  by_test true rest = (all.0, rest)
+  by_test false rest = rest
 
 all_shown : (log : List BookEntry) (test : Open → Bool) (opened : List Open) → AllWaitedFor log opened → AllWaitedFor log (map (λ o. if test o then as_shown o else o) opened)
 all_shown log test [] all = tt
@@ -309,7 +309,7 @@ left_operation : (setup : Setup) (past : History) (event : Event) (drawn : List 
 left_operation setup past event drawn ticket None e = ap (λ (a : Act). stopped_operation (is_faulted (is_unsettled past) event.act (Stopped Rattle.tags.specs.declared.code.Code.TheVariants.NoTicket)) a past) e
 left_operation setup past event drawn ticket (Some entered) e = by_result _ where
   by_result : (r : Result (List ℕ) Code) → operation_change_in setup (kept setup past) past event drawn (given_or entered.work r) ≡ returns (ticket_at past ticket)
-  by_result (Ok bytes) = ap (λ (a : Act). admitted_operation a setup (kept setup past) past event drawn _) e
+  by_result (Ok bytes) = ap (λ (a : Act). admitted_operation a setup (kept setup past) past event drawn (record Rattle.rule_model.specs.Replies.no_fields { out = Rattle.rule_model.specs.Answer.out_of entered.work bytes })) e
   by_result (Err code) = ap (λ (a : Act). stopped_operation (is_faulted (is_unsettled past) event.act (Stopped code)) a past) e
 
 done_of : (reply : Reply) → is_done reply ≡ true → (fields : Fields) × (reply ≡ Done fields)

@@ -1,5 +1,5 @@
 -- What contracts say of a service and of its passes.
-use Rattle.std.specs.Prelude.{◌≡◌, ◌+◌, ◌<◌, ◌==◌, ℕ, Bool, true, false, List, [], length, Option, Some, None}
+use Rattle.std.specs.Prelude.{◌≡◌, ◌+◌, ◌<◌, ◌==◌, ℕ, Bool, true, false, List, [], length, get_or, Option, Some, None}
 use Rattle.std.specs.List.{list_any}
 use Rattle.ks_outside.specs.declared.disk.Disk.{Ghosts as DiskGhosts}
 use Rattle.ks_outside.specs.declared.entropy.Entropy.{Ghosts as EntropyGhosts}
@@ -70,6 +70,10 @@ has_number number passes = list_any (λ (p : Pass). number_of p == number) passe
 -- all passes of the numbers below a count are among them
 abbrev pub HasAll : ℕ → List Pass → Type 0
 HasAll count passes = (number : ℕ) → number < count → has_number number passes ≡ true
+
+-- they are numbered in their order, from 0
+abbrev pub AreNumbered : List Pass → Type 0
+AreNumbered passes = (k : ℕ) (d : Pass) → k < length passes → number_of (get_or passes k d) ≡ k
 
 -- a pass that has seen nothing, and has no client
 abbrev pub IsNew : Pass → Type 0

@@ -59,7 +59,7 @@ fn ticket_in(reply: &Reply) -> Option<u64>
 }
 
 /// The work that goes out with a reply.
-pub(super) fn sent(reply: &Reply, job: Option<Job>, room: Option<ReplyRoom>) -> Option<Sent>
+pub(super) fn sent_with(reply: &Reply, job: Option<Job>, room: Option<ReplyRoom>) -> Option<Sent>
     ensures { result ≡ sending.sent (ticket_in reply.now) job room }
 {
     let ticket = ticket_in(reply)?;

@@ -9,7 +9,7 @@ ghost use Rattle.keystore_core.specs.Engine.{Stands, StoreStands};
 ghost use Rattle.shared_service.specs.declared.name.Name.{Name};
 ghost use Rattle.shared_service.specs.declared.pass.Pass.{Pass};
 ghost use Rattle.shared_service.specs.Making.{HasSetup};
-ghost use Rattle.shared_service.specs.Passes.{HasAll, HoldsMaker, IsNew, IsNewPass, IsOurs, engine_of, passes_of, start_of};
+ghost use Rattle.shared_service.specs.Passes.{AreNumbered, HasAll, HoldsMaker, IsNew, IsNewPass, IsOurs, engine_of, passes_of, start_of};
 
 use super::Shared;
 use crate::desk::Desk;
@@ -95,6 +95,7 @@ impl<D: Disk, N: Entropy> Shared<D, N> {
         ensures count { IfOk result (λ r. (passes_of r.0 ≡ passes) × (length r.1.items ≡ passes)) }
         ensures ours { IfOk result (λ r. All (IsOurs r.0) r.1.items) }
         ensures new { IfOk result (λ r. All IsNew r.1.items) }
+        ensures numbers { IfOk result (λ r. AreNumbered r.1.items) }
         ensures all { IfOk result (λ r. HasAll passes r.1.items) }
         ensures back { IfErr result (λ back. (back.1 ≡ engine) × (back.2 ≡ disk) × (back.3 ≡ entropy)) }
     {

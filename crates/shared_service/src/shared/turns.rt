@@ -14,7 +14,7 @@ ghost use Rattle.shared_service.specs.Kinds.{client_after, kind_of};
 ghost use Rattle.shared_service.specs.Passes.{HoldsMaker, IsOurs, connected_of, front_of, number_of, passes_of, service_lock, service_name};
 
 use super::Shared;
-use super::away::{Asked, Away, Kept, Sent, sent};
+use super::away::{Asked, Away, Kept, Sent, sent_with};
 use crate::made::{Made, Requested};
 use crate::name::Name;
 use crate::pass::Pass;
@@ -154,7 +154,7 @@ impl<D: Disk, N: Entropy> Shared<D, N> {
                     connected,
                     maker,
                 };
-                match sent(&reply, job, leave) {
+                match sent_with(&reply, job, leave) {
                     Some(Sent { ticket, job, room }) => {
                         let away = Away {
                             pass,
