@@ -1,6 +1,6 @@
 -- What the first turn of a call comes to.
 use Rattle.std.proofs.Common.{◌≡◌, ◌≢◌, ℕ, ◌+◌, ◌<◌, ◌^◌, ◌&&◌, Bool, true, false, if◌then◌else◌, List, [], ◌∷◌, ◌++◌, length, Option, Some, None, unwrap_or, refl, sym, ap, ◌∙◌, subst, inl, inr, arith, ⊎_elim}
-use Rattle.std.proofs.Math.Logic.{∥∥₁_elim, ∥∥₁_map}
+use Rattle.std.proofs.Math.Logic.{∥∥₁_elim, ∥∥₁_map, ∥∥₁_map₂}
 use Rattle.ks_outside.specs.declared.clock.Reading.{Reading}
 use Rattle.ks_outside.specs.declared.disk.Disk.{Ghosts as DiskGhosts}
 use Rattle.ks_outside.specs.declared.entropy.Entropy.{Ghosts as EntropyGhosts}
@@ -215,7 +215,7 @@ entered_made name pass client connected next reading act front log book reply jo
     }
   where
     differ : is_parting act pass (log_of log) ≡ true → is_disconnect act ≡ false → ⊥
-    differ p no = let none : is_parting act pass (log_of log) ≡ false = ap (λ (b : Bool). b && is_connected pass (log_of log)) no in cc
+    differ p other = let none : is_parting act pass (log_of log) ≡ false = ap (λ (b : Bool). b && is_connected pass (log_of log)) other in cc
 
 -- ---- what is seen afterwards
 
@@ -245,11 +245,34 @@ first_caller name m n client connected front book is seen same =
 
 pub seen_after : {D N : Type 0} (d : DiskGhosts D) (n : EntropyGhosts N) (name named : Name) (engine : Engine) (disk : D) (entropy : N) (book front : List BookEntry) (number m client : ℕ) (connected : Bool) → ∥ IsDesk d n name engine disk entropy book ∥₁
     → IsCaller number client connected (log_of book) → name ≡ named → m ≡ number → front ≡ book → ∥ HasSeen named m front client connected ∥₁
-seen_after d n name named engine disk entropy book front number m client connected desk caller p q r = ∥∥₁_map (λ t.
-    subst (λ (z : Name × ℕ × List BookEntry). HasSeen z.0 z.1 z.2 client connected) (λ i. (p i, sym q i, sym r i)) (seen_of d n name engine disk entropy book number client connected t caller)) desk
+seen_after {D} {N} d n name named engine disk entropy book front number m client connected desk caller p q r =
+    let seen : IsDesk d n name engine disk entropy book → HasSeen named m front client connected = λ t.
+    subst (λ (z : Name × ℕ × List BookEntry). HasSeen z.0 z.1 z.2 client connected) (λ i. (p i, sym q i, sym r i)) (seen_of d n name engine disk entropy book number client connected t caller) in
+    ∥∥₁_map desk seen
+
+pub seen_same : (name : Name) (number m client : ℕ) (connected : Bool) (front f : List BookEntry) → m ≡ number → f ≡ front → ∥ HasSeen name number front client connected ∥₁ → ∥ HasSeen name m f client connected ∥₁
+seen_same name number m client connected front f p q seen = subst (λ (z : ℕ × List BookEntry). ∥ HasSeen name z.0 z.1 client connected ∥₁) (λ i. (sym p i, sym q i)) seen
+
+pub seen_made : {D N : Type 0} (d : DiskGhosts D) (n : EntropyGhosts N) (old name named : Name) (engine : Engine) (disk : D) (entropy : N) (log book front : List BookEntry) (pass m client : ℕ) (connected : Bool) (next : ℕ × Bool) (reading : Reading) (act : Act) (reply : Reply)
+    (job : Option Job) (leave : Option FieldSizes) → ∥ IsDesk d n name engine disk entropy book ∥₁ → ∥ IsRequested old pass (event_for reading act pass (log_of log)) log book reply job leave ∥₁ → IsCaller pass client connected (log_of log)
+    → next ≡ client_after (kind_of act) reply (client, connected) → sent (ticket_in reply) job leave ≡ None → name ≡ named → m ≡ pass → front ≡ book → ∥ HasSeen named m front next.0 next.1 ∥₁
+seen_made {D} {N} d n old name named engine disk entropy log book front pass m client connected next reading act reply job leave desk requested caller is none p q r =
+    let seen : IsDesk d n name engine disk entropy book → IsRequested old pass (event_for reading act pass (log_of log)) log book reply job leave → HasSeen named m front next.0 next.1 = λ t asked.
+    subst (λ (z : Name × ℕ × List BookEntry). HasSeen z.0 z.1 z.2 next.0 next.1) (λ i. (p i, sym q i, sym r i))
+    (seen_of d n name engine disk entropy book pass next.0 next.1 t (caller_now old pass client connected next reading act log book reply job leave asked caller is (sent_none old book (ticket_in reply) job leave asked.goes none))) in
+    ∥∥₁_map₂ desk requested seen
 
 pub call_at : (m n : ℕ) (reading : Reading) (act : Act) (old new now : List BookEntry) (served : Served) → n ≡ m → now ≡ new → IsCall n reading act old new served → IsCall m reading act old now served
 call_at m n reading act old new now served p q call = subst (λ (z : ℕ × List BookEntry). IsCall z.0 reading act old z.1 served) (λ i. (p i, sym q i)) call
 
-pub extends_at : (m n : ℕ) (f front g now whole : List BookEntry) (log : List BookEntry) → m ≡ n → f ≡ front → g ≡ now → ((more : List BookEntry) → whole ≡ log ++ more → Extends by m f g more) → (more : List BookEntry) → whole ≡ log ++ more → Extends by n front now more
-extends_at m n f front g now whole log p q r extends more grown = subst (λ (z : ℕ × List BookEntry × List BookEntry). Extends by z.0 z.1 z.2 more) (λ i. (p i, q i, r i)) (extends more grown)
+pub extends_at : (m n : ℕ) (f front g now whole log seen : List BookEntry) → m ≡ n → f ≡ front → g ≡ now → seen ≡ log → ((more : List BookEntry) → whole ≡ seen ++ more → Extends by m f g more) → (more : List BookEntry) → whole ≡ log ++ more → Extends by n front now more
+extends_at m n f front g now whole log seen p q r same extends more grown =
+    subst (λ (z : ℕ × List BookEntry × List BookEntry). Extends by z.0 z.1 z.2 more) (λ i. (p i, q i, r i)) (extends more (grown ∙ ap (λ (l : List BookEntry). l ++ more) (sym same)))
+
+pub entered_at : (name named : Name) (n m client : ℕ) (connected : Bool) (reading : Reading) (act : Act) (old new now : List BookEntry) (first ticket : ℕ) (room : FieldSizes) → name ≡ named → n ≡ m → now ≡ new
+    → IsEntered name n client connected reading act old new first ticket room → IsEntered named m client connected reading act old now first ticket room
+entered_at name named n m client connected reading act old new now first ticket room p q r entered =
+    subst (λ (z : Name × ℕ × List BookEntry). IsEntered z.0 z.1 client connected reading act old z.2 first ticket room) (λ i. (p i, q i, sym r i)) entered
+
+pub job_at : (name named : Name) (new now : List BookEntry) (ticket : ℕ) (job : Job) → name ≡ named → now ≡ new → IsJobAway name new ticket job → IsJobAway named now ticket job
+job_at name named new now ticket job p q away = subst (λ (z : Name × List BookEntry). IsJobAway z.0 z.1 ticket job) (λ i. (p i, sym q i)) away

@@ -42,3 +42,9 @@ appends_one pass old new grows one =
 -- as many as none
 pub appends_none : (pass : ℕ) (old new : List BookEntry) → new ≡ old → Appends by pass 0 old new
 appends_none pass old new same = record { more = []; grown = same ∙ sym (Rattle.std.proofs.lemmas.List.append-nil old); long = refl; made = tt }
+
+pub added_some : (first last : ℕ) (old new : List BookEntry) → length old < length new → AreNumbers old new first last → 0 < last + 1 - first
+added_some first last old new longer numbers =
+    let from = numbers.first_is in
+    let to = numbers.last_is in
+    omega arith

@@ -120,7 +120,7 @@ call_left name pass client connected reading act old front book new first from l
     })
   where
     differ : is_parting act pass (log_of entered.log) ≡ true → is_disconnect act ≡ false → ⊥
-    differ q no = let none : is_parting act pass (log_of entered.log) ≡ false = ap (λ (b : Bool). b && is_connected pass (log_of entered.log)) no in cc
+    differ q other = let none : is_parting act pass (log_of entered.log) ≡ false = ap (λ (b : Bool). b && is_connected pass (log_of entered.log)) other in cc
 
 pub caller_left : (name : Name) (pass client : ℕ) (connected : Bool) (reading : Reading) (act : Act) (old front book new : List BookEntry) (first ticket : ℕ) (room : FieldSizes) (reply : Reply)
     → IsEntered name pass client connected reading act old front first ticket room → IsFrontOf by pass front book → HasLeft name pass client reading ticket book new reply → IsCaller pass client connected (log_of new)

@@ -44,17 +44,17 @@ back_entered number ticket entered out = ⊎_elim
     (cases_Bool (number == ticket))
 
 given_entered : (given : Option ℕ) (op ticket : ℕ) (work : Work) (entered : Entered) → gives given ticket ≡ false → ticket_after (goes_out given op work) ticket (Some entered) ≡ Some entered
-given_entered None op ticket work entered no = refl
-given_entered (Some number) op ticket work entered no = else_is (number == ticket) (Some (record { op = op; work = work })) (Some entered) no
+given_entered None op ticket work entered free = refl
+given_entered (Some number) op ticket work entered free = else_is (number == ticket) (Some (record { op = op; work = work })) (Some entered) free
 
 admitted_entered : (act : Act) (fields : Fields) (ticket : ℕ) (entered : Entered) → (Rattle.rule_model.specs.Acts.is_enter act && gives fields.ticket ticket) ≡ false → is_some (ticket_after (admitted_ticket act fields) ticket (Some entered)) ≡ true
     → ticket_after (admitted_ticket act fields) ticket (Some entered) ≡ Some entered
-admitted_entered (EnterAad op input) fields ticket entered no out = given_entered fields.ticket op ticket (Aad input) entered no
-admitted_entered (EnterUpdate op input) fields ticket entered no out = given_entered fields.ticket op ticket (Text input) entered no
-admitted_entered (EnterFinish op input signature) fields ticket entered no out = given_entered fields.ticket op ticket (Last input signature) entered no
-admitted_entered (Leave number) fields ticket entered no out = back_entered number ticket entered out
-admitted_entered (Restart root) fields ticket entered no out = cc
-admitted_entered _ fields ticket entered no out = refl
+admitted_entered (EnterAad op input) fields ticket entered free out = given_entered fields.ticket op ticket (Aad input) entered free
+admitted_entered (EnterUpdate op input) fields ticket entered free out = given_entered fields.ticket op ticket (Text input) entered free
+admitted_entered (EnterFinish op input signature) fields ticket entered free out = given_entered fields.ticket op ticket (Last input signature) entered free
+admitted_entered (Leave number) fields ticket entered free out = back_entered number ticket entered out
+admitted_entered (Restart root) fields ticket entered free out = cc
+admitted_entered _ fields ticket entered free out = refl
 
 stopped_entered : (act : Act) (ticket : ℕ) (entered : Entered) → is_some (ticket_after (stopped_ticket act) ticket (Some entered)) ≡ true → ticket_after (stopped_ticket act) ticket (Some entered) ≡ Some entered
 stopped_entered (Leave number) ticket entered out = back_entered number ticket entered out
@@ -62,15 +62,15 @@ stopped_entered _ ticket entered out = refl
 
 event_entered : (event : Event) (drawn : List ℕ) (reply : Reply) (ticket : ℕ) (entered : Entered) → gives_ticket ticket (Acted event drawn reply) ≡ false → is_some (ticket_after (ticket_change event reply) ticket (Some entered)) ≡ true
     → ticket_after (ticket_change event reply) ticket (Some entered) ≡ Some entered
-event_entered event drawn (Done fields) ticket entered no out = admitted_entered event.act fields ticket entered no out
-event_entered event drawn (Broken rule code) ticket entered no out = refl
-event_entered event drawn (Stopped code) ticket entered no out = stopped_entered event.act ticket entered out
+event_entered event drawn (Done fields) ticket entered free out = admitted_entered event.act fields ticket entered free out
+event_entered event drawn (Broken rule code) ticket entered free out = refl
+event_entered event drawn (Stopped code) ticket entered free out = stopped_entered event.act ticket entered out
 
 entry_entered : (entry : Entry) (past : History) (ticket : ℕ) (entered : Entered) → gives_ticket ticket entry ≡ false → ticket_at past ticket ≡ Some entered → is_some (ticket_at (entry ∷ past) ticket) ≡ true → ticket_at (entry ∷ past) ticket ≡ Some entered
-entry_entered (Settling settled) past ticket entered no before out = before
-entry_entered (Acted event drawn reply) past ticket entered no before out =
+entry_entered (Settling settled) past ticket entered free before out = before
+entry_entered (Acted event drawn reply) past ticket entered free before out =
     let same : ticket_at (Acted event drawn reply ∷ past) ticket ≡ ticket_after (ticket_change event reply) ticket (Some entered) = ap (λ (o : Option Entered). ticket_after (ticket_change event reply) ticket o) before in
-    same ∙ event_entered event drawn reply ticket entered no (sym (ap is_some same) ∙ out)
+    same ∙ event_entered event drawn reply ticket entered free (sym (ap is_some same) ∙ out)
 
 -- ---- a log
 
@@ -105,13 +105,13 @@ waited setup n ticket (e ∷ later) log entered facts none out at =
     let now : out_of n (e ∷ (later ++ log)) ≡ Some ticket = out_later n ticket (e ∷ later) log none out in
     let there : is_some (ticket_at (history_of (e ∷ (later ++ log))) ticket) ≡ true = facts.0.tickets.out_is n ticket now in
     let mine : pass_of_ticket ticket (e ∷ (later ++ log)) ≡ Some n = facts.0.tickets.own_is n ticket now in
-    let no : gives_ticket ticket e.entry ≡ false = ⊎_elim
+    let free : gives_ticket ticket e.entry ≡ false = ⊎_elim
     (λ (g : gives_ticket ticket e.entry ≡ true).
     let both : Some e.pass ≡ Some n = sym (then_is (gives_ticket ticket e.entry) (Some e.pass) (pass_of_ticket ticket (later ++ log)) g) ∙ mine in
     absurd (differ (sym other ∙ here e.pass n both)))
     (λ (g : gives_ticket ticket e.entry ≡ false). g)
     (cases_Bool (gives_ticket ticket e.entry)) in
-    let after = entry_entered e.entry (history_of (later ++ log)) ticket entered no before.out there in
+    let after = entry_entered e.entry (history_of (later ++ log)) ticket entered free before.out there in
     record { out = after; same = facts.0.still ticket entered before.out after ∙ before.same }
   where
     here : (a b : ℕ) → Some a ≡ Some b → (a == b) ≡ true
@@ -124,7 +124,7 @@ none_left xs ys e = none ys (let long : length xs + length ys ≡ length xs = sy
   where
     none : (zs : List BookEntry) → length zs ≡ 0 → zs ≡ []
     none [] q = refl
-    none (z ∷ zs) q = absurd (let no : length zs + 1 ≡ 0 = q in omega arith)
+    none (z ∷ zs) q = absurd (let free : length zs + 1 ≡ 0 = q in omega arith)
 
 pub later_own : (n : ℕ) (front later : List BookEntry) → own by n front ≡ own by n (front ++ later) → own by n (log_of later) ≡ []
 later_own n front later same =

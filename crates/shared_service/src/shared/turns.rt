@@ -156,6 +156,7 @@ impl<D: Disk, N: Entropy> Shared<D, N> {
                 };
                 match sent_with(&reply, job, leave) {
                     Some(Sent { ticket, job, room }) => {
+                        drop(reply);
                         let away = Away {
                             pass,
                             kept,
@@ -179,7 +180,7 @@ impl<D: Disk, N: Entropy> Shared<D, N> {
         away: Away,
         back: Done,
     ) -> (Pass, Served)
-        requires away { ∥ IsOut self.now away ∥₁ }
+        requires away { IsOut self.now away }
         requires back { ∥ IsBack (service_name self.now) (resting_front away.pass) away.ticket back ∥₁ }
         ensures brings { (pass : Pass) (reading : Reading) (act : Act) → IsAwayOf self.now pass reading act away → IsAnswered self.now pass reading act result.0 result.1 }
     {
