@@ -124,7 +124,7 @@ none_left xs ys e = none ys (let long : length xs + length ys ≡ length xs = sy
   where
     none : (zs : List BookEntry) → length zs ≡ 0 → zs ≡ []
     none [] q = refl
-    none (z ∷ zs) q = absurd (let free : length zs + 1 ≡ 0 = q in omega arith)
+    none (z ∷ zs) q = absurd (omega (arith, q))
 
 pub later_own : (n : ℕ) (front later : List BookEntry) → own by n front ≡ own by n (front ++ later) → own by n (log_of later) ≡ []
 later_own n front later same =
