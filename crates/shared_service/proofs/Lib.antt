@@ -21,3 +21,4 @@ pub mod SecondTurn
 pub mod NewPasses
 pub mod TakenIn
 pub mod Admitting
+pub mod NewDesk

@@ -1,5 +1,5 @@
 -- New passes, one after another.
-use Rattle.std.proofs.Common.{◌≡◌, ℕ, ◌+◌, ◌<◌, ◌≤◌, ◌==◌, List, [], ◌∷◌, ◌++◌, length, get_or, refl, sym, ap, ◌∙◌, subst, arith, length-append}
+use Rattle.std.proofs.Common.{◌≡◌, ℕ, ◌+◌, ◌<◌, ◌≤◌, ◌==◌, Bool, true, false, List, [], ◌∷◌, ◌++◌, length, get_or, refl, sym, ap, ◌∙◌, subst, arith, length-append}
 use Rattle.std.proofs.lemmas.Bool.{eq-eqb}
 use Rattle.std.proofs.lemmas.List.{get_or_append_left}
 use Rattle.std.proofs.lemmas.List.Folds.{list_any_at}
@@ -29,9 +29,16 @@ each_more {A} P xs ys x e each last k d lt =
 
 -- two names of one beginning
 pub one_name : (engine : Engine) (disk entropy : ℕ) (a b : Name) → IsNameOf engine disk entropy a → IsNameOf engine disk entropy b → a ≡ b
-one_name engine disk entropy a b p q = λ i. record { engine = record { value = (p.engine_is ∙ sym q.engine_is) i }; disk = (p.disk_is ∙ sym q.disk_is) i; entropy = (p.entropy_is ∙ sym q.entropy_is) i }
+one_name engine disk entropy a b p q = λ i. record { engine = record { marker = a.engine.marker; value = (p.engine_is ∙ sym q.engine_is) i }; disk = (p.disk_is ∙ sym q.disk_is) i; entropy = (p.entropy_is ∙ sym q.entropy_is) i }
 
 -- all numbers are there
-pub has_all : (lock : TableId) (name : Name) (count : ℕ) (passes : List Pass) → length passes ≡ count → ((k : ℕ) (d : Pass) → k < count → IsNewPass lock name count k (get_or passes k d)) → (d : Pass) → HasAll count passes
-has_all lock name count passes long each d = λ number lt.
-    list_any_at (λ (p : Pass). number_of p == number) passes number d (omega arith) (eq-eqb (number_of (get_or passes number d)) number (each number d lt).number_is)
+any_at : {A : Type 0} (test : A → Bool) (xs : List A) (k : ℕ) → k < length xs → ((d : A) → test (get_or xs k d) ≡ true) → Rattle.std.specs.List.list_any test xs ≡ true
+any_at test [] k lt here = absurd (omega arith)
+any_at test (x ∷ xs) k lt here = list_any_at test (x ∷ xs) k x lt (here x)
+
+pub has_all : (lock : TableId) (name : Name) (count : ℕ) (passes : List Pass) → length passes ≡ count → ((k : ℕ) (d : Pass) → k < count → IsNewPass lock name count k (get_or passes k d)) → HasAll count passes
+has_all lock name count passes long each = λ number lt.
+    any_at (λ (p : Pass). number_of p == number) passes number (omega arith) (λ d. eq-eqb (number_of (get_or passes number d)) number (each number d lt).number_is)
+
+pub longer_one : {A : Type 0} (xs ys : List A) (x : A) → ys ≡ xs ++ x ∷ [] → length ys ≡ length xs + 1
+longer_one xs ys x e = ap length e ∙ length-append xs (x ∷ [])

@@ -4,6 +4,19 @@ use Rattle.std.proofs.lemmas.List.{get_or_append_left}
 use Rattle.std.proofs.Math.Seq.{get_or-append_seam}
 use mathlib.Core.Logic.{dite}
 use native.Mathlib.Decide.{ℕ_discrete}
+use Rattle.ks_outside.specs.declared.disk.Disk.{Ghosts as DiskGhosts}
+use Rattle.ks_outside.specs.declared.entropy.Entropy.{Ghosts as EntropyGhosts}
+use Rattle.turn_lock.specs.declared.lock.Pass.{Pass as LockPass}
+use Rattle.turn_lock.specs.Passes.{Closing, Took}
+use Rattle.service_book.specs.declared.entry.BookEntry.{BookEntry}
+use Rattle.shared_service.specs.declared.desk.Desk.{Desk}
+use Rattle.shared_service.specs.declared.name.Name.{Name}
+use Rattle.shared_service.specs.Closings.{TookFront}
+
+-- what was taken in stays so
+pub keeps_front : {D N : Type 0} {d : DiskGhosts D} {n : EntropyGhosts N} (old new : Closing (Desk D N d n) BookEntry Name) (number : ℕ) (seen : List BookEntry) → ((other : LockPass (Desk D N d n) BookEntry Name) → Took old other → Took new other)
+    → TookFront old number seen → TookFront new number seen
+keeps_front old new number seen kept t = record { pass = t.pass; took = kept t.pass t.took; number_is = t.number_is; front_is = t.front_is }
 
 -- All were given, and these are left; T holds of the others. What T speaks of may become another, of which it holds still.
 pub record IsTaking {A : Type 0} (T : A → Type 0) (all left : List A) : Type 0 where

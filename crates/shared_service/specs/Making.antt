@@ -1,14 +1,7 @@
 -- What a service is made with.
-use Rattle.std.specs.Prelude.{◌≡◌, ℕ, []}
-use Rattle.rule_model.specs.Setup.{Setup}
+use Rattle.std.specs.Prelude.{◌≡◌, ℕ}
 use Rattle.keystore_core.specs.declared.engine.Engine.{Engine}
-use Rattle.keystore_core.specs.Engine.{Stands}
 use Rattle.shared_service.specs.declared.name.Name.{Name}
-
--- the engine stands for the empty history, over some lasting part
-pub record HasSetup (engine : Engine) : Type 0 where
-  pub setup : Setup
-  pub stands : Stands setup engine []
 
 -- the name of a service that began with this engine and these counts
 pub record IsNameOf (engine : Engine) (disk entropy : ℕ) (name : Name) : Type 0 where

@@ -2,9 +2,9 @@
 
 ghost use Rattle.std.specs.Prelude.{◌≡◌, [], ℕ};
 ghost use Rattle.rule_model.specs.Setup.{Setup};
-ghost use Rattle.keystore_core.specs.Engine.{Stands, StoreStands};
+ghost use Rattle.keystore_core.specs.Engine.{Stands, StandsAtFirst, StoreStands};
 ghost use Rattle.shared_service.specs.DeskWords.{desk_book, desk_disk, desk_engine, desk_entropy, desk_name};
-ghost use Rattle.shared_service.specs.Making.{HasSetup, IsNameOf};
+ghost use Rattle.shared_service.specs.Making.{IsNameOf};
 
 use super::Desk;
 use crate::name::Name;
@@ -29,7 +29,7 @@ impl<D: Disk, N: Entropy> Desk<D, N> {
 
     /// A desk with the empty book.
     pub(crate) fn new(alloc: Global, engine: Engine, disk: D, entropy: N) -> Desk<D, N>
-        requires stands { ∥ HasSetup engine ∥₁ }
+        requires stands { ∥ StandsAtFirst engine ∥₁ }
         requires store { (setup : Setup) → Stands setup engine [] → StoreStands D.Disk setup engine disk [] }
         ensures book { desk_book result ≡ [] }
         ensures parts { (desk_engine result ≡ engine) × (desk_disk result ≡ disk) × (desk_entropy result ≡ entropy) }

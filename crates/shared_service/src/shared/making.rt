@@ -5,10 +5,9 @@ ghost use Rattle.atomic_table.specs.Seated.{TableId};
 ghost use Rattle.turn_lock.specs.Passes.{IsMakerOf, lock_id, made_of, name_of};
 ghost use Rattle.turn_lock.specs.Resting.{IsRestingPassAt, resting_front, resting_number};
 ghost use Rattle.rule_model.specs.Setup.{Setup};
-ghost use Rattle.keystore_core.specs.Engine.{Stands, StoreStands};
+ghost use Rattle.keystore_core.specs.Engine.{Stands, StandsAtFirst, StoreStands};
 ghost use Rattle.shared_service.specs.declared.name.Name.{Name};
 ghost use Rattle.shared_service.specs.declared.pass.Pass.{Pass};
-ghost use Rattle.shared_service.specs.Making.{HasSetup};
 ghost use Rattle.shared_service.specs.Passes.{AreNumbered, HasAll, HoldsMaker, IsNew, IsNewPass, IsOurs, engine_of, passes_of, start_of};
 
 use super::Shared;
@@ -88,7 +87,7 @@ impl<D: Disk, N: Entropy> Shared<D, N> {
         passes: u32,
     ) -> Result<(Shared<D, N>, Vec<Pass>), (NoMemory, Engine, D, N)>
         requires some { 0 < passes }
-        requires stands { ∥ HasSetup engine ∥₁ }
+        requires stands { ∥ StandsAtFirst engine ∥₁ }
         requires store { (setup : Setup) → Stands setup engine [] → StoreStands D.Disk setup engine disk [] }
         ensures engine { IfOk result (λ r. engine_of r.0 ≡ engine) }
         ensures counts { IfOk result (λ r. start_of r.0 ≡ record { disk = D.fault_count disk; entropy = N.fault_count entropy }) }
