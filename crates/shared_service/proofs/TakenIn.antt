@@ -1,5 +1,5 @@
 -- The passes that the last turn has taken in, from the last one on.
-use Rattle.std.proofs.Common.{◌≡◌, ℕ, ◌+◌, ◌<◌, ◌≤◌, List, [], ◌∷◌, ◌++◌, length, get_or, refl, sym, ap, ◌∙◌, subst, arith, length-append}
+use Rattle.std.proofs.Common.{◌≡◌, ℕ, zero, suc, ◌+◌, ◌<◌, ◌≤◌, Bool, true, false, Option, Some, None, inl, inr, List, [], ◌∷◌, ◌++◌, length, get_or, refl, sym, ap, ◌∙◌, subst, arith, length-append}
 use Rattle.std.proofs.lemmas.List.{get_or_append_left}
 use Rattle.std.proofs.Math.Seq.{get_or-append_seam}
 use mathlib.Core.Logic.{dite}
@@ -7,7 +7,14 @@ use native.Mathlib.Decide.{ℕ_discrete}
 use Rattle.ks_outside.specs.declared.disk.Disk.{Ghosts as DiskGhosts}
 use Rattle.ks_outside.specs.declared.entropy.Entropy.{Ghosts as EntropyGhosts}
 use Rattle.turn_lock.specs.declared.lock.Pass.{Pass as LockPass}
-use Rattle.turn_lock.specs.Passes.{Closing, Took}
+use Rattle.std.specs.Prelude.{All}
+use Rattle.std.specs.List.{list_any, position, position_or_len}
+use Rattle.std.proofs.lemmas.Bool.{cases_lt, lt-ltb}
+use Rattle.std.proofs.lemmas.List.Folds.{list_any_none}
+use Rattle.std.proofs.lemmas.List.Sums.{fails_before_first}
+use Rattle.turn_lock.specs.Fronts.{HasHand, IsFrontOf}
+use Rattle.turn_lock.specs.Passes.{Closing, Took, view_of}
+use Rattle.shared_service.specs.Owning.{by}
 use Rattle.service_book.specs.declared.entry.BookEntry.{BookEntry}
 use Rattle.shared_service.specs.declared.desk.Desk.{Desk}
 use Rattle.shared_service.specs.declared.name.Name.{Name}
@@ -48,3 +55,22 @@ left_each {A} T P all left left' p t e each =
     let within = t.within in
     let here : get_or all (length left') p ≡ p = t.same (length left') p (omega arith) ∙ (ap (λ (l : List A). get_or l (length left') p) e ∙ get_or-append_seam left' p [] p) in
     subst P here (each (length left') p (omega arith))
+
+-- ---- the place of a number
+
+pub not_found : {A : Type 0} (test : A → Bool) (xs : List A) → position test xs ≡ None → list_any test xs ≡ true → ⊥
+not_found test xs none any = elim (cases_lt (position_or_len test xs) (length xs)) [
+  | inl l ↦ (let found : position test xs ≡ Some (position_or_len test xs) = rw (lt-ltb _ _ l) refl in cc)
+  | inr le ↦ (let never : list_any test xs ≡ false = list_any_none test xs (λ k d lt. fails_before_first test xs k d (omega arith)) in cc)
+]
+
+-- ---- all that were taken in
+
+pub all_first : {A : Type 0} (P : A → Type 0) (x : A) (xs : List A) → P x → All P xs → All P (x ∷ xs)
+all_first P x xs first all zero d lt = first
+all_first P x xs first all (suc k) d lt = all k d (omega arith)
+
+-- the front of a pass that was taken in begins the book, and has all that the pass made
+pub front_in : {D N : Type 0} {d : DiskGhosts D} {n : EntropyGhosts N} (closing : Closing (Desk D N d n) BookEntry Name) (number : ℕ) (seen book : List BookEntry) → ((m : ℕ) (front : List BookEntry) → HasHand (view_of closing).hands m front → IsFrontOf by m front book)
+    → TookFront closing number seen → IsFrontOf by number seen book
+front_in closing number seen book all t = subst (λ (z : ℕ × List BookEntry). IsFrontOf by z.0 z.1 book) (λ i. (t.number_is i, t.front_is i)) (all _ _ t.took)
