@@ -6,3 +6,4 @@ pub mod Rooms
 pub mod Pieces
 pub mod RunLemmas
 pub mod Refusals
+pub mod OutSizes

@@ -34,6 +34,16 @@ job_room plan limited before (Aad input) = 0
 job_room plan limited before (Text input) = piece_room plan (taken limited before (length input))
 job_room plan limited before (Last input signature) = piece_room plan (taken limited before (length input)) + end_room plan
 
+-- the most bytes that a finish gives of a text of which so many bytes were not given before
+abbrev pub finish_room : Plan → ℕ → ℕ
+finish_room (Ecb seal padded) size = size + 32
+finish_room (Cbc seal padded) size = size + 32
+finish_room Ctr size = size + 16
+finish_room (Gcm true tag) size = size + 16
+finish_room (Gcm false tag) size = size
+finish_room (HmacSign digest size) n = size
+finish_room (HmacVerify digest least) n = 0
+
 -- how many bytes a work adds to the text
 abbrev pub own_text : Work → ℕ
 own_text (Aad input) = 0

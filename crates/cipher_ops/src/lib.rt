@@ -15,5 +15,5 @@ mod tests;
 mod transform;
 
 pub use job::{Done, Job};
-pub use room::{JobRoom, Work};
+pub use room::{JobRoom, Work, most_of_finish, most_of_update};
 pub use state::CipherState;

@@ -1,7 +1,8 @@
 //! The work of a job and the memory that it needs.
 
-ghost use Rattle.std.specs.Prelude.{◌≡◌, ◌+◌, ◌≤◌, length, IfOk};
+ghost use Rattle.std.specs.Prelude.{◌≡◌, ℕ, ◌+◌, ◌≤◌, List, Option, if◌then◌else◌, length, IfOk};
 ghost use Rattle.tags.specs.Plan.{OPERATION_BYTES};
+ghost use Rattle.cipher_ops.specs.Output.{finish_output, update_output};
 ghost use Rattle.cipher_ops.specs.Sizes as spec;
 
 use std::alloc::Global;
@@ -84,6 +85,49 @@ fn job_room(plan: Plan, limited: bool, before: usize, work: &Work) -> usize
             piece_room(plan, taken(limited, before, input.len())) + end_room(plan)
         }
     }
+}
+
+/// The most bytes that a finish gives of a text of which so many bytes were not given before. A tag has at most the 16 bytes of
+/// a block.
+fn finish_room(plan: Plan, size: usize) -> usize
+    requires { size ≤ OPERATION_BYTES }
+    ensures size { result ≡ spec.finish_room plan size }
+    ensures most { result ≤ 1048656 }
+{
+    match plan {
+        Plan::Ecb { .. } => size + 32,
+        Plan::Cbc { .. } => size + 32,
+        Plan::Ctr => size + 16,
+        Plan::Gcm { seal, .. } => { if seal { size + 16 } else { size } }
+        Plan::HmacSign { size, .. } => size as usize,
+        Plan::HmacVerify { .. } => 0,
+    }
+}
+
+/// How many bytes an update of so many bytes gives at most, on an operation of this plan and flag. It takes no memory.
+pub fn most_of_update(plan: Plan, limited: bool, input: u64) -> u64
+    requires { input ≤ OPERATION_BYTES }
+    ensures size { result ≡ (if limited then 0 else spec.piece_room plan input) }
+    ensures most { result ≤ 1048656 }
+    ensures out { (key nonce before after : List ℕ) → length after ≡ length before + input →
+        length (update_output plan limited key nonce before after) ≤ result }
+{
+    if limited {
+        return 0;
+    }
+    piece_room(plan, input as usize) as u64
+}
+
+/// How many bytes a finish of so many bytes gives at most, on an operation of this plan and flag that has taken so many bytes of
+/// text. It takes no memory.
+pub fn most_of_finish(plan: Plan, limited: bool, text: u64, input: u64) -> u64
+    requires { text + input ≤ OPERATION_BYTES }
+    ensures size { result ≡ spec.finish_room plan (spec.taken limited text input) }
+    ensures most { result ≤ 1048656 }
+    ensures out { (key nonce aad before after : List ℕ) (signature : Option (List ℕ)) → length before ≡ text → length after ≡ text + input →
+        IfOk (finish_output plan limited key nonce aad before after signature) (λ out. length out ≤ result) }
+{
+    finish_room(plan, taken(limited, text as usize, input as usize)) as u64
 }
 
 impl JobRoom {

@@ -1,2 +1,3 @@
 mod TextLemmas
 mod BlobLemmas
+pub mod BlobSizes

@@ -83,7 +83,7 @@ named_size list test h =
     (λ there. size_alone (all_of KeySize list) test there both.1) both.0
 
 -- the sizes that are allowed have few bits
-bits_few : (list : List Param) (bits : ℕ) → is_allowed_size list bits ≡ true → bits ≤ 512
+pub bits_few : (list : List Param) (bits : ℕ) → is_allowed_size list bits ≡ true → bits ≤ 512
 bits_few list bits h = by_algorithm (is_aes list) (is_hmac list) h where
   by_algorithm : (aes hmac : Bool) → (if aes then one_in (128 ∷ 192 ∷ 256 ∷ []) bits else (hmac && is_whole_bytes 64 512 bits)) ≡ true → bits ≤ 512
   by_algorithm true hmac e =

@@ -4,3 +4,4 @@ pub mod Limits
 pub mod Walks
 pub mod Keys
 pub mod Ids
+pub mod NewKeys

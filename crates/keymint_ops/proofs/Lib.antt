@@ -1,2 +1,2 @@
 mod Fitting
-mod BlobSizes
+pub mod BlobSizes

@@ -20,6 +20,9 @@ pub mod Left
 pub mod Shown
 pub mod OtherStore
 pub mod Completing
+pub mod Fitting
+pub mod Untold
+pub mod PutsOut
 pub mod Steps
 pub mod Users
 pub mod BeginKeys

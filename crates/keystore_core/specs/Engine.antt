@@ -1,5 +1,5 @@
 -- When an engine stands for a history.
-use Rattle.std.specs.Prelude.{◌≡◌, ◌≤◌, ◌⊎◌, ℕ, List, length, Option, Some, None, Result, Ok, Err}
+use Rattle.std.specs.Prelude.{◌≡◌, ◌≤◌, ◌⊎◌, ℕ, List, [], length, Option, Some, None, Result, Ok, Err}
 use Rattle.rule_model.specs.Entries.{History}
 use Rattle.rule_model.specs.Legal.{Legal}
 use Rattle.rule_model.specs.Uses.{IsStored}
@@ -100,6 +100,11 @@ MayHold setup past image = MayBe (holding_of setup past) image
 -- of one of two histories
 abbrev pub MayHoldEither : Setup → History → History → List ℕ → Type 0
 MayHoldEither setup past later image = MayHold setup past image ⊎ MayHold setup later image
+
+-- an engine stands for the empty history of some setup
+pub record StandsAtFirst (engine : Engine) : Type 0 where
+  pub setup : Setup
+  pub stands : Stands setup engine []
 
 -- how many tickets an engine gave
 abbrev pub tickets_of : Engine → ℕ

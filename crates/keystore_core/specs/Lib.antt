@@ -13,6 +13,7 @@ pub mod Room
 pub mod Drawn
 pub mod Creating
 pub mod Tables
+pub mod Outputs
 pub mod Leaving
 pub mod TokenCalls
 pub mod Restarting

@@ -1,6 +1,6 @@
 //! The engine's step.
 
-ghost use Rattle.std.specs.Prelude.{◌≡◌, ℕ, ◌+◌, ◌^◌, ◌<◌, ◌≤◌, [], List, None, true, false, IfOk, IfSome, OnOk};
+ghost use Rattle.std.specs.Prelude.{◌≡◌, ℕ, ◌+◌, ◌^◌, ◌<◌, ◌≤◌, [], List, None, true, false, length, IfOk, IfSome, OnOk};
 ghost use Rattle.cipher_ops.specs.Jobs.{ticket_of};
 ghost use Rattle.ks_outside.specs.Shown.{Drew};
 ghost use Rattle.tags.specs.declared.code.Code.TheVariants.{SystemError};
@@ -9,6 +9,7 @@ ghost use Rattle.rule_model.specs.Drawn.{is_entropy_fault};
 ghost use Rattle.rule_model.specs.Entries.{History, after_settling, after_step};
 ghost use Rattle.rule_model.specs.Jobs.{HasDone, HasJob, Stays};
 ghost use Rattle.rule_model.specs.Legal.{MayStep};
+ghost use Rattle.rule_model.specs.ReplyRooms.{Fits, sizes_of};
 ghost use Rattle.rule_model.specs.Setup.{Setup};
 ghost use Rattle.rule_model.specs.Settling.{is_disk_fault};
 ghost use Rattle.journal_records.specs.LastingPart.{Lasting, empty_lasting};
@@ -18,6 +19,7 @@ ghost use Rattle.ks_outside.specs.Images.{AllImages, Passes, TornFrom, tells};
 ghost use Rattle.keystore_core.specs.Complete.{GivesAnswer, HasNoFault};
 ghost use Rattle.keystore_core.specs.Restarting.{is_other_store};
 ghost use Rattle.keystore_core.specs.Engine.{entries_made as made_by, fault_of};
+ghost use Rattle.keystore_core.specs.Outputs.{HasOutRoom};
 ghost use Rattle.keystore_core.specs.Tables.{IsTables};
 
 use crate::tables::Tables;
@@ -28,6 +30,8 @@ use ks_outside::{Disk, Entropy, Failed};
 use rule_model::{Event, Reply, Stepped};
 use std::alloc::Global;
 use tags::{Bytes, Code, DeviceSecrets, NoMemory, Policy, Settled};
+
+mod most_out;
 
 /// The engine of the service.
 #[derive(Drop)]
@@ -83,8 +87,15 @@ fn entries_made(settled: Option<Settled>) -> u64
     }
 }
 
+/// A device's root of trust has 32 bytes, as its type says.
+fn root_is_whole(device: &DeviceSecrets)
+    ensures { length device.now.root ≡ 32 }
+{
+    let _root = device.root;
+}
+
 impl Engine {
-    ghost use Rattle.keystore_core.specs.Engine.{IsOpened, MayHoldEither, MayTake, OpensFor, OpensStore, OpenFaults, Stands, StandsForSome, StoreStands, entries_made, entries_of, tickets_of};
+    ghost use Rattle.keystore_core.specs.Engine.{IsOpened, MayHoldEither, MayTake, OpensFor, OpensStore, OpenFaults, Stands, StandsAtFirst, StandsForSome, StoreStands, entries_made, entries_of, tickets_of};
 
     /// Writes an empty store, and syncs. It takes no memory.
     pub fn format<D: Disk>(disk: &mut D) -> Result<(), Failed>
@@ -114,6 +125,8 @@ impl Engine {
         requires few { slots ≤ 64 }
         ensures stands { IfOk result (λ engine. (setup : Setup) → IsOpened setup device.now policy.now slots engine → Stands setup engine []) }
         ensures holds { IfOk result (λ engine. (setup : Setup) → IsOpened setup device.now policy.now slots engine → StoreStands D.Disk setup engine disk.new []) }
+        ensures first { IfOk result StandsAtFirst }
+        ensures store { IfOk result (λ engine. (setup : Setup) → Stands setup engine [] → StoreStands D.Disk setup engine disk.new []) }
         ensures reads { AllImages D.Disk disk.new (λ image. OpensStore image result) }
         ensures finds { (part : Lasting) → AllImages D.Disk disk.old (StandsFor part) → tells D.Disk disk.old ≡ true → OpensFor part result }
         ensures entries { IfOk result (λ engine. entries_of engine ≡ 0) }
@@ -171,7 +184,8 @@ impl Engine {
     /// for goes on by one step: what it settled, and the event with the bytes that were drawn for it and the reply. There is a
     /// job exactly where the reply gives a ticket, which an admitted enter alone does. It is the work of its operation, and
     /// stays so as long as the ticket is out. The bytes are those that the entropy gave, and a draw failed exactly where the
-    /// reply says so. Where no call failed, the reply is that of the rules, or memory was wanting.
+    /// reply says so. Where no call failed, the reply is that of the rules, or memory was wanting. Each
+    /// reply fits the room that can be taken for it before the step, by the act and for a leave by what its work puts out.
     pub fn step<D: Disk, N: Entropy>(
         &mut self,
         disk: &mut D,
@@ -189,6 +203,8 @@ impl Engine {
             HasJob setup (after_step result.settled event result.drawn result.reply past) result.reply result.job }
         ensures stays { (setup : Setup) (past : History) → Stands setup self.old past → HasDone setup past event.act done →
             Stays setup past (after_step result.settled event result.drawn result.reply past) }
+        ensures fits { (setup : Setup) (past : History) (out : ℕ) → Stands setup self.old past → HasDone setup past event.act done →
+            HasOutRoom setup past event.act out → Fits (sizes_of event.act out) result.reply }
         ensures number { IfSome result.job (λ job. ticket_of job ≡ tickets_of self.old + 1) }
         ensures entries { entries_of self.new ≡ entries_of self.old + entries_made result.settled }
         ensures store { (setup : Setup) (past : History) → Stands setup self.old past → StoreStands D.Disk setup self.old disk.old past →
@@ -205,6 +221,7 @@ impl Engine {
         ensures cause { CountsFaults (D.fault_count disk.old) (D.fault_count disk.new) (is_disk_fault result.reply) }
         ensures drew { Drew N.Entropy entropy.old entropy.new result.drawn (is_entropy_fault result.reply) }
     {
+        root_is_whole(&self.tables.device);
         let settled = match self.tables.settle_first(disk, &event.act) {
             Ok(settled) => settled,
             Err(Failed) => return self.not_settled(),

@@ -24,6 +24,7 @@ mod engine;
 mod leaving;
 mod listing;
 mod operations;
+mod output;
 mod restarting;
 mod room;
 mod settling;

@@ -7,6 +7,7 @@ pub mod CopyLemmas
 pub mod Counting
 pub mod Held
 pub mod Kept
+pub mod KeySizes
 pub mod Legal
 pub mod Operations
 pub mod Outputs

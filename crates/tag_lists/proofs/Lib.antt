@@ -7,3 +7,4 @@ pub mod Laws
 pub mod Lookups
 pub mod Members
 pub mod Sizes
+pub mod ReadSizes

@@ -1,5 +1,7 @@
 use Rattle.std.proofs.Common.{Some, refl, sym, ap, ◌∙◌, subst}
-use Rattle.key_database.specs.Stands.{lasting}
+use Rattle.journal_records.specs.Holding.{Sure}
+use Rattle.key_database.specs.Stands.{Holds, lasting, store_bytes}
+use Rattle.rule_model.specs.Setup.{Setup}
 use Rattle.keystore_core.specs.Engine.{IsOver}
 use Rattle.keystore_core.proofs.engine.Engine.open.Goals as goal
 
@@ -12,6 +14,16 @@ returns-in-Ok-new-clause-stands g c = λ setup is. record {
   legal = tt;
   stored = (c.in-Ok.ensures.holds.past, c.in-Ok.ensures.holds.left ∙ ap Some (sym (ap lasting c.in-Ok-new.ensures.keys) ∙ sym is.start));
 }
+
+pub returns-in-Ok-new-clause-first : goal.returns-in-Ok-new-clause-first
+returns-in-Ok-new-clause-first g c =
+    let setup : Setup = record { device = c.args.device.now; policy = c.args.policy.now; slots = c.args.slots; start = lasting c.in-Ok-new.tables.keys; bytes = store_bytes c.in-Ok-new.tables.keys } in
+    record { setup = setup; stands = returns-in-Ok-new-clause-stands g c setup (record { start = refl; bytes = refl; device_is = refl; policy_is = refl; slots_are = refl }) }
+
+pub returns-in-Ok-new-clause-store : goal.returns-in-Ok-new-clause-store
+returns-in-Ok-new-clause-store g c = λ setup stands.
+    subst (λ part. Holds g.D.Disk c.in-Ok-new.tables.keys c.open.new.disk (Sure part)) stands.tables.keys.lasting_is
+    (subst (λ keys. Holds g.D.Disk keys c.open.new.disk (Sure (lasting keys))) (sym c.in-Ok-new.ensures.keys) c.in-Ok.ensures.holds)
 
 pub returns-in-Ok-new-clause-finds : goal.returns-in-Ok-new-clause-finds
 returns-in-Ok-new-clause-finds g c = λ part images told. ap lasting c.in-Ok-new.ensures.keys ∙ c.in-Ok.ensures.stands part images told

@@ -1,10 +1,12 @@
-use Rattle.std.proofs.Common.{refl, sym, ap, ◌∙◌}
+use Rattle.std.proofs.Common.{◌≡◌, length, refl, sym, ap, ◌∙◌}
+use Rattle.tags.specs.declared.secrets.DeviceSecrets.{DeviceSecrets}
 use Rattle.rule_model.specs.Entries.{after_settling}
 use Rattle.rule_model.specs.Stored.{holding_of}
 use Rattle.keystore_core.specs.declared.engine.Engine.{Engine}
 use mathlib.Core.Logic.{∥∥₁_elim, ∥∥₁_map}
 use Rattle.std.proofs.Math.Bool.{Bool-set}
 use Rattle.keystore_core.proofs.Completing.{gives_answer, none_failed, none_rose}
+use Rattle.keystore_core.proofs.Fitting.{step_fits}
 use Rattle.keystore_core.proofs.OtherStore.{never_other}
 use Rattle.keystore_core.proofs.Steps.{held_mid, held_not, is_at, may_not, may_step, stands_mid, stands_not, stands_on, stays_not, stays_on, store_moments, store_steps}
 use Rattle.keystore_core.proofs.engine.Engine.step.Goals as goal
@@ -95,3 +97,14 @@ returns-clause-complete g c = λ setup past stands done disk entropy.
     gives_answer setup (after_settling c.in-Ok.settled past) c.args.event c.answer-answered.result.drawn c.answer-answered.result.reply may.follows
     (none_failed _ _ _ (record { same = disk.same ∙ sym c.in-Ok.ensures.cause.same; below = disk.below }) c.answer-answered.ensures.store.cause)
     (none_failed _ _ _ entropy c.answer-answered.ensures.drew.faults)
+
+pub returns-in-Err-clause-fits : goal.returns-in-Err-clause-fits
+returns-in-Err-clause-fits g c = λ setup past out stands done room. rw c.not_settled.ensures.reply tt
+
+pub returns-clause-fits : goal.returns-clause-fits
+returns-clause-fits g c = λ setup past out stands done room.
+    let has = c.in-Ok.ensures.stands setup past stands.tables in
+    let may = may_step setup past c.args.self.now c.settle_first.new.self c.args.event c.in-Ok.settled c.args.done stands has c.answer-answered.new.self c.answer-answered.result
+    (c.answer-answered.ensures.answers setup (after_settling c.in-Ok.settled past) (rw c.entries_made.ensures (stands_mid setup past c.args.self.now c.settle_first.new.self c.args.event c.in-Ok.settled c.args.done stands has done))) in
+    let long : length c.args.self.now.tables.device.root ≡ 32 = c.root_is_whole.ensures in
+    step_fits setup past c.in-Ok.settled c.args.event c.answer-answered.result.drawn c.answer-answered.result.reply out stands.legal stands.stored (sym (ap (λ (d : DeviceSecrets). length d.root) stands.tables.keys.device_is) ∙ long) room may

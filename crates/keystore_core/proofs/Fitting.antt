@@ -1,0 +1,296 @@
+-- Each reply fits the room that is taken for it before the step.
+use Rattle.std.proofs.Common.{◌≡◌, ℕ, zero, suc, ◌+◌, ◌≤◌, Bool, true, false, ◌==◌, if◌then◌else◌, List, [], ◌∷◌, length, length-drop, length-take, take, drop, filter, Option, Some, None, Result, Ok, Err, is_ok, refl, sym, subst, arith}
+use Rattle.std.specs.Ordering.{is_gt}
+use Rattle.std.specs.Prelude.{IfOk, IfSome, All}
+use Rattle.std.proofs.lemmas.List.Elements.{All-cons, All-nil}
+use Rattle.tags.specs.declared.code.Code.{Code}
+use Rattle.tags.specs.declared.code.Code.TheVariants.{JournalFull, StoreFull, TokensFull}
+use Rattle.tags.specs.declared.descriptor.Descriptor.{Descriptor}
+use Rattle.tags.specs.declared.param.Param.{Param}
+use Rattle.tags.specs.declared.rule.Rule.{Rule}
+use Rattle.tags.specs.declared.rule.RuleTable.TheVariants.{K}
+use Rattle.tags.specs.declared.secrets.DeviceSecrets.{DeviceSecrets}
+use Rattle.tags.specs.declared.settled.Settled.{Settled}
+use Rattle.tags.specs.Table.{Ruling, first_broken, where_all_hold}
+use Rattle.auth_tokens.specs.declared.token.AuthToken.{AuthToken}
+use Rattle.key_domains.specs.declared.access.Access.{Access}
+use Rattle.key_domains.specs.declared.access.Access.TheVariants.{Found, Blob, Nothing}
+use Rattle.key_domains.specs.Domains.{domain_blob}
+use Rattle.key_blobs.specs.declared.sealed.Sealed.{Sealed}
+use Rattle.key_blobs.proofs.BlobSizes.{blob_few}
+use Rattle.key_rules.specs.declared.facts.NewFacts.{NewFacts}
+use Rattle.key_rules.specs.declared.plan.KeyPlan.{KeyPlan}
+use Rattle.key_rules.specs.Creation.{IsFit, plan_of}
+use Rattle.key_rules.specs.Table.{rules_of}
+use Rattle.key_rules.proofs.NewKeys.{fit_if_ok}
+use Rattle.keymint_ops.proofs.BlobSizes.{id_few}
+use Rattle.use_rules.specs.Plans.{nonce_wanted}
+use Rattle.use_rules.specs.Rules.{is_gcm}
+use Rattle.use_rules.specs.Table as begin_table
+use Rattle.use_rules.specs.Table.{asked_of, key_of}
+use Rattle.step_rules.specs.Table as step_table
+use Rattle.cipher_ops.specs.declared.room.Work.{Work}
+use Rattle.cipher_ops.specs.declared.room.Work.TheVariants.{Aad, Text, Last}
+use Rattle.journal_records.specs.declared.change.Change.{Change}
+use Rattle.journal_records.specs.declared.record.KeyRecord.{KeyRecord}
+use Rattle.journal_records.specs.LastingPart.{Lasting, has_id}
+use Rattle.journal_records.specs.Lookups.{alias_cmp, is_listed, least, lesser, next_key}
+use Rattle.rule_model.specs.declared.entry.Entry.TheVariants.{Settling}
+use Rattle.rule_model.specs.declared.event.Act.{Act}
+use Rattle.rule_model.specs.declared.event.Act.TheVariants.{Connect, GenerateKey, ImportKey, CreateOperation, EnterAad, EnterUpdate, EnterFinish, Abort, Disconnect, GetKeyEntry, DeleteKey, Grant, Ungrant, GetNumberOfEntries, ListEntriesBatched, ClearNamespace, UserRemoved, AddAuthToken, DeviceLocked, DeviceUnlocked, EarlyBootEnded, Leave, Restart}
+use Rattle.rule_model.specs.declared.event.Event.{Event}
+use Rattle.rule_model.specs.declared.facts.Caller.{Caller}
+use Rattle.rule_model.specs.declared.field_sizes.FieldSizes.{FieldSizes}
+use Rattle.rule_model.specs.declared.reply.Reply.{Reply}
+use Rattle.rule_model.specs.declared.reply.Reply.TheVariants.{Done, Broken, Stopped}
+use Rattle.rule_model.specs.Access.{id_by, key_in, owner_of}
+use Rattle.rule_model.specs.Acts.{fixed_for, is_begin}
+use Rattle.rule_model.specs.Answer.{answer, answer_by_rules, begun_with, drawn_nonce, given_or, leaving}
+use Rattle.rule_model.specs.Blobs.{device_at, kept_as, root_of}
+use Rattle.rule_model.specs.Boot.{has_early_ended, last_tokens, other_triples}
+use Rattle.rule_model.specs.Calls.{accepted_in, add_auth_token_ruling, clear_namespace_ruling, counted_in, delete_key_ruling, disconnect_ruling, early_boot_ended_ruling, get_key_entry_ruling, grant_ruling, granted_in, key_entry, listed_in, listing_ruling, ungrant_ruling, user_call_ruling}
+use Rattle.rule_model.specs.Changes.{change_of, grant_number, new_blob, owner_for}
+use Rattle.rule_model.specs.Clients.{caller_of}
+use Rattle.rule_model.specs.Drawn.{no_pieces, size_of, wanted_by_key, wanted_by_rules}
+use Rattle.rule_model.specs.Entries.{History, count_of}
+use Rattle.rule_model.specs.Kept.{access_at, has_busy, kept, key_found, open_of, operation_at}
+use Rattle.rule_model.specs.Legal.{Legal, MayFollow, MayStep, Answered, WithoutMemory, WithoutEntropy, Faulted, NotSettled, NotRestarted}
+use Rattle.rule_model.specs.Listing.{listed_from, listing}
+use Rattle.rule_model.specs.NewFacts.{import_of, new_facts}
+use Rattle.rule_model.specs.Operations.{challenge_of, nonce_size, output_of}
+use Rattle.rule_model.specs.Places.{has_grant_place, has_key_place}
+use Rattle.rule_model.specs.Replies.{broken_or, no_fields}
+use Rattle.rule_model.specs.ReplyRooms.{BLOB, Fits, IsWithin, NONCE, no_sizes, sizes_of}
+use Rattle.rule_model.specs.Setup.{Setup}
+use Rattle.rule_model.specs.Slots.{begin_facts, pruned_for}
+use Rattle.rule_model.specs.StepFacts.{brought_by, brought_by_abort, step_facts}
+use Rattle.rule_model.specs.Stored.{has_record_room, stored_bytes, where_stored}
+use Rattle.rule_model.specs.Tickets.{Entered, next_ticket, ticket_at}
+use Rattle.rule_model.specs.Tokens.{token_of}
+use Rattle.rule_model.specs.Uses.{IsStored}
+use Rattle.rule_model.proofs.Bounds.{Each, each_found, each_left}
+use Rattle.rule_model.proofs.KeySizes.{AreShort, IsShort, kept_short}
+use Rattle.keystore_core.specs.Outputs.{HasOutRoom, output_out}
+
+-- ---- through the layers of an answer
+
+broken_fits : {T : Type 0} (sizes : FieldSizes) (ruling : Result T (Rule × Code)) (reply : Reply) → Fits sizes reply → Fits sizes (broken_or ruling reply)
+broken_fits sizes (Ok found) reply fits = fits
+broken_fits sizes (Err (rule, code)) reply fits = tt
+
+if_fits : (sizes : FieldSizes) (b : Bool) (first second : Reply) → Fits sizes first → Fits sizes second → Fits sizes (if b then first else second)
+if_fits sizes true first second e f = e
+if_fits sizes false first second e f = f
+
+stored_fits : (sizes : FieldSizes) (bytes : ℕ) (change : Option Change) (reply : Reply) → Fits sizes reply → Fits sizes (where_stored bytes change reply)
+stored_fits sizes bytes None reply fits = fits
+stored_fits sizes bytes (Some change) (Done fields) fits = if_fits sizes (has_record_room bytes change) (Done fields) (Stopped JournalFull) fits tt
+stored_fits sizes bytes (Some change) (Broken rule code) fits = tt
+stored_fits sizes bytes (Some change) (Stopped code) fits = tt
+
+-- ---- a new key
+
+take_few : (n : ℕ) (bytes : List ℕ) → length (take n bytes) ≤ n
+take_few n bytes = omega (arith, length-take n bytes)
+
+-- what is handed out as its blob, of a device whose root of trust has 32 bytes
+blob_fits : (device : DeviceSecrets) (plan : KeyPlan) (facts : NewFacts) (material drawn : List ℕ) → length device.root ≡ 32 → IsFit facts plan → length material ≤ 64 → length drawn ≡ plan.size + 12
+    → length (kept_as device plan (drop plan.size drawn) material) ≤ 6327
+blob_fits device plan facts material drawn long fit short drew =
+    let x : Sealed = record { root = device.root; app_id = plan.app_id; app_bytes = plan.app_bytes; list = plan.list; material = material } in
+    let twelve : length (drop plan.size drawn) ≡ 12 = omega (arith, length-drop plan.size drawn, drew) in
+    omega (
+      arith,
+      blob_few device.seal (drop plan.size drawn) x twelve long,
+      id_few plan.app_id fit.small.id,
+      id_few plan.app_bytes fit.small.bytes,
+      fit.small.listed,
+      short,
+    )
+
+key_fits : (ruling : Ruling) (plan : KeyPlan) (place handed : Bool) (blob : List ℕ) (number : ℕ) (drawn : List ℕ) → (is_ok (where_all_hold ruling plan) ≡ true → length drawn ≡ plan.size + 12 → length blob ≤ 6327)
+    → length drawn ≡ size_of (wanted_by_key (where_all_hold ruling plan) place)
+    → Fits (record no_sizes { blob = BLOB }) (broken_or (where_all_hold ruling plan) (if place then Done (if handed then record no_fields { blob = Some blob } else record no_fields { key = Some number }) else Stopped StoreFull))
+key_fits (Err (rule, code)) plan place handed blob number drawn few drew = tt
+key_fits (Ok done) plan false handed blob number drawn few drew = tt
+key_fits (Ok done) plan true true blob number drawn few drew = record { alias = tt; nonce = tt; out = tt; blob = few refl drew; list = tt; entries = tt }
+key_fits (Ok done) plan true false blob number drawn few drew = record { alias = tt; nonce = tt; out = tt; blob = tt; list = tt; entries = tt }
+
+generated_fits : (setup : Setup) (past : History) (caller : Caller) (key : Descriptor) (params drawn : List ℕ) → length (root_of setup past) ≡ 32
+    → length drawn ≡ size_of (wanted_by_rules (GenerateKey key params) setup past caller) → Fits (sizes_of (GenerateKey key params) 0) (answer_by_rules (GenerateKey key params) setup past caller drawn)
+generated_fits setup past caller key params drawn long drew =
+    let facts : NewFacts = new_facts setup.policy caller key params None (has_early_ended setup past) in
+    let plan : KeyPlan = plan_of facts in
+    key_fits (first_broken K (rules_of facts)) plan (has_key_place (kept setup past) (owner_of caller) key) (key.domain == domain_blob) (new_blob (device_at setup past) plan None drawn) (kept setup past).next_key drawn
+    (λ through sized. let fit : IsFit facts plan = fit_if_ok facts through in blob_fits (device_at setup past) plan facts (take plan.size drawn) drawn long fit (omega (arith, take_few plan.size drawn, fit.small.drawn)) sized)
+    drew
+
+imported_fits : (setup : Setup) (past : History) (caller : Caller) (key : Descriptor) (params : List ℕ) (format : ℕ) (material drawn : List ℕ) → length (root_of setup past) ≡ 32
+    → length drawn ≡ size_of (wanted_by_rules (ImportKey key params format material) setup past caller) → Fits (sizes_of (ImportKey key params format material) 0) (answer_by_rules (ImportKey key params format material) setup past caller drawn)
+imported_fits setup past caller key params format material drawn long drew =
+    let facts : NewFacts = new_facts setup.policy caller key params (import_of format material) (has_early_ended setup past) in
+    let plan : KeyPlan = plan_of facts in
+    key_fits (first_broken K (rules_of facts)) plan (has_key_place (kept setup past) (owner_of caller) key) (key.domain == domain_blob) (new_blob (device_at setup past) plan (Some material) drawn) (kept setup past).next_key drawn
+    (λ through sized. let fit : IsFit facts plan = fit_if_ok facts through in blob_fits (device_at setup past) plan facts material drawn long fit fit.short sized)
+    drew
+
+-- ---- a begin
+
+wanted_few : (asked key : List Param) → nonce_wanted asked key ≤ 16
+unfolding nonce_wanted
+wanted_few asked key = by_tests _ (is_gcm asked key) where
+  by_tests : (wants short : Bool) → (if wants then (if short then 12 else 16) else 0) ≤ 16
+  by_tests true true = omega arith
+  by_tests true false = omega arith
+  by_tests false short = omega arith
+
+nonce_fits : (n : ℕ) (drawn : List ℕ) → n ≤ 16 → IsWithin NONCE (if n == 0 then None else Some (take n drawn))
+nonce_fits n drawn few = by_zero (n == 0) where
+  by_zero : (b : Bool) → IsWithin NONCE (if b then None else Some (take n drawn))
+  by_zero true = tt
+  by_zero false = omega (arith, take_few n drawn, few)
+
+-- ---- an entry and a listing
+
+found_short : (part : Lasting) (access : Access) (key : KeyRecord) → AreShort part → key_in part access ≡ Some key → IsShort key
+found_short part (Found row bits) key short e = each_found IsShort (has_id row.id) part.keys key short e
+found_short part (Blob bits) key short e = cc
+found_short part Nothing key short e = cc
+
+entry_fits : (key : Descriptor) (found : Option KeyRecord) → ((k : KeyRecord) → found ≡ Some k → IsShort k) → Fits (sizes_of (GetKeyEntry key) 0) (key_entry found)
+entry_fits key None short = record { alias = tt; nonce = tt; out = tt; blob = tt; list = tt; entries = tt }
+entry_fits key (Some k) short = record { alias = (short k refl).0; nonce = tt; out = tt; blob = tt; list = (short k refl).1; entries = tt }
+
+lesser_short : (key : KeyRecord) (other : Option KeyRecord) → IsShort key → IfSome other IsShort → IsShort (lesser key other)
+lesser_short key None short others = short
+lesser_short key (Some other) short others = by_order (is_gt (alias_cmp key.alias other.alias)) where
+  by_order : (b : Bool) → IsShort (if b then other else key)
+  by_order true = others
+  by_order false = short
+
+least_short : (keys : List KeyRecord) → Each IsShort keys → IfSome (least keys) IsShort
+least_short [] short = tt
+least_short (key ∷ keys) short = lesser_short key (least keys) short.0 (least_short keys short.1)
+
+next_short : (part : Lasting) (domain nspace : ℕ) (past : Option (List ℕ)) → AreShort part → IfSome (next_key part domain nspace past) IsShort
+next_short part domain nspace past short = least_short (filter (is_listed domain nspace past) part.keys) (each_left IsShort (is_listed domain nspace past) part.keys short)
+
+abbrev HasShortAlias : List ℕ × ℕ → Type 0
+HasShortAlias entry = length entry.0 ≤ 256
+
+abbrev IsFew : ℕ → List (List ℕ × ℕ) → Type 0
+IsFew most entries = (length entries ≤ most) × All HasShortAlias entries
+
+more_few : (most : ℕ) (part : Lasting) (domain nspace : ℕ) (past : Option (List ℕ)) (found : Option KeyRecord) → next_key part domain nspace past ≡ found → IfSome found IsShort
+    → ((alias : List ℕ) → IsFew most (listed_from most part domain nspace (Some alias))) → IsFew (suc most) (listed_from (suc most) part domain nspace past)
+unfolding listed_from
+more_few most part domain nspace past None next own rest = rw next (omega arith, All-nil HasShortAlias)
+more_few most part domain nspace past (Some key) next own rest =
+    rw next (omega (arith, (rest key.alias).0), All-cons HasShortAlias (key.alias, key.id) (listed_from most part domain nspace (Some key.alias)) own.0 (rest key.alias).1)
+
+none_few : (part : Lasting) (domain nspace : ℕ) (past : Option (List ℕ)) → IsFew 0 (listed_from 0 part domain nspace past)
+unfolding listed_from
+none_few part domain nspace past = (omega arith, All-nil HasShortAlias)
+
+listed_few : (most : ℕ) (part : Lasting) (domain nspace : ℕ) (past : Option (List ℕ)) → AreShort part → IsFew most (listed_from most part domain nspace past)
+listed_few zero part domain nspace past short = none_few part domain nspace past
+listed_few (suc most) part domain nspace past short =
+    more_few most part domain nspace past (next_key part domain nspace past) refl (next_short part domain nspace past short) (λ alias. listed_few most part domain nspace (Some alias) short)
+
+-- ---- a leave
+
+given_fits : (ticket out : ℕ) (work : Work) (result : Result (List ℕ) Code) → IfOk result (λ bytes. length bytes ≤ out) → Fits (sizes_of (Leave ticket) out) (given_or work result)
+given_fits ticket out (Aad input) (Ok bytes) few = record { alias = tt; nonce = tt; out = tt; blob = tt; list = tt; entries = tt }
+given_fits ticket out (Text input) (Ok bytes) few = record { alias = tt; nonce = tt; out = few; blob = tt; list = tt; entries = tt }
+given_fits ticket out (Last input signature) (Ok bytes) few = record { alias = tt; nonce = tt; out = few; blob = tt; list = tt; entries = tt }
+given_fits ticket out work (Err code) few = tt
+
+leave_fits : (setup : Setup) (past : History) (ticket out : ℕ) (entered : Option Entered) → IfOk (output_out setup past entered) (λ bytes. length bytes ≤ out) → Fits (sizes_of (Leave ticket) out) (leaving setup past entered)
+leave_fits setup past ticket out None few = tt
+leave_fits setup past ticket out (Some entered) few = given_fits ticket out entered.work (output_of (operation_at setup past entered.op) entered.work) few
+
+-- ---- the other calls
+
+granted_fits : (part : Lasting) (key : Option ℕ) (uid : ℕ) → Fits no_sizes (granted_in part key uid)
+granted_fits part None uid = record { alias = tt; nonce = tt; out = tt; blob = tt; list = tt; entries = tt }
+granted_fits part (Some key) uid = if_fits no_sizes (has_grant_place part key uid) (Done (record no_fields { grant = Some (grant_number part key uid) })) (Stopped StoreFull) (record { alias = tt; nonce = tt; out = tt; blob = tt; list = tt; entries = tt }) tt
+
+accepted_fits : (tokens : List AuthToken) (token : AuthToken) → Fits no_sizes (accepted_in tokens token)
+accepted_fits tokens token = if_fits no_sizes (length (other_triples token tokens) == 256) (Stopped TokensFull) (Done no_fields) tt (record { alias = tt; nonce = tt; out = tt; blob = tt; list = tt; entries = tt })
+
+-- each answer by the rules
+rules_fit : (act : Act) (setup : Setup) (past : History) (caller : Caller) (drawn : List ℕ) (out : ℕ) → AreShort (kept setup past) → length (root_of setup past) ≡ 32
+    → length drawn ≡ size_of (if (fixed_for act).draws then wanted_by_rules act setup past caller else no_pieces) → HasOutRoom setup past act out → Fits (sizes_of act out) (answer_by_rules act setup past caller drawn)
+rules_fit (Connect uid) setup past caller drawn out short long drew room = record { alias = tt; nonce = tt; out = tt; blob = tt; list = tt; entries = tt }
+rules_fit (GenerateKey key params) setup past caller drawn out short long drew room = generated_fits setup past caller key params drawn long drew
+rules_fit (ImportKey key params format material) setup past caller drawn out short long drew room =
+    imported_fits setup past caller key params format material drawn long drew
+rules_fit (CreateOperation key params forced) setup past caller drawn out short long drew room =
+    broken_fits (record no_sizes { nonce = NONCE }) (begin_table.answer (begin_facts setup past caller key params forced)) (begun_with (count_of is_begin past + 1) (challenge_of (begin_facts setup past caller key params forced) drawn) (drawn_nonce (begin_facts setup past caller key params forced) drawn) (pruned_for setup past (owner_of caller) forced))
+    (record { alias = tt; nonce = nonce_fits (nonce_size (begin_facts setup past caller key params forced)) drawn (wanted_few (asked_of (begin_facts setup past caller key params forced)) (key_of (begin_facts setup past caller key params forced))); out = tt; blob = tt; list = tt; entries = tt })
+rules_fit (EnterAad op input) setup past caller drawn out short long drew room =
+    broken_fits no_sizes (step_table.answer (step_facts setup past caller op (brought_by (Aad input)))) (Done (record no_fields { ticket = Some (next_ticket past) })) (record { alias = tt; nonce = tt; out = tt; blob = tt; list = tt; entries = tt })
+rules_fit (EnterUpdate op input) setup past caller drawn out short long drew room =
+    broken_fits no_sizes (step_table.answer (step_facts setup past caller op (brought_by (Text input)))) (Done (record no_fields { ticket = Some (next_ticket past) })) (record { alias = tt; nonce = tt; out = tt; blob = tt; list = tt; entries = tt })
+rules_fit (EnterFinish op input signature) setup past caller drawn out short long drew room =
+    broken_fits no_sizes (step_table.answer (step_facts setup past caller op (brought_by (Last input signature)))) (Done (record no_fields { ticket = Some (next_ticket past) })) (record { alias = tt; nonce = tt; out = tt; blob = tt; list = tt; entries = tt })
+rules_fit (Abort op) setup past caller drawn out short long drew room =
+    broken_fits no_sizes (step_table.answer (step_facts setup past caller op brought_by_abort)) (Done no_fields) (record { alias = tt; nonce = tt; out = tt; blob = tt; list = tt; entries = tt })
+rules_fit Disconnect setup past caller drawn out short long drew room =
+    broken_fits no_sizes (disconnect_ruling caller (has_busy setup past caller.client)) (Done no_fields) (record { alias = tt; nonce = tt; out = tt; blob = tt; list = tt; entries = tt })
+rules_fit (GetKeyEntry key) setup past caller drawn out short long drew room =
+    broken_fits (sizes_of (GetKeyEntry key) 0) (get_key_entry_ruling setup.policy (kept setup past) caller key) (key_entry (key_found setup past caller key))
+    (entry_fits key (key_found setup past caller key) (λ k e. found_short (kept setup past) (access_at setup past caller key) k short e))
+rules_fit (DeleteKey key) setup past caller drawn out short long drew room =
+    broken_fits no_sizes (delete_key_ruling setup.policy (kept setup past) caller key) (Done no_fields) (record { alias = tt; nonce = tt; out = tt; blob = tt; list = tt; entries = tt })
+rules_fit (Grant key uid bits) setup past caller drawn out short long drew room =
+    broken_fits no_sizes (grant_ruling setup.policy (kept setup past) caller key bits) (granted_in (kept setup past) (id_by setup.policy (kept setup past) caller key) uid) (granted_fits (kept setup past) (id_by setup.policy (kept setup past) caller key) uid)
+rules_fit (Ungrant key uid) setup past caller drawn out short long drew room =
+    broken_fits no_sizes (ungrant_ruling setup.policy (kept setup past) caller key uid) (Done no_fields) (record { alias = tt; nonce = tt; out = tt; blob = tt; list = tt; entries = tt })
+rules_fit (GetNumberOfEntries domain nspace) setup past caller drawn out short long drew room =
+    broken_fits no_sizes (listing_ruling setup.policy caller domain nspace) (counted_in (kept setup past) (owner_for (owner_of caller) domain nspace)) (record { alias = tt; nonce = tt; out = tt; blob = tt; list = tt; entries = tt })
+rules_fit (ListEntriesBatched domain nspace behind) setup past caller drawn out short long drew room =
+    broken_fits (sizes_of (ListEntriesBatched domain nspace behind) 0) (listing_ruling setup.policy caller domain nspace) (listed_in (kept setup past) (owner_for (owner_of caller) domain nspace) behind)
+    (record { alias = tt; nonce = tt; out = tt; blob = tt; list = tt; entries = listed_few 256 (kept setup past) (owner_for (owner_of caller) domain nspace).0 (owner_for (owner_of caller) domain nspace).1 behind short })
+rules_fit (ClearNamespace domain nspace) setup past caller drawn out short long drew room =
+    broken_fits no_sizes (clear_namespace_ruling caller domain nspace) (Done no_fields) (record { alias = tt; nonce = tt; out = tt; blob = tt; list = tt; entries = tt })
+rules_fit (UserRemoved user) setup past caller drawn out short long drew room =
+    broken_fits no_sizes (user_call_ruling caller user) (Done no_fields) (record { alias = tt; nonce = tt; out = tt; blob = tt; list = tt; entries = tt })
+rules_fit (AddAuthToken challenge user authenticator kind time mac) setup past caller drawn out short long drew room =
+    broken_fits no_sizes (add_auth_token_ruling setup.device.token caller (token_of challenge user authenticator kind time mac)) (accepted_in (last_tokens setup past) (token_of challenge user authenticator kind time mac)) (accepted_fits (last_tokens setup past) (token_of challenge user authenticator kind time mac))
+rules_fit (DeviceLocked user) setup past caller drawn out short long drew room =
+    broken_fits no_sizes (user_call_ruling caller user) (Done no_fields) (record { alias = tt; nonce = tt; out = tt; blob = tt; list = tt; entries = tt })
+rules_fit (DeviceUnlocked user) setup past caller drawn out short long drew room =
+    broken_fits no_sizes (user_call_ruling caller user) (Done no_fields) (record { alias = tt; nonce = tt; out = tt; blob = tt; list = tt; entries = tt })
+rules_fit EarlyBootEnded setup past caller drawn out short long drew room =
+    broken_fits no_sizes (early_boot_ended_ruling caller) (Done no_fields) (record { alias = tt; nonce = tt; out = tt; blob = tt; list = tt; entries = tt })
+rules_fit (Leave ticket) setup past caller drawn out short long drew room = leave_fits setup past ticket out (ticket_at past ticket) room
+rules_fit (Restart root) setup past caller drawn out short long drew room = record { alias = tt; nonce = tt; out = tt; blob = tt; list = tt; entries = tt }
+
+-- ---- each entry, and each step
+
+follow_fits : (setup : Setup) (past : History) (event : Event) (drawn : List ℕ) (reply : Reply) (out : ℕ) → AreShort (kept setup past) → length (root_of setup past) ≡ 32 → HasOutRoom setup past event.act out
+    → MayFollow setup past event drawn reply → Fits (sizes_of event.act out) reply
+follow_fits setup past event drawn reply out short long room (Answered is) =
+    subst (Fits (sizes_of event.act out)) (sym is.is_answer)
+    (stored_fits (sizes_of event.act out) (stored_bytes setup past) (change_of event.act (device_at setup past) setup.policy (kept setup past) (open_of setup past) (caller_of past event) drawn)
+    (answer_by_rules event.act setup past (caller_of past event) drawn) (rules_fit event.act setup past (caller_of past event) drawn out short long is.drew room))
+follow_fits setup past event drawn reply out short long room (WithoutMemory is) = subst (Fits (sizes_of event.act out)) (sym is.is_want) tt
+follow_fits setup past event drawn reply out short long room (WithoutEntropy is) = subst (Fits (sizes_of event.act out)) (sym is.is_fault) tt
+follow_fits setup past event drawn reply out short long room (Faulted is) = subst (Fits (sizes_of event.act out)) (sym is.is_fault) tt
+follow_fits setup past event drawn reply out short long room (NotSettled is) = subst (Fits (sizes_of event.act out)) (sym is.is_fault) tt
+follow_fits setup past event drawn reply out short long room (NotRestarted code is) = subst (Fits (sizes_of event.act out)) (sym is.is_refusal) tt
+
+-- the work that is out puts out the same after a settling
+same_room : (setup : Setup) (past : History) (settled : Settled) (act : Act) (out : ℕ) → HasOutRoom setup past act out → HasOutRoom setup (Settling settled ∷ past) act out
+same_room setup past settled (Leave ticket) out room = same_output (ticket_at past ticket) room where
+  same_output : (entered : Option Entered) → IfOk (output_out setup past entered) (λ bytes. length bytes ≤ out) → IfOk (output_out setup (Settling settled ∷ past) entered) (λ bytes. length bytes ≤ out)
+  same_output None few = few
+  same_output (Some entered) few = few
+same_room setup past settled _ out room = tt
+
+pub step_fits : (setup : Setup) (past : History) (settled : Option Settled) (event : Event) (drawn : List ℕ) (reply : Reply) (out : ℕ) → Legal setup past → IsStored setup.start → length (device_at setup past).root ≡ 32
+    → HasOutRoom setup past event.act out → MayStep setup past settled event drawn reply → Fits (sizes_of event.act out) reply
+step_fits setup past None event drawn reply out legal stored long room may = follow_fits setup past event drawn reply out (kept_short setup None past legal stored None) long room may.follows
+step_fits setup past (Some settled) event drawn reply out legal stored long room may =
+    follow_fits setup (Settling settled ∷ past) event drawn reply out (kept_short setup None past legal stored (Some settled)) long (same_room setup past settled event.act out room) may.follows

@@ -1,0 +1,235 @@
+-- The alias and the list of each key that lasts are short: those of a new key are by its rules, and no change makes them longer.
+use Rattle.std.proofs.Common.{◌≡◌, ℕ, ◌-◌, ◌≤◌, Bool, true, false, ◌==◌, ◌&&◌, not, if◌then◌else◌, List, [], ◌∷◌, filter, find, length, Option, Some, None, option_map, Result, Ok, Err, is_ok, refl, subst, arith}
+use Rattle.std.specs.Option.{option_and_then}
+use Rattle.std.specs.Prelude.{nat_le}
+use Rattle.std.specs.Str.{is_utf8}
+use Rattle.std.proofs.lemmas.Bool.{and_parts, leb-true}
+use Rattle.tags.specs.declared.code.Code.{Code}
+use Rattle.tags.specs.declared.code.Code.TheVariants.{EntropyFault, MemoryAllocationFailed}
+use Rattle.tags.specs.declared.rule.Rule.{Rule}
+use Rattle.tags.specs.declared.secrets.DeviceSecrets.{DeviceSecrets}
+use Rattle.tags.specs.declared.settled.Settled.{Settled}
+use Rattle.tags.specs.Descriptor.{is_alias}
+use Rattle.key_domains.specs.Domains.{domain_blob}
+use Rattle.grants.specs.declared.row.GrantRow.{GrantRow}
+use Rattle.grants.specs.Rows.{is_for}
+use Rattle.journal_records.specs.declared.change.Change.{Change}
+use Rattle.journal_records.specs.declared.change.Change.TheVariants as changes
+use Rattle.journal_records.specs.declared.change.Change.TheVariants.{Create, Delete, Use, Grant as Granting, Ungrant as Ungranting, Clear, Removed}
+use Rattle.journal_records.specs.declared.record.KeyRecord.{KeyRecord}
+use Rattle.journal_records.specs.Effects.{after, changed, granted, is_last_use, lasting_of, with_use}
+use Rattle.journal_records.specs.LastingPart.{Lasting, empty_lasting, has_id, is_named, is_of_user, is_owned}
+use Rattle.journal_records.specs.Needs.{has_place_for, is_met, is_number_left, is_owner}
+use Rattle.key_rules.specs.declared.facts.NewFacts.{NewFacts}
+use Rattle.key_rules.specs.Creation.{new_key, plan_of}
+use Rattle.key_rules.proofs.NewKeys.{fit_if_ok, named_short}
+use Rattle.rule_model.specs.declared.entry.Entry.TheVariants.{Acted, Settling}
+use Rattle.rule_model.specs.declared.event.Act.{Act}
+use Rattle.rule_model.specs.declared.event.Act.TheVariants.{GenerateKey, ImportKey, EnterFinish, DeleteKey, Grant, Ungrant, ClearNamespace, UserRemoved}
+use Rattle.rule_model.specs.declared.event.Event.{Event}
+use Rattle.rule_model.specs.declared.facts.Caller.{Caller}
+use Rattle.rule_model.specs.declared.reply.Reply.{Reply}
+use Rattle.rule_model.specs.declared.reply.Reply.TheVariants.{Done, Broken, Stopped}
+use Rattle.rule_model.specs.Access.{id_by, owner_of}
+use Rattle.rule_model.specs.Answer.{answer, answer_by_rules, made_in}
+use Rattle.rule_model.specs.Blobs.{device_at}
+use Rattle.rule_model.specs.Boot.{has_early_ended}
+use Rattle.rule_model.specs.Changes.{after_change, change_of, creating, grant_of, granting, new_blob, planned}
+use Rattle.rule_model.specs.Clients.{caller_of}
+use Rattle.rule_model.specs.Entries.{History, is_done}
+use Rattle.rule_model.specs.Kept.{kept, kept_settled, open_of}
+use Rattle.rule_model.specs.Legal.{LegalBefore, MayFollow, Answered, WithoutMemory, WithoutEntropy, Faulted, NotSettled, NotRestarted}
+use Rattle.rule_model.specs.NewFacts.{import_of, new_facts}
+use Rattle.rule_model.specs.Operations.{Open, used_key}
+use Rattle.rule_model.specs.Replies.{broken_or}
+use Rattle.rule_model.specs.Settling.{is_faulted, is_kept, is_unsettled}
+use Rattle.rule_model.specs.Setup.{Setup}
+use Rattle.rule_model.specs.Stored.{stored_bytes, where_stored}
+use Rattle.rule_model.specs.Uses.{IsStored}
+use Rattle.rule_model.proofs.Admitted.{admitted_by_rules, answered_done, broken_done}
+use Rattle.rule_model.proofs.Bounds.{Each, each_changed, each_left, each_more}
+use Rattle.rule_model.proofs.Kept.{restart_unfaulted, waiting_unfaulted}
+
+-- ---- over a change
+
+abbrev pub IsShort : KeyRecord → Type 0
+IsShort key = (length key.alias ≤ 256) × (length key.list ≤ 4140)
+
+abbrev pub AreShort : Lasting → Type 0
+AreShort part = Each IsShort part.keys
+
+abbrev IsShortChange : Change → Type 0
+IsShortChange (Create id domain nspace alias blob list limit) = (length alias ≤ 256) × (length list ≤ 4140)
+IsShortChange _ = Unit {0}
+
+short_use : (n : ℕ) (key : KeyRecord) → IsShort key → IsShort (with_use n key)
+short_use n key short = by_number (key.id == n) where
+  by_number : (b : Bool) → IsShort (if b then record key { left = key.left - 1 } else key)
+  by_number true = short
+  by_number false = short
+
+short_granted : (found : Option GrantRow) (row : GrantRow) (part : Lasting) → AreShort part → AreShort (granted found row part)
+short_granted None row part short = short
+short_granted (Some old) row part short = short
+
+short_after : (part : Lasting) (change : Change) → IsShortChange change → AreShort part → AreShort (after part change)
+short_after part (Create id domain nspace alias blob list limit) new short =
+    each_more IsShort (filter (λ key. not (is_named domain nspace alias key)) part.keys) (record { id = id; domain = domain; nspace = nspace; alias = alias; blob = blob; list = list; limit = limit; left = limit })
+    (each_left IsShort (λ key. not (is_named domain nspace alias key)) part.keys short) new
+short_after part (Delete id) new short = each_left IsShort (λ key. not (has_id id key)) part.keys short
+short_after part (Use id) new short =
+    each_changed IsShort IsShort (with_use id) (short_use id) (filter (λ key. not (is_last_use id key)) part.keys) (each_left IsShort (λ key. not (is_last_use id key)) part.keys short)
+short_after part (Granting row) new short = short_granted (find (is_for row.key row.uid) part.grants) row part short
+short_after part (Ungranting grant) new short = short
+short_after part (Clear domain nspace) new short = each_left IsShort (λ key. not (is_owned domain nspace key)) part.keys short
+short_after part (Removed user) new short = each_left IsShort (λ key. not (is_of_user user key)) part.keys short
+
+abbrev IsShortIn : Option Change → Type 0
+IsShortIn None = Unit {0}
+IsShortIn (Some change) = IsShortChange change
+
+short_changed : (change : Option Change) (part : Lasting) → IsShortIn change → AreShort part → AreShort (after_change change part)
+short_changed None part new short = short
+short_changed (Some change) part new short = short_after part change new short
+
+-- ---- what a store can stand for
+
+met_short : (part : Lasting) (change : Change) → is_met part change ≡ true → IsShortChange change
+met_short part (Create id domain nspace alias blob list limit) met =
+    let first = and_parts ((id == part.next_key) && is_number_left id) (is_owner domain nspace && (is_alias alias && (nat_le (length blob) 6327 && (nat_le (length list) 4140 && has_place_for domain nspace alias part)))) met in
+    let second = and_parts (is_owner domain nspace) (is_alias alias && (nat_le (length blob) 6327 && (nat_le (length list) 4140 && has_place_for domain nspace alias part))) first.1 in
+    let third = and_parts (is_alias alias) (nat_le (length blob) 6327 && (nat_le (length list) 4140 && has_place_for domain nspace alias part)) second.1 in
+    let fourth = and_parts (nat_le (length blob) 6327) (nat_le (length list) 4140 && has_place_for domain nspace alias part) third.1 in
+    let fifth = and_parts (nat_le (length list) 4140) (has_place_for domain nspace alias part) fourth.1 in
+    let name = and_parts (nat_le 1 (length alias)) (nat_le (length alias) 256 && is_utf8 alias) third.0 in
+    let long = and_parts (nat_le (length alias) 256) (is_utf8 alias) name.1 in
+    (leb-true (length alias) 256 long.0, leb-true (length list) 4140 fifth.0)
+met_short part (Delete id) met = tt
+met_short part (Use id) met = tt
+met_short part (Granting row) met = tt
+met_short part (Ungranting grant) met = tt
+met_short part (Clear domain nspace) met = tt
+met_short part (Removed user) met = tt
+
+short_from : (made : List Change) (part : Lasting) → lasting_of made ≡ Some part → AreShort part
+short_from [] part e = let is : empty_lasting ≡ part = cc in subst AreShort is tt
+short_from (change ∷ past) part e = by_before (lasting_of past) e (λ before is. short_from past before is) where
+  over : (before : Lasting) → AreShort before → (b : Bool) → is_met before change ≡ b → (if b then Some (after before change) else None) ≡ Some part → AreShort part
+  over before short false met is = cc
+  over before short true met is =
+      let made : after before change ≡ part = cc in
+      subst AreShort made (short_after before change (met_short before change met) short)
+
+  by_before : (found : Option Lasting) → option_and_then (λ before. changed before change) found ≡ Some part → ((before : Lasting) → found ≡ Some before → AreShort before) → AreShort part
+  by_before None is rest = cc
+  by_before (Some before) is rest = over before (rest before refl) (is_met before change) refl is
+
+-- ---- the change of an act
+
+-- the rules let a new key through
+abbrev MakesKey : Act → Setup → History → Caller → Type 0
+MakesKey (GenerateKey key params) setup past caller = is_ok (new_key (new_facts setup.policy caller key params None (has_early_ended setup past))) ≡ true
+MakesKey (ImportKey key params format material) setup past caller = is_ok (new_key (new_facts setup.policy caller key params (import_of format material) (has_early_ended setup past))) ≡ true
+MakesKey _ setup past caller = Unit {0}
+
+short_new : (device : DeviceSecrets) (part : Lasting) (uid : ℕ) (facts : NewFacts) (import : Option (List ℕ)) (drawn : List ℕ) → is_ok (new_key facts) ≡ true → (b : Bool) → (facts.descriptor.domain == domain_blob) ≡ b
+    → IsShortIn (if b then None else Some (creating device part uid facts.descriptor (plan_of facts) import drawn))
+short_new device part uid facts import drawn through true e = tt
+short_new device part uid facts import drawn through false e =
+    let fit = fit_if_ok facts through in
+    (named_short facts.descriptor fit.named e, omega (arith, fit.small.listed))
+
+short_mapped : {X : Type 0} (change : X → Change) → ((x : X) → IsShortChange (change x)) → (found : Option X) → IsShortIn (option_map change found)
+short_mapped change short None = tt
+short_mapped change short (Some x) = short x
+
+change_short : (act : Act) (setup : Setup) (past : History) (device : DeviceSecrets) (part : Lasting) (opened : List Open) (caller : Caller) (drawn : List ℕ) → MakesKey act setup past caller
+    → IsShortIn (change_of act device setup.policy part opened caller drawn)
+change_short (GenerateKey key params) setup past device part opened caller drawn through =
+    short_new device part (owner_of caller) (new_facts setup.policy caller key params None (has_early_ended setup past)) None drawn through (key.domain == domain_blob) refl
+change_short (ImportKey key params format material) setup past device part opened caller drawn through =
+    short_new device part (owner_of caller) (new_facts setup.policy caller key params (import_of format material) (has_early_ended setup past)) (Some material) drawn through (key.domain == domain_blob) refl
+change_short (EnterFinish op input signature) setup past device part opened caller drawn through = short_mapped changes.Use (λ id. tt) (used_key op opened)
+change_short (DeleteKey key) setup past device part opened caller drawn through = short_mapped changes.Delete (λ id. tt) (id_by setup.policy part caller key)
+change_short (Grant key uid bits) setup past device part opened caller drawn through = short_mapped (granting part uid bits) (λ id. tt) (id_by setup.policy part caller key)
+change_short (Ungrant key uid) setup past device part opened caller drawn through = short_mapped changes.Ungrant (λ id. tt) (grant_of part (id_by setup.policy part caller key) uid)
+change_short (ClearNamespace domain nspace) setup past device part opened caller drawn through = tt
+change_short (UserRemoved user) setup past device part opened caller drawn through = tt
+change_short _ setup past device part opened caller drawn through = tt
+
+-- an act that is admitted
+makes_done : (act : Act) (setup : Setup) (past : History) (caller : Caller) (drawn : List ℕ) → is_done (answer_by_rules act setup past caller drawn) ≡ true → MakesKey act setup past caller
+makes_done (GenerateKey key params) setup past caller drawn e =
+    broken_done (new_key (new_facts setup.policy caller key params None (has_early_ended setup past)))
+    (made_in (kept setup past) caller key (new_blob (device_at setup past) (planned setup.policy caller key params None) None drawn)) e
+makes_done (ImportKey key params format material) setup past caller drawn e =
+    broken_done (new_key (new_facts setup.policy caller key params (import_of format material) (has_early_ended setup past)))
+    (made_in (kept setup past) caller key (new_blob (device_at setup past) (planned setup.policy caller key params (import_of format material)) (Some material) drawn)) e
+makes_done _ setup past caller drawn e = tt
+
+-- an answer that is no broken rule
+stopped_ok : {T : Type 0} (bytes : ℕ) (change : Option Change) (ruling : Result T (Rule × Code)) (reply : Reply) (code : Code) → Stopped code ≡ where_stored bytes change (broken_or ruling reply) → is_ok ruling ≡ true
+stopped_ok bytes change (Ok found) reply code e = refl
+stopped_ok bytes None (Err broken) reply code e = cc
+stopped_ok bytes (Some change) (Err broken) reply code e = cc
+
+makes_stopped : (act : Act) (setup : Setup) (past : History) (caller : Caller) (drawn : List ℕ) (code : Code) → Stopped code ≡ where_stored (stored_bytes setup past)
+    (change_of act (device_at setup past) setup.policy (kept setup past) (open_of setup past) caller drawn) (answer_by_rules act setup past caller drawn) → MakesKey act setup past caller
+makes_stopped (GenerateKey key params) setup past caller drawn code e =
+    stopped_ok (stored_bytes setup past) (change_of (GenerateKey key params) (device_at setup past) setup.policy (kept setup past) (open_of setup past) caller drawn)
+    (new_key (new_facts setup.policy caller key params None (has_early_ended setup past)))
+    (made_in (kept setup past) caller key (new_blob (device_at setup past) (planned setup.policy caller key params None) None drawn)) code e
+makes_stopped (ImportKey key params format material) setup past caller drawn code e =
+    stopped_ok (stored_bytes setup past) (change_of (ImportKey key params format material) (device_at setup past) setup.policy (kept setup past) (open_of setup past) caller drawn)
+    (new_key (new_facts setup.policy caller key params (import_of format material) (has_early_ended setup past)))
+    (made_in (kept setup past) caller key (new_blob (device_at setup past) (planned setup.policy caller key params (import_of format material)) (Some material) drawn)) code e
+makes_stopped _ setup past caller drawn code e = tt
+
+both_ways : {A : Type 0} (b : Bool) → b ≡ true → b ≡ false → A
+both_ways true e f = cc
+both_ways false e f = cc
+
+-- an act whose change a failed device call left open
+makes_faulted : (setup : Setup) (past : History) (event : Event) (drawn : List ℕ) (code : Code) → is_faulted (is_unsettled past) event.act (Stopped code) ≡ true → MayFollow setup past event drawn (Stopped code)
+    → MakesKey event.act setup past (caller_of past event)
+makes_faulted setup past event drawn code faulted (Answered is) = makes_stopped event.act setup past (caller_of past event) drawn code is.is_answer
+makes_faulted setup past event drawn code faulted (WithoutMemory is) =
+    let no : is_faulted (is_unsettled past) event.act (Stopped MemoryAllocationFailed) ≡ true = subst (λ r. is_faulted (is_unsettled past) event.act r ≡ true) is.is_want faulted in cc
+makes_faulted setup past event drawn code faulted (WithoutEntropy is) =
+    let no : is_faulted (is_unsettled past) event.act (Stopped EntropyFault) ≡ true = subst (λ r. is_faulted (is_unsettled past) event.act r ≡ true) is.is_fault faulted in cc
+makes_faulted setup past event drawn code faulted (Faulted is) = makes_done event.act setup past (caller_of past event) drawn (admitted_by_rules setup past event drawn is.admitted)
+makes_faulted setup past event drawn code faulted (NotSettled is) =
+    both_ways (is_faulted (is_unsettled past) event.act (Stopped code)) faulted (waiting_unfaulted (is_unsettled past) event.act (Stopped code) is.waits)
+makes_faulted setup past event drawn code faulted (NotRestarted other is) =
+    both_ways (is_faulted (is_unsettled past) event.act (Stopped code)) faulted (restart_unfaulted (is_unsettled past) event.act (Stopped code) is.restarts)
+
+-- ---- over a legal history
+
+module _ (setup : Setup) (past : History) (event : Event) (drawn : List ℕ) where
+  over : (verdict : Option Settled) → MakesKey event.act setup past (caller_of past event) → AreShort (kept_settled setup verdict past)
+      → AreShort (after_change (change_of event.act (device_at setup past) setup.policy (kept_settled setup verdict past) (open_of setup past) (caller_of past event) drawn) (kept_settled setup verdict past))
+  over verdict through short =
+      short_changed (change_of event.act (device_at setup past) setup.policy (kept_settled setup verdict past) (open_of setup past) (caller_of past event) drawn) (kept_settled setup verdict past)
+      (change_short event.act setup past (device_at setup past) (kept_settled setup verdict past) (open_of setup past) (caller_of past event) drawn through) short
+
+  stopped_over : (verdict : Option Settled) (faulted counting : Bool) → (faulted ≡ true → MakesKey event.act setup past (caller_of past event)) → ((v : Option Settled) → AreShort (kept_settled setup v past))
+      → AreShort (if faulted && counting
+      then after_change (change_of event.act (device_at setup past) setup.policy (kept_settled setup (if faulted then None else verdict) past) (open_of setup past) (caller_of past event) drawn) (kept_settled setup (if faulted then None else verdict) past)
+      else kept_settled setup (if faulted then None else verdict) past)
+  stopped_over verdict true true through short = over None (through refl) (short None)
+  stopped_over verdict true false through short = short None
+  stopped_over verdict false counting through short = short verdict
+
+-- whatever a settling says of what waits
+pub kept_short : (setup : Setup) (next : Option Event) (past : History) → LegalBefore setup next past → IsStored setup.start → (verdict : Option Settled) → AreShort (kept_settled setup verdict past)
+kept_short setup next [] legal (made, stored) verdict = short_from made setup.start stored
+kept_short setup next (Settling settled ∷ past) legal stored verdict = kept_short setup None past legal.1 stored (Some settled)
+kept_short setup next (Acted event drawn (Done fields) ∷ past) legal stored verdict =
+    let is = answered_done setup past event drawn fields legal.0 in
+    over setup past event drawn verdict
+    (makes_done event.act setup past (caller_of past event) drawn (admitted_by_rules setup past event drawn (subst (λ r. is_done r ≡ true) is.is_answer refl)))
+    (kept_short setup (Some event) past legal.1 stored verdict)
+kept_short setup next (Acted event drawn (Broken rule code) ∷ past) legal stored verdict = kept_short setup (Some event) past legal.1 stored verdict
+kept_short setup next (Acted event drawn (Stopped code) ∷ past) legal stored verdict =
+    stopped_over setup past event drawn verdict (is_faulted (is_unsettled past) event.act (Stopped code)) (is_kept verdict) (λ faulted. makes_faulted setup past event drawn code faulted legal.0)
+    (λ v. kept_short setup (Some event) past legal.1 stored v)
