@@ -85,6 +85,7 @@ refused_parts act pass log connected reply mine stays is on = absurd (differ (sy
   where
     here : is_connected pass log ≡ true
     here = sym mine ∙ on
+
     differ : false ≡ true → ⊥
     differ e = cc
 
@@ -151,9 +152,11 @@ sent_some (Some ticket) (Some job) (Some room) x e = (ap (λ (o : Option Sent). 
     ticket_or : ℕ → Option Sent → Option ℕ
     ticket_or d None = Some d
     ticket_or d (Some y) = Some y.ticket
+
     job_or : Job → Option Sent → Option Job
     job_or d None = Some d
     job_or d (Some y) = Some y.job
+
     room_or : FieldSizes → Option Sent → Option FieldSizes
     room_or d None = Some d
     room_or d (Some y) = Some y.room

@@ -82,6 +82,7 @@ module _ (out out' : ℕ → Option ℕ) (at at' : ℕ → Bool) (owner owner' :
     where
       in_first : (t : ℕ) → (ticket == t) ≡ true → has t (ticket ∷ fit.covers.numbers) ≡ true
       in_first t e = rw e refl
+
       in_rest : (t : ℕ) → has t fit.covers.numbers ≡ true → has t (ticket ∷ fit.covers.numbers) ≡ true
       in_rest t e = ⊎_elim (λ (f : (ticket == t) ≡ true). in_first t f) (λ (f : (ticket == t) ≡ false). rw (f, e) refl) (cases_Bool (ticket == t))
 
@@ -92,14 +93,14 @@ module _ (out out' : ℕ → Option ℕ) (at at' : ℕ → Bool) (owner owner' :
       let few = fit.covers.few in
       let less = less_length ticket fit.covers.numbers (fit.covers.all pass ticket is) in
       let apart : (n t : ℕ) → out' n ≡ Some t → (pass == n) ≡ false = λ n t h. ⊎_elim
-          (λ (e : (pass == n) ≡ true). absurd (none_some t (sym (o n ∙ then_is (pass == n) None (out n) e) ∙ h)))
-          (λ (e : (pass == n) ≡ false). e) (cases_Bool (pass == n)) in
+      (λ (e : (pass == n) ≡ true). absurd (none_some t (sym (o n ∙ then_is (pass == n) None (out n) e) ∙ h)))
+      (λ (e : (pass == n) ≡ false). e) (cases_Bool (pass == n)) in
       let theirs : (n t : ℕ) → out' n ≡ Some t → out n ≡ Some t = λ n t h. sym (o n ∙ else_is (pass == n) None (out n) (apart n t h)) ∙ h in
       let other : (n t : ℕ) → out' n ≡ Some t → (ticket == t) ≡ false = λ n t h. ne_eqb ticket t (λ e.
-          eqb-false pass n (apart n t h) (some_is pass n (sym (fit.own_is pass ticket is) ∙ (ap owner e ∙ fit.own_is n t (theirs n t h))))) in
+      eqb-false pass n (apart n t h) (some_is pass n (sym (fit.own_is pass ticket is) ∙ (ap owner e ∙ fit.own_is n t (theirs n t h))))) in
       let still : (t : ℕ) → at' t ≡ true → (ticket == t) ≡ false = λ t h. ⊎_elim
-          (λ (e : (ticket == t) ≡ true). absurd (false_true (sym (a t ∙ then_is (ticket == t) false (at t) e) ∙ h)))
-          (λ (e : (ticket == t) ≡ false). e) (cases_Bool (ticket == t)) in
+      (λ (e : (ticket == t) ≡ true). absurd (false_true (sym (a t ∙ then_is (ticket == t) false (at t) e) ∙ h)))
+      (λ (e : (ticket == t) ≡ false). e) (cases_Bool (ticket == t)) in
       let before : (t : ℕ) → at' t ≡ true → at t ≡ true = λ t h. sym (a t ∙ else_is (ticket == t) false (at t) (still t h)) ∙ h in
       record {
         own_is = λ n t h. w t ∙ fit.own_is n t (theirs n t h);
@@ -179,6 +180,7 @@ module _ (client client' : ℕ → Option ℕ) (connected connected' there there
     where
       in_first : (c : ℕ) → (number == c) ≡ true → has c (number ∷ fit.covers.numbers) ≡ true
       in_first c e = rw e refl
+
       in_rest : (c : ℕ) → has c fit.covers.numbers ≡ true → has c (number ∷ fit.covers.numbers) ≡ true
       in_rest c e = ⊎_elim (λ (f : (number == c) ≡ true). in_first c f) (λ (f : (number == c) ≡ false). rw (f, e) refl) (cases_Bool (number == c))
 
@@ -190,10 +192,10 @@ module _ (client client' : ℕ → Option ℕ) (connected connected' there there
       let few = fit.covers.few in
       let less = less_length number fit.covers.numbers (fit.covers.all pass number on is) in
       let only : (n c : ℕ) → client n ≡ Some c → (number == c) ≡ true → pass ≡ n = λ n c h e.
-          some_is pass n (sym (fit.own_is pass number is) ∙ (ap owner (eqb-true number c e) ∙ fit.own_is n c h)) in
+      some_is pass n (sym (fit.own_is pass number is) ∙ (ap owner (eqb-true number c e) ∙ fit.own_is n c h)) in
       let still : (n : ℕ) → connected' n ≡ true → (pass == n) ≡ false = λ n h. ⊎_elim
-          (λ (e : (pass == n) ≡ true). absurd (false_true (sym (co n ∙ then_is (pass == n) false (connected n) e) ∙ h)))
-          (λ (e : (pass == n) ≡ false). e) (cases_Bool (pass == n)) in
+      (λ (e : (pass == n) ≡ true). absurd (false_true (sym (co n ∙ then_is (pass == n) false (connected n) e) ∙ h)))
+      (λ (e : (pass == n) ≡ false). e) (cases_Bool (pass == n)) in
       let before : (n : ℕ) → connected' n ≡ true → connected n ≡ true = λ n h. sym (co n ∙ else_is (pass == n) false (connected n) (still n h)) ∙ h in
       record {
         own_is = λ n c h. w c ∙ fit.own_is n c (sym (cl n) ∙ h);

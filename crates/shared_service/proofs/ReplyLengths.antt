@@ -81,14 +81,34 @@ fields_few sizes fields small fit =
     let c = small.out in
     let d = small.blob in
     let e = small.list in
-    let begins : length (begins_of fields) ≤ 36 = omega (arith, length-append (long_field 1 fields.client) (long_field 2 fields.key ++ (long_field 3 fields.op ++ long_field 4 fields.challenge)),
-        length-append (long_field 2 fields.key) (long_field 3 fields.op ++ long_field 4 fields.challenge), length-append (long_field 3 fields.op) (long_field 4 fields.challenge),
-        long_few 1 fields.client, long_few 2 fields.key, long_few 3 fields.op, long_few 4 fields.challenge) in
-    let calls : length (calls_of fields) ≤ 36 = omega (arith, length-append (long_field 5 fields.ticket) (long_field 6 fields.pruned ++ (long_field 7 fields.grant ++ long_field 8 fields.count)),
-        length-append (long_field 6 fields.pruned) (long_field 7 fields.grant ++ long_field 8 fields.count), length-append (long_field 7 fields.grant) (long_field 8 fields.count),
-        long_few 5 fields.ticket, long_few 6 fields.pruned, long_few 7 fields.grant, long_few 8 fields.count) in
-    let facts : length (facts_of fields) ≤ 19 = omega (arith, length-append (short_field 9 fields.uses) (short_field 10 fields.domain ++ long_field 11 fields.nspace), length-append (short_field 10 fields.domain) (long_field 11 fields.nspace),
-        short_few 9 fields.uses, short_few 10 fields.domain, long_few 11 fields.nspace) in
+    let begins : length (begins_of fields) ≤ 36 = omega (
+      arith,
+      length-append (long_field 1 fields.client) (long_field 2 fields.key ++ (long_field 3 fields.op ++ long_field 4 fields.challenge)),
+      length-append (long_field 2 fields.key) (long_field 3 fields.op ++ long_field 4 fields.challenge),
+      length-append (long_field 3 fields.op) (long_field 4 fields.challenge),
+      long_few 1 fields.client,
+      long_few 2 fields.key,
+      long_few 3 fields.op,
+      long_few 4 fields.challenge,
+    ) in
+    let calls : length (calls_of fields) ≤ 36 = omega (
+      arith,
+      length-append (long_field 5 fields.ticket) (long_field 6 fields.pruned ++ (long_field 7 fields.grant ++ long_field 8 fields.count)),
+      length-append (long_field 6 fields.pruned) (long_field 7 fields.grant ++ long_field 8 fields.count),
+      length-append (long_field 7 fields.grant) (long_field 8 fields.count),
+      long_few 5 fields.ticket,
+      long_few 6 fields.pruned,
+      long_few 7 fields.grant,
+      long_few 8 fields.count,
+    ) in
+    let facts : length (facts_of fields) ≤ 19 = omega (
+      arith,
+      length-append (short_field 9 fields.uses) (short_field 10 fields.domain ++ long_field 11 fields.nspace),
+      length-append (short_field 10 fields.domain) (long_field 11 fields.nspace),
+      short_few 9 fields.uses,
+      short_few 10 fields.domain,
+      long_few 11 fields.nspace,
+    ) in
     let numbers : length (numbers_of fields) ≤ 91 = omega (arith, length-append (begins_of fields) (calls_of fields ++ facts_of fields), length-append (calls_of fields) (facts_of fields)) in
     let alias = bytes_few 12 sizes.alias fields.alias fit.alias in
     let nonce = bytes_few 13 sizes.nonce fields.nonce fit.nonce in
@@ -96,12 +116,14 @@ fields_few sizes fields small fit =
     let blob = bytes_few 15 sizes.blob fields.blob fit.blob in
     let list = bytes_few 16 sizes.list fields.list fit.list in
     let entries = listing_few 17 sizes.entries fields.entries small.entries fit.entries in
-    let texts : length (texts_of fields) ≤ 5400000 = omega (arith,
-        length-append (bytes_field 12 fields.alias) (bytes_field 13 fields.nonce ++ (bytes_field 14 fields.out ++ (bytes_field 15 fields.blob ++ (bytes_field 16 fields.list ++ entries_field 17 fields.entries)))),
-        length-append (bytes_field 13 fields.nonce) (bytes_field 14 fields.out ++ (bytes_field 15 fields.blob ++ (bytes_field 16 fields.list ++ entries_field 17 fields.entries))),
-        length-append (bytes_field 14 fields.out) (bytes_field 15 fields.blob ++ (bytes_field 16 fields.list ++ entries_field 17 fields.entries)),
-        length-append (bytes_field 15 fields.blob) (bytes_field 16 fields.list ++ entries_field 17 fields.entries),
-        length-append (bytes_field 16 fields.list) (entries_field 17 fields.entries)) in
+    let texts : length (texts_of fields) ≤ 5400000 = omega (
+      arith,
+      length-append (bytes_field 12 fields.alias) (bytes_field 13 fields.nonce ++ (bytes_field 14 fields.out ++ (bytes_field 15 fields.blob ++ (bytes_field 16 fields.list ++ entries_field 17 fields.entries)))),
+      length-append (bytes_field 13 fields.nonce) (bytes_field 14 fields.out ++ (bytes_field 15 fields.blob ++ (bytes_field 16 fields.list ++ entries_field 17 fields.entries))),
+      length-append (bytes_field 14 fields.out) (bytes_field 15 fields.blob ++ (bytes_field 16 fields.list ++ entries_field 17 fields.entries)),
+      length-append (bytes_field 15 fields.blob) (bytes_field 16 fields.list ++ entries_field 17 fields.entries),
+      length-append (bytes_field 16 fields.list) (entries_field 17 fields.entries),
+    ) in
     omega (arith, length-append (numbers_of fields) (texts_of fields))
 
 letter_few : (table : RuleTable) → length (letter_of table) ≡ 1

@@ -78,6 +78,7 @@ connected_client setup past event drawn fields connects may = by_act event.act (
     given (Done f) = f.client
     given (Broken rule code) = None
     given (Stopped code) = None
+
     fields_client : Done fields ≡ answer_by_rules (Connect uid) setup past caller drawn → fields.client ≡ Some (count_of is_connect past + 1)
     fields_client e = ap given e
   by_act _ caller connects e = cc
@@ -167,6 +168,7 @@ other_lacks NoTicket e q = cc
 other_lacks code e q = let same : code ≡ NoTicket = code_is q in let here : is_no_ticket code ≡ true = ap is_no_ticket same in differ (sym e ∙ here) where
   differ : false ≡ true → ⊥
   differ e = cc
+
   code_is : Stopped code ≡ Stopped NoTicket → code ≡ NoTicket
   code_is q = cc
 

@@ -107,6 +107,7 @@ pub ticket_enters : (setup : Setup) (past : History) (event : Event) (drawn : Li
 ticket_enters setup past event drawn fields ticket l may given = by_act event.act (caller_of past event) l (by_rules setup past event drawn fields may) where
   differ : {A : Type 0} → fields.ticket ≡ None → A
   differ none = let both : None ≡ Some ticket = sym none ∙ given in cc
+
   by_act : (act : Act) (caller : Caller) → is_leave act ≡ false → Done fields ≡ answer_by_rules act setup past caller drawn → is_enter act ≡ true
   by_act (EnterAad op input) caller l e = refl
   by_act (EnterUpdate op input) caller l e = refl
@@ -152,6 +153,7 @@ goes_out name setup engine pass s old new (Stopped code) job rooms stands is leg
 goes_out name setup engine pass s old new (Done fields) job rooms stands is legal grown same l has some room = by_ticket fields.ticket refl job has where
   follows : (z : Setup) → IsSetupOf name z → MayStep z (history_of (log_of old)) s.settled s.event s.drawn (Done fields)
   follows z of = subst (MayStep z (history_of (log_of old)) s.settled s.event s.drawn) same (may_made z pass s old new grown (legal z of))
+
   by_room : (ticket : ℕ) (job : Job) (leave : Option FieldSizes) → fields.ticket ≡ Some ticket → is_some leave ≡ true → IfSome leave (IsOutput engine s.event.act) → GoesOut name new (Some ticket) (Some job) leave
   by_room ticket job None given some room = cc
   by_room ticket job (Some leave) given some room = record {
@@ -161,6 +163,7 @@ goes_out name setup engine pass s old new (Done fields) job rooms stands is lega
     enough = λ z of. subst (λ (h : History). Rattle.keystore_core.specs.Outputs.PutsOut z h ticket room.out) (sym (history_made pass s old new grown ∙ ap (λ (r : Reply). after_step s.settled s.event s.drawn r (history_of (log_of old))) same))
         (room.enough z (history_of (log_of old)) s.settled s.event s.drawn fields ticket (stands z of) refl (follows z of) given);
   }
+
   by_ticket : (t : Option ℕ) → fields.ticket ≡ t → (job : Option Job) → GoesWith setup (history_of (log_of new)) fields.ticket job → GoesOut name new t job rooms.leave
   by_ticket None e job has = subst (λ (t : Option ℕ). GoesWith setup (history_of (log_of new)) t job) e has
   by_ticket (Some ticket) e None has = subst (λ (t : Option ℕ). GoesWith setup (history_of (log_of new)) t None) e has

@@ -97,9 +97,10 @@ pub caller_after : (pass : ℕ) (s : OneStep) (old new : List BookEntry) (client
 caller_after pass s old new client connected next grown client_is connected_is is =
     let log : log_of new ≡ step_log pass s (log_of old) = ap log_of grown ∙ log_step pass s old in
     let before : ◌≡◌ {A = ℕ × Bool} (client, connected) (unwrap_or (client_of pass (log_of old)) 0, is_connected pass (log_of old)) = λ i. (client_is i, connected_is i) in
-    let both = is ∙ (ap (client_after (kind_of s.event.act) s.reply) before ∙ after_reply s.event.act s.reply (client_of pass (log_of old)) (is_connected pass (log_of old))) in
-    (ap (λ (p : ℕ × Bool). p.0) both ∙ sym (ap (λ (l : List BookEntry). unwrap_or (client_of pass l) 0) log ∙ ap (λ (o : Option ℕ). unwrap_or o 0) (step_client pass s (log_of old))),
-    ap (λ (p : ℕ × Bool). p.1) both ∙ sym (ap (is_connected pass) log ∙ step_connected pass s (log_of old)))
+    let both = is ∙ (ap (client_after (kind_of s.event.act) s.reply) before ∙ after_reply s.event.act s.reply (client_of pass (log_of old)) (is_connected pass (log_of old))) in (
+      ap (λ (p : ℕ × Bool). p.0) both ∙ sym (ap (λ (l : List BookEntry). unwrap_or (client_of pass l) 0) log ∙ ap (λ (o : Option ℕ). unwrap_or o 0) (step_client pass s (log_of old))),
+      ap (λ (p : ℕ × Bool). p.1) both ∙ sym (ap (is_connected pass) log ∙ step_connected pass s (log_of old)),
+    )
 
 -- no ticket is out after a step that gives none
 pub idle_after : (pass : ℕ) (s : OneStep) (old new : List BookEntry) → new ≡ old ++ entries_of pass s → out_of pass (log_of old) ≡ None → ticket_in s.reply ≡ None → out_of pass (log_of new) ≡ None

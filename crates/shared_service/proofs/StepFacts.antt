@@ -84,8 +84,10 @@ module _ (setup : Setup) (next : Option Event) (pass : ℕ) (s : OneStep) (log :
       disconnect_of : (act : Act) → is_disconnect act ≡ true → act ≡ Disconnect
       disconnect_of Disconnect e = refl
       disconnect_of _ e = cc
+
       mine : s.event.client ≡ unwrap_or (client_of pass log) 0
       mine = subst (λ (a : Act). IsOwnAct a s.event.client pass log) (disconnect_of s.event.act d) own
+
       found : (o : Option ℕ) → client_of pass log ≡ o → (client_of pass log ≡ Some s.event.client) × (is_connected pass log ≡ true)
       found None is =
           let zero : s.event.client ≡ 0 = mine ∙ ap (λ (o : Option ℕ). unwrap_or o 0) is in
@@ -131,13 +133,16 @@ facts_step setup pass s log all legal may stays own turn = by_settled s.settled 
   first : (log : List BookEntry) → AllFacts setup log → Facts setup log
   first [] all = all
   first (e ∷ log) all = all.0
+
   own_on : (v : Settled) (act : Act) → IsOwnAct act s.event.client pass log → IsOwnAct act s.event.client pass (settling_of pass s v ∷ log)
   own_on v (Leave ticket) own = own
   own_on v (Connect uid) own = own
   own_on v _ own = own ∙ ap (λ (o : Option ℕ). unwrap_or o 0) (sym (same_if (pass == pass) (client_of pass log)))
+
   turn_on : (v : Settled) (act : Act) → ComesInTurn act pass log → ComesInTurn act pass (settling_of pass s v ∷ log)
   turn_on v (Leave ticket) turn = same_if (pass == pass) (out_of pass log) ∙ turn
   turn_on v _ turn = (turn.0, same_if (pass == pass) (out_of pass log) ∙ turn.1)
+
   by_settled : (v : Option Settled) → MaySettleFirst v (history_of log) s.event → MayFollow setup (after_settling v (history_of log)) s.event s.drawn s.reply → Stays setup (history_of log) (after_step v s.event s.drawn s.reply (history_of log)) → AllFacts setup (acted_of pass s ∷ settled_log pass s v log)
   by_settled None settles follows stays = (facts_acted setup None pass s log (first log all) legal follows own turn stays, all)
   by_settled (Some v) settles follows stays =

@@ -69,6 +69,7 @@ idle_client setup log pass client (o ∷ opened) facts mine idle all = both (idl
   where
     both : list_any (λ o. is_of client o && is_busy o) opened ≡ false → is_of client o && is_busy o ≡ false → list_any (λ o. is_of client o && is_busy o) (o ∷ opened) ≡ false
     both below here = rw (here, below) refl
+
     first : (t : Option ℕ) → o.ticket ≡ t → is_of client o ≡ true → is_some o.ticket ≡ true → ⊥
     first None is own busy = let no : is_some o.ticket ≡ false = ap is_some is in cc
     first (Some ticket) is own busy =

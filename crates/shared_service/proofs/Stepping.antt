@@ -103,11 +103,13 @@ module _ {D N : Type 0} (d : DiskGhosts D) (n : EntropyGhosts N) (name : Name) (
   caused_step start log caused ends later own faults draws = by_settled settled refl where
     rises : AreLater (counts_of d n disk entropy) (counts_of d n disk' entropy')
     rises = record { disk = faults.later; entropy = draws.later }
+
     by_settled : (v : Option Settled) → settled ≡ v → IsCausedLog start (acted_of pass This ∷ settled_log pass This v log)
     by_settled None e = (record { follows = follows_on start log (acted_of pass This) ends later; rises = rises; made = (record { disk = faults.rises; entropy = draws.rises }, own) }, caused)
-    by_settled (Some v) e =
-        (record { follows = record { before_is = refl; behind_is = refl; pass_is = refl }; rises = rises; made = (record { disk = faults.rises; entropy = draws.rises }, own_settled pass This (Some v) event.act event.client pass log own) },
-        (record { follows = follows_on start log (settling_of pass This v) ends later; rises = rises; made = tt }, caused))
+    by_settled (Some v) e = (
+      record { follows = record { before_is = refl; behind_is = refl; pass_is = refl }; rises = rises; made = (record { disk = faults.rises; entropy = draws.rises }, own_settled pass This (Some v) event.act event.client pass log own) },
+      (record { follows = follows_on start log (settling_of pass This v) ends later; rises = rises; made = tt }, caused),
+    )
 
   pub desk_step : IsDesk d n name engine disk entropy book → MayMake name (log_of book) pass event room back
       → ((setup : Setup) (past : History) → Stands setup engine past → HasDone setup past event.act back → Stands setup engine' (after_step settled event drawn reply past))

@@ -72,6 +72,7 @@ all_shown log test (o ∷ opened) all = (by_test (test o), all_shown log test op
   same : (t : Option ℕ) → IsWaitedFor log o t → IsWaitedFor log (as_shown o) t
   same None w = tt
   same (Some ticket) w = w
+
   by_test : (b : Bool) → IsWaitedFor log (if b then as_shown o else o) (if b then as_shown o else o).ticket
   by_test true = same o.ticket all.0
   by_test false = all.0
@@ -106,7 +107,6 @@ if_quiet true x y p q = p
 if_quiet false x y p q = q
 
 -- ---- what an act makes of the operations
-
 
 admitted_quiet : (act : Act) (setup : Setup) (past : History) (event : Event) (drawn : List ℕ) (fields : Fields) → is_leave act ≡ false → is_enter act ≡ false → is_quiet (admitted_operation act setup (kept setup past) past event drawn fields) ≡ true
 admitted_quiet (CreateOperation key params forced) setup past event drawn fields l e = by_op fields.op where
@@ -159,6 +159,7 @@ module _ (setup : Setup) (pass : ℕ) (s : OneStep) (log : List BookEntry) (fact
     none_given : (b : Bool) → is_given (if b then None else None) client ≡ false
     none_given true = refl
     none_given false = refl
+
     by_reply : (reply : Reply) → MayFollow setup (history_of log) s.event s.drawn reply → is_given (if is_connect s.event.act then client_in reply else None) client ≡ false
     by_reply (Done fields) may = ⊎_elim
         (λ (e : is_connect s.event.act ≡ true).
@@ -179,12 +180,14 @@ module _ (setup : Setup) (pass : ℕ) (s : OneStep) (log : List BookEntry) (fact
   one_kept : (o : Open) (ticket : ℕ) → IsWaitedFor log o (Some ticket) → ticket_at (history_of (acted_of pass s ∷ log)) ticket ≡ ticket_at (history_of log) ticket → IsWaitedFor (acted_of pass s ∷ log) o (Some ticket)
   one_kept o ticket w same =
       let known = known_of ticket w.1 in
-      let owner : pass_of_ticket ticket (acted_of pass s ∷ log) ≡ pass_of_ticket ticket log = else_is (gives_ticket ticket (Acted s.event s.drawn s.reply)) (Some pass) (pass_of_ticket ticket log) (no_gift ticket known.0 known.1) in
-      (λ entered q. w.0 entered (sym same ∙ q), ap is_some same ∙ w.1,
-      λ p q. ⊎_elim (λ (z : o.operation.client ≡ 0). inl z)
-      (λ (c : pass_of_client o.operation.client log ≡ Some p).
-      inr (else_is (is_given (client_given (Acted s.event s.drawn s.reply)) o.operation.client) (Some pass) (pass_of_client o.operation.client log) (no_client o.operation.client p c) ∙ c))
-      (w.2 p (sym owner ∙ q)))
+      let owner : pass_of_ticket ticket (acted_of pass s ∷ log) ≡ pass_of_ticket ticket log = else_is (gives_ticket ticket (Acted s.event s.drawn s.reply)) (Some pass) (pass_of_ticket ticket log) (no_gift ticket known.0 known.1) in (
+        λ entered q. w.0 entered (sym same ∙ q),
+        ap is_some same ∙ w.1,
+        λ p q. ⊎_elim (λ (z : o.operation.client ≡ 0). inl z)
+            (λ (c : pass_of_client o.operation.client log ≡ Some p).
+            inr (else_is (is_given (client_given (Acted s.event s.drawn s.reply)) o.operation.client) (Some pass) (pass_of_client o.operation.client log) (no_client o.operation.client p c) ∙ c))
+            (w.2 p (sym owner ∙ q)),
+      )
 
   all_kept : ((t : ℕ) → ticket_at (history_of (acted_of pass s ∷ log)) t ≡ ticket_at (history_of log) t) → (opened : List Open) → AllWaitedFor log opened → AllWaitedFor (acted_of pass s ∷ log) opened
   all_kept same [] all = tt
@@ -209,10 +212,13 @@ module _ (setup : Setup) (pass : ℕ) (s : OneStep) (log : List BookEntry) (fact
   all_back : (ticket step : ℕ) (entered : Entered) (aad text : List ℕ) → ticket_at (history_of log) ticket ≡ Some entered → ((t : ℕ) → ticket_at (history_of (acted_of pass s ∷ log)) t ≡ ticket_after (ComesBack ticket) t (ticket_at (history_of log) t))
       → (opened : List Open) → AllWaitedFor log opened → AllWaitedFor (acted_of pass s ∷ log) (with_change entered.op (as_returned step aad text) opened)
   all_back ticket step entered aad text is after [] all = tt
-  all_back ticket step entered aad text is after (o ∷ opened) all = (⊎_elim
-      (λ (e : has_number entered.op o ≡ true). subst (λ (x : Open). IsWaitedFor (acted_of pass s ∷ log) x x.ticket) (sym (then_is (has_number entered.op o) (as_returned step aad text o) o e)) tt)
-      (λ (e : has_number entered.op o ≡ false). subst (λ (x : Open). IsWaitedFor (acted_of pass s ∷ log) x x.ticket) (sym (else_is (has_number entered.op o) (as_returned step aad text o) o e)) (back_one ticket entered o o.ticket is after all.0 e))
-      (cases_Bool (has_number entered.op o)), all_back ticket step entered aad text is after opened all.1)
+  all_back ticket step entered aad text is after (o ∷ opened) all = (
+    ⊎_elim
+        (λ (e : has_number entered.op o ≡ true). subst (λ (x : Open). IsWaitedFor (acted_of pass s ∷ log) x x.ticket) (sym (then_is (has_number entered.op o) (as_returned step aad text o) o e)) tt)
+        (λ (e : has_number entered.op o ≡ false). subst (λ (x : Open). IsWaitedFor (acted_of pass s ∷ log) x x.ticket) (sym (else_is (has_number entered.op o) (as_returned step aad text o) o e)) (back_one ticket entered o o.ticket is after all.0 e))
+        (cases_Bool (has_number entered.op o)),
+    all_back ticket step entered aad text is after opened all.1,
+  )
 
   all_closed : (ticket : ℕ) (entered : Entered) → ticket_at (history_of log) ticket ≡ Some entered → ((t : ℕ) → ticket_at (history_of (acted_of pass s ∷ log)) t ≡ ticket_after (ComesBack ticket) t (ticket_at (history_of log) t))
       → (opened : List Open) → AllWaitedFor log opened → AllWaitedFor (acted_of pass s ∷ log) (without entered.op opened)
@@ -245,16 +251,17 @@ own_found : (setup : Setup) (past : History) (found : Option Open) (caller : Cal
 own_found setup past None caller brought enters e = let holds : false ≡ true = step_own (facts_of None (is_live setup past) caller brought) enters e in cc
 own_found setup past (Some o) caller brought enters e = (o, refl, eqb-true o.operation.client caller.client (step_own (facts_of (Some o) (is_live setup past) caller brought) enters e))
 
-
 -- of operations with numbers of their own, the one of a number is the one that is found
 each_own : (op client : ℕ) (opened : List Open) (o : Open) → Apart opened → find (has_number op) opened ≡ Some o → o.operation.client ≡ client → Each (λ x. has_number op x ≡ true → x.operation.client ≡ client) opened
 each_own op client [] o apart is mine = tt
 each_own op client (x ∷ opened) o apart is mine = ⊎_elim
     (λ (e : has_number op x ≡ true).
     let found : Some x ≡ Some o = sym (then_is (has_number op x) (Some x) (find (has_number op) opened) e) ∙ is in
-    let same : x ≡ o = cc in
-    ((λ h. ap (λ (y : Open). y.operation.client) same ∙ mine), each_in (Differs x.operation.number) (λ y. has_number op y ≡ true → y.operation.client ≡ client)
-    (λ y differs h. absurd (differs (eqb-true y.operation.number op h ∙ sym (eqb-true x.operation.number op e)))) opened apart.0))
+    let same : x ≡ o = cc in (
+      (λ h. ap (λ (y : Open). y.operation.client) same ∙ mine),
+      each_in (Differs x.operation.number) (λ y. has_number op y ≡ true → y.operation.client ≡ client)
+          (λ y differs h. absurd (differs (eqb-true y.operation.number op h ∙ sym (eqb-true x.operation.number op e)))) opened apart.0,
+    ))
     (λ (e : has_number op x ≡ false). ((λ h. absurd (apart_of (sym e ∙ h))), each_own op client opened o apart.1 (sym (else_is (has_number op x) (Some x) (find (has_number op) opened) e) ∙ is) mine))
     (cases_Bool (has_number op x))
   where
@@ -268,9 +275,11 @@ module _ (setup : Setup) (pass : ℕ) (s : OneStep) (log : List BookEntry) (fact
   entered_at = after ticket ∙ then_is (ticket == ticket) (Some entered) (ticket_at (history_of log) ticket) (eq-eqb ticket ticket refl)
 
   entered_one : (step : ℕ) (o : Open) → has_number op o ≡ true → o.operation.client ≡ s.event.client → IsWaitedFor (acted_of pass s ∷ log) (as_entered step ticket o) (Some ticket)
-  entered_one step o number mine =
-      (λ found q. let both : Some found ≡ Some entered = sym q ∙ entered_at in let same : found ≡ entered = cc in ap (λ (x : Entered). x.op) same ∙ (op_is ∙ sym (eqb-true o.operation.number op number)),
-      ap is_some entered_at, λ p q. by_client p q (client_of pass log) refl)
+  entered_one step o number mine = (
+    λ found q. let both : Some found ≡ Some entered = sym q ∙ entered_at in let same : found ≡ entered = cc in ap (λ (x : Entered). x.op) same ∙ (op_is ∙ sym (eqb-true o.operation.number op number)),
+    ap is_some entered_at,
+    λ p q. by_client p q (client_of pass log) refl,
+  )
     where
       by_client : (p : ℕ) → pass_of_ticket ticket (acted_of pass s ∷ log) ≡ Some p → (c : Option ℕ) → client_of pass log ≡ c → (o.operation.client ≡ 0) ⊎ (pass_of_client o.operation.client (acted_of pass s ∷ log) ≡ Some p)
       by_client p q None e = inl (mine ∙ (own ∙ ap (λ (x : Option ℕ). unwrap_or x 0) e))
@@ -289,10 +298,13 @@ module _ (setup : Setup) (pass : ℕ) (s : OneStep) (log : List BookEntry) (fact
 
   pub entered_all : (step : ℕ) (opened : List Open) → Each (λ x. has_number op x ≡ true → x.operation.client ≡ s.event.client) opened → AllWaitedFor log opened → AllWaitedFor (acted_of pass s ∷ log) (with_change op (as_entered step ticket) opened)
   entered_all step [] each all = tt
-  entered_all step (o ∷ opened) each all = (⊎_elim
-      (λ (e : has_number op o ≡ true). subst (λ (x : Open). IsWaitedFor (acted_of pass s ∷ log) x x.ticket) (sym (then_is (has_number op o) (as_entered step ticket o) o e)) (entered_one step o e (each.0 e)))
-      (λ (e : has_number op o ≡ false). subst (λ (x : Open). IsWaitedFor (acted_of pass s ∷ log) x x.ticket) (sym (else_is (has_number op o) (as_entered step ticket o) o e)) (kept_other o o.ticket all.0))
-      (cases_Bool (has_number op o)), entered_all step opened each.1 all.1)
+  entered_all step (o ∷ opened) each all = (
+    ⊎_elim
+        (λ (e : has_number op o ≡ true). subst (λ (x : Open). IsWaitedFor (acted_of pass s ∷ log) x x.ticket) (sym (then_is (has_number op o) (as_entered step ticket o) o e)) (entered_one step o e (each.0 e)))
+        (λ (e : has_number op o ≡ false). subst (λ (x : Open). IsWaitedFor (acted_of pass s ∷ log) x x.ticket) (sym (else_is (has_number op o) (as_entered step ticket o) o e)) (kept_other o o.ticket all.0))
+        (cases_Bool (has_number op o)),
+    entered_all step opened each.1 all.1,
+  )
 
 -- the operation that an admitted enter names, and its work
 enter_is : (act : Act) → is_enter act ≡ true → (op : ℕ) × (work : Work) × ((fields : Fields) → admitted_ticket act fields ≡ Rattle.rule_model.specs.Tickets.goes_out fields.ticket op work)
@@ -334,9 +346,11 @@ waited_after setup before pass s log facts legal follows own turn = ⊎_elim lea
         subst (λ (c : OperationChange). AllWaitedFor (acted_of pass s ∷ log) (open_after (step_of (history_of log)) c (open_of setup (history_of log)))) (sym change)
         (returned_all setup pass s log facts follows is.0 (step_of (history_of log)) (ticket_at (history_of log) is.0) refl (facts.tickets.out_is pass is.0 out)
         (λ t. ap (λ (c : TicketChange). ticket_after c t (ticket_at (history_of log) t)) (left_change setup (history_of log) s.event s.drawn s.reply is.0 is.1 follows)) (open_of setup (history_of log)) facts.busy)
+
     quiet : is_leave s.event.act ≡ false → admits is_enter (Acted s.event s.drawn s.reply) ≡ false → AllWaitedFor (acted_of pass s ∷ log) (open_of setup (history_of (acted_of pass s ∷ log)))
     quiet l e = after_quiet (acted_of pass s ∷ log) (step_of (history_of log)) (operation_change_in setup (kept setup (history_of log)) (history_of log) s.event s.drawn s.reply) (open_of setup (history_of log)) (change_quiet setup (history_of log) s.event s.drawn s.reply l e)
         (all_kept setup pass s log facts follows (λ t. ap (λ (c : TicketChange). ticket_after c t (ticket_at (history_of log) t)) (quiet_change s.event s.drawn s.reply l (in_turn_goes_on s.event.act pass log turn) e)) (open_of setup (history_of log)) facts.busy)
+
     enter : is_leave s.event.act ≡ false → admits is_enter (Acted s.event s.drawn s.reply) ≡ true → AllWaitedFor (acted_of pass s ∷ log) (open_of setup (history_of (acted_of pass s ∷ log)))
     enter l e =
         let both = and_both (is_done s.reply) (is_enter s.event.act) e in

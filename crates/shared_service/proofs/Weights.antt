@@ -107,9 +107,11 @@ need_enough act done settles one none = by_act act done none where
   both : (b : Bool) → one_if (b && true) ≤ 1
   both true = omega arith
   both false = omega arith
+
   neither : (b : Bool) → one_if (b && false) ≡ 0
   neither true = refl
   neither false = refl
+
   by_act : (act : Act) (done : Bool) → (is_disconnect act ≡ true → settles ≡ 0) → settles + 1 + one_if (done && is_connect act) + one_if (done && is_enter act) ≤ need_of act
   by_act (Connect uid) done none = omega (arith, both done, neither done)
   by_act Disconnect done none = omega (arith, none refl, neither done)

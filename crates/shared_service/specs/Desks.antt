@@ -21,7 +21,6 @@ use Rattle.service_book.specs.declared.entry.BookEntry.{BookEntry}
 use Rattle.service_book.specs.Book.{AreLater, Counts, IsCaused, IsOwnAct, client_of, counts_after, history_of, log_of}
 use Rattle.service_book.specs.Limits.{MOST_ENTRIES, clients_in, is_leave, need_of, tickets_in}
 use Rattle.shared_service.specs.declared.name.Name.{Name}
-
 use Rattle.shared_service.specs.Calls.{OneStep, entries_of}
 use Rattle.shared_service.specs.Facts.{AllFacts}
 use Rattle.shared_service.specs.Names.{IsSetupOf, counts_before}

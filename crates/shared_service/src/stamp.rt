@@ -1,7 +1,5 @@
 //! Whose step it is, and how many calls of the devices had failed before it and behind it.
 
-
-
 #[derive(Clone, Copy)]
 pub(crate) struct Stamp {
     pub(crate) pass: u64,

@@ -174,12 +174,7 @@ impl<D: Disk, N: Entropy> Shared<D, N> {
     }
 
     /// The second turn of a call: its leave.
-    pub(super) fn bring_back<R: Wait>(
-        &self,
-        rt: &R,
-        away: Away,
-        back: Done,
-    ) -> (Pass, Served)
+    pub(super) fn bring_back<R: Wait>(&self, rt: &R, away: Away, back: Done) -> (Pass, Served)
         requires away { IsOut self.now away }
         requires back { ∥ IsBack (service_name self.now) (resting_front away.pass) away.ticket back ∥₁ }
         ensures brings { (pass : Pass) (reading : Reading) (act : Act) → IsAwayOf self.now pass reading act away → IsAnswered self.now pass reading act result.0 result.1 }

@@ -57,9 +57,11 @@ pub copy-copied-requires : goal.copy-copied-requires
 copy-copied-requires g c =
     let old = c.args.self.now in
     let reply = c.step-settled.result.reply in
-    record { fits = ∥∥₁_elim old.stands (fits_prop c.args.room reply) (λ t. ∥∥₁_elim c.requires.may (fits_prop c.args.room reply) (λ m.
-    subst (λ z. Fits z reply) (sym m.room_is)
-    (c.step-settled.ensures.fits t.setup (history_of (log_of (desk_book old))) m.out (t.stands t.setup t.is_setup) (m.back_is t.setup t.is_setup) (m.enough t.setup t.is_setup)))) }
+    record {
+      fits = ∥∥₁_elim old.stands (fits_prop c.args.room reply) (λ t. ∥∥₁_elim c.requires.may (fits_prop c.args.room reply) (λ m.
+          subst (λ z. Fits z reply) (sym m.room_is)
+          (c.step-settled.ensures.fits t.setup (history_of (log_of (desk_book old))) m.out (t.stands t.setup t.is_setup) (m.back_is t.setup t.is_setup) (m.enough t.setup t.is_setup))));
+    }
 
 pub add-requires-clause-place : goal.add-requires-clause-place
 add-requires-clause-place g c =

@@ -63,15 +63,17 @@ returns-in-Full g c =
     let requests = c.in-Full.ensures.requests in
     let rested : resting_number c.rest-pass.result ≡ n = c.rest-pass.ensures.same.0 ∙ (c.leave_seeing.ensures.number ∙ (c.enter-turn.ensures.number ∙ (c.wake.ensures.same.0 ∙ number))) in
     let fronted : front_of c.seated.result ≡ before = c.seated.ensures.front ∙ (c.rest-pass.ensures.same.1 ∙ (c.leave_seeing.ensures.front ∙ c.enter-turn.ensures.value)) in
-    record { asks = record {
-      ours = c.seated.ensures.ours;
-      number_is = c.seated.ensures.number ∙ (rested ∙ sym number);
-      calls = ∣ call_at (number_of mine) n c.args.reading c.args.request (front_of mine) before (front_of c.seated.result) c.refused.result (sym number) fronted
-          (call_full n c.args.reading c.args.request (front_of mine) before c.refused.result begins requests.1 requests.2 c.refused.ensures) ∣₁;
-      connected_is = c.seated.ensures.connected ∙ refused_connected c.args.request RunFull c.refused.result mine.connected c.refused.ensures;
-      parts = refused_parts c.args.request n (log_of before) mine.connected c.refused.result.reply caller.connected_is requests.2;
-      told = refused_told RunFull c.refused.result c.refused.ensures;
-    } }
+    record {
+      asks = record {
+        ours = c.seated.ensures.ours;
+        number_is = c.seated.ensures.number ∙ (rested ∙ sym number);
+        calls = ∣ call_at (number_of mine) n c.args.reading c.args.request (front_of mine) before (front_of c.seated.result) c.refused.result (sym number) fronted
+            (call_full n c.args.reading c.args.request (front_of mine) before c.refused.result begins requests.1 requests.2 c.refused.ensures) ∣₁;
+        connected_is = c.seated.ensures.connected ∙ refused_connected c.args.request RunFull c.refused.result mine.connected c.refused.ensures;
+        parts = refused_parts c.args.request n (log_of before) mine.connected c.refused.result.reply caller.connected_is requests.2;
+        told = refused_told RunFull c.refused.result c.refused.ensures;
+      };
+    }
 
 pub leave-requires-clause-grown : goal.leave-requires-clause-grown
 leave-requires-clause-grown g c = appends_none (turn_number c.enter-turn.result.0) (seen c.enter-turn.result.0) (desk_book c.request.new.self) (c.in-Poor.ensures.requests.0 ∙ sym c.enter-turn.ensures.value)
@@ -101,15 +103,17 @@ returns-in-Poor g c =
     let rested : resting_number c.rest-pass-in-Poor.result ≡ resting_number mine.pass = c.rest-pass-in-Poor.ensures.same.0 ∙ (c.leave.ensures.number ∙ (c.enter-turn.ensures.number ∙ c.wake.ensures.same.0)) in
     let fronted : front_of c.seated-in-Poor.result ≡ front_of mine =
     c.seated-in-Poor.ensures.front ∙ (c.rest-pass-in-Poor.ensures.same.1 ∙ (c.leave.ensures.same refl ∙ (c.enter-turn.ensures.front ∙ c.wake.ensures.same.1))) in
-    record { asks = record {
-      ours = c.seated-in-Poor.ensures.ours;
-      number_is = c.seated-in-Poor.ensures.number ∙ rested;
-      calls = ∣ call_at (number_of mine) n c.args.reading c.args.request (front_of mine) (front_of mine) (front_of c.seated-in-Poor.result) c.refused-in-Poor.result (sym number) fronted
-          (call_poor n c.args.reading c.args.request (front_of mine) before (front_of mine) c.refused-in-Poor.result begins refl requests.1 c.refused-in-Poor.ensures) ∣₁;
-      connected_is = c.seated-in-Poor.ensures.connected ∙ refused_connected c.args.request MemoryAllocationFailed c.refused-in-Poor.result mine.connected c.refused-in-Poor.ensures;
-      parts = refused_parts c.args.request n (log_of before) mine.connected c.refused-in-Poor.result.reply caller.connected_is requests.1;
-      told = refused_told MemoryAllocationFailed c.refused-in-Poor.result c.refused-in-Poor.ensures;
-    } }
+    record {
+      asks = record {
+        ours = c.seated-in-Poor.ensures.ours;
+        number_is = c.seated-in-Poor.ensures.number ∙ rested;
+        calls = ∣ call_at (number_of mine) n c.args.reading c.args.request (front_of mine) (front_of mine) (front_of c.seated-in-Poor.result) c.refused-in-Poor.result (sym number) fronted
+            (call_poor n c.args.reading c.args.request (front_of mine) before (front_of mine) c.refused-in-Poor.result begins refl requests.1 c.refused-in-Poor.ensures) ∣₁;
+        connected_is = c.seated-in-Poor.ensures.connected ∙ refused_connected c.args.request MemoryAllocationFailed c.refused-in-Poor.result mine.connected c.refused-in-Poor.ensures;
+        parts = refused_parts c.args.request n (log_of before) mine.connected c.refused-in-Poor.result.reply caller.connected_is requests.1;
+        told = refused_told MemoryAllocationFailed c.refused-in-Poor.result c.refused-in-Poor.ensures;
+      };
+    }
 
 pub seated-requires-in-None-clause-seen : goal.seated-requires-in-None-clause-seen
 seated-requires-in-None-clause-seen g c =
@@ -161,17 +165,19 @@ returns-in-None g c =
     let none : IsRequested (desk_name old) n (event_for c.args.reading c.args.request n (log_of before)) before (desk_book new) made.reply made.job made.leave → ticket_in made.reply ≡ None = λ asked.
     sent_none (desk_name old) (desk_book new) (ticket_in made.reply) made.job made.leave asked.goes (sym c.sent_with.ensures ∙ c.in-None.is) in
     let call : IsRequested (desk_name old) n (event_for c.args.reading c.args.request n (log_of before)) before (desk_book new) made.reply made.job made.leave
-        → IsCall (number_of mine) c.args.reading c.args.request (front_of mine) (front_of c.seated-in-None.result) (record { first = made.first; last = made.last; reply = made.reply }) = λ asked.
+    → IsCall (number_of mine) c.args.reading c.args.request (front_of mine) (front_of c.seated-in-None.result) (record { first = made.first; last = made.last; reply = made.reply }) = λ asked.
     call_at (number_of mine) n c.args.reading c.args.request (front_of mine) (desk_book new) (front_of c.seated-in-None.result) (record { first = made.first; last = made.last; reply = made.reply }) (sym number) (c.seated-in-None.ensures.front ∙ fronted)
     (recorded_once (desk_name old) n c.args.reading c.args.request (front_of mine) before (desk_book new) (record { first = made.first; last = made.last; reply = made.reply }) made.job made.leave begins extends asked (none asked) told.1) in
-    record { asks = record {
-      ours = c.seated-in-None.ensures.ours;
-      number_is = c.seated-in-None.ensures.number ∙ (rested ∙ sym number);
-      calls = ∥∥₁_map told.0 call;
-      connected_is = c.seated-in-None.ensures.connected ∙ after_connected c.args.request made.reply mine.client mine.connected next is;
-      parts = λ p on. ∥∥₁_elim told.0 (Bool-set _ _) (λ asked. requested_parts c.args.request n (log_of before) mine.connected made.reply caller.connected_is asked.parts p on);
-      told = told.3;
-    } }
+    record {
+      asks = record {
+        ours = c.seated-in-None.ensures.ours;
+        number_is = c.seated-in-None.ensures.number ∙ (rested ∙ sym number);
+        calls = ∥∥₁_map told.0 call;
+        connected_is = c.seated-in-None.ensures.connected ∙ after_connected c.args.request made.reply mine.client mine.connected next is;
+        parts = λ p on. ∥∥₁_elim told.0 (Bool-set _ _) (λ asked. requested_parts c.args.request n (log_of before) mine.connected made.reply caller.connected_is asked.parts p on);
+        told = told.3;
+      };
+    }
 
 pub returns-in-Some : goal.returns-in-Some
 returns-in-Some g c =
@@ -199,18 +205,23 @@ returns-in-Some g c =
     let goes = sent_some (ticket_in made.reply) made.job made.leave x (sym c.sent_with.ensures ∙ c.in-Some.is) in
     let enters : Rattle.rule_model.specs.Acts.is_enter c.args.request ≡ true = ∥∥₁_elim told.0 (Bool-set _ _) (λ asked. asked.enters x.ticket goes.0) in
     let entered : IsRequested (desk_name old) n (event_for c.args.reading c.args.request n (log_of before)) before (desk_book new) made.reply made.job made.leave
-        → IsEntered (service_name self) (number_of mine) next.0 next.1 c.args.reading c.args.request (front_of mine) (resting_front c.rest-pass-in-Made.result) made.first x.ticket x.room = λ asked.
+    → IsEntered (service_name self) (number_of mine) next.0 next.1 c.args.reading c.args.request (front_of mine) (resting_front c.rest-pass-in-Made.result) made.first x.ticket x.room = λ asked.
     entered_at (desk_name old) (service_name self) n (number_of mine) next.0 next.1 c.args.reading c.args.request (front_of mine) (desk_book new) (resting_front c.rest-pass-in-Made.result) made.first x.ticket x.room c.enter-turn.ensures.fits (sym number) fronted
     (entered_made (desk_name old) n mine.client mine.connected next c.args.reading c.args.request (front_of mine) before (desk_book new) made.reply made.job made.leave made.first made.last x begins extends asked told.1 caller is goes) in
     let away : IsRequested (desk_name old) n (event_for c.args.reading c.args.request n (log_of before)) before (desk_book new) made.reply made.job made.leave → IsJobAway (service_name self) (resting_front c.rest-pass-in-Made.result) x.ticket x.job = λ asked.
     job_at (desk_name old) (service_name self) (desk_book new) (resting_front c.rest-pass-in-Made.result) x.ticket x.job c.enter-turn.ensures.fits fronted
     (job_away (desk_name old) n (event_for c.args.reading c.args.request n (log_of before)) before (desk_book new) made.reply made.job x asked.made goes.0 goes.1) in
-    record { asks = (record {
-      resting = c.rest-pass-in-Made.ensures.ours;
-      maker_is = c.requires.ours.maker_is;
-      number_is = rested ∙ sym number;
-      reading_is = refl;
-      enters = enters;
-      connected_is = ap (λ (p : ℕ × Bool). p.1) (is ∙ enter_after c.args.request made.reply (mine.client, mine.connected) enters);
-      entered = ∥∥₁_map told.0 entered;
-    }, ∥∥₁_map told.0 away) }
+    record {
+      asks = (
+        record {
+          resting = c.rest-pass-in-Made.ensures.ours;
+          maker_is = c.requires.ours.maker_is;
+          number_is = rested ∙ sym number;
+          reading_is = refl;
+          enters = enters;
+          connected_is = ap (λ (p : ℕ × Bool). p.1) (is ∙ enter_after c.args.request made.reply (mine.client, mine.connected) enters);
+          entered = ∥∥₁_map told.0 entered;
+        },
+        ∥∥₁_map told.0 away,
+      );
+    }

@@ -33,11 +33,13 @@ bring-made-requires g c =
     let out = c.requires.away in
     let front : List BookEntry = resting_front away.pass in
     let begins = front_at _ n _ front (desk_book old) (c.wake.ensures.same.0 ∙ sym c.number-number.ensures) c.wake.ensures.same.1 c.enter-turn.ensures.later in
-    record { may = three old.stands out.is.entered c.requires.back (λ t e b.
-    let entered = entered_at (service_name self) (desk_name old) (number_of out.pass) n away.kept.client away.kept.connected out.reading out.act (front_of out.pass) front front away.first away.ticket away.room
-    (sym c.enter-turn.ensures.fits) (sym (c.number-number.ensures ∙ out.is.number_is)) refl e in
-    may_leave (desk_name old) n away.ticket c.args.back away.room front (desk_book old) t.facts begins entered.is_out
-    (subst (λ (name : Name). IsBack name front away.ticket c.args.back) (sym c.enter-turn.ensures.fits) b) entered.has_room) }
+    record {
+      may = three old.stands out.is.entered c.requires.back (λ t e b.
+          let entered = entered_at (service_name self) (desk_name old) (number_of out.pass) n away.kept.client away.kept.connected out.reading out.act (front_of out.pass) front front away.first away.ticket away.room
+          (sym c.enter-turn.ensures.fits) (sym (c.number-number.ensures ∙ out.is.number_is)) refl e in
+          may_leave (desk_name old) n away.ticket c.args.back away.room front (desk_book old) t.facts begins entered.is_out
+          (subst (λ (name : Name). IsBack name front away.ticket c.args.back) (sym c.enter-turn.ensures.fits) b) entered.has_room);
+    }
 
 pub leave-requires-clause-grown : goal.leave-requires-clause-grown
 leave-requires-clause-grown g c =
@@ -88,20 +90,22 @@ returns g c =
     let whole = c.leave.ensures.front (omega arith) in
     let fronted : front_of c.seated.result ≡ desk_book new = c.seated.ensures.front ∙ (c.rest-pass.ensures.same.1 ∙ whole) in
     let extends = extends_at _ n _ front _ (desk_book new) (desk_book new) (desk_book old) (seen c.enter-turn.result.0) turned (c.enter-turn.ensures.front ∙ c.wake.ensures.same.1) whole c.enter-turn.ensures.value c.leave.ensures.own in
-    record { brings = λ pass reading act w.
-    let call : IsEntered (service_name self) (number_of pass) away.kept.client away.kept.connected reading act (front_of pass) front away.first away.ticket away.room
-        → HasLeft (desk_name old) n away.kept.client away.reading away.ticket (desk_book old) (desk_book new) made.reply
-        → IsCall (number_of pass) reading act (front_of pass) (front_of c.seated.result) (record { first = away.first; last = made.last; reply = made.reply }) = λ e l.
-    let entered = entered_at (service_name self) (desk_name old) (number_of pass) n away.kept.client away.kept.connected reading act (front_of pass) front front away.first away.ticket away.room
-    (sym c.enter-turn.ensures.fits) (sym (c.number-number.ensures ∙ w.number_is)) refl e in
-    let left = subst (λ (r : Reading). HasLeft (desk_name old) n away.kept.client r away.ticket (desk_book old) (desk_book new) made.reply) w.reading_is l in
-    call_at (number_of pass) n reading act (front_of pass) (desk_book new) (front_of c.seated.result) (record { first = away.first; last = made.last; reply = made.reply }) (c.number-number.ensures ∙ w.number_is) fronted
-    (call_left (desk_name old) n away.kept.client away.kept.connected reading act (front_of pass) front (desk_book old) (desk_book new) away.first made.first made.last away.ticket away.room made.reply entered begins extends left c.bring-made.ensures.numbers) in
     record {
-      ours = c.seated.ensures.ours;
-      number_is = c.seated.ensures.number ∙ (rested ∙ (c.number-number.ensures ∙ w.number_is));
-      calls = ∥∥₁_map₂ w.entered c.bring-made.ensures.left call;
-      connected_is = left_connected act made.reply (connected_of pass) (connected_of c.seated.result) w.enters (c.seated.ensures.connected ∙ w.connected_is);
-      parts = λ is on. enter_parts act made.reply w.enters is;
-      told = c.bring-made.ensures.told;
-    } }
+      brings = λ pass reading act w.
+          let call : IsEntered (service_name self) (number_of pass) away.kept.client away.kept.connected reading act (front_of pass) front away.first away.ticket away.room
+          → HasLeft (desk_name old) n away.kept.client away.reading away.ticket (desk_book old) (desk_book new) made.reply
+          → IsCall (number_of pass) reading act (front_of pass) (front_of c.seated.result) (record { first = away.first; last = made.last; reply = made.reply }) = λ e l.
+          let entered = entered_at (service_name self) (desk_name old) (number_of pass) n away.kept.client away.kept.connected reading act (front_of pass) front front away.first away.ticket away.room
+          (sym c.enter-turn.ensures.fits) (sym (c.number-number.ensures ∙ w.number_is)) refl e in
+          let left = subst (λ (r : Reading). HasLeft (desk_name old) n away.kept.client r away.ticket (desk_book old) (desk_book new) made.reply) w.reading_is l in
+          call_at (number_of pass) n reading act (front_of pass) (desk_book new) (front_of c.seated.result) (record { first = away.first; last = made.last; reply = made.reply }) (c.number-number.ensures ∙ w.number_is) fronted
+          (call_left (desk_name old) n away.kept.client away.kept.connected reading act (front_of pass) front (desk_book old) (desk_book new) away.first made.first made.last away.ticket away.room made.reply entered begins extends left c.bring-made.ensures.numbers) in
+          record {
+            ours = c.seated.ensures.ours;
+            number_is = c.seated.ensures.number ∙ (rested ∙ (c.number-number.ensures ∙ w.number_is));
+            calls = ∥∥₁_map₂ w.entered c.bring-made.ensures.left call;
+            connected_is = left_connected act made.reply (connected_of pass) (connected_of c.seated.result) w.enters (c.seated.ensures.connected ∙ w.connected_is);
+            parts = λ is on. enter_parts act made.reply w.enters is;
+            told = c.bring-made.ensures.told;
+          };
+    }

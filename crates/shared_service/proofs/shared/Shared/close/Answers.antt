@@ -12,7 +12,7 @@ use Rattle.turn_lock.specs.declared.lock.RestingMaker.{RestingMaker}
 use Rattle.rule_model.specs.Legal.{Legal}
 use Rattle.rule_model.specs.Setup.{Setup}
 use Rattle.keystore_core.specs.declared.engine.Engine.{Engine}
-use Rattle.keystore_core.specs.Engine.{Stands}
+use Rattle.keystore_core.specs.Engine.{Stands, StoreStands}
 use Rattle.service_book.specs.declared.entry.BookEntry.{BookEntry}
 use Rattle.service_book.specs.Book.{AreLater, IsCaused, counts_after, history_of, log_of}
 use Rattle.shared_service.specs.declared.desk.Desk.{Desk}
@@ -77,6 +77,19 @@ returns-clause-stands g c setup of =
     let book : c.into_parts.result.3 ≡ desk_book desk = c.into_parts.ensures.book in
     let parts = c.into_parts.ensures.parts in
     ∥∥₁_map desk.stands (λ t. subst (λ (z : Engine × List BookEntry). Stands setup z.0 (history_of (log_of z.1))) (λ i. (sym parts.0 i, sym book i)) (t.stands setup (subst (λ (n : Name). IsSetupOf n setup) (sym named) of)))
+
+pub returns-clause-store : goal.returns-clause-store
+returns-clause-store g c setup of =
+    let self = c.args.self in
+    let desk = c.in-Some-slot.desk in
+    let same : c.end-slot.ensures.value ≡ desk = slot_is c.end-slot.result.0 c.end-slot.ensures.value desk c.end-slot.ensures.is c.in-Some-slot.is in
+    let named : desk_name desk ≡ service_name self = ap (λ (x : Desk g.row.D.Denot g.row.N.Denot g.D.Disk g.N.Entropy). desk_name x) (sym same) ∙ c.end-slot.ensures.fit in
+    let book : c.into_parts.result.3 ≡ desk_book desk = c.into_parts.ensures.book in
+    let parts = c.into_parts.ensures.parts in
+    ∥∥₁_map desk.stands (λ t.
+    subst (λ (z : Engine × List BookEntry). StoreStands g.D.Disk setup z.0 c.into_parts.result.1 (history_of (log_of z.1))) (λ i. (sym parts.0 i, sym book i))
+    (subst (λ (x : g.row.D.Denot). StoreStands g.D.Disk setup desk.engine x (history_of (log_of (desk_book desk)))) (sym parts.1)
+    (t.store setup (subst (λ (n : Name). IsSetupOf n setup) (sym named) of))))
 
 pub returns-clause-counts : goal.returns-clause-counts
 returns-clause-counts g c =
