@@ -1,0 +1,17 @@
+use Rattle.std.proofs.Common.{sym, subst}
+use Rattle.shared_service.specs.Names.{IsSetupOf}
+use Rattle.shared_service.specs.DeskWords.{desk_book, desk_places}
+use Rattle.shared_service.proofs.Requesting.{requested_made}
+use Rattle.shared_service.proofs.Answering.{answers}
+use Rattle.shared_service.proofs.Calling.{recorded_once}
+use Rattle.shared_service.proofs.Seeing.{seen_of}
+use Rattle.shared_service.proofs.Truncating.{three}
+use Rattle.shared_service.proofs.desk.Desk.go.Goals as goal
+
+pub returns-clause-requested : goal.returns-clause-requested
+returns-clause-requested g c =
+    let old = c.args.self.now in
+    let new = c.step-made.new.self in
+    three old.stands new.stands c.step-made.ensures.made (λ t u m.
+    requested_made old.name t.setup old.engine c.args.pass c.args.event (desk_book old) (desk_book new) (desk_places old) c.step-made.result.reply c.step-made.result.job c.args.rooms t.stands t.is_setup
+    (λ z of. (u.stands z (subst (λ n. IsSetupOf n z) (sym c.step-made.ensures.name) of)).legal) c.requires.may c.requires.rooms m)

@@ -1,0 +1,110 @@
+//! A step, and what the book records of it.
+
+ghost use Rattle.std.specs.Prelude.{◌≡◌, ◌+◌, ◌<◌, ◌^◌, length, true};
+ghost use Rattle.rule_model.specs.Acts as acts_spec;
+ghost use Rattle.service_book.specs.Book.{log_of};
+ghost use Rattle.service_book.specs.Limits.{acted_bytes, is_disconnect};
+ghost use Rattle.wire_frames.specs.Replies.{reply_body};
+ghost use Rattle.wire_frames.specs.Sizes as sizes;
+ghost use Rattle.wire_frames.specs.Spelling.{body_of};
+ghost use Rattle.rule_model.specs.Entries.{is_done};
+ghost use Rattle.shared_service.specs.Desks.{HasMade, HasPlaces, MayMake};
+ghost use Rattle.shared_service.specs.Owning.{is_parting};
+ghost use Rattle.shared_service.specs.Requests.{GrowsBy};
+ghost use Rattle.shared_service.specs.DeskWords.{desk_book, desk_name, desk_places};
+
+use super::Desk;
+use crate::made::Made;
+use crate::stamp::Stamp;
+use cipher_ops::Done;
+use ks_outside::{Disk, Entropy};
+use rule_model::{Act, Entry, Event, Reply, ReplyRoom, Stepped};
+use wire_frames::reply_length;
+
+/// Whether the act is a disconnect.
+pub(super) fn is_disconnect(act: &Act) -> bool
+    ensures { result ≡ is_disconnect act.now }
+{
+    match act {
+        Act::Disconnect => true,
+        _ => false,
+    }
+}
+
+/// How many bytes an event and its reply record, by the length of its request's frame.
+fn recorded_bytes(act: &Act, frame: u64, reply: &Reply) -> u64
+    requires frame { frame ≡ sizes.frame_length act.now }
+    requires small { frame < 2 ^ 33 }
+    requires short { length (reply_body reply.now) < 2 ^ 32 }
+    ensures bytes { result ≡ acted_bytes act.now reply.now }
+    ensures small { result < 2 ^ 34 }
+{
+    if is_disconnect(act) {
+        return 0;
+    }
+    frame + reply_length(reply)
+}
+
+impl<D: Disk, N: Entropy> Desk<D, N> {
+    /// Makes the step of an event and records it, with `copy` as the book's copy of the event and `room` for that of the
+    /// reply. `frame` is the length of the request's frame.
+    pub(super) fn step(
+        &mut self,
+        pass: u64,
+        event: Event,
+        copy: Event,
+        frame: u64,
+        room: ReplyRoom,
+        back: Option<Done>,
+    ) -> Made
+        requires same { copy ≡ event }
+        requires frame { frame ≡ sizes.frame_length event.act }
+        requires small { frame < 2 ^ 33 }
+        requires may { ∥ MayMake (desk_name self.old) (log_of (desk_book self.old)) pass event room back ∥₁ }
+        requires places { HasPlaces event.act pass (log_of (desk_book self.old)) (desk_places self.old) }
+        ensures name { desk_name self.new ≡ desk_name self.old }
+        ensures made { ∥ HasMade (desk_name self.old) pass event (desk_book self.old) (desk_book self.new) result.reply result.job ∥₁ }
+        ensures grown { GrowsBy pass (desk_book self.old) (desk_book self.new) }
+        ensures first { result.first ≡ length (desk_book self.old) + 1 }
+        ensures last { result.last ≡ length (desk_book self.new) }
+        ensures parts { is_parting event.act pass (log_of (desk_book self.old)) ≡ true → is_done result.reply ≡ true }
+        ensures told { length (reply_body result.reply) < 2 ^ 32 }
+    {
+        let first = self.book.len() + 1;
+        let disk_before = self.disk.faults();
+        let entropy_before = self.entropy.faults();
+        let Stepped {
+            settled,
+            reply,
+            job,
+            drawn,
+        } = self
+            .engine
+            .step(&mut self.disk, &mut self.entropy, event, back);
+        let stamp = Stamp {
+            pass,
+            disk_before,
+            disk_after: self.disk.faults(),
+            entropy_before,
+            entropy_after: self.entropy.faults(),
+        };
+        self.book.settle(stamp, settled);
+        let bytes = recorded_bytes(&copy.act, frame, &reply);
+        let copied = room.copy(&reply);
+        self.book.add(
+            stamp.entry(Entry::Acted {
+                event: copy,
+                drawn,
+                reply: copied,
+            }),
+            bytes,
+        );
+        Made {
+            first,
+            last: self.book.len(),
+            reply,
+            job,
+            leave: None,
+        }
+    }
+}

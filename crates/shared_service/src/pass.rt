@@ -1,0 +1,25 @@
+//! A caller of the service.
+
+ghost use Rattle.std.specs.Prelude.{◌≡◌};
+ghost use Rattle.atomic_table.specs.Seated.{TableId};
+ghost use Rattle.turn_lock.specs.Resting.{IsRestingPassAt, resting_front, resting_number};
+ghost use Rattle.shared_service.specs.Desks.{HasSeen};
+ghost use Rattle.shared_service.specs.declared.name.Name.{Name};
+
+use crate::name::Name;
+use service_book::BookEntry;
+use turn_lock::{RestingMaker, RestingPass};
+
+mod numbers;
+
+/// The right to make calls, one after another, for one client at a time. What it has seen of the book is legal and caused,
+/// and has all that it made itself.
+#[derive(Drop)]
+pub struct Pass {
+    pub(crate) pass: RestingPass<BookEntry, Name>,
+    /// the number of its client, and 0 where it has none
+    pub(crate) client: u64,
+    pub(crate) connected: bool,
+    pub(crate) maker: Option<RestingMaker<BookEntry, Name>>,
+    ghost seen: { (lock : TableId) (name : Name) → IsRestingPassAt lock name pass → ∥ HasSeen name (resting_number pass) (resting_front pass) client connected ∥₁ },
+}

@@ -1,0 +1,22 @@
+//! The number of a pass, and whether it has a client.
+
+ghost use Rattle.std.specs.Prelude.{◌≡◌};
+ghost use Rattle.shared_service.specs.Passes.{connected_of, number_of};
+
+use super::Pass;
+
+impl Pass {
+    /// No other pass of its service has the same.
+    pub fn number(&self) -> u64
+        ensures { result ≡ number_of self.now }
+    {
+        self.pass.number()
+    }
+
+    /// Whether a client has come by it that was not disconnected.
+    pub fn is_connected(&self) -> bool
+        ensures { result ≡ connected_of self.now }
+    {
+        self.connected
+    }
+}

@@ -1,0 +1,20 @@
+//! The service.
+
+use crate::desk::Desk;
+use crate::name::Name;
+use ks_outside::{Disk, Entropy};
+use service_book::BookEntry;
+use turn_lock::TurnLock;
+
+mod away;
+mod calls;
+mod closing;
+mod making;
+mod turns;
+
+/// An engine with its disk and entropy, which threads share.
+#[derive(Drop)]
+pub struct Shared<D: Disk, N: Entropy> {
+    lock: TurnLock<Desk<D, N>, BookEntry, Name>,
+    passes: u32,
+}

@@ -1,0 +1,69 @@
+//! A call between its two turns.
+
+ghost use Rattle.std.specs.Prelude.{◌≡◌};
+ghost use Rattle.service_book.specs.Book.{ticket_in};
+ghost use Rattle.shared_service.specs.Sending as sending;
+
+use crate::name::Name;
+use crate::pass::Pass;
+use crate::served::Served;
+use cipher_ops::Job;
+use rule_model::{Reading, Reply, ReplyRoom};
+use service_book::BookEntry;
+use turn_lock::{RestingMaker, RestingPass};
+
+/// What a pass keeps beside its place at the lock.
+#[derive(Drop)]
+pub(crate) struct Kept {
+    pub(crate) client: u64,
+    pub(crate) connected: bool,
+    pub(crate) maker: Option<RestingMaker<BookEntry, Name>>,
+}
+
+/// The pass of a call whose ticket is out, with the room for the reply to the leave.
+#[derive(Drop)]
+pub(crate) struct Away {
+    pub(crate) pass: RestingPass<BookEntry, Name>,
+    pub(crate) kept: Kept,
+    pub(crate) reading: Reading,
+    pub(crate) first: u64,
+    pub(crate) ticket: u64,
+    pub(crate) room: ReplyRoom,
+}
+
+/// How the first turn of a call ended.
+#[derive(Drop)]
+pub(crate) enum Asked {
+    /// with the answer
+    Answered(Pass, Served),
+    /// with a work that is to be done
+    Out(Away, Job),
+}
+
+/// The work of an enter that is admitted, with the room for the reply to its leave.
+#[derive(Drop)]
+pub(crate) struct Sent {
+    pub(crate) ticket: u64,
+    pub(crate) job: Job,
+    pub(crate) room: ReplyRoom,
+}
+
+/// The ticket that a reply gives.
+fn ticket_in(reply: &Reply) -> Option<u64>
+    ensures { result ≡ ticket_in reply.now }
+{
+    match reply {
+        Reply::Done(fields) => fields.ticket,
+        _ => None,
+    }
+}
+
+/// The work that goes out with a reply.
+pub(super) fn sent_with(reply: &Reply, job: Option<Job>, room: Option<ReplyRoom>) -> Option<Sent>
+    ensures { result ≡ sending.sent (ticket_in reply.now) job room }
+{
+    let ticket = ticket_in(reply)?;
+    let job = job?;
+    let room = room?;
+    Some(Sent { ticket, job, room })
+}

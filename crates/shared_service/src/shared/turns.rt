@@ -1,0 +1,197 @@
+//! The two turns of a call.
+
+ghost use Rattle.std.specs.Prelude.{◌≡◌, ◌<◌, ◌^◌, length};
+ghost use Rattle.rule_model.specs.declared.event.Act.{Act};
+ghost use Rattle.rule_model.specs.declared.reply.Reply.TheVariants as replies;
+ghost use Rattle.wire_frames.specs.Spelling.{body_of};
+ghost use Rattle.ks_outside.specs.declared.clock.Reading.{Reading};
+ghost use Rattle.turn_lock.specs.Resting.{IsRestingPassAt, resting_front, resting_number};
+ghost use Rattle.shared_service.specs.declared.pass.Pass.{Pass};
+ghost use Rattle.shared_service.specs.Asking.{Asks, IsAnswered, IsAwayOf, IsOut};
+ghost use Rattle.shared_service.specs.Away.{IsBack};
+ghost use Rattle.shared_service.specs.Desks.{HasSeen};
+ghost use Rattle.shared_service.specs.Kinds.{client_after, kind_of};
+ghost use Rattle.shared_service.specs.Passes.{HoldsMaker, IsOurs, connected_of, front_of, number_of, passes_of, service_lock, service_name};
+
+use super::Shared;
+use super::away::{Asked, Away, Kept, Sent, sent_with};
+use crate::made::{Made, Requested};
+use crate::name::Name;
+use crate::pass::Pass;
+use crate::served::Served;
+use cipher_ops::Done;
+use ks_outside::{Disk, Entropy};
+use rule_model::{Act, Reading, Reply};
+use service_book::BookEntry;
+use std::sync::Wait;
+use tags::Code;
+use turn_lock::RestingPass;
+use wire_frames::Request;
+
+/// What a call changes of its pass's client.
+#[derive(Clone, Copy)]
+pub(crate) enum Kind {
+    Connects,
+    Parts,
+    Other,
+}
+
+fn kind_of(act: &Act) -> Kind
+    ensures { result ≡ kind_of act.now }
+{
+    match act {
+        Act::Connect { .. } => Kind::Connects,
+        Act::Disconnect => Kind::Parts,
+        _ => Kind::Other,
+    }
+}
+
+/// The client of a pass, and whether it is connected, after a reply.
+fn client_after(kind: Kind, client: u64, connected: bool, reply: &Reply) -> (u64, bool)
+    ensures { (result.0, result.1) ≡ client_after kind reply.now (client, connected) }
+{
+    let Reply::Done(fields) = reply else {
+        return (client, connected);
+    };
+    match kind {
+        Kind::Connects => (fields.client.unwrap_or(client), true),
+        Kind::Parts => (client, false),
+        Kind::Other => (client, connected),
+    }
+}
+
+/// The answer of a call that adds nothing.
+fn refused(code: Code) -> Served
+    ensures { result ≡ record { first = 0; last = 0; reply = replies.Stopped code } }
+{
+    Served {
+        first: 0,
+        last: 0,
+        reply: Reply::Stopped { code },
+    }
+}
+
+impl<D: Disk, N: Entropy> Shared<D, N> {
+    /// The pass with what it kept.
+    fn seated(&self, pass: RestingPass<BookEntry, Name>, kept: Kept) -> Pass
+        requires resting { IsRestingPassAt (service_lock self.now) (service_name self.now) pass }
+        requires seen { ∥ HasSeen (service_name self.now) (resting_number pass) (resting_front pass) kept.client kept.connected ∥₁ }
+        requires maker { HoldsMaker (service_lock self.now) (service_name self.now) (passes_of self.now) (resting_number pass) kept.maker }
+        ensures ours { IsOurs self.now result }
+        ensures number { number_of result ≡ resting_number pass }
+        ensures front { front_of result ≡ resting_front pass }
+        ensures connected { connected_of result ≡ kept.connected }
+    {
+        let Kept {
+            client,
+            connected,
+            maker,
+        } = kept;
+        Pass {
+            pass,
+            client,
+            connected,
+            maker,
+        }
+    }
+
+    /// The first turn of a call: its step, or its enter.
+    pub(super) fn ask<R: Wait>(
+        &self,
+        rt: &R,
+        pass: Pass,
+        reading: Reading,
+        request: Request,
+    ) -> Asked
+        requires ours { IsOurs self.now pass }
+        requires short { length (body_of request) < 2 ^ 32 }
+        ensures asks { Asks self.now pass reading request result }
+    {
+        let Pass {
+            pass,
+            client,
+            connected,
+            maker,
+        } = pass;
+        let kind = kind_of(request.act());
+        let number = pass.number();
+        let (turn, mut desk) = self.lock.enter(rt, self.lock.wake(pass));
+        match desk.request(number, client, connected, reading, request) {
+            Requested::Full => {
+                let pass = self.lock.rest(self.lock.leave_seeing(turn, desk));
+                let kept = Kept {
+                    client,
+                    connected,
+                    maker,
+                };
+                Asked::Answered(self.seated(pass, kept), refused(Code::RunFull))
+            }
+            Requested::Poor => {
+                let pass = self.lock.rest(self.lock.leave(turn, desk, 0));
+                let kept = Kept {
+                    client,
+                    connected,
+                    maker,
+                };
+                Asked::Answered(
+                    self.seated(pass, kept),
+                    refused(Code::MemoryAllocationFailed),
+                )
+            }
+            Requested::Made(made) => {
+                let Made {
+                    first,
+                    last,
+                    reply,
+                    job,
+                    leave,
+                } = made;
+                let added = last + 1 - first;
+                let pass = self.lock.rest(self.lock.leave(turn, desk, added));
+                let (client, connected) = client_after(kind, client, connected, &reply);
+                let kept = Kept {
+                    client,
+                    connected,
+                    maker,
+                };
+                match sent_with(&reply, job, leave) {
+                    Some(Sent { ticket, job, room }) => {
+                        drop(reply);
+                        let away = Away {
+                            pass,
+                            kept,
+                            reading,
+                            first,
+                            ticket,
+                            room,
+                        };
+                        Asked::Out(away, job)
+                    }
+                    None => Asked::Answered(self.seated(pass, kept), Served { first, last, reply }),
+                }
+            }
+        }
+    }
+
+    /// The second turn of a call: its leave.
+    pub(super) fn bring_back<R: Wait>(&self, rt: &R, away: Away, back: Done) -> (Pass, Served)
+        requires away { IsOut self.now away }
+        requires back { ∥ IsBack (service_name self.now) (resting_front away.pass) away.ticket back ∥₁ }
+        ensures brings { (pass : Pass) (reading : Reading) (act : Act) → IsAwayOf self.now pass reading act away → IsAnswered self.now pass reading act result.0 result.1 }
+    {
+        let Away {
+            pass,
+            kept,
+            reading,
+            first,
+            ticket,
+            room,
+        } = away;
+        let number = pass.number();
+        let (turn, mut desk) = self.lock.enter(rt, self.lock.wake(pass));
+        let made = desk.bring(number, kept.client, reading, ticket, back, room);
+        let Made { last, reply, .. } = made;
+        let pass = self.lock.rest(self.lock.leave(turn, desk, 1));
+        (self.seated(pass, kept), Served { first, last, reply })
+    }
+}
