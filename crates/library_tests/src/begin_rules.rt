@@ -60,7 +60,7 @@ fn lists_break(mut facts: BeginFacts) -> [bool; 7] {
 
 /// What they break where the caller may not force, where no key is found, where its domain is no app's, where its alias is no UTF-8,
 /// and where the client is not connected.
-fn access_breaks(mut facts: BeginFacts, aliases: [Descriptor; 2]) -> [bool; 6] {
+fn access_breaks(mut facts: BeginFacts, byte: Descriptor, surrogate: Descriptor) -> [bool; 6] {
     facts.asked = Err(Code::InvalidTag);
     facts.forced = true;
     let forced = breaks(&facts, 5, Code::PermissionDenied);
@@ -68,10 +68,9 @@ fn access_breaks(mut facts: BeginFacts, aliases: [Descriptor; 2]) -> [bool; 6] {
     let found = breaks(&facts, 4, Code::KeyNotFound);
     facts.descriptor.domain = 2;
     let owner = breaks(&facts, 3, Code::PermissionDenied);
-    let [first, second] = aliases;
-    facts.descriptor = first;
+    facts.descriptor = byte;
     let alias = breaks(&facts, 2, Code::InvalidArgument);
-    facts.descriptor = second;
+    facts.descriptor = surrogate;
     let other = breaks(&facts, 2, Code::InvalidArgument);
     facts.connected = false;
     let client = breaks(&facts, 1, Code::InvalidArgument);
@@ -89,8 +88,9 @@ fn a_call_breaks_the_rules_before_its_lists(rt: HostRuntime) -> Result<(), Fail>
         size: 32,
     };
     assert_eq!(rt; (plan, broken), (Ok(sign), [true; 7]));
-    let aliases = [app_key(alloc, b"\xff")?, app_key(alloc, b"\xed\xa0\x80")?];
-    let broken = access_breaks(begin(alloc, SIGN, MAC_KEY)?, aliases);
+    let byte = app_key(alloc, b"\xff")?;
+    let surrogate = app_key(alloc, b"\xed\xa0\x80")?;
+    let broken = access_breaks(begin(alloc, SIGN, MAC_KEY)?, byte, surrogate);
     assert_eq!(rt; broken, [true; 6]);
     Ok(())
 }

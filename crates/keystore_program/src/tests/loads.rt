@@ -1,9 +1,9 @@
 //! Loads of a seed, and what the help tells of them.
 
-use super::run_over;
+use super::check_end;
+use super::script::{FRESH, Outside};
 use crate::help::help_text;
 use crate::status::Status;
-use ks_outside::{MemoryEntropy, MemorySink, MemorySource};
 use std::test::Fail;
 
 /// The first words of the forms.
@@ -34,12 +34,8 @@ fn the_help_has_the_words_of_the_forms(rt: HostRuntime) -> Result<(), Fail> {
 fn a_load_prints_its_summary(rt: HostRuntime) -> Result<(), Fail> {
     let alloc = rt.alloc();
     for (words, status, text) in &LOADS {
-        let mut source = MemorySource::new(b"", &[]);
-        let mut sink = MemorySink::with_room(alloc, 256, 4, &[])?;
-        let mut entropy = MemoryEntropy::counting();
-        let ended = run_over(alloc, words, &mut source, &mut sink, &mut entropy)?;
-        assert_eq!(rt; ended, *status, "{words}");
-        assert!(rt; sink.written() == text.as_bytes(), "{words}");
+        let outside = Outside { words, ..FRESH };
+        check_end(&rt, alloc, outside, *status, text)?;
     }
     Ok(())
 }
