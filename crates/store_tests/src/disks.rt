@@ -130,7 +130,7 @@ fn takes_far_apart(mut disk: MemoryDisk) -> bool {
     taken.is_none()
         && reads == (Ok(6), Ok(5))
         && page == [0, b'1', b'2', b'3', b'4', 0]
-        && end == [0, b'w', b'x', b'y', b'z', 0]
+        && end == [0, b'w', b'x', b'y', b'z', 9]
         && counts == (3, 1)
 }
 
