@@ -1,0 +1,3 @@
+pub mod Callers
+pub mod Chains
+pub mod Pairing
