@@ -85,12 +85,13 @@ module _ {A D N : Type 0} {d : DiskGhosts D} {n : EntropyGhosts N} (shared_of : 
   caller_of : (shared : Shared D N d n) (a : A) → shared_of a ≡ shared → IsOurs shared (pass_of a) → IsCallerOf shared (number_of (pass_of a)) a
   caller_of shared a same ours = record { shared_is = same; ours = ours; number_is = refl }
 
-  pub serves_by : (shared : Shared D N d n) (a b : A) {L : Type 0} (g : LinkGhosts L) (link after : L) (end : End) → shared_of a ≡ shared → IsOurs shared (pass_of a)
-      → Serves g Asks link after a b end → Serves g (IsAnswered shared) link after (pass_of a) (pass_of b) end × IsCallerOf shared (number_of (pass_of a)) b
-  serves_by shared a b g link after end same ours served =
-      serves_seen pass_of Asks (IsAnswered shared) (IsCallerOf shared (number_of (pass_of a))) (asks_once shared (number_of (pass_of a))) g link after a b end (caller_of shared a same ours) served
+module _ {A D N : Type 0} {d : DiskGhosts D} {n : EntropyGhosts N} (a b : A) (shared_of : A → Shared D N d n) (pass_of : A → Pass) (shared : Shared D N d n) where
+  pub serves_by : {L : Type 0} (g : LinkGhosts L) (link after : L) (end : End) → shared_of a ≡ shared → IsOurs shared (pass_of a)
+      → Serves g (Asks shared_of pass_of) link after a b end → Serves g (IsAnswered shared) link after (pass_of a) (pass_of b) end × IsCallerOf shared_of pass_of shared (number_of (pass_of a)) b
+  serves_by g link after end same ours served =
+      serves_seen pass_of (Asks shared_of pass_of) (IsAnswered shared) (IsCallerOf shared_of pass_of shared (number_of (pass_of a))) (asks_once shared_of pass_of shared (number_of (pass_of a))) g link after a b end (caller_of shared_of pass_of shared a same ours) served
 
-  pub reaches_by : (shared : Shared D N d n) (a b : A) → shared_of a ≡ shared → IsOurs shared (pass_of a) → Reaches Asks a b
-      → Reaches (IsAnswered shared) (pass_of a) (pass_of b) × IsCallerOf shared (number_of (pass_of a)) b
-  reaches_by shared a b same ours reached =
-      reaches_seen pass_of Asks (IsAnswered shared) (IsCallerOf shared (number_of (pass_of a))) (asks_once shared (number_of (pass_of a))) a b (caller_of shared a same ours) reached
+  pub reaches_by : shared_of a ≡ shared → IsOurs shared (pass_of a) → Reaches (Asks shared_of pass_of) a b
+      → Reaches (IsAnswered shared) (pass_of a) (pass_of b) × IsCallerOf shared_of pass_of shared (number_of (pass_of a)) b
+  reaches_by same ours reached =
+      reaches_seen pass_of (Asks shared_of pass_of) (IsAnswered shared) (IsCallerOf shared_of pass_of shared (number_of (pass_of a))) (asks_once shared_of pass_of shared (number_of (pass_of a))) a b (caller_of shared_of pass_of shared a same ours) reached
