@@ -11,6 +11,7 @@ pub mod Kept
 pub mod Lines
 pub mod Loading
 pub mod Runs
+pub mod Services
 pub mod Serving
 pub mod Session
 pub mod SessionKept

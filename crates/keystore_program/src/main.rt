@@ -21,6 +21,9 @@ mod tests;
 mod words;
 mod writer;
 
+ghost use Rattle.std.specs.Prelude.{◌≡◌};
+ghost use Rattle.keystore_program.specs.Services.{served_as};
+
 use crate::help::{help_text, version_text};
 use crate::run::run_words;
 use crate::status::Status;
@@ -95,7 +98,9 @@ fn asks_to_serve(words: &[String]) -> bool {
 }
 
 /// The status of the program whose service ended so.
-fn status_of(status: ServeStatus) -> Status {
+fn status_of(status: ServeStatus) -> Status
+    ensures { result ≡ served_as status }
+{
     match status {
         ServeStatus::Ok => Status::Ok,
         ServeStatus::Memory => Status::Memory,

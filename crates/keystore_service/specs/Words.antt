@@ -19,6 +19,11 @@ form_of (first ∷ port ∷ connections ∷ workers ∷ []) =
     if is_word (codes "serve") first then form_in (string_bytes port) (string_bytes connections) (string_bytes workers) else None
 form_of _ = None
 
+-- the port of a form, where there is one
+abbrev pub port_of : Option ServeForm → Option ℕ
+port_of None = None
+port_of (Some form) = Some form.port
+
 pub record IsWithin (form : ServeForm) : Type 0 where
   pub port : form.port ≤ 65535
   pub some : 0 < form.connections

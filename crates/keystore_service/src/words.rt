@@ -1,6 +1,6 @@
 //! The form of the command line that serves.
 
-ghost use Rattle.std.specs.Prelude.{◌≡◌, None, codes, if◌then◌else◌, IfSome, option_map};
+ghost use Rattle.std.specs.Prelude.{◌≡◌, IfSome};
 ghost use Rattle.keystore_service.specs.Words as spec;
 ghost use Rattle.keystore_service.specs.Words.{IsWithin};
 
@@ -52,7 +52,7 @@ pub fn serve_form_of(words: &[String]) -> Option<ServeForm>
 
 /// The port of words that serve, and `None` exactly where they are no form of it. It takes no memory.
 pub fn serve_port(words: &[String]) -> Option<u16>
-    ensures { result ≡ option_map (λ form. form.port) (spec.form_of words.now) }
+    ensures { result ≡ spec.port_of (spec.form_of words.now) }
 {
     match serve_form_of(words) {
         Some(form) => Some(form.port),

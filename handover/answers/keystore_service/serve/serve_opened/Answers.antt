@@ -6,14 +6,14 @@ use Rattle.keystore_core.specs.declared.engine.Engine.{Engine}
 use Rattle.keystore_core.specs.Engine.{Stands}
 use Rattle.service_book.specs.Book.{history_of, log_of}
 use Rattle.shared_service.specs.Passes.{HasAll, IsOurs, IsSetupOf, passes_of, start_of}
-use Rattle.keystore_service.specs.Ends.{Wanting}
+use Rattle.keystore_service.specs.Ends.{Wanting, unserved}
 use Rattle.keystore_service.proofs.Endings.{attended, store_images}
 use Rattle.keystore_service.proofs.Numbering.{all_numbers}
 use Rattle.keystore_service.proofs.serve.serve_opened.Goals as goal
 
 pub returns-in-Err-clause-serves : goal.returns-in-Err-clause-serves
 returns-in-Err-clause-serves g c = λ setup stands.
-    Wanting (c.ended_unserved.ensures ∙ rw (c.in-Err.ensures.back.1, c.in-Err.ensures.back.2) refl)
+    Wanting (c.ended_unserved.ensures ∙ (λ i. unserved c.args.listener (c.in-Err.ensures.back.1 i) (c.in-Err.ensures.back.2 i)))
 
 pub serve_listener-passes-requires-clause-some : goal.serve_listener-passes-requires-clause-some
 serve_listener-passes-requires-clause-some g c = let some = c.requires.within.someone in let count = c.in-Ok.ensures.count.1 in omega (arith, some, count)
