@@ -1,8 +1,7 @@
 //! A pass of a service that answers a connection.
 
 ghost use Rattle.std.specs.Prelude.{◌≡◌};
-ghost use Rattle.shared_service.specs.Passes.{IsOurs, connected_of};
-ghost use Rattle.keystore_server.specs.Calling.{IsAnswered};
+ghost use Rattle.shared_service.specs.Passes.{IsOurs};
 ghost use Rattle.keystore_server.specs.Settled.{IsSettled};
 
 use connections::Answerer;

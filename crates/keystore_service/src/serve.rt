@@ -141,7 +141,7 @@ where
     ensures serves { (form : ServeForm) → form_of words.now ≡ Some form → Serves B.Listener D.Disk N.Entropy device.now policy.now form listener disk entropy result }
 
     // A call of the listener failed exactly where the status says so; where it says that the disk failed it did.
-    ensures listen_faults { CountsFaults (B.fault_count listener) (B.fault_count result.listener) (is_listen_fault result.status) }
+    ensures listen_faults { CountsFaults (B.Listener.fault_count listener) (B.Listener.fault_count result.listener) (is_listen_fault result.status) }
     ensures disk_faults { result.status ≡ statuses.DiskFault → Rises (D.fault_count disk) (D.fault_count result.disk) }
 
     // Over a formatted disk that tells its content the store is opened, unless memory is wanting or the disk fails.
