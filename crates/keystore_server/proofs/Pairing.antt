@@ -1,6 +1,6 @@
 -- Passes become workers and come back, in their order.
-use Rattle.std.proofs.Common.{◌≡◌, ℕ, ◌+◌, ◌-◌, ◌<◌, ◌≤◌, Bool, false, List, [], ◌∷◌, ◌++◌, length, get_or, drop, suc, Option, Some, refl, sym, ap, subst, ◌∙◌, arith}
-use Rattle.std.proofs.lemmas.List.{drop_more, get_or_default, length-drop}
+use Rattle.std.proofs.Common.{◌≡◌, ℕ, ◌+◌, ◌-◌, ◌<◌, ◌≤◌, Bool, false, List, [], ◌∷◌, ◌++◌, length, length-drop, get_or, drop, suc, Option, Some, refl, sym, ap, subst, ◌∙◌, arith}
+use Rattle.std.proofs.lemmas.List.{drop_more, get_or_default}
 use Rattle.std.specs.Prelude.{All}
 use Rattle.ks_outside.specs.declared.disk.Disk.{Ghosts as DiskGhosts}
 use Rattle.ks_outside.specs.declared.entropy.Entropy.{Ghosts as EntropyGhosts}
@@ -83,7 +83,7 @@ connected pass_of caller = connected_of (pass_of caller)
 
 module _ {B A D N : Type 0} {d : DiskGhosts D} {n : EntropyGhosts N} (workers : List (Worker B A)) (shared_of : A → Shared D N d n) (pass_of : A → Pass) (shared : Shared D N d n) where
   pub all_free : (passes : List Pass) → ArePaired passes workers (CallsBy shared_of pass_of shared) → All IsIdle passes → AllFree (connected pass_of) workers
-  all_free passes paired idle k w less =
+  all_free passes paired idle = λ k w less.
       let count = paired.count in
       let within : k < length passes = omega (arith, less, count) in
       let p : Pass = some_of passes k within in
@@ -91,7 +91,7 @@ module _ {B A D N : Type 0} {d : DiskGhosts D} {n : EntropyGhosts N} (workers : 
       (a.0, a.1, ap (λ (q : Pass). connected_of q) a.2.1 ∙ idle k p within)
 
   pub all_answered : (after : List (Worker B A)) → length after ≡ length workers → AllFree (connected pass_of) workers → AllServed (Asks shared_of pass_of) (connected pass_of) workers after → AllAnswered after
-  all_answered after long free served k w less =
+  all_answered after long free served = λ k w less.
       let within : k < length workers = omega (arith, less, long) in
       let a = free k w within in
       let s = served k w within a.0 a.1 in

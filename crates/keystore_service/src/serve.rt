@@ -89,22 +89,22 @@ where
     requires store { (setup : Setup) → Stands setup engine [] → StoreStands D.Disk setup engine disk [] }
     ensures serves { (setup : Setup) → Stands setup engine [] → ServesOn B.Listener D.Disk N.Entropy setup form listener disk entropy result }
 {
-    let made = Shared::new(alloc, engine, disk, entropy, form.workers);
-    let (shared, passes) = match made {
-        Ok(made) => made,
-        Err(back) => return ended_unserved(listener, back),
-    };
-    let connections = u64::from(form.connections);
-    let (passes, listener, attendance) = serve_listener(
-        rt, alloc, &shared, passes, listener, connections, clock, gate,
-    );
-    let (_engine, disk, entropy, book) = shared.close(rt, passes);
-    ServeEnd {
-        status: status_after(attendance),
-        listener,
-        disk,
-        entropy,
-        book: Some(book),
+    match Shared::new(alloc, engine, disk, entropy, form.workers) {
+        Ok((shared, passes)) => {
+            let connections = u64::from(form.connections);
+            let (passes, listener, attendance) = serve_listener(
+                rt, alloc, &shared, passes, listener, connections, clock, gate,
+            );
+            let (_engine, disk, entropy, book) = shared.close(rt, passes);
+            ServeEnd {
+                status: status_after(attendance),
+                listener,
+                disk,
+                entropy,
+                book: Some(book),
+            }
+        }
+        Err(back) => ended_unserved(listener, back),
     }
 }
 
