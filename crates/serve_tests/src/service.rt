@@ -23,7 +23,7 @@ const WRITTEN: usize = 32_768;
 const WRITES: usize = 1024;
 
 /// The reading of each call.
-const NOW: Reading = Reading {
+pub(crate) const NOW: Reading = Reading {
     boot: 0,
     wall: 1000,
 };

@@ -12,10 +12,10 @@ use std::thread::Threads;
 pub(crate) const CONNECT: [u8; 9] = [0, 0, 0, 5, 1, 0, 0, 0x27, 0x11];
 
 /// The reply to the first connect: code 0, no rule, field 1 with client 1.
-const CLIENT: [u8; 19] = [0, 0, 0, 15, 0, 0, 0, 0, 0, 0, 1, 0, 0, 0, 0, 0, 0, 0, 1];
+pub(crate) const CLIENT: [u8; 19] = [0, 0, 0, 15, 0, 0, 0, 0, 0, 0, 1, 0, 0, 0, 0, 0, 0, 0, 1];
 
 /// The connect, sent twice.
-const TWICE: [u8; 18] = [
+pub(crate) const TWICE: [u8; 18] = [
     0, 0, 0, 5, 1, 0, 0, 0x27, 0x11, 0, 0, 0, 5, 1, 0, 0, 0x27, 0x11,
 ];
 
