@@ -91,10 +91,10 @@ fn served_at_once<R: Threads + Wait + Sync>(rt: &R, alloc: Global) -> Result<boo
     let texts = [one.as_slice(), two.as_slice()];
     let listener = listener_of(alloc, &texts, &[])?;
     let end = served(rt, alloc, "serve 0 2 2", listener, store(alloc)?, &gate)?;
-    let mut answered = 0;
+    let mut answered = 0usize;
     for link in end.listener.served() {
         if are_five(link.written()) {
-            answered += 1;
+            answered = answered.saturating_add(1);
         }
     }
     let whole = ended_with(&end, ServeStatus::Ok, Some(14));

@@ -100,10 +100,10 @@ pub(crate) fn are(found: Option<&[u8]>, wanted: &[u8]) -> bool {
 
 /// How many links wrote just this.
 pub(crate) fn links_that_wrote(end: &End<'_>, replies: &[u8]) -> usize {
-    let mut count = 0;
+    let mut count = 0usize;
     for link in end.listener.served() {
         if are(Some(link.written()), replies) {
-            count += 1;
+            count = count.saturating_add(1);
         }
     }
     count

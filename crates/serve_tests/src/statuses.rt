@@ -23,25 +23,28 @@ static ROWS: [(&str, &[u64], ServeStatus, Option<usize>); 9] = [
     ("run", &[], ServeStatus::Usage, None),
 ];
 
-/// The number of the first row that ends otherwise.
-fn first_other<R: Threads + Wait + Sync>(rt: &R, alloc: Global) -> Result<Option<usize>, Fail> {
+/// Whether a service of two links ends so.
+fn ends<R: Threads + Wait + Sync>(
+    rt: &R,
+    alloc: Global,
+    words: &str,
+    failing: &[u64],
+    status: ServeStatus,
+    entries: Option<usize>,
+) -> Result<bool, Fail> {
     let texts: [&[u8]; 2] = [&CONNECT, &CONNECT];
-    let mut place = 0;
-    for (words, failing, status, entries) in &ROWS {
-        let listener = listener_of(alloc, &texts, failing)?;
-        let end = served(rt, alloc, words, listener, store(alloc)?, &OpenGate)?;
-        if !ended_with(&end, *status, *entries) {
-            return Ok(Some(place));
-        }
-        place += 1;
-    }
-    Ok(None)
+    let listener = listener_of(alloc, &texts, failing)?;
+    let disk = store(alloc)?;
+    let end = served(rt, alloc, words, listener, disk, &OpenGate)?;
+    Ok(ended_with(&end, status, entries))
 }
 
 #[test]
 fn words_and_listeners(rt: HostRuntime) -> Result<(), Fail> {
-    let other = first_other(&rt, rt.alloc())?;
-    assert!(&rt; other.is_none());
+    for (words, failing, status, entries) in &ROWS {
+        let as_wanted = ends(&rt, rt.alloc(), *words, *failing, *status, *entries)?;
+        assert!(&rt; as_wanted);
+    }
     Ok(())
 }
 
