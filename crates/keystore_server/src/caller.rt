@@ -43,7 +43,7 @@ impl<'a, D: Disk, N: Entropy, C, G> Caller<'a, D, N, C, G> {
 
     /// Its pass.
     pub(crate) fn into_pass(self) -> Pass
-        ensures { result ≡ self.pass }
+        ensures { result ≡ self.entry.pass }
     {
         let Caller { pass, .. } = self;
         pass

@@ -61,7 +61,7 @@ pub(crate) fn take_passes<'a, B: Drop, D: Disk + Drop, N: Entropy + Drop, C, G>(
     requires none { length passes.old.items ≡ 0 }
     requires places { length workers.items ≤ vec_capacity passes.old }
     requires answered { AllAnswered workers.items }
-    ensures paired { ArePaired passes.new.items workers.items (λ pass caller. caller.pass ≡ pass) }
+    ensures paired { ArePaired passes.new.items workers.entry.items (λ pass caller. caller.pass ≡ pass) }
 {
     let mut left = workers.into_iter();
     'workers: while let Some(worker) = left.next() {
