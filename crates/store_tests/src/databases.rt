@@ -4,7 +4,7 @@ use journal_records::{Change, StoreFault};
 use key_database::KeyDatabase;
 use key_domains::Permissions;
 use std::alloc::{AllocError, Global};
-use tags::Bytes;
+use tags::{Bytes, Settled};
 use use_journal::Journal;
 
 /// Room for the tests.
@@ -305,4 +305,59 @@ fn first_other(alloc: Global) -> Option<usize> {
 #[test]
 fn what_a_key_ends_with_it(rt: HostRuntime) {
     assert_eq!(rt; first_other(rt.alloc()), None);
+}
+
+/// A key, whose making is four calls of the device.
+static KEY: Step = Step::Create {
+    domain: 0,
+    nspace: 10_001,
+    alias: b"m",
+    limit: 0,
+};
+
+/// Of the calls 6 to 9, which make that key, the one that fails; how it settles, and how many keys there are then.
+static FAULTS: [(&[u64], Settled, u64); 4] = [
+    (&[6], Settled::Lost, 0),
+    (&[7], Settled::Lost, 0),
+    (&[8], Settled::Lost, 0),
+    (&[9], Settled::Kept, 1),
+];
+
+/// How many keys a disk has, opened anew.
+fn told_anew(alloc: Global, disk: &mut MemoryDisk) -> Option<(u64, u64)> {
+    let anew = KeyDatabase::open(alloc, disk).ok()?;
+    Some(told(&anew).0)
+}
+
+/// Whether a database that waits settles so, and has so many keys then, here and opened anew.
+fn settles(
+    alloc: Global,
+    database: &mut KeyDatabase,
+    disk: &mut MemoryDisk,
+    settled: Settled,
+    count: u64,
+) -> bool {
+    !database.is_settled()
+        && database.settle(disk) == Ok(settled)
+        && told(database).0 == (count, 0)
+        && told_anew(alloc, disk) == Some((count, 0))
+}
+
+/// Whether a making with a failing call is refused, makes no key that is told, and settles so.
+fn fails_so(alloc: Global, failing: &[u64], settled: Settled, count: u64) -> bool {
+    let Ok((mut disk, mut database)) = fresh(alloc, failing) else {
+        return false;
+    };
+    make(alloc, &mut database, &mut disk, &KEY) == Err(StoreFault::Device)
+        && told(&database).0 == (0, 0)
+        && settles(alloc, &mut database, &mut disk, settled, count)
+}
+
+#[test]
+fn each_call_of_a_change_fails(rt: HostRuntime) {
+    let mut all = true;
+    for (failing, settled, count) in &FAULTS {
+        all = all && fails_so(rt.alloc(), failing, *settled, *count);
+    }
+    assert!(rt; all);
 }

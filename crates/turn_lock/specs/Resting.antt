@@ -1,9 +1,10 @@
 -- What contracts say of passes and makers at rest.
-use Rattle.std.specs.Prelude.{◌≡◌, ℕ, List}
+use Rattle.std.proofs.Common.{◌≡◌, ℕ, List, [], ◌∷◌, length, sym, ◌∙◌, arith}
 use Rattle.atomic_table.specs.Seated.{TableId}
 use Rattle.turn_lock.specs.declared.lock.Locked.{Locked}
 use Rattle.turn_lock.specs.declared.lock.RestingPass.{RestingPass}
 use Rattle.turn_lock.specs.declared.lock.RestingMaker.{RestingMaker}
+use Rattle.turn_lock.specs.declared.view.Hand.{Hand}
 use Rattle.turn_lock.specs.Views.{AllNamed, front_in, hands_of}
 use Rattle.turn_lock.specs.Passes.{lock_id, name_of}
 
@@ -34,3 +35,14 @@ module _ {S V E K P : Type 0} where
 
   abbrev pub IsRestingMakerOf : Locked S V K P → RestingMaker E K → Type 0
   IsRestingMakerOf lock maker = IsRestingMakerAt (lock_id lock) (name_of lock) maker
+
+-- a pass at rest has one name
+pub one_name : {E K : Type 0} (pass : RestingPass E K) (lock other : TableId) (a b : K) → IsRestingPassAt lock a pass → IsRestingPassAt other b pass → a ≡ b
+one_name {E} {K} pass lock other a b at there = of_hands (hands_of pass.badge.views) pass.single at.named there.named
+  where
+    none : ◌≡◌ {A = ℕ} 0 1 → ⊥
+    none e = omega arith
+
+    of_hands : (hands : List (Hand E K)) → length hands ≡ 1 → AllNamed a hands → AllNamed b hands → a ≡ b
+    of_hands [] one p q = absurd (none one)
+    of_hands (h ∷ hs) one p q = sym p.0 ∙ q.0
