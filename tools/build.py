@@ -1,14 +1,13 @@
 #!/usr/bin/env python3
 """Builds the program: proves each crate that it stands on, side by side on all processors, and then the program.
 
-On a terminal one line goes on: how many crates of how many, which ones are being proved, and the minutes so far. At a failure it
-prints the last lines of the crate that failed and where its whole log is. It tries no test and no must-fail edit: that is the gate."""
+On a terminal one line goes on: how many crates of how many, which one was proved last, and the minutes so far. At a failure it
+prints the last lines and where the whole log is. It tries no test and no must-fail edit: that is the gate."""
 import os
 import subprocess
 import sys
 import tempfile
 import time
-from concurrent.futures import FIRST_COMPLETED, ThreadPoolExecutor, wait
 
 PROGRAM = "keystore_program"
 TOP = os.path.dirname(os.path.dirname(os.path.realpath(__file__)))
@@ -30,43 +29,48 @@ def needed(below, name):
     return found
 
 
-def run(name, logs):
-    """Proves a crate; the program is run without words, which prints its usage and ends with status 2."""
-    words = ["rt", "run"] if name == PROGRAM else ["rt", "lib"]
-    with open(f"{logs}/{name}.log", "wb") as log:
-        ended = subprocess.run(words, cwd=f"{TOP}/crates/{name}", stdin=subprocess.DEVNULL, stdout=log, stderr=log, check=False)
-    built = os.access(f"{TOP}/crates/{PROGRAM}/out/{PROGRAM}", os.X_OK)
-    return name, built if name == PROGRAM else ended.returncode == 0
-
-
-def tell(start, done, total, working):
+def tell(start, text):
     if sys.stderr.isatty():
         minutes = (time.time() - start) / 60
-        line = f"keystore2: {done} of {total} crates proved, {minutes:.1f} min: {', '.join(sorted(working))}"
-        print(f"\r\033[K{line[:100]}", end="", file=sys.stderr, flush=True)
+        print(f"\r\033[K{f'keystore2: {text}, {minutes:.1f} min'[:100]}", end="", file=sys.stderr, flush=True)
+
+
+def run(words, log, told):
+    """Runs a command in the program's folder; what it prints goes to the log, and each line is told."""
+    folder = f"{TOP}/crates/{PROGRAM}"
+    with subprocess.Popen(words, cwd=folder, stdin=subprocess.DEVNULL, stdout=subprocess.PIPE, stderr=subprocess.STDOUT) as ran:
+        for line in ran.stdout:
+            log.write(line)
+            log.flush()
+            told(line.decode(errors="replace").rstrip())
+    return ran.returncode
+
+
+def give_up(log):
+    with open(log, errors="replace") as lines:
+        last = "".join(lines.readlines()[-20:])
+    print(f"\nkeystore2: the program was not built; the last lines of {log} are\n{last}", file=sys.stderr)
+    return 2
 
 
 def main():
-    below = libraries()
-    left = needed(below, PROGRAM)
-    total, done, working = len(left), set(), {}
-    logs, start = tempfile.mkdtemp(prefix="keystore2-build-"), time.time()
-    with ThreadPoolExecutor(os.cpu_count() or 1) as lanes:
-        while left or working:
-            for name in sorted(left):
-                if len(working) < (os.cpu_count() or 1) and done.issuperset(below[name]):
-                    left.remove(name)
-                    working[lanes.submit(run, name, logs)] = name
-            tell(start, len(done), total, working.values())
-            for ended in wait(working, timeout=1, return_when=FIRST_COMPLETED).done:
-                name, is_well = ended.result()
-                del working[ended]
-                if not is_well:
-                    with open(f"{logs}/{name}.log", errors="replace") as log:
-                        last = "".join(log.readlines()[-20:])
-                    print(f"\nkeystore2: {name} was not built; the last lines of {logs}/{name}.log are\n{last}", file=sys.stderr)
-                    os._exit(2)
-                done.add(name)
+    total, start, done = len(needed(libraries(), PROGRAM)), time.time(), []
+    path = f"{tempfile.mkdtemp(prefix='keystore2-build-')}/log"
+
+    def told(line):
+        if line.startswith("== ") and line != "== summary":
+            done.append(line[3:])
+        tell(start, f"{len(done)} of {total} crates proved{', last ' + done[-1] if done else ''}")
+
+    with open(path, "wb") as log:
+        tell(start, f"0 of {total} crates proved")
+        # `rt all` takes the crate of its folder with all that it stands on, and lets no two of them wait for one lock.
+        if run(["rt", "all", "check", "--jobs", str(os.cpu_count() or 1)], log, told):
+            return give_up(path)
+        # Without words the program prints its usage and ends with status 2.
+        run(["rt", "run"], log, lambda line: tell(start, "all crates proved, building"))
+    if not os.access(f"{TOP}/crates/{PROGRAM}/out/{PROGRAM}", os.X_OK):
+        return give_up(path)
     if sys.stderr.isatty():
         print(f"\r\033[Kkeystore2: built in {(time.time() - start) / 60:.1f} min", file=sys.stderr)
     return 0
