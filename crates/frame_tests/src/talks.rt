@@ -3,17 +3,16 @@
 ghost use Rattle.std.specs.Prelude.{◌≡◌, ◌≢◌, ◌<◌, ◌^◌, true, false, length};
 ghost use Rattle.wire_frames.specs.Spelling.{is_framed};
 ghost use Rattle.wire_frames.specs.Replies.{reply_body};
+ghost use Rattle.rule_model.specs.Acts as acts;
 ghost use Rattle.rule_model.specs.Entries.{is_done};
 ghost use Rattle.rule_model.specs.declared.event.Act.TheVariants.{Disconnect};
 ghost use Rattle.connections.specs.Talks.{is_refusal};
 
-use crate::answering::is_connect;
-use crate::{Answerer, End, serve_link};
+use connections::{Answerer, End, serve_link};
 use ks_outside::MemoryLink;
 use rule_model::{Act, Fields, NO_FIELDS, Reply};
-use std::alloc::{AllocError, Global};
+use std::alloc::Global;
 use std::sync::Wait;
-use std::test::Fail;
 use tags::Code;
 use wire_frames::Request;
 
@@ -57,6 +56,16 @@ fn full() -> Reply
     }
 }
 
+/// Whether an act is a connect.
+fn is_connect(act: &Act) -> bool
+    ensures { result ≡ acts.is_connect act.now }
+{
+    match act {
+        Act::Connect { .. } => true,
+        _ => false,
+    }
+}
+
 /// Whether an act is a disconnect.
 fn is_disconnect(act: &Act) -> bool
     ensures yes { result ≡ true → is_framed act.now ≡ false }
@@ -92,79 +101,89 @@ impl Answerer for Stub {
     }
 }
 
-/// A connect with uid 10001.
-const CONNECT: [u8; 9] = [0, 0, 0, 5, 1, 0, 0, 0x27, 0x11];
-
-/// Its reply: code 0, no rule, field 1 with the client's number.
-const CLIENT: [u8; 19] = [0, 0, 0, 15, 0, 0, 0, 0, 0, 0, 1, 0, 0, 0, 0, 0, 0, 0, 1];
-
-/// A connect, and the number of what the client sent behind it.
-const TWICE: [u8; 18] = [
-    0, 0, 0, 5, 1, 0, 0, 0x27, 0x11, 0, 0, 0, 5, 1, 0, 0, 0x27, 0x11,
-];
-
-/// A connection of these bytes whose calls with these numbers fail: its end, and whether it wrote so.
+/// Whether a connection of these bytes whose calls with these numbers fail ends so, has written so, and leaves no client.
 fn ends<R: Wait>(
     rt: &R,
     alloc: Global,
-    bytes: &[u8],
-    failing: &[u64],
-    answers: u32,
+    (bytes, failing, left): (&[u8], &[u64], u32),
     end: End,
     written: &[u8],
-) -> Result<bool, AllocError> {
-    let mut link = MemoryLink::with_room(alloc, bytes, 64, 4, failing)?;
+) -> bool {
+    let Ok(mut link) = MemoryLink::with_room(alloc, bytes, 64, 4, failing) else {
+        return false;
+    };
     let stub = Stub {
-        left: answers,
+        left,
         joined: false,
     };
     let (stub, found) = serve_link(rt, alloc, &mut link, stub);
-    Ok(found == end && link.written() == written && !stub.joined)
+    let told = (found, link.written() == written, stub.joined);
+    told == (end, true, false)
 }
 
-#[test]
-fn a_connect_is_answered(rt: HostRuntime) -> Result<(), Fail> {
-    assert!(&rt; ends(&rt, rt.alloc(), &CONNECT, &[], 9, End::EndOfInput, &CLIENT)?);
-    assert!(&rt; ends(&rt, rt.alloc(), &CONNECT[..8], &[], 9, End::Truncated, &[])?);
-    assert!(&rt; ends(&rt, rt.alloc(), &[], &[], 9, End::EndOfInput, &[])?);
-    Ok(())
-}
+/// The bytes that come, which calls of the link fail, and how many requests are answered before the run is full; how the connection
+/// ends, and what it writes.
+type Row = ((&'static [u8], &'static [u64], u32), End, &'static [u8]);
 
-#[test]
-fn frames_that_end_a_connection(rt: HostRuntime) -> Result<(), Fail> {
-    assert!(&rt;
-        ends(
-            &rt,
-            rt.alloc(),
-            &[0; 4],
+/// Connects with uid 10001, also twice, and the number of what the client sent in its place. The reply has code 0, no rule, and field
+/// 1 with the client's number.
+static ROWS: [Row; 9] = [
+    (
+        (b"\x00\x00\x00\x05\x01\x00\x00\x27\x11", &[], 9),
+        End::EndOfInput,
+        b"\x00\x00\x00\x0f\x00\x00\x00\x00\x00\x00\x01\x00\x00\x00\x00\x00\x00\x00\x01",
+    ),
+    (
+        (b"\x00\x00\x00\x05\x01\x00\x00\x27", &[], 9),
+        End::Truncated,
+        b"",
+    ),
+    ((b"", &[], 9), End::EndOfInput, b""),
+    // frames that end a connection
+    ((b"\0\0\0\0", &[], 9), End::BadFrame { offset: 0 }, b""),
+    (
+        (
+            b"\x00\x00\x00\x05\x01\x00\x00\x27\x11\x00\x00\x00\x05\x01\x00\x00\x27\x11",
             &[],
             9,
-            End::BadFrame { offset: 0 },
-            &[]
-        )?
-    );
-    assert!(&rt;
-        ends(
-            &rt,
-            rt.alloc(),
-            &TWICE,
+        ),
+        End::BadFrame { offset: 9 },
+        b"\x00\x00\x00\x0f\x00\x00\x00\x00\x00\x00\x01\x00\x00\x00\x00\x00\x00\x00\x01",
+    ),
+    // a link that fails
+    (
+        (b"\x00\x00\x00\x05\x01\x00\x00\x27\x11", &[1], 9),
+        End::LinkFault,
+        b"",
+    ),
+    (
+        (b"\x00\x00\x00\x05\x01\x00\x00\x27\x11", &[2], 9),
+        End::LinkFault,
+        b"",
+    ),
+    (
+        (b"\x00\x00\x00\x05\x01\x00\x00\x27\x11", &[3], 9),
+        End::LinkFault,
+        b"\x00\x00\x00\x0f\x00\x00\x00\x00\x00\x00\x01\x00\x00\x00\x00\x00\x00\x00\x01",
+    ),
+    // a run that is full
+    (
+        (
+            b"\x00\x00\x00\x05\x01\x00\x00\x27\x11\x00\x00\x00\x05\x01\x00\x00\x27\x11",
             &[],
-            9,
-            End::BadFrame { offset: 9 },
-            &CLIENT
-        )?
-    );
-    Ok(())
-}
+            0,
+        ),
+        End::RunFull,
+        b"\x00\x00\x00\x06\x00\x00\x03\xe9\x00\x00",
+    ),
+];
 
 #[test]
-fn faults_of_the_link_and_a_full_run(rt: HostRuntime) -> Result<(), Fail> {
-    assert!(&rt; ends(&rt, rt.alloc(), &CONNECT, &[1], 9, End::LinkFault, &[])?);
-    assert!(&rt; ends(&rt, rt.alloc(), &CONNECT, &[2], 9, End::LinkFault, &[])?);
-    assert!(&rt; ends(&rt, rt.alloc(), &CONNECT, &[3], 9, End::LinkFault, &CLIENT)?);
-    let full = [0, 0, 0, 6, 0, 0, 3, 0xe9, 0, 0];
-    assert!(&rt; ends(&rt, rt.alloc(), &TWICE, &[], 0, End::RunFull, &full)?);
-    Ok(())
+fn a_connection_ends_with_its_cause(rt: HostRuntime) {
+    for (row, (of, end, written)) in ROWS.iter().enumerate() {
+        let right = ends(&rt, rt.alloc(), *of, *end, written);
+        assert!(&rt; right, "in row {row}");
+    }
 }
 
 /// A connect, an abort and a count of keys, as a client sends them.
@@ -194,14 +213,14 @@ fn cut_end(cut: usize) -> (End, usize) {
 
 // A stream that ends at each of its bytes.
 #[test]
-fn a_session_is_cut_at_each_byte(rt: HostRuntime) -> Result<(), Fail> {
-    for cut in 0..40 {
+fn a_session_is_cut_at_each_byte(rt: HostRuntime) {
+    let mut cuts = 0;
+    for cut in 0..=SESSION.len() {
         let (end, count) = cut_end(cut);
-        let bytes = SESSION.get(..cut).unwrap_or(&[]);
-        let replies = REPLIES.get(..count).unwrap_or(&[]);
-        assert!(&rt; ends(&rt, rt.alloc(), bytes, &[], 9, end, replies)?);
+        let of = (&SESSION[..cut], [].as_slice(), 9);
+        cuts += u64::from(ends(&rt, rt.alloc(), of, end, &REPLIES[..count]));
     }
-    Ok(())
+    assert_eq!(&rt; cuts, 40);
 }
 
 /// How many bytes of replies a session has written before its call with this number fails: a read, three writes, and a read.
@@ -209,20 +228,13 @@ static WRITTEN: [(u64, usize); 5] = [(1, 0), (2, 0), (3, 19), (4, 29), (5, 39)];
 
 // A link that fails at each of its calls; the client that has come is disconnected all the same.
 #[test]
-fn each_call_of_a_link_fails(rt: HostRuntime) -> Result<(), Fail> {
+fn each_call_of_a_link_fails(rt: HostRuntime) {
+    let mut failed = 0;
     for (call, count) in &WRITTEN {
+        let calls = [*call];
+        let of = (SESSION.as_slice(), calls.as_slice(), 9);
         let replies = REPLIES.get(..*count).unwrap_or(&[]);
-        assert!(&rt;
-            ends(
-                &rt,
-                rt.alloc(),
-                &SESSION,
-                &[*call],
-                9,
-                End::LinkFault,
-                replies
-            )?
-        );
+        failed += u64::from(ends(&rt, rt.alloc(), of, End::LinkFault, replies));
     }
-    Ok(())
+    assert_eq!(&rt; failed, 5);
 }
