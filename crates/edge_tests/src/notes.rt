@@ -53,7 +53,7 @@ fn told<R: Wait>(rt: &R, lock: &MarkLock, one: &mut MarkPass, two: MarkPass) -> 
 
 /// The numbers of two passes, and once the first has marked and told the second, what the lock ends with: its marks, and how many passes
 /// were made.
-fn ended<R: Wait>(rt: &R, alloc: Global) -> Option<([u64; 2], Marks, u64)> {
+fn ended<R: Wait>(rt: &R, alloc: Global) -> Option<((u64, u64), Marks, u64)> {
     let marks = Marks {
         numbers: Vec::new(alloc),
     };
@@ -62,7 +62,7 @@ fn ended<R: Wait>(rt: &R, alloc: Global) -> Option<([u64; 2], Marks, u64)> {
     };
     let one = lock.another(&mut maker);
     let two = lock.another(&mut maker);
-    let numbers = [one.number(), two.number()];
+    let numbers = (one.number(), two.number());
     let mut one = mark(rt, &lock, one);
     let two = told(rt, &lock, &mut one, two);
     let mut closing = lock.last_turn(rt, one, maker);
@@ -76,7 +76,7 @@ fn ended<R: Wait>(rt: &R, alloc: Global) -> Option<([u64; 2], Marks, u64)> {
 fn is_marked<R: Wait>(rt: &R, alloc: Global) -> bool {
     match ended(rt, alloc) {
         Some((numbers, marks, made)) => {
-            numbers == [0, 1] && marks.numbers.as_slice() == [0].as_slice() && made == 2
+            numbers == (0, 1) && marks.numbers.as_slice() == [0].as_slice() && made == 2
         }
         None => false,
     }
