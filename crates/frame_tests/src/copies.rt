@@ -11,50 +11,57 @@ use std::test::Fail;
 use tags::{Bytes, Code, NoMemory};
 use wire_frames::reply_frame;
 
-/// Whether an act is the finish of `finishing`.
-fn is_finish(act: &Act) -> bool {
-    match act {
-        Act::EnterFinish {
-            op,
-            input,
-            signature: Some(signature),
-        } => *op == 9
-            && input.as_slice() == b"text".as_slice()
-            && signature.as_slice() == b"\x5a".as_slice(),
-        _ => false,
-    }
-}
-
-fn finishing(alloc: Global) -> Result<Event, NoMemory> {
-    let input = Bytes::copy_of(alloc, b"text")?;
-    let signature = Some(Bytes::copy_of(alloc, b"\x5a")?);
-    Ok(Event {
+/// A finish.
+fn finishing(alloc: Global) -> Option<Event> {
+    let input = Bytes::copy_of(alloc, b"text").ok()?;
+    Some(Event {
         reading: Reading { boot: 3, wall: 5 },
         client: 2,
         act: Act::EnterFinish {
             op: 9,
             input,
-            signature,
+            signature: Bytes::copy_of(alloc, b"\x5a").ok(),
         },
     })
 }
 
+/// The copy of the finish in words.
+fn copied(alloc: Global) -> Option<String> {
+    let copy = finishing(alloc)?.copy(alloc).ok()?;
+    format!(in alloc; "{copy:?}").ok()
+}
+
+const FINISHING: &str =
+    "Event { reading: Reading { boot: 3, wall: 5 }, client: 2, act: EnterFinish { op: 9, input: Bytes { bytes: [116, 101, 120, 116] }, signature: Some(Bytes { bytes: [90] }) } }";
+
 #[test]
 fn an_event_is_copied(rt: HostRuntime) -> Result<(), Fail> {
-    let copy = finishing(rt.alloc())?.copy(rt.alloc())?;
-    assert!(&rt; copy.reading == Reading { boot: 3, wall: 5 } && copy.client == 2);
-    assert!(&rt; is_finish(&copy.act));
+    let copy = copied(rt.alloc()).ok_or("memory")?;
+    assert_eq!(rt; copy.as_str(), FINISHING);
     Ok(())
 }
 
 /// Whether the copy of a reply of such an act, with an output of at most `out` bytes, has the reply's frame.
-fn is_copied(alloc: Global, act: &Act, out: u64, reply: &Reply) -> Result<bool, Fail>
+fn is_copied(alloc: Global, act: &Act, out: u64, reply: &Reply) -> bool
     requires fits { Fits (sizes_of act.now out) reply.now }
     requires short { length (reply_body reply.now) < 2 ^ 32 }
 {
-    let copy = ReplyRoom::of(alloc, act, out)?.copy(reply);
-    let wanted = reply_frame(alloc, reply)?;
-    Ok(reply_frame(alloc, &copy)?.as_slice() == wanted.as_slice())
+    let Ok(room) = ReplyRoom::of(alloc, act, out) else {
+        return false;
+    };
+    let copy = room.copy(reply);
+    has_frame_of(alloc, &copy, reply)
+}
+
+/// Whether two replies have one frame.
+fn has_frame_of(alloc: Global, copy: &Reply, reply: &Reply) -> bool
+    requires copy { length (reply_body copy.now) < 2 ^ 32 }
+    requires reply { length (reply_body reply.now) < 2 ^ 32 }
+{
+    match (reply_frame(alloc, copy), reply_frame(alloc, reply)) {
+        (Ok(found), Ok(wanted)) => found.as_slice() == wanted.as_slice(),
+        _ => false,
+    }
 }
 
 /// A listing of two keys.
@@ -97,17 +104,29 @@ fn stopped() -> Reply
     }
 }
 
-#[test]
-fn replies_are_copied(rt: HostRuntime) -> Result<(), Fail> {
-    let alloc = rt.alloc();
+fn is_listing_copied(alloc: Global) -> bool {
     let list = Act::ListEntriesBatched {
         domain: 0,
         nspace: 0,
         past: None,
     };
-    assert!(&rt; is_copied(alloc, &list, 0, &listing(alloc, &list)?)?);
+    match listing(alloc, &list) {
+        Ok(reply) => is_copied(alloc, &list, 0, &reply),
+        Err(_) => false,
+    }
+}
+
+fn are_leaves_copied(alloc: Global) -> bool {
     let leave = Act::Leave { ticket: 1 };
-    assert!(&rt; is_copied(alloc, &leave, 4, &output(alloc, &leave)?)?);
-    assert!(&rt; is_copied(alloc, &leave, 0, &stopped())?);
-    Ok(())
+    let none = is_copied(alloc, &leave, 0, &stopped());
+    match output(alloc, &leave) {
+        Ok(reply) => none && is_copied(alloc, &leave, 4, &reply),
+        Err(_) => false,
+    }
+}
+
+#[test]
+fn replies_are_copied(rt: HostRuntime) {
+    let copied = (is_listing_copied(rt.alloc()), are_leaves_copied(rt.alloc()));
+    assert_eq!(rt; copied, (true, true));
 }

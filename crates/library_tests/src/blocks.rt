@@ -1,8 +1,9 @@
 //! Blocks of AES: the vectors that FIPS 197 and SP 800-38A print, and many blocks at once beside one by one.
 
+ghost use Rattle.std.specs.Prelude.{◌≤◌};
+
 use aes_core::{AesKey, BlockCipher, ManyBlocks};
 use aes_wide::WideAes;
-use std::test::Fail;
 
 /// The keys of FIPS 197, appendix C: the bytes 00, 01, 02 and so on.
 const COUNTING_KEY: [u8; 32] =
@@ -100,16 +101,26 @@ static VECTORS: [Vector; 15] = [
     ),
 ];
 
-#[test]
-fn the_vectors_of_fips_197_and_sp_800_38a_both_ways(rt: HostRuntime) -> Result<(), Fail> {
-    for (key, text, cipher) in &VECTORS {
-        let (text, cipher) = (text.to_be_bytes(), cipher.to_be_bytes());
-        let plain = AesKey::new(key).ok_or("a size")?;
-        let wide = WideAes::new(key).ok_or("a size")?;
-        assert!(rt; plain.encrypt(text) == cipher && plain.decrypt(cipher) == text);
-        assert!(rt; wide.encrypt(text) == cipher && wide.decrypt(cipher) == text);
+/// Whether a block becomes this one, and back, one by one and beside others.
+fn goes_both_ways(vector: &Vector) -> bool {
+    let (key, text, cipher) = vector;
+    let (text, cipher) = (text.to_be_bytes(), cipher.to_be_bytes());
+    match (AesKey::new(key), WideAes::new(key)) {
+        (Some(plain), Some(wide)) => {
+            let sealed = (plain.encrypt(text), wide.encrypt(text));
+            let opened = (plain.decrypt(cipher), wide.decrypt(cipher));
+            sealed == (cipher, cipher) && opened == (text, text)
+        }
+        _ => false,
     }
-    Ok(())
+}
+
+#[test]
+fn the_vectors_of_fips_197_and_sp_800_38a_both_ways(rt: HostRuntime) {
+    for (row, vector) in VECTORS.iter().enumerate() {
+        let right = goes_both_ways(vector);
+        assert!(rt; right, "in row {row}");
+    }
 }
 
 /// Blocks that differ.
@@ -126,33 +137,52 @@ fn different() -> [[u8; 16]; 33] {
 /// The sizes of a key.
 static SIZES: [usize; 3] = [16, 24, 32];
 
-// As many as go through in one call: none, and about one, two and four groups of eight.
-#[test]
-fn many_blocks_at_once_are_as_one_by_one(rt: HostRuntime) -> Result<(), Fail> {
-    for size in &SIZES {
-        let plain = AesKey::new(&COUNTING_KEY[..*size]).ok_or("a size")?;
-        let wide = WideAes::new(&COUNTING_KEY[..*size]).ok_or("a size")?;
+/// Whether so many blocks at once become what they become one by one, and back.
+fn are_as_one_by_one(plain: &AesKey, wide: &WideAes, count: usize) -> bool
+    requires { count ≤ 33 }
+{
+    let (mut one, mut other) = (different(), different());
+    for block in &mut one[..count] {
+        *block = plain.encrypt(*block);
+    }
+    wide.encrypt_all(&mut other[..count]);
+    let sealed = one == other;
+    plain.decrypt_all(&mut one[..count]);
+    wide.decrypt_all(&mut other[..count]);
+    sealed && one == different() && other == different()
+}
+
+/// How many of the counts from 0 to 33 do, under a key.
+fn count(key: &[u8]) -> usize {
+    let mut right = 0;
+    if let (Some(plain), Some(wide)) = (AesKey::new(key), WideAes::new(key)) {
         for count in 0..34usize {
-            let (mut one, mut other) = (different(), different());
-            for block in &mut one[..count] {
-                *block = plain.encrypt(*block);
-            }
-            wide.encrypt_all(&mut other[..count]);
-            assert!(rt; one == other, "{count}");
-            plain.decrypt_all(&mut one[..count]);
-            wide.decrypt_all(&mut other[..count]);
-            assert!(rt; one == different() && other == different(), "{count}");
+            right += usize::from(are_as_one_by_one(&plain, &wide, count));
         }
     }
-    Ok(())
+    right
+}
+
+// As many as go through in one call: none, and about one, two and four groups of eight.
+#[test]
+fn many_blocks_at_once_are_as_one_by_one(rt: HostRuntime) {
+    for size in &SIZES {
+        let right = count(&COUNTING_KEY[..*size]);
+        assert!(rt; right == 34, "of {size}");
+    }
 }
 
 #[test]
 fn other_sizes_are_no_keys(rt: HostRuntime) {
     let bytes = [0; 40];
-    for size in 0..41 {
+    let mut other = None;
+    for size in 0..41usize {
         let is_size = size == 16 || size == 24 || size == 32;
-        assert_eq!(rt; AesKey::new(&bytes[..size]).is_some(), is_size);
-        assert_eq!(rt; WideAes::new(&bytes[..size]).is_some(), is_size);
+        let plain = AesKey::new(&bytes[..size]).is_some();
+        let wide = WideAes::new(&bytes[..size]).is_some();
+        if (plain, wide) != (is_size, is_size) {
+            other = Some(size);
+        }
     }
+    assert_eq!(rt; other, None);
 }
