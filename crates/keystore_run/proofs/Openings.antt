@@ -7,33 +7,21 @@ use Rattle.ks_outside.specs.declared.entropy.Entropy.{Ghosts as EntropyGhosts}
 use Rattle.ks_outside.specs.declared.sink.Sink.{Ghosts as SinkGhosts}
 use Rattle.ks_outside.specs.declared.source.Source.{Ghosts as SourceGhosts}
 use Rattle.ks_outside.proofs.Joins.{passes_none}
-use Rattle.journal_records.specs.Holding.{Sure}
 use Rattle.journal_records.specs.LastingPart.{Lasting}
-use Rattle.tags.specs.declared.policy.PolicyRow.{PolicyRow}
-use Rattle.tags.specs.declared.secrets.DeviceSecrets.{DeviceSecrets}
-use Rattle.key_database.specs.declared.database.KeyDatabase.{KeyDatabase}
-use Rattle.key_database.specs.Stands.{Holds, store_bytes}
 use Rattle.key_database.specs.Store.{StandsFor as IsStoreOf}
 use Rattle.rule_model.specs.Setup.{Setup}
 use Rattle.keystore_core.specs.declared.engine.Engine.{Engine}
 use Rattle.keystore_core.specs.declared.engine.OpenFault.{OpenFault}
 use Rattle.keystore_core.specs.declared.engine.OpenFault.TheVariants as faults
-use Rattle.keystore_core.specs.Engine.{IsOpened, OpenFaults, OpensFor, OpensStore, Stands, StoreStands, bytes_of, lasting_of}
+use Rattle.keystore_core.specs.Engine.{OpenFaults, OpensFor, OpensStore, Stands, StoreStands}
 use Rattle.keystore_run.specs.declared.session.Session.{Session}
 use Rattle.keystore_run.specs.declared.status.Status.{Status}
 use Rattle.keystore_run.specs.declared.status.Status.TheVariants as statuses
 use Rattle.keystore_run.specs.Ends.{Ends}
 use Rattle.keystore_run.specs.Jobs.{JobsStand}
 use Rattle.keystore_run.specs.Kept.{IsUnwritten}
-use Rattle.keystore_run.specs.Runs.{Formats, Given, IsCause, IsRead, IsRefused, IsStart, Opened, Refused, Runs, RunsFresh, Formatted, Unformatted, is_disk_status, refusal_of}
+use Rattle.keystore_run.specs.Runs.{Formats, Given, IsCause, IsRead, IsRefused, Opened, Refused, Runs, RunsFresh, Formatted, Unformatted, is_disk_status, refusal_of}
 use Rattle.keystore_run.specs.Session.{StandsFor, engine_of, jobs_of}
-
--- what is fixed in a run over an engine that was opened
-abbrev pub setup_of : DeviceSecrets → List PolicyRow → ℕ → Engine → Setup
-setup_of device policy slots engine = record { device = device; policy = policy; slots = slots; start = lasting_of engine; bytes = bytes_of engine }
-
-pub is_opened : (device : DeviceSecrets) (policy : List PolicyRow) (slots : ℕ) (engine : Engine) → IsOpened (setup_of device policy slots engine) device policy slots engine
-is_opened device policy slots engine = record { start = refl; bytes = refl; device_is = refl; policy_is = refl; slots_are = refl }
 
 -- a session over an engine that was opened
 pub session_stands : {D : Type 0} (d : DiskGhosts D) (setup : Setup) (engine : Engine) (session : Session) (disk : D) → engine_of session ≡ engine → Stands setup engine [] → StoreStands d setup engine disk [] → JobsStand setup (jobs_of session) []
@@ -43,19 +31,6 @@ session_stands d setup engine session disk same stands store held = record {
   store = subst (λ e. StoreStands d setup e disk []) (sym same) store;
   held = held;
 }
-
--- the images after an opening are the store of the start
-start_images : {D : Type 0} (d : DiskGhosts D) (setup : Setup) (keys : KeyDatabase) (disk : D) → Holds d keys disk (Sure setup.start) → setup.bytes ≡ store_bytes keys → AllImages d disk (IsStart setup)
-start_images d setup keys disk is bytes c image = record {
-  past = is.past;
-  changes = is.settled.changes;
-  journal = is.settled.images c image;
-  lasting = is.left;
-  bytes = bytes ∙ is.settled.place;
-}
-
-pub opened_images : {D : Type 0} (d : DiskGhosts D) (device : DeviceSecrets) (policy : List PolicyRow) (slots : ℕ) (engine : Engine) (disk : D) → StoreStands d (setup_of device policy slots engine) engine disk [] → AllImages d disk (IsStart (setup_of device policy slots engine))
-opened_images d device policy slots engine disk store = start_images d (setup_of device policy slots engine) _ disk store refl
 
 module _ {D : Type 0} (d : DiskGhosts D) where
   pub unwritten : (old new : D) → Passes d old new (d.images old) → d.fault_count new ≡ d.fault_count old → tells d new ≡ tells d old → IsUnwritten d old new

@@ -23,6 +23,7 @@ use Rattle.rule_model.specs.declared.reply.Reply.{Reply}
 use Rattle.rule_model.specs.Drawn.{drawn_of}
 use Rattle.rule_model.specs.Entries.{History}
 use Rattle.rule_model.specs.Setup.{Setup}
+use Rattle.keystore_core.specs.Opening.{IsStart, opened_images, setup_of}
 use Rattle.keystore_core.specs.declared.engine.Engine.{Engine}
 use Rattle.keystore_core.specs.Engine.{Stands, StoreStands, lasting_of}
 use Rattle.script_lines.specs.Replies.{line_of}
@@ -40,12 +41,12 @@ use Rattle.keystore_run.specs.Ends.{is_read_fault}
 use Rattle.keystore_run.specs.Follows.{Follows}
 use Rattle.keystore_run.specs.Jobs.{JobsStand}
 use Rattle.keystore_run.specs.Loading.{IsEmptyDisk, IsLoadSession, IsLoaded}
-use Rattle.keystore_run.specs.Runs.{IsStart, is_disk_status}
+use Rattle.keystore_run.specs.Runs.{is_disk_status}
 use Rattle.keystore_run.specs.Session.{Serves, StandsFor, devices, engine_of, jobs_of}
 use Rattle.keystore_run.specs.Soak.{AreLasting, IsLoadSetup, IsSummaryOf, Soaks, demo_device, demo_policy, is_failure, number_of, numbers_of, tells_failure, text_of}
 use Rattle.keystore_run.proofs.DrawLemmas.{drew_none, drew_on}
 use Rattle.keystore_run.proofs.LineLemmas.{follows_more}
-use Rattle.keystore_run.proofs.Openings.{opened_images, session_stands, setup_of}
+use Rattle.keystore_run.proofs.Openings.{session_stands}
 use Rattle.keystore_run.proofs.Tickets.{none_settled}
 
 -- ---- the lines of a load, one after another

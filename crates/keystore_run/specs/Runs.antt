@@ -9,14 +9,12 @@ use Rattle.ks_outside.specs.declared.sink.Sink.{Ghosts as SinkGhosts}
 use Rattle.ks_outside.specs.declared.source.Source.{Ghosts as SourceGhosts}
 use Rattle.tags.specs.declared.policy.PolicyRow.{PolicyRow}
 use Rattle.tags.specs.declared.secrets.DeviceSecrets.{DeviceSecrets}
-use Rattle.journal_records.specs.declared.change.Change.{Change}
-use Rattle.journal_records.specs.Effects.{lasting_of}
 use Rattle.journal_records.specs.LastingPart.{Lasting, empty_lasting}
-use Rattle.use_journal.specs.Journal.{AreChanges, IsJournal, written}
 use Rattle.key_database.specs.Store.{IsBadStore, StandsFor}
 use Rattle.rule_model.specs.Setup.{Setup}
 use Rattle.keystore_core.specs.declared.engine.OpenFault.{OpenFault}
 use Rattle.keystore_core.specs.declared.engine.OpenFault.TheVariants as faults
+use Rattle.keystore_core.specs.Opening.{IsStart}
 use Rattle.keystore_run.specs.declared.status.Status.{Status}
 use Rattle.keystore_run.specs.declared.status.Status.TheVariants as statuses
 use Rattle.keystore_run.specs.declared.words.Form.{Form}
@@ -29,14 +27,6 @@ use Rattle.keystore_run.specs.Soak.{Soaks}
 pub record IsCause (before now : ℕ) (told : Bool) : Type 0 where
   pub later : before ≤ now
   pub rises : told ≡ true → Rises before now
-
--- the image is a journal whose changes leave the lasting part at the start, in so many bytes
-pub record IsStart (setup : Setup) (image : List ℕ) : Type 0 where
-  pub past : List Change
-  pub changes : AreChanges past
-  pub journal : IsJournal past image
-  pub lasting : lasting_of past ≡ Some setup.start
-  pub bytes : setup.bytes ≡ length (written past)
 
 -- what a run is given beside its script: the device's secrets, the policy, and the slots
 pub record Given : Type 0 where

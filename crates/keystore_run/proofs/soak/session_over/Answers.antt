@@ -1,6 +1,6 @@
 use Rattle.std.proofs.Common.{[], refl}
 use Rattle.journal_records.specs.LastingPart.{empty_lasting}
-use Rattle.keystore_run.proofs.Openings.{is_opened, setup_of}
+use Rattle.keystore_core.specs.Opening.{is_opened, setup_of}
 use Rattle.keystore_run.proofs.Soaking.{demo_is, load_session}
 use Rattle.keystore_run.proofs.soak.session_over.Goals as goal
 
