@@ -116,33 +116,43 @@ fn stopped() -> Reply
     }
 }
 
-/// The acts that list keys, and that take a work back.
-static LIST: Act = Act::ListEntriesBatched {
-    domain: 0,
-    nspace: 0,
-    past: None,
-};
-
-static LEAVE: Act = Act::Leave { ticket: 1 };
-
-fn is_listing_copied(alloc: Global) -> bool {
-    match listing(alloc, &LIST) {
-        Ok(reply) => is_copied(alloc, &LIST, 0, &reply),
+fn is_listing_copied(alloc: Global, list: &Act) -> bool
+    requires { list.now ≡ ListEntriesBatched 0 0 None }
+{
+    match listing(alloc, list) {
+        Ok(reply) => is_copied(alloc, list, 0, &reply),
         Err(_) => false,
     }
 }
 
-fn is_output_copied(alloc: Global) -> bool {
-    match output(alloc, &LEAVE) {
-        Ok(reply) => is_copied(alloc, &LEAVE, 4, &reply),
+fn is_output_copied(alloc: Global, leave: &Act) -> bool
+    requires { leave.now ≡ Leave 1 }
+{
+    match output(alloc, leave) {
+        Ok(reply) => is_copied(alloc, leave, 4, &reply),
         Err(_) => false,
     }
+}
+
+/// Whether a call of a leave that was stopped is copied, and one with an output.
+fn are_leaves_copied(alloc: Global) -> (bool, bool) {
+    let leave = Act::Leave { ticket: 1 };
+    let copied = is_output_copied(alloc, &leave);
+    (is_copied(alloc, &leave, 0, &stopped()), copied)
+}
+
+fn are_listings_copied(alloc: Global) -> bool {
+    let list = Act::ListEntriesBatched {
+        domain: 0,
+        nspace: 0,
+        past: None,
+    };
+    is_listing_copied(alloc, &list)
 }
 
 #[test]
 fn replies_are_copied(rt: HostRuntime) {
-    let alloc = rt.alloc();
-    let none = is_copied(alloc, &LEAVE, 0, &stopped());
-    let copied = (is_listing_copied(alloc), is_output_copied(alloc), none);
-    assert_eq!(rt; copied, (true, true, true));
+    let leaves = are_leaves_copied(rt.alloc());
+    let told = (leaves, are_listings_copied(rt.alloc()));
+    assert_eq!(rt; told, ((true, true), true));
 }

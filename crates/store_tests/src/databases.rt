@@ -4,10 +4,11 @@ ghost use Rattle.std.specs.Prelude.{◌≡◌, OnOk};
 ghost use Rattle.key_database.specs.Held.{lasting_in, HasRoomFor};
 
 use disk_model::{MemoryDisk, Room};
-use journal_records::{Change, StoreFault, parse};
+use journal_records::{Change, parse};
 use key_database::{KeyDatabase, LastingTable};
 use key_domains::{GrantedRow, KeyLookups, KeyRow, Permissions};
 use std::alloc::Global;
+use std::test::Fail;
 use tags::NoMemory;
 use use_journal::Journal;
 
@@ -151,7 +152,12 @@ fn apply(alloc: Global, database: &mut KeyDatabase, disk: &mut MemoryDisk, recor
     let Ok(change) = parse(alloc, record) else {
         return false;
     };
-    database.is_settled() && database.meets(&change) && database.apply(disk, change).is_ok()
+    let (settled, met) = (database.is_settled(), database.meets(&change));
+    if !settled || !met {
+        drop(change);
+        return false;
+    }
+    database.apply(disk, change).is_ok()
 }
 
 /// What a database tells.
@@ -180,36 +186,50 @@ fn told_anew(alloc: Global, disk: &mut MemoryDisk) -> Option<Told> {
     }
 }
 
-/// A disk with an empty store, and its database.
-fn fresh(alloc: Global) -> Result<(MemoryDisk<'static>, KeyDatabase), StoreFault> {
-    let Ok(mut disk) = MemoryDisk::with_room(alloc, ROOM, &[]) else {
-        return Err(StoreFault::Memory);
-    };
-    Journal::format(&mut disk)?;
-    let database = KeyDatabase::open(alloc, &mut disk)?;
-    Ok((disk, database))
+/// Makes an empty store on a disk, and opens its database.
+fn fresh(alloc: Global, disk: &mut MemoryDisk) -> Option<KeyDatabase> {
+    match Journal::format(disk) {
+        Ok(()) => KeyDatabase::open(alloc, disk).ok(),
+        Err(_) => None,
+    }
 }
 
 /// Whether each of the steps is made in a database and in a table, with the same told by both, and by the database opened anew.
-fn make_steps(alloc: Global) -> bool {
-    let mut table = LastingTable::empty(alloc);
-    let Ok((mut disk, mut database)) = fresh(alloc) else {
-        return false;
-    };
+fn make_steps(
+    alloc: Global,
+    table: &mut LastingTable,
+    database: &mut KeyDatabase,
+    disk: &mut MemoryDisk,
+) -> bool {
     let mut same = true;
     for (record, wanted) in &STEPS {
-        let made = make(alloc, &mut table, record);
-        let applied = apply(alloc, &mut database, &mut disk, record);
-        let anew = told_anew(alloc, &mut disk);
-        let all = (made, applied, table_told(&table), told(&database), anew);
+        let made = make(alloc, table, record);
+        let applied = apply(alloc, database, disk, record);
+        let anew = told_anew(alloc, disk);
+        let all = (made, applied, table_told(table), told(database), anew);
         same &= all == (true, true, *wanted, *wanted, Some(*wanted));
     }
     same
 }
 
+/// The same over an empty store.
+fn make_all(alloc: Global, disk: &mut MemoryDisk) -> bool {
+    match fresh(alloc, disk) {
+        Some(mut database) => {
+            let mut table = LastingTable::empty(alloc);
+            make_steps(alloc, &mut table, &mut database, disk)
+        }
+        None => false,
+    }
+}
+
 #[test]
-fn what_a_key_ends_with_it(rt: HostRuntime) {
-    assert!(rt; make_steps(rt.alloc()));
+fn what_a_key_ends_with_it(rt: HostRuntime) -> Result<(), Fail> {
+    let mut disk = MemoryDisk::with_room(rt.alloc(), ROOM, &[])?;
+    let same = make_all(rt.alloc(), &mut disk);
+    drop(disk);
+    assert!(rt; same);
+    Ok(())
 }
 
 /// A key of uid 10001, and a grant of it to uid 10002.
