@@ -11,24 +11,33 @@ use std::test::Fail;
 use tags::{Bytes, Code, NoMemory};
 use wire_frames::reply_frame;
 
+/// Bytes; none where memory is wanting, so that what is compared is then another.
+fn bytes(alloc: Global, text: &[u8]) -> Bytes {
+    match Bytes::copy_of(alloc, text) {
+        Ok(bytes) => bytes,
+        Err(_) => Bytes::empty(alloc),
+    }
+}
+
 /// A finish.
-fn finishing(alloc: Global) -> Option<Event> {
-    let input = Bytes::copy_of(alloc, b"text").ok()?;
-    Some(Event {
+fn finishing(alloc: Global) -> Event {
+    Event {
         reading: Reading { boot: 3, wall: 5 },
         client: 2,
         act: Act::EnterFinish {
             op: 9,
-            input,
-            signature: Bytes::copy_of(alloc, b"\x5a").ok(),
+            input: bytes(alloc, b"text"),
+            signature: Some(bytes(alloc, b"\x5a")),
         },
-    })
+    }
 }
 
-/// The copy of the finish in words.
-fn copied(alloc: Global) -> Option<String> {
-    let copy = finishing(alloc)?.copy(alloc).ok()?;
-    format!(in alloc; "{copy:?}").ok()
+/// The copy of an event in words.
+fn words_of_copy(alloc: Global, event: &Event) -> Option<String> {
+    match event.copy(alloc) {
+        Ok(copy) => format!(in alloc; "{copy:?}").ok(),
+        Err(_) => None,
+    }
 }
 
 const FINISHING: &str =
@@ -36,7 +45,10 @@ const FINISHING: &str =
 
 #[test]
 fn an_event_is_copied(rt: HostRuntime) -> Result<(), Fail> {
-    let copy = copied(rt.alloc()).ok_or("memory")?;
+    let event = finishing(rt.alloc());
+    let copy = words_of_copy(rt.alloc(), &event);
+    drop(event);
+    let copy = copy.ok_or("memory")?;
     assert_eq!(rt; copy.as_str(), FINISHING);
     Ok(())
 }
@@ -104,29 +116,43 @@ fn stopped() -> Reply
     }
 }
 
-fn is_listing_copied(alloc: Global) -> bool {
+fn is_listing_copied(alloc: Global, list: &Act) -> bool
+    requires { list.now ≡ ListEntriesBatched 0 0 None }
+{
+    match listing(alloc, list) {
+        Ok(reply) => is_copied(alloc, list, 0, &reply),
+        Err(_) => false,
+    }
+}
+
+fn is_output_copied(alloc: Global, leave: &Act) -> bool
+    requires { leave.now ≡ Leave 1 }
+{
+    match output(alloc, leave) {
+        Ok(reply) => is_copied(alloc, leave, 4, &reply),
+        Err(_) => false,
+    }
+}
+
+/// Whether a call of a leave that was stopped is copied, and one with an output.
+fn are_leaves_copied(alloc: Global) -> (bool, bool) {
+    let leave = Act::Leave { ticket: 1 };
+    let copied = is_output_copied(alloc, &leave);
+    (is_copied(alloc, &leave, 0, &stopped()), copied)
+}
+
+fn are_listings_copied(alloc: Global) -> bool {
     let list = Act::ListEntriesBatched {
         domain: 0,
         nspace: 0,
         past: None,
     };
-    match listing(alloc, &list) {
-        Ok(reply) => is_copied(alloc, &list, 0, &reply),
-        Err(_) => false,
-    }
-}
-
-fn are_leaves_copied(alloc: Global) -> bool {
-    let leave = Act::Leave { ticket: 1 };
-    let none = is_copied(alloc, &leave, 0, &stopped());
-    match output(alloc, &leave) {
-        Ok(reply) => none && is_copied(alloc, &leave, 4, &reply),
-        Err(_) => false,
-    }
+    is_listing_copied(alloc, &list)
 }
 
 #[test]
 fn replies_are_copied(rt: HostRuntime) {
-    let copied = (is_listing_copied(rt.alloc()), are_leaves_copied(rt.alloc()));
-    assert_eq!(rt; copied, (true, true));
+    let leaves = are_leaves_copied(rt.alloc());
+    let told = (leaves, are_listings_copied(rt.alloc()));
+    assert_eq!(rt; told, ((true, true), true));
 }

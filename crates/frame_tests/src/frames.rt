@@ -236,16 +236,23 @@ fn is_frame_of(alloc: Global, stream: &[u8], words: &str) -> bool
     }
 }
 
+/// Whether a stream of one short frame is read at once, in bytes, and cut anywhere, and is that of an act with these words.
+fn is_read_always(alloc: Global, stream: &[u8], words: &str) -> bool {
+    if stream.len() > 1_000 {
+        return false;
+    }
+    let mut read = is_read_slowly(alloc, stream);
+    for cut in 0..stream.len() {
+        read &= is_read(alloc, stream, cut);
+    }
+    read && is_frame_of(alloc, stream, words)
+}
+
 #[test]
 fn every_frame_is_read_however_it_is_cut(rt: HostRuntime) {
-    let alloc = rt.alloc();
     for (stream, words) in &FRAMES {
-        let mut read = is_read_slowly(alloc, stream);
-        for cut in 0..stream.len() {
-            read &= is_read(alloc, stream, cut);
-        }
-        let told = (read, is_frame_of(alloc, stream, words));
-        assert_eq!(rt; told, (true, true), "{words}");
+        let read = is_read_always(rt.alloc(), stream, words);
+        assert!(rt; read, "{words}");
     }
 }
 

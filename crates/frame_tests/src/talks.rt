@@ -1,6 +1,6 @@
 //! Connections in memory, and who answers a connect with client 1 and all else with no field.
 
-ghost use Rattle.std.specs.Prelude.{◌≡◌, ◌≢◌, ◌<◌, ◌^◌, true, false, length};
+ghost use Rattle.std.specs.Prelude.{◌≡◌, ◌≢◌, ◌<◌, ◌^◌, ◌||◌, ◌&&◌, true, false, length};
 ghost use Rattle.wire_frames.specs.Spelling.{is_framed};
 ghost use Rattle.wire_frames.specs.Replies.{reply_body};
 ghost use Rattle.rule_model.specs.Acts as acts;
@@ -56,39 +56,31 @@ fn full() -> Reply
     }
 }
 
-/// Whether an act is a connect.
-fn is_connect(act: &Act) -> bool
-    ensures { result ≡ acts.is_connect act.now }
+/// Whether an act is a connect, and whether it is a disconnect.
+fn looked_at(act: &Act) -> (bool, bool)
+    ensures connects { result.0 ≡ acts.is_connect act.now }
+    ensures yes { result.1 ≡ true → is_framed act.now ≡ false }
+    ensures no { result.1 ≡ false → act.now ≢ Disconnect }
 {
     match act {
-        Act::Connect { .. } => true,
-        _ => false,
+        Act::Connect { .. } => (true, false),
+        Act::Disconnect => (false, true),
+        _ => (false, false),
     }
 }
 
-/// Whether an act is a disconnect.
-fn is_disconnect(act: &Act) -> bool
-    ensures yes { result ≡ true → is_framed act.now ≡ false }
-    ensures no { result ≡ false → act.now ≢ Disconnect }
-{
-    match act {
-        Act::Disconnect => true,
-        _ => false,
-    }
-}
-
-impl Answerer for Stub {
-    ghost answers = { λ old act reply new. Unit {0} };
-
-    ghost connected = { λ stub. stub.joined };
-
-    fn answer<R: Wait>(self, _rt: &R, request: Request) -> (Stub, Reply) {
+impl Stub {
+    /// Answers an act that is a connect, a disconnect or neither.
+    fn told(self, connects: bool, goes: bool) -> (Stub, Reply)
+        ensures short { length (reply_body result.1) < 2 ^ 32 }
+        ensures stays { goes ≡ false → result.0.joined ≡ (self.joined || (is_done result.1 && connects)) }
+        ensures gone { goes ≡ true → (result.0.joined ≡ false) × (is_refusal result.1 ≡ false) }
+    {
         let Stub { left, joined } = self;
-        if is_disconnect(request.act()) {
+        if goes {
             let joined = false;
             return (Stub { left, joined }, nothing());
         }
-        let connects = is_connect(request.act());
         if left == 0 {
             return (Stub { left, joined }, full());
         }
@@ -98,6 +90,18 @@ impl Answerer for Stub {
             return (Stub { left, joined }, first_client());
         }
         (Stub { left, joined }, nothing())
+    }
+}
+
+impl Answerer for Stub {
+    ghost answers = { λ old act reply new. Unit {0} };
+
+    ghost connected = { λ stub. stub.joined };
+
+    fn answer<R: Wait>(self, _rt: &R, request: Request) -> (Stub, Reply) {
+        let (connects, goes) = looked_at(request.act());
+        drop(request);
+        self.told(connects, goes)
     }
 }
 
@@ -211,30 +215,40 @@ fn cut_end(cut: usize) -> (End, usize) {
     }
 }
 
+/// Whether a session of which so many bytes came ends so.
+fn is_cut<R: Wait>(rt: &R, alloc: Global, cut: usize) -> bool {
+    let (end, count) = cut_end(cut);
+    let bytes = SESSION.get(..cut).unwrap_or(&[]);
+    let replies = REPLIES.get(..count).unwrap_or(&[]);
+    ends(rt, alloc, (bytes, &[], 9), end, replies)
+}
+
 // A stream that ends at each of its bytes.
 #[test]
 fn a_session_is_cut_at_each_byte(rt: HostRuntime) {
-    let mut cuts = 0;
-    for cut in 0..=SESSION.len() {
-        let (end, count) = cut_end(cut);
-        let of = (&SESSION[..cut], [].as_slice(), 9);
-        cuts += u64::from(ends(&rt, rt.alloc(), of, end, &REPLIES[..count]));
+    let mut right = true;
+    for cut in 0..40usize {
+        right &= is_cut(&rt, rt.alloc(), cut);
     }
-    assert_eq!(&rt; cuts, 40);
+    assert!(&rt; right);
 }
 
 /// How many bytes of replies a session has written before its call with this number fails: a read, three writes, and a read.
 static WRITTEN: [(u64, usize); 5] = [(1, 0), (2, 0), (3, 19), (4, 29), (5, 39)];
 
+/// Whether a session whose call with this number fails ends so.
+fn is_faulted<R: Wait>(rt: &R, alloc: Global, call: u64, count: usize) -> bool {
+    let calls = [call];
+    let replies = REPLIES.get(..count).unwrap_or(&[]);
+    ends(rt, alloc, (&SESSION, &calls, 9), End::LinkFault, replies)
+}
+
 // A link that fails at each of its calls; the client that has come is disconnected all the same.
 #[test]
 fn each_call_of_a_link_fails(rt: HostRuntime) {
-    let mut failed = 0;
+    let mut right = true;
     for (call, count) in &WRITTEN {
-        let calls = [*call];
-        let of = (SESSION.as_slice(), calls.as_slice(), 9);
-        let replies = REPLIES.get(..*count).unwrap_or(&[]);
-        failed += u64::from(ends(&rt, rt.alloc(), of, End::LinkFault, replies));
+        right &= is_faulted(&rt, rt.alloc(), *call, *count);
     }
-    assert_eq!(&rt; failed, 5);
+    assert!(&rt; right);
 }

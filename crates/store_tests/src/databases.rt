@@ -8,6 +8,7 @@ use journal_records::{Change, StoreFault, parse};
 use key_database::{KeyDatabase, LastingTable};
 use key_domains::{GrantedRow, KeyLookups, KeyRow, Permissions};
 use std::alloc::Global;
+use std::test::Fail;
 use tags::{NoMemory, Settled};
 use use_journal::Journal;
 
@@ -156,7 +157,9 @@ fn apply(
     let Ok(change) = parse(alloc, record) else {
         return None;
     };
-    if !database.is_settled() || !database.meets(&change) {
+    let (settled, met) = (database.is_settled(), database.meets(&change));
+    if !settled || !met {
+        drop(change);
         return None;
     }
     Some(database.apply(disk, change))
@@ -188,39 +191,50 @@ fn told_anew(alloc: Global, disk: &mut MemoryDisk) -> Option<Told> {
     }
 }
 
-/// A disk with an empty store, whose calls with these numbers fail, and its database.
-fn fresh<'a>(
-    alloc: Global,
-    failing: &'a [u64],
-) -> Result<(MemoryDisk<'a>, KeyDatabase), StoreFault> {
-    let Ok(mut disk) = MemoryDisk::with_room(alloc, ROOM, failing) else {
-        return Err(StoreFault::Memory);
-    };
-    Journal::format(&mut disk)?;
-    let database = KeyDatabase::open(alloc, &mut disk)?;
-    Ok((disk, database))
+/// Makes an empty store on a disk, and opens its database.
+fn fresh(alloc: Global, disk: &mut MemoryDisk) -> Option<KeyDatabase> {
+    match Journal::format(disk) {
+        Ok(()) => KeyDatabase::open(alloc, disk).ok(),
+        Err(_) => None,
+    }
 }
 
-/// How many of the steps are made in a database and in a table, with the same told by both, and by the database opened anew.
-fn same_steps(alloc: Global) -> usize {
-    let mut table = LastingTable::empty(alloc);
-    let Ok((mut disk, mut database)) = fresh(alloc, &[]) else {
-        return 0;
-    };
-    let mut same = 0;
+/// Whether each of the steps is made in a database and in a table, with the same told by both, and by the database opened anew.
+fn make_steps(
+    alloc: Global,
+    table: &mut LastingTable,
+    database: &mut KeyDatabase,
+    disk: &mut MemoryDisk,
+) -> bool {
+    let mut same = true;
     for (record, wanted) in &STEPS {
-        let made = make(alloc, &mut table, record);
-        let applied = apply(alloc, &mut database, &mut disk, record) == Some(Ok(()));
-        let anew = told_anew(alloc, &mut disk);
-        let all = (made, applied, table_told(&table), told(&database), anew);
-        same += usize::from(all == (true, true, *wanted, *wanted, Some(*wanted)));
+        let made = make(alloc, table, record);
+        let applied = apply(alloc, database, disk, record) == Some(Ok(()));
+        let anew = told_anew(alloc, disk);
+        let all = (made, applied, table_told(table), told(database), anew);
+        same &= all == (true, true, *wanted, *wanted, Some(*wanted));
     }
     same
 }
 
+/// The same over an empty store.
+fn make_all(alloc: Global, disk: &mut MemoryDisk) -> bool {
+    match fresh(alloc, disk) {
+        Some(mut database) => {
+            let mut table = LastingTable::empty(alloc);
+            make_steps(alloc, &mut table, &mut database, disk)
+        }
+        None => false,
+    }
+}
+
 #[test]
-fn what_a_key_ends_with_it(rt: HostRuntime) {
-    assert_eq!(rt; same_steps(rt.alloc()), 22);
+fn what_a_key_ends_with_it(rt: HostRuntime) -> Result<(), Fail> {
+    let mut disk = MemoryDisk::with_room(rt.alloc(), ROOM, &[])?;
+    let same = make_all(rt.alloc(), &mut disk);
+    drop(disk);
+    assert!(rt; same);
+    Ok(())
 }
 
 /// A key of uid 10001, and a grant of it to uid 10002.
@@ -303,27 +317,30 @@ fn settles(
     settled: Settled,
     count: u64,
 ) -> bool {
-    !database.is_settled()
-        && database.settle(disk) == Ok(settled)
-        && told(database).0 == (count, 0)
-        && count_anew(alloc, disk) == Some((count, 0))
+    let waits = !database.is_settled();
+    let is_settled = database.settle(disk) == Ok(settled);
+    let found = (told(database).0, count_anew(alloc, disk));
+    waits & is_settled & (found == ((count, 0), Some((count, 0))))
 }
 
 /// Whether the making of a key with a failing call is refused, makes no key that is told, and settles so.
 fn fails_so(alloc: Global, failing: &[u64], settled: Settled, count: u64) -> bool {
-    let Ok((mut disk, mut database)) = fresh(alloc, failing) else {
+    let Ok(mut disk) = MemoryDisk::with_room(alloc, ROOM, failing) else {
         return false;
     };
-    apply(alloc, &mut database, &mut disk, SHARED[0]) == Some(Err(StoreFault::Device))
-        && told(&database).0 == (0, 0)
-        && settles(alloc, &mut database, &mut disk, settled, count)
+    let Some(mut database) = fresh(alloc, &mut disk) else {
+        return false;
+    };
+    let made = apply(alloc, &mut database, &mut disk, SHARED[0]);
+    let refused = made == Some(Err(StoreFault::Device)) && told(&database).0 == (0, 0);
+    refused & settles(alloc, &mut database, &mut disk, settled, count)
 }
 
 #[test]
 fn each_call_of_a_change_fails(rt: HostRuntime) {
     let mut all = true;
     for (failing, settled, count) in &FAULTS {
-        all = all && fails_so(rt.alloc(), failing, *settled, *count);
+        all &= fails_so(rt.alloc(), failing, *settled, *count);
     }
     assert!(rt; all);
 }
