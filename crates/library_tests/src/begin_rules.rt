@@ -225,10 +225,10 @@ fn at_access(mut facts: BeginFacts, alloc: Global, access: &Access) -> BeginFact
 }
 
 /// Whether facts break this rule first, or none.
-fn breaks_so(facts: BeginFacts, broken: Broken) -> bool {
+fn breaks_so(facts: &BeginFacts, broken: Broken) -> bool {
     match broken {
-        None => check_begin(&facts).is_ok(),
-        Some((number, code)) => breaks(&facts, number, code),
+        None => check_begin(facts).is_ok(),
+        Some((number, code)) => breaks(facts, number, code),
     }
 }
 
@@ -237,7 +237,8 @@ fn each_domain_has_its_form_and_its_rights(rt: HostRuntime) {
     let alloc = rt.alloc();
     for (row, access) in ACCESSES.iter().enumerate() {
         let facts = at_access(begin(alloc, SIGN, MAC_KEY), alloc, access);
-        let right = breaks_so(facts, access.5);
+        let right = breaks_so(&facts, access.5);
+        drop(facts);
         assert!(rt; right, "in row {row}");
     }
 }
@@ -453,7 +454,7 @@ fn meets(
         ..facts
     };
     let each_time = challenge_wanted(&facts) == 8;
-    (breaks_so(facts, broken), each_time)
+    (breaks_so(&facts, broken), each_time)
 }
 
 #[test]

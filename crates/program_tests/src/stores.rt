@@ -13,10 +13,10 @@ use std::alloc::Global;
 const EMPTY: [u8; 9] = [0x4b, 0x53, 0x4a, 0x52, 0x4e, 0x4c, 0x30, 0x31, 0];
 
 /// Whether a script ends with this status under these words; nothing is written.
-fn ends_so(
+fn ends_so<'a>(
     alloc: Global,
-    words: &str,
-    script: &str,
+    words: &'a str,
+    script: &'a str,
     disk: &mut MemoryDisk,
     status: Status,
 ) -> bool {

@@ -418,7 +418,7 @@ impl Draws {
     fn record(&mut self, alloc: Global) -> Result<Vec<u8>, AllocError> {
         let body = self.body(alloc)?;
         let mut record = Vec::from_slice(alloc, b"\x4b")?;
-        record.extend_from_slice(&(body.len() as u32).to_be_bytes())?;
+        record.extend_from_slice(&((body.len() % 65_536) as u32).to_be_bytes())?;
         record.extend_from_slice(body.as_slice())?;
         Ok(record)
     }
