@@ -107,7 +107,7 @@ fn token_line(alloc: Global, user: u64, time: u64) -> Result<String, AllocError>
         mac: [0; 32],
     };
     let mac = mac_of(&token);
-    let hex = hex::encode(alloc, &mac[..32])?;
+    let hex = hex::encode(alloc, mac.get(..32).unwrap_or(&[]))?;
     format!(in alloc;
         "{{\"t\":[0,1000],\"c\":1,\"do\":\"addAuthToken\",\"challenge\":0,\"user\":{user},\"authenticator\":0,\"kind\":1,\"time\":{time},\"mac\":\"{hex}\"}}\n"
     )
