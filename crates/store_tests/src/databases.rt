@@ -317,10 +317,12 @@ fn settles(
     settled: Settled,
     count: u64,
 ) -> bool {
-    let waits = !database.is_settled();
+    if database.is_settled() {
+        return false;
+    }
     let is_settled = database.settle(disk) == Ok(settled);
     let found = (told(database).0, count_anew(alloc, disk));
-    waits & is_settled & (found == ((count, 0), Some((count, 0))))
+    is_settled & (found == ((count, 0), Some((count, 0))))
 }
 
 /// Whether the making of a key with a failing call is refused, makes no key that is told, and settles so.
