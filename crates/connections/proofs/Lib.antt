@@ -4,3 +4,4 @@ pub mod Written
 pub mod Requests
 pub mod Piecing
 pub mod Serving
+pub mod Completing

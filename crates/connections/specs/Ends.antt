@@ -74,3 +74,30 @@ pub record Serves {L A : Type 0} (g : LinkGhosts L) (answers : A → Act → Rep
   pub joined : Bool
   pub talked : Talked g answers link after before last joined end
   pub closes : Closes answers joined last now
+
+-- ---- completeness
+
+-- so many of these requests were answered, and then these are left
+pub record AnsweredOf {A : Type 0} (answers : A → Act → Reply → A → Type 0) (before : A) (acts more : List Act) : Type 0 where
+  pub talk : List Exchange
+  pub last : A
+  pub talks : Talks answers before talk last
+  pub acts_are : acts ≡ asked talk ++ more
+
+-- The first request that is left was not due, and this is the place of its frame.
+pub record StopsAt {A : Type 0} (answers : A → Act → Reply → A → Type 0) (before : A) (acts : List Act) (offset : ℕ) : Type 0 where
+  pub act : Act
+  pub more : List Act
+  pub answered : AnsweredOf answers before acts (act ∷ more)
+  pub undue : is_due (has_joined false answered.talk) act ≡ false
+  pub offset_is : offset ≡ size_of answered.talk
+
+-- How a connection ends that brought the frames of these requests alone, and whose link did not fail: all were answered; or memory was
+-- wanting; or a reply said that the run is full; or a request was not due.
+abbrev pub EndsWhole : {A : Type 0} → (A → Act → Reply → A → Type 0) → A → List Act → End → Type 0
+EndsWhole answers before acts EndOfInput = AnsweredOf answers before acts []
+EndsWhole answers before acts (BadFrame offset) = StopsAt answers before acts offset
+EndsWhole answers before acts Memory = Unit {0}
+EndsWhole answers before acts RunFull = Unit {0}
+EndsWhole answers before acts Truncated = ⊥
+EndsWhole answers before acts LinkFault = ⊥

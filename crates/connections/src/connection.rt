@@ -1,8 +1,12 @@
 //! A whole connection.
 
-ghost use Rattle.std.specs.Prelude.{◌≡◌, ◌+◌, ◌^◌, ◌<◌, ◌≤◌, false, List, ℕ, length, IfOk, IfErr};
+ghost use Rattle.std.specs.Prelude.{◌≡◌, ◌+◌, ◌-◌, ◌^◌, ◌<◌, ◌≤◌, false, List, [], ℕ, length, Some, IfOk, IfErr};
 ghost use Rattle.wire_frames.specs.Standing.{reach};
-ghost use Rattle.connections.specs.Ends.{Serves, Talked};
+ghost use Rattle.wire_frames.specs.Spelling.{IsRequest};
+ghost use Rattle.wire_frames.specs.Streams.{stream_of};
+ghost use Rattle.rule_model.specs.declared.event.Act.{Act};
+ghost use Rattle.std.specs.List.{AllByRecursion};
+ghost use Rattle.connections.specs.Ends.{EndsWhole, Serves, Talked};
 ghost use Rattle.connections.specs.Pieces.{Follows, PieceServed, PieceStops};
 ghost use Rattle.connections.specs.Talks.{Closes, Exchange};
 
@@ -13,7 +17,7 @@ use ks_outside::Link;
 use rule_model::Act;
 use std::alloc::Global;
 use std::sync::Wait;
-use wire_frames::{FrameFault, Frames, Request};
+use wire_frames::{FrameFault, Frames, Request, whole_frames};
 
 /// How many bytes are taken at once.
 const PIECE: usize = 16384;
@@ -113,7 +117,8 @@ fn disconnect<R: Wait, A: Answerer>(rt: &R, answerer: A, joined: bool) -> A
 }
 
 /// Serves a connection of whoever answers, to whom no client has come: its requests are answered, one call for each and in their
-/// order, and the replies written, until an end. Whatever the end is, a client that has come is then disconnected.
+/// order, and the replies written, until an end. Whatever the end is, a client that has come is then disconnected. Where the link brings
+/// whole frames of requests that are due and does not fail, all are answered, unless the run is full or memory is wanting.
 pub fn serve_link<R: Wait, L: Link, A: Answerer>(
     rt: &R,
     alloc: Global,
@@ -123,6 +128,8 @@ pub fn serve_link<R: Wait, L: Link, A: Answerer>(
     requires client { A.connected answerer ≡ false }
     ensures serves { Serves L.Link A.answers link.old link.new answerer result.0 result.1 }
     ensures client { A.connected result.0 ≡ false }
+    ensures complete { (acts : List Act) → AllByRecursion IsRequest acts → L.incoming link.old ≡ Some (stream_of acts []) → L.fault_count link.old < 2 ^ 64 - 1
+        → L.fault_count link.new ≡ L.fault_count link.old → EndsWhole A.answers answerer acts result.1 }
 {
     let mut progress = Progress {
         joined: false,
@@ -130,5 +137,6 @@ pub fn serve_link<R: Wait, L: Link, A: Answerer>(
     };
     let (answerer, end) = serve_requests(rt, alloc, link, answerer, &mut progress);
     let answerer = disconnect(rt, answerer, progress.joined);
+    whole_frames();
     (answerer, end)
 }

@@ -1,7 +1,7 @@
 -- What stands at the front of bytes, both ways.
-use Rattle.std.proofs.Common.{◌≡◌, ℕ, ◌+◌, ◌-◌, ◌<◌, ◌≤◌, Bool, true, false, cond, ltb, List, [], ◌++◌, length, take, drop, Option, Some, None, refl, sym, ap, ◌∙◌, arith, inl, inr, append_assoc}
+use Rattle.std.proofs.Common.{◌≡◌, ℕ, ◌+◌, ◌-◌, ◌<◌, ◌≤◌, Bool, true, false, cond, ltb, List, [], ◌++◌, length, take, drop, Option, Some, None, refl, sym, ap, subst, ◌∙◌, arith, inl, inr, append_assoc}
 use Rattle.std.proofs.lemmas.Bool.{cases_lt, lt-ltb, ltb-false, le-ltb, ltb-true}
-use Rattle.std.proofs.lemmas.List.{take_at, drop_at, take-append-drop, length-append, length-take-le, length-drop, nil_from_length}
+use Rattle.std.proofs.lemmas.List.{take_at, drop_at, take-append-drop, take-append-le, drop-append-le, length-append, length-take-le, length-drop, nil_from_length}
 use Rattle.byteorder.specs.Endian.{big_number, big_bytes}
 use Rattle.byteorder.specs.Numbers.{big_from-append, big_number-reads_back, length-bytes_high_first}
 use Rattle.rule_model.specs.declared.event.Act.{Act}
@@ -175,9 +175,17 @@ body_some act h = elim (cases_lt 0 (length (body_of act))) [
 whole_by : (b c : Bool) (m : ℕ) (o : Option Act) (s : ℕ) (act : Act) → b ≡ false → c ≡ true → o ≡ Some act → cond b (Part m) (cond c (whole_in o s) Bad) ≡ Whole act s
 whole_by b c m o s act p q r = (λ i. cond (p i) (Part m) (cond (q i) (whole_in (r i) s) Bad))
 
-pub whole_again : (act : Act) (rest : List ℕ) → IsRequest act → front_of (frame_of act ++ rest) ≡ Whole act (4 + length (body_of act))
-unfolding front_of frame_of
-whole_again act rest request =
+-- what the frame of an act at the front tells
+pub record IsFramed (bytes : List ℕ) (act : Act) : Type 0 where
+  pub said : announced bytes ≡ length (body_of act)
+  pub fit : is_length (announced bytes) ≡ true
+  pub whole : needed bytes ≡ 4 + length (body_of act)
+  pub enough : needed bytes ≤ length bytes
+  pub body : take (announced bytes) (drop 4 bytes) ≡ body_of act
+
+pub framed_front : (act : Act) (rest : List ℕ) → IsRequest act → IsFramed (frame_of act ++ rest) act
+unfolding frame_of
+framed_front act rest request =
     let body : List ℕ = body_of act in
     let n : ℕ = length body in
     let bytes : List ℕ = counted body ++ rest in
@@ -190,7 +198,33 @@ whole_again act rest request =
     let long : length bytes ≡ 4 + (n + length rest) = ap length split ∙ omega (arith, length-append (big_bytes 4 n) (body ++ rest), length-append body rest) in
     let fit : is_length (announced bytes) ≡ true = ap is_length said ∙ fits_length n least greatest in
     let whole : needed bytes ≡ 4 + n = needed_whole bytes (omega arith) fit ∙ ap (λ (k : ℕ). 4 + k) said in
-    let enough : ltb (length bytes) (needed bytes) ≡ false = le-ltb _ _ (omega arith) in
-    let front : take (announced bytes) (drop 4 bytes) ≡ body = (λ i. take (said i) (behind i)) ∙ take_at body rest n refl in
-    let act_is : act_in (take (announced bytes) (drop 4 bytes)) ≡ Some act = ap act_in front ∙ act_again act request.0 in
-    whole_by (ltb (length bytes) (needed bytes)) (is_length (announced bytes)) (needed bytes - length bytes) (act_in (take (announced bytes) (drop 4 bytes))) (needed bytes) act enough fit act_is ∙ ap (λ (k : ℕ). Whole act k) whole
+    record {
+      said = said;
+      fit = fit;
+      whole = whole;
+      enough = omega arith;
+      body = (λ i. take (said i) (behind i)) ∙ take_at body rest n refl;
+    }
+
+pub whole_again : (act : Act) (rest : List ℕ) → IsRequest act → front_of (frame_of act ++ rest) ≡ Whole act (4 + length (body_of act))
+unfolding front_of
+whole_again act rest request =
+    let bytes : List ℕ = frame_of act ++ rest in
+    let f : IsFramed bytes act = framed_front act rest request in
+    let enough : ltb (length bytes) (needed bytes) ≡ false = le-ltb _ _ f.enough in
+    let act_is : act_in (take (announced bytes) (drop 4 bytes)) ≡ Some act = ap act_in f.body ∙ act_again act request.0 in
+    whole_by (ltb (length bytes) (needed bytes)) (is_length (announced bytes)) (needed bytes - length bytes) (act_in (take (announced bytes) (drop 4 bytes))) (needed bytes) act enough f.fit act_is ∙ ap (λ (k : ℕ). Whole act k) f.whole
+
+-- the front of the frame of an act is not bad, as far as its bytes are there
+pub never_bad : (act : Act) (bytes left rest : List ℕ) → IsRequest act → bytes ++ left ≡ frame_of act ++ rest → IsBad bytes → ⊥
+never_bad act bytes left rest request is bad =
+    let f : IsFramed (bytes ++ left) act = subst (λ (l : List ℕ). IsFramed l act) (sym is) (framed_front act rest request) in
+    let four : 4 ≤ length bytes = omega (arith, needed_least bytes, bad.whole) in
+    let said : announced (bytes ++ left) ≡ announced bytes = announced_more bytes left four in
+    let fit : is_length (announced bytes) ≡ true = ap is_length (sym said) ∙ f.fit in
+    let long : 4 + announced bytes ≤ length bytes = omega (arith, needed_whole bytes four fit, bad.whole) in
+    let behind : drop 4 (bytes ++ left) ≡ drop 4 bytes ++ left = drop-append-le 4 bytes left four in
+    let inside : announced bytes ≤ length (drop 4 bytes) = omega (arith, length-drop 4 bytes, long) in
+    let same : take (announced bytes) (drop 4 bytes) ≡ body_of act =
+    sym (take-append-le (announced bytes) (drop 4 bytes) left inside) ∙ sym (λ i. take (said i) (behind i)) ∙ f.body in
+    bad.none fit act request (sym same)

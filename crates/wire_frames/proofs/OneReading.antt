@@ -1,17 +1,17 @@
 -- A stream has its requests in one way.
-use Rattle.std.proofs.Common.{◌≡◌, ◌⊎◌, ⊎_elim, Bool, true, false, ℕ, ◌+◌, List, [], ◌∷◌, ◌++◌, length, flat_map, refl, sym, ap, subst, ◌∙◌, arith, append_assoc, inl, inr}
+use Rattle.std.proofs.Common.{◌≡◌, ◌⊎◌, ⊎_elim, Bool, true, false, ℕ, ◌+◌, ◌<◌, ◌≤◌, List, [], ◌∷◌, ◌++◌, length, flat_map, refl, sym, ap, subst, ◌∙◌, arith, append_assoc, inl, inr}
 use Rattle.std.specs.List.{AllByRecursion}
 use Rattle.std.specs.Bool.{MatchBool}
-use Rattle.std.proofs.lemmas.List.{append-nil, append_cancel_left, drop_at}
+use Rattle.std.proofs.lemmas.List.{append-nil, append_cancel_left, drop_at, length-append}
 use Rattle.rule_model.specs.declared.event.Act.{Act}
 use Rattle.wire_frames.specs.declared.front.Front.{Front}
 use Rattle.wire_frames.specs.declared.front.Front.TheVariants.{Part, Bad, Whole}
 use Rattle.wire_frames.specs.Spelling.{body_of, frame_of, IsRequest}
-use Rattle.wire_frames.specs.Streams.{stream_of, IsPart, IsBad, HasRequests, front_of}
+use Rattle.wire_frames.specs.Streams.{stream_of, IsPart, IsBad, HasRequests, IsBehind, front_of}
 use Rattle.wire_frames.specs.declared.frames.Frames.{Frames}
 use Rattle.wire_frames.specs.Standing.{held_in, is_shut, Stands}
 use Rattle.wire_frames.proofs.Codecs.{IsBytes, IsBytes-drop}
-use Rattle.wire_frames.proofs.Fronts.{part_again, bad_again, whole_again}
+use Rattle.wire_frames.proofs.Fronts.{IsFramed, needed_least, part_again, bad_again, whole_again, framed_front, never_bad}
 
 -- what stands behind the last whole frame is told from the front of a whole one
 abbrev is_rest : Front → Type 0
@@ -76,3 +76,33 @@ stands_has stream given f s = record { whole = s.whole; each = s.each; ends = en
 
 pub same_requests : (stream : List ℕ) → IsBytes stream → (given others : List Act) (one two : Frames) → Stands stream given one → Stands stream others two → given ≡ others
 same_requests stream fits given others one two s t = (one_reading stream fits given others s.rest t.rest (stands_has stream given one s) (stands_has stream others two t)).0
+
+-- ---- whole frames
+
+pub begin_so : (acts others : List Act) (left : List ℕ) → AllByRecursion IsRequest acts → AllByRecursion IsRequest others → stream_of acts [] ≡ stream_of others left → IsBehind acts others left
+begin_so acts [] left a b same = record { more = acts; acts_are = refl; each = a; left_is = sym same }
+begin_so [] (y ∷ others) left a b same =
+    let none : IsPart [] = omega arith in
+    absurd (subst is_rest (sym (part_again [] none) ∙ ap front_of same ∙ front_is y others left b.0) tt)
+begin_so (x ∷ acts) (y ∷ others) left a b same =
+    let fronts : Whole x (4 + length (body_of x)) ≡ Whole y (4 + length (body_of y)) = sym (front_is x acts [] a.0) ∙ ap front_of same ∙ front_is y others left b.0 in
+    let act : x ≡ y = ap (first_act x) fronts in
+    let split : frame_of x ++ stream_of acts [] ≡ frame_of x ++ stream_of others left =
+    sym (behind_first x acts []) ∙ same ∙ behind_first y others left ∙ ap (λ (z : Act). frame_of z ++ stream_of others left) (sym act) in
+    let later : IsBehind acts others left = begin_so acts others left a.1 b.1 (append_cancel_left (frame_of x) (stream_of acts []) (stream_of others left) split) in
+    record { more = later.more; acts_are = λ i. act i ∷ later.acts_are i; each = later.each; left_is = later.left_is }
+
+pub never_bad_front : (acts : List Act) (bytes left : List ℕ) → AllByRecursion IsRequest acts → bytes ++ left ≡ stream_of acts [] → IsBad bytes → ⊥
+never_bad_front [] bytes left each is bad =
+    let none : length bytes + length left ≡ 0 = sym (length-append bytes left) ∙ ap length is in
+    omega (arith, needed_least bytes, bad.whole, none)
+never_bad_front (x ∷ acts) bytes left each is bad = never_bad x bytes left (stream_of acts []) each.0 (is ∙ behind_first x acts []) bad
+
+pub never_part : (acts : List Act) → AllByRecursion IsRequest acts → IsPart (stream_of acts []) → acts ≡ []
+never_part [] each part = refl
+never_part (x ∷ acts) each part =
+    let f : IsFramed (stream_of (x ∷ acts) []) x = subst (λ (l : List ℕ). IsFramed l x) (sym (behind_first x acts [])) (framed_front x (stream_of acts []) each.0) in
+    absurd (never part f.enough)
+  where
+    never : {m n : ℕ} → m < n → n ≤ m → ⊥
+    never lt le = omega arith

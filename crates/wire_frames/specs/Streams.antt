@@ -1,5 +1,5 @@
 -- The frames of a stream, and what a reader of the stream has given of them.
-use Rattle.std.specs.Prelude.{◌≡◌, ◌≢◌, ◌⊎◌, ℕ, ◌+◌, ◌-◌, ◌<◌, ◌≤◌, Bool, true, ◌&&◌, nat_lt, nat_le, if◌then◌else◌, List, ◌++◌, length, take, drop, flat_map, Option, Some, None}
+use Rattle.std.specs.Prelude.{◌≡◌, ◌≢◌, ◌⊎◌, ℕ, ◌+◌, ◌-◌, ◌<◌, ◌≤◌, Bool, true, ◌&&◌, nat_lt, nat_le, if◌then◌else◌, List, [], ◌++◌, length, take, drop, flat_map, Option, Some, None}
 use Rattle.std.specs.List.{AllByRecursion}
 use Rattle.byteorder.specs.Endian.{big_number}
 use Rattle.rule_model.specs.declared.event.Act.{Act}
@@ -42,6 +42,13 @@ pub record HasRequests (stream : List ℕ) (acts : List Act) (rest : List ℕ) :
   pub whole : stream ≡ stream_of acts rest
   pub each : AllByRecursion IsRequest acts
   pub ends : IsPart rest ⊎ IsBad rest
+
+-- where others are the first of these whole frames, the rest are whole frames too
+pub record IsBehind (acts others : List Act) (left : List ℕ) : Type 0 where
+  pub more : List Act
+  pub acts_are : acts ≡ others ++ more
+  pub each : AllByRecursion IsRequest more
+  pub left_is : left ≡ stream_of more []
 
 -- ---- reading the front
 

@@ -1,9 +1,10 @@
 //! What follows from the grammar alone.
 
-ghost use Rattle.std.specs.Prelude.{◌≡◌, ℕ, ◌<◌, List, [], ◌∷◌, slice_index};
+ghost use Rattle.std.specs.Prelude.{◌≡◌, ℕ, ◌<◌, List, [], ◌∷◌, ◌++◌, slice_index};
 ghost use Rattle.rule_model.specs.declared.event.Act.{Act};
 ghost use Rattle.wire_frames.specs.Spelling.{frame_of, IsRequest};
-ghost use Rattle.wire_frames.specs.Streams.{HasRequests};
+ghost use Rattle.std.specs.List.{AllByRecursion};
+ghost use Rattle.wire_frames.specs.Streams.{HasRequests, IsBad, IsBehind, IsPart, stream_of};
 ghost use Rattle.wire_frames.specs.Standing.{Stands};
 ghost use Rattle.wire_frames.specs.declared.frames.Frames.{Frames};
 
@@ -24,4 +25,13 @@ pub fn same_requests()
 /// What is spelled is read again: the frame of an act is a stream with that request alone.
 pub fn spelled_again()
     ensures { (act : Act) → IsRequest act → HasRequests (frame_of act) (act ∷ []) [] }
+{}
+
+/// A stream of whole frames begins with the requests that were read of it, and what is left of it are whole frames; no front of it is
+/// bad, and it ends in no part of a frame.
+pub fn whole_frames()
+    ensures begins { (acts others : List Act) (left : List ℕ) → AllByRecursion IsRequest acts → AllByRecursion IsRequest others
+        → stream_of acts [] ≡ stream_of others left → IsBehind acts others left }
+    ensures sound { (acts : List Act) (bytes left : List ℕ) → AllByRecursion IsRequest acts → bytes ++ left ≡ stream_of acts [] → IsBad bytes → ⊥ }
+    ensures whole { (acts : List Act) → AllByRecursion IsRequest acts → IsPart (stream_of acts []) → acts ≡ [] }
 {}

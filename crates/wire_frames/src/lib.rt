@@ -22,6 +22,6 @@ mod writing;
 
 pub use fault::FrameFault;
 pub use frames::Frames;
-pub use laws::{one_reading, same_requests, spelled_again};
+pub use laws::{one_reading, same_requests, spelled_again, whole_frames};
 pub use request::Request;
 pub use writing::{reply_frame, reply_length, request_frame};
