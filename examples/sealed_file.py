@@ -1,9 +1,8 @@
 #!/usr/bin/env python3
 """An app seals a file of a megabyte over the service's socket, opens it again, and sees that a changed byte is told.
 
-The program does not listen yet (`serve` is no form of it); until it does, the service is the one over the second model:
-
-    python3 tools/second_server.py --help
+    ./keystore2 init
+    ./keystore2 serve 7878 1 1 & sleep 1
     python3 examples/sealed_file.py --port 7878
 """
 import argparse

@@ -14,7 +14,7 @@ import sys
 from scratch import scratch_folder
 
 TOP = pathlib.Path(__file__).resolve().parent.parent
-WORDS = ["init", "run", "soak"]
+WORDS = ["init", "run", "soak", "serve"]
 # The summary of seed 7 with 1,000 lines, of a model that was written independently of the service.
 SUMMARY_OF_7 = (
     "code -28 count 466\n"
@@ -24,6 +24,8 @@ SUMMARY_OF_7 = (
 NO_FORMS = [
     [], ["soak"], ["soak", "7"], ["soak", "7", "0"], ["soak", "7", "100001"], ["soak", "+7", "1"], ["soak", "7", "1", "1"],
     ["soak", "18446744073709551616", "1"], ["soak", "000000000000000000007", "1"], ["soak", "", "1"], ["help"], ["--help", "init"],
+    ["serve"], ["serve", "1", "1"], ["serve", "65536", "1", "1"], ["serve", "1", "0", "1"], ["serve", "1", "65537", "1"], ["serve", "1", "1", "0"],
+    ["serve", "1", "1", "65"], ["serve", "1", "1", "1", "1"], ["serve", "-1", "1", "1"],
 ]
 
 

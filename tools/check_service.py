@@ -1,29 +1,74 @@
 #!/usr/bin/env python3
-"""Once the program has the form `serve`: runs it on a port that is free, and clients of it; says nothing where all is as it should be, and ends with status 1
-else.
+"""Runs `keystore2 serve` on ports that are free, and clients of it; says nothing where all is as it should be, and ends with status 1 else.
 
-The session of docs/PROTOCOL.md has its bytes back. While a client has sent half a frame and stays silent, another one seals a file of
-a megabyte and opens it (`examples/sealed_file.py`). Behind the last connection the service ends with status 0. A second service on the
-same port ends with status 9, and words that are no form with status 2. All of it has a minute.
+Words that are no form end with status 2, a folder without a store with status 7. Over one service by four workers: the session of
+docs/PROTOCOL.md has its bytes back; a second service on its port ends with status 9, one on its store with status 6; the command line of
+`tools/keystore_client.py` says what it should; bad frames end a connection behind the replies to what came before; a session that ends
+at each of its bytes gets the replies to its whole requests, and all of them where it comes in two pieces, wherever it is cut; sixteen
+clients make a thousand calls each. While a client that has sent
+half a frame stays silent, an app seals a file of a megabyte and opens it (`examples/sealed_file.py`). Behind the last connection the
+service ends with status 0, and a run over its store finds what the clients left. A silent client keeps its own worker: where that is
+the only one, another client waits until it goes.
 
-    python3 tools/check_service.py [--program PATH]
+    python3 tools/check_service.py [--program PATH] [--calls N]
 """
 import argparse
+import concurrent.futures
+import hashlib
+import hmac
+import json
 import pathlib
 import socket
 import subprocess
 import sys
-import tempfile
 import time
 
 from check_protocol import PAGE, play, session_in
+from keystore_client import KINDS, Client, Key, counted, optional, parameters, u32, u64
+from scratch import scratch_folder
 
 TOP = pathlib.Path(__file__).resolve().parent.parent
 PROGRAM = TOP / "crates/keystore_program/out/keystore_program"
 EXAMPLE = TOP / "examples/sealed_file.py"
-PATIENCE = 60
-HALF_A_FRAME = b"\x00\x00\x00\x05\x01"
+COMMANDS = TOP / "tools/keystore_client.py"
 SAYS = b"sealed 1000000 bytes as 1000032\nopened as they were\na changed byte is told\n"
+# No step takes as long, in seconds.
+PATIENCE = 120
+PAUSE = 0.005
+WORKERS, CLIENTS, FIRST_APP = 4, 16, 10100
+HALF_A_FRAME = b"\x00\x00\x00\x05\x01"
+NO_FORMS = [["serve"], ["serve", "65536", "1", "1"], ["serve", "1", "0", "1"], ["serve", "1", "1", "65"]]
+
+# Requests that leave nothing behind, and their replies: the client's number is that of the first one.
+CONNECT, CLIENT = counted(b"\x01" + u32(10001)), bytes.fromhex("0000000f 00000000 0000 01 0000000000000001")
+SESSION = [
+    (CONNECT, CLIENT),
+    (counted(b"\x0e" + u32(2) + u64(7)), bytes.fromhex("00000006 00000006 4104")),
+    (counted(b"\x09" + u64(0)), bytes.fromhex("00000006 ffffffe4 5301")),
+    (counted(b"\x0f" + u32(0) + u64(0) + optional(b"\xff")), bytes.fromhex("0000000b 00000000 0000 11 00000000")),
+]
+JUNK = bytes(200_000)
+# What ends a connection: no body, a body that is too long, no act, an act that is cut, another connect; and what is no connect, at once.
+BAD_FRAMES = [bytes(4), u32(262145), counted(b"\x02"), counted(b"\x0e" + u32(0)), CONNECT]
+BAD_SESSIONS = [(CONNECT + bad + JUNK, CLIENT) for bad in BAD_FRAMES] + [(SESSION[1][0] + JUNK, b"")]
+
+# Words of the client behind a store in which one key was made and has ended, what they write, and their status. The mac is that of
+# "Hi There" under twenty bytes 0b.
+MAC = "b0344c61d8db38535ca8afceaf0bf12b881dc200c9833da726e9376c2e32cff7"
+TURNS = [
+    (["import", "m", "--kind", "hmac", "--material", "0b" * 20], "key 2\n", 0),
+    (["mac", "m", "letter"], f"{MAC}\n", 0),
+    (["mac", "m", "letter", "--verify", MAC, "--json"], '{"verified": true}\n', 0),
+    (["mac", "m", "letter", "--verify", MAC[::-1], "--json"], '{"code": -30, "rule": null, "name": "VERIFICATION_FAILED"}\n', 1),
+    (["grant", "m", "10002", "--json"], '{"grant": 1}\n', 0),
+    (["mac", "-", "letter", "--granted", "1", "--uid", "10002", "--json"], f'{{"mac": "{MAC}"}}\n', 0),
+    (["generate", "letters", "--kind", "aes", "--uses", "2", "--json"], '{"key": 3}\n', 0),
+    (["seal", "letters", "letter", "sealed"], "sealed 40\n", 0),
+    (["open", "letters", "sealed", "-"], "Hi There", 0),
+    (["list", "--json"], '{"entries": [["m", 2]]}\n', 0),
+    (["delete", "m", "--json"], "{}\n", 0),
+    (["mac", "m", "letter", "--json"], '{"code": 7, "rule": "B4", "name": "KEY_NOT_FOUND"}\n', 1),
+]
 
 
 def check(name, found, wanted):
@@ -36,28 +81,91 @@ def free_port():
         return listener.getsockname()[1]
 
 
-def ended(program, words, folder):
-    """How the program ended: its status, and what it wrote."""
-    done = subprocess.run([program, *words], cwd=folder, capture_output=True, timeout=PATIENCE, check=False)
+def ended(program, words, folder, script=b""):
+    """How the program ended: its status, what it wrote, and the first line of its fault."""
+    done = subprocess.run([program, *words], cwd=folder, input=script, capture_output=True, timeout=PATIENCE, check=False)
     return done.returncode, done.stdout, done.stderr.splitlines()[:1]
 
 
-def play_once_it_listens(port, turns):
-    """Plays the session as soon as somebody listens."""
+def once_it_listens(call, *words):
+    """What a call gives as soon as somebody listens."""
     end = time.monotonic() + PATIENCE
     while True:
         try:
-            return play(port, turns)
+            return call(*words)
         except ConnectionRefusedError:
             if time.monotonic() > end:
                 sys.exit("check_service: nobody listens")
             time.sleep(0.05)
 
 
-def check_clients(program, port, folder):
-    """The clients of one service, and a second service on its port."""
-    play_once_it_listens(port, session_in(PAGE))
-    check("a second service", ended(program, ["serve", str(port), "1", "1"], folder), (9, b"", [b"keystore2: listen fault"]))
+def replies_to(port, *pieces):
+    """All that comes back for these pieces, with the number 1 in place of the client's."""
+    with socket.create_connection(("127.0.0.1", port), PATIENCE) as stream:
+        stream.setsockopt(socket.IPPROTO_TCP, socket.TCP_NODELAY, 1)
+        for piece in pieces:
+            stream.sendall(piece)
+            time.sleep(PAUSE if piece is not pieces[-1] else 0)
+        stream.shutdown(socket.SHUT_WR)
+        came = b""
+        while piece := stream.recv(65536):
+            came += piece
+    return CLIENT + came[len(CLIENT):] if came[:11] == CLIENT[:11] else came
+
+
+def replies_of(cut):
+    """The replies to the requests that are whole in so many bytes of the session."""
+    came, place = b"", 0
+    for request, reply in SESSION:
+        place += len(request)
+        came += reply if place <= cut else b""
+    return came
+
+
+def check_sessions(port):
+    """Sessions that end wrongly, at each byte, and that come in two pieces."""
+    text = b"".join(request for request, _ in SESSION)
+    rows = [((sent,), wanted) for sent, wanted in BAD_SESSIONS]
+    rows += [((text[:cut],), replies_of(cut)) for cut in range(len(text) + 1)]
+    rows += [((text[:cut], text[cut:]), replies_of(len(text))) for cut in range(1, len(text))]
+    for number, (pieces, wanted) in enumerate(rows):
+        check(f"session {number}", replies_to(port, *pieces), wanted)
+
+
+def make_calls(port, number, calls):
+    """A client of its own uid, which makes so many calls; gives its macs that are wrong."""
+    material, key, wrong = bytes([number + 1]) * 32, Key(alias="own"), 0
+    with Client.connect(FIRST_APP + number, port=port, timeout=PATIENCE) as client:
+        client.importKey(key, parameters(**KINDS["hmac"]), material)
+        for turn in range((calls - 2) // 3):
+            text = b"%d in turn %d" % (number, turn)
+            op = client.createOperation(key, parameters(PURPOSE=[2], MAC_LENGTH=256)).op
+            client.update(op, text[:3])
+            wrong += client.finish(op, text[3:]).out != hmac.new(material, text, hashlib.sha256).digest()
+        for _ in range((calls - 2) % 3):
+            wrong += client.getNumberOfEntries().count != 1
+    return wrong
+
+
+def check_commands(port, folder):
+    """The client's command line."""
+    (pathlib.Path(folder) / "letter").write_bytes(b"Hi There")
+    for words, wrote, status in TURNS:
+        done = subprocess.run(
+            [sys.executable, COMMANDS, *words, "--port", str(port)], cwd=folder, capture_output=True, text=True, timeout=PATIENCE, check=False
+        )
+        check(" ".join(words), (done.stdout, done.returncode), (wrote, status))
+
+
+def check_crowd(port, calls):
+    """Clients that all come at once, more than there are workers."""
+    with concurrent.futures.ThreadPoolExecutor(CLIENTS) as crowd:
+        came = [crowd.submit(make_calls, port, number, calls) for number in range(CLIENTS)]
+        check("the crowd", [one.result() for one in came], [0] * CLIENTS)
+
+
+def check_silent(port):
+    """The example, beside a client that stays silent amid a frame."""
     with socket.create_connection(("127.0.0.1", port)) as silent:
         silent.sendall(HALF_A_FRAME)
         words = [sys.executable, EXAMPLE, "--port", str(port)]
@@ -65,22 +173,74 @@ def check_clients(program, port, folder):
         check("the example", (done.returncode, done.stdout, done.stderr), (0, SAYS, b""))
 
 
-def main():
-    parser = argparse.ArgumentParser(description="Runs the service and clients of it.")
-    parser.add_argument("--program", type=pathlib.Path, default=PROGRAM, metavar="PATH")
-    program = parser.parse_args().program.resolve()
-    with tempfile.TemporaryDirectory() as name:
-        folder, port = pathlib.Path(name), free_port()
-        for words in (["serve"], ["serve", "65536", "1", "1"], ["serve", "1", "0", "1"], ["serve", "1", "1", "65"]):
-            check(" ".join(words), ended(program, words, folder), (2, b"", [b"keystore2: usage"]))
-        check("init", ended(program, ["init"], folder), (0, b"", []))
-        service = subprocess.Popen([program, "serve", str(port), "3", "2"], cwd=folder, stdout=subprocess.PIPE, stderr=subprocess.PIPE)
+def check_clients(program, port, folder, calls):
+    once_it_listens(play, port, session_in(PAGE))
+    check("a second service on the port", ended(program, ["serve", str(port), "1", "1"], folder), (9, b"", [b"keystore2: listen fault"]))
+    check("a second service on the store", ended(program, ["serve", "0", "1", "1"], folder), (6, b"", [b"keystore2: disk fault"]))
+    check_commands(port, folder)
+    check_sessions(port)
+    check_crowd(port, calls)
+    check_silent(port)
+
+
+def check_only_worker(_, port, __, ___):
+    """A client behind a silent one, with one worker, is answered when that one has gone."""
+    silent = once_it_listens(socket.create_connection, ("127.0.0.1", port))
+    silent.sendall(HALF_A_FRAME)
+    with socket.create_connection(("127.0.0.1", port)) as stream:
+        stream.sendall(CONNECT)
+        stream.settimeout(0.5)
         try:
-            check_clients(program, port, folder)
-            wrote = service.communicate(timeout=PATIENCE)
-            check("the service", (service.returncode, *wrote), (0, b"", b""))
-        finally:
-            service.kill()
+            check("a client that has to wait", stream.recv(19), None)
+        except TimeoutError:
+            silent.close()
+        stream.settimeout(PATIENCE)
+        check("a client that had to wait", stream.recv(19)[:11], CLIENT[:11])
+
+
+def check_run(program, folder, connections, workers, clients, calls):
+    """A service of so many connections, and its clients."""
+    port = free_port()
+    words = [program, "serve", str(port), str(connections), str(workers)]
+    service = subprocess.Popen(words, cwd=folder, stdout=subprocess.PIPE, stderr=subprocess.PIPE)
+    try:
+        clients(program, port, folder, calls)
+        wrote = service.communicate(timeout=PATIENCE)
+        check("the service", (service.returncode, *wrote), (0, b"", b""))
+    finally:
+        service.kill()
+
+
+def check_store(program, folder):
+    """What a run finds in the store that the clients left."""
+    apps = [(10001, "files"), (FIRST_APP, "own"), (FIRST_APP + CLIENTS - 1, "own")]
+    lines = []
+    for number, (uid, _) in enumerate(apps, 1):
+        lines.append({"t": [0, 1000], "do": "connect", "uid": uid})
+        lines.append({"t": [0, 1000], "c": number, "do": "listEntriesBatched", "domain": 0})
+    script = "".join(json.dumps(line) + "\n" for line in lines).encode()
+    status, replies, _ = ended(program, ["run"], folder, script)
+    found = [[alias for alias, _ in json.loads(reply)["entries"]] for reply in replies.splitlines()[1::2]]
+    check("a run behind the service", (status, found), (0, [[alias] for _, alias in apps]))
+
+
+def main():
+    ask = argparse.ArgumentParser(description="Runs the service and clients of it.")
+    ask.add_argument("--program", type=pathlib.Path, default=PROGRAM, metavar="PATH")
+    ask.add_argument("--calls", type=int, default=1000, metavar="N", help="how many calls each client of a crowd makes")
+    words = ask.parse_args()
+    program = words.program.resolve()
+    session = sum(len(request) for request, _ in SESSION)
+    connections = 1 + len(TURNS) + len(BAD_SESSIONS) + session + 1 + session - 1 + CLIENTS + 2
+    with scratch_folder() as folder:
+        for form in NO_FORMS:
+            check(" ".join(form), ended(program, form, folder), (2, b"", [b"keystore2: usage"]))
+        no_store = (7, b"", [b"keystore2: store corrupted at 0"])
+        check("a service without a store", ended(program, ["serve", "0", "1", "1"], folder), no_store)
+        check("init", ended(program, ["init"], folder), (0, b"", []))
+        check_run(program, folder, connections, WORKERS, check_clients, words.calls)
+        check_store(program, folder)
+        check_run(program, folder, 2, 1, check_only_worker, words.calls)
 
 
 if __name__ == "__main__":

@@ -395,13 +395,13 @@ def do_mac(client, words):
 def do_seal(client, words):
     sealed = seal(client, named_key(words), read_file(words.file))
     write_file(words.out, sealed)
-    return {} if words.out == "-" else {"sealed": len(sealed)}
+    return None if words.out == "-" else {"sealed": len(sealed)}
 
 
 def do_open(client, words):
     text = unseal(client, named_key(words), read_file(words.file))
     write_file(words.out, text)
-    return {} if words.out == "-" else {"opened": len(text)}
+    return None if words.out == "-" else {"opened": len(text)}
 
 
 def do_list(client, _):
@@ -430,7 +430,7 @@ def plain(value):
 
 
 def show(result, as_json):
-    if not result:
+    if result is None:
         return
     if as_json:
         print(json.dumps({name: plain(value) for name, value in result.items()}))

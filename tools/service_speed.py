@@ -1,90 +1,135 @@
 #!/usr/bin/env python3
-"""Measures `keystore2 serve`, once the program has that form: pairs of a begin and a finish of a short mac, over one connection and over four at once.
+"""Measures `keystore2 serve`: pairs of a begin and a finish of a short mac, over one connection and over four at once, beside other makers of
+such a mac.
 
-    python3 tools/service_speed.py [--seconds S] [--program PATH] [--port N]
+    python3 tools/service_speed.py [ROUNDS] [--seconds S] [--program PATH]
 
-The clients are processes of their own, on the same machine; each sends a request when the reply to the one before has come, and the
-client in Python takes a good part of the time. It prints frames a second, of requests, for each number of connections and their ratio.
-With --port it measures a service that runs already, over one connection alone."""
+swtpm makes a mac by one TPM2_HMAC over a connection, of which it has one; SoftHSM by C_SignInit and C_Sign, in the caller's process, so
+that no socket is between. A peer that is not installed is left out. Each client is a process of its own, on the same machine, and
+asks when it has the answer to what it asked before; a client in Python takes a good part of the time. All are measured by turns in
+one run. It prints the middle round: frames and macs a second, and how many times as many macs as one connection of the service."""
 import argparse
+import contextlib
+import functools
+import hashlib
+import hmac
 import multiprocessing
 import pathlib
+import statistics
 import subprocess
 import sys
-import tempfile
 import time
 
 from check_service import PROGRAM, free_port
-from keystore_client import KINDS, Client, Key, parameters
+from keystore_client import KINDS, Client, Key, counted, parameters, u32
+from mac_peers import KEY, SoftHsm, Token, Tpm, TpmServer, connected, exactly
+from scratch import scratch_folder
 
-KEY = Key(alias="speed")
-BEGIN = parameters(PURPOSE=[2], MAC_LENGTH=256)
-APP = 10001
-MOST = 4
-
-
-def connected(port, patience=10.0):
-    """A client, as soon as somebody listens."""
-    end = time.monotonic() + patience
-    while True:
-        try:
-            return Client.connect(APP, port=port)
-        except ConnectionRefusedError:
-            if time.monotonic() > end:
-                sys.exit("service_speed: nobody listens")
-            time.sleep(0.05)
+APP, MOST, TEXT = 10001, 4, b"Hi There"
+NAME = Key(alias="speed")
+WANTED = hmac.new(KEY, TEXT, hashlib.sha256).digest()
 
 
-def pairs(port, seconds, start, counts):
-    """Makes pairs on one connection for so many seconds, once all connections are there."""
-    with connected(port) as client:
+class Service:
+    """A connection to the service: a mac is a begin and a finish."""
+
+    begin = counted(b"\x05" + NAME.spelled() + counted(parameters(PURPOSE=[2], MAC_LENGTH=256)) + b"\x00")
+
+    def __init__(self, port):
+        self.port = port
+
+    def __enter__(self):
+        self.stream = connected(self.port)
+        self.answer(counted(b"\x01" + u32(APP)), 19)
+        return self
+
+    def __exit__(self, *_):
+        self.stream.close()
+
+    def answer(self, frame, length):
+        self.stream.sendall(frame)
+        return exactly(self.stream, length)
+
+    def mac(self, text):
+        op = self.answer(self.begin, 19)[11:]
+        return self.answer(counted(b"\x08" + op + counted(text) + b"\x00"), 47)[15:]
+
+
+def count_macs(maker, seconds, start, counts):
+    """Makes macs for so many seconds, once all makers are there."""
+    with maker() as peer:
+        right = peer.mac(TEXT) == WANTED
         start.wait()
         count, end = 0, time.monotonic() + seconds
         while time.monotonic() < end:
-            client.finish(client.createOperation(KEY, BEGIN).op, b"Hi There")
+            peer.mac(TEXT)
             count += 1
-        counts.put(count)
+        counts.put(count if right else None)
 
 
-def frames_a_second(port, seconds, connections):
-    start, counts = multiprocessing.Barrier(connections), multiprocessing.Queue()
-    clients = [multiprocessing.Process(target=pairs, args=(port, seconds, start, counts)) for _ in range(connections)]
+def macs_a_second(maker, makers, seconds):
+    start, counts = multiprocessing.Barrier(makers), multiprocessing.Queue()
+    clients = [multiprocessing.Process(target=count_macs, args=(maker, seconds, start, counts)) for _ in range(makers)]
     for client in clients:
         client.start()
-    total = sum(counts.get() for _ in clients)
+    made = [counts.get(timeout=60 + seconds) for _ in clients]
     for client in clients:
         client.join()
-    return 2 * total / seconds
+    if None in made:
+        sys.exit("service_speed: a wrong mac")
+    return sum(made) / seconds
 
 
-def import_key(port):
-    with connected(port) as client:
-        client.importKey(KEY, parameters(**KINDS["hmac"]), b"\x0b" * 20)
+class Started:
+    """The service in a folder, with the key, for so many connections."""
+
+    def __init__(self, program, folder, connections):
+        subprocess.run([program, "init"], cwd=folder, check=True)
+        self.port = free_port()
+        self.process = subprocess.Popen([program, "serve", str(self.port), str(connections + 1), str(MOST)], cwd=folder)
+
+    def __enter__(self):
+        with Client(connected(self.port)) as client:
+            client.connect_as(APP)
+            client.importKey(NAME, parameters(**KINDS["hmac"]), KEY)
+        return self.port
+
+    def __exit__(self, *_):
+        self.process.kill()
+        self.process.wait()
+
+
+def measured(program, folder, rounds, seconds):
+    """Macs a second of each maker in each round, by its name."""
+    with contextlib.ExitStack() as stack:
+        port = stack.enter_context(Started(program, folder, rounds * (1 + MOST)))
+        makers = {"service": (functools.partial(Service, port), 1), f"service, {MOST} connections": (functools.partial(Service, port), MOST)}
+        if TpmServer.is_there():
+            tpm = stack.enter_context(TpmServer(folder, free_port()))
+            makers["swtpm, TPM2_HMAC"] = (functools.partial(Tpm, tpm), 1)
+        if Token.is_there():
+            stack.enter_context(Token(folder))
+            makers["SoftHSM, C_Sign"] = (SoftHsm, 1)
+            makers[f"SoftHSM, {MOST} processes"] = (SoftHsm, MOST)
+        found = {name: [] for name in makers}
+        for _ in range(rounds):
+            for name, (maker, count) in makers.items():
+                found[name].append(macs_a_second(maker, count, seconds))
+    return found
 
 
 def main():
-    parser = argparse.ArgumentParser(description="Measures the service over sockets.")
-    parser.add_argument("--seconds", type=float, default=5.0, metavar="S")
-    parser.add_argument("--program", type=pathlib.Path, default=PROGRAM, metavar="PATH")
-    parser.add_argument("--port", type=int, metavar="N")
-    words = parser.parse_args()
-    if words.port is not None:
-        import_key(words.port)
-        print(f"1 connection: {frames_a_second(words.port, words.seconds, 1):.0f} frames a second")
-        return
-    with tempfile.TemporaryDirectory() as folder:
-        program, port = words.program.resolve(), free_port()
-        subprocess.run([program, "init"], cwd=folder, check=True)
-        service = subprocess.Popen([program, "serve", str(port), str(2 + MOST), str(MOST)], cwd=folder)
-        try:
-            import_key(port)
-            one = frames_a_second(port, words.seconds, 1)
-            many = frames_a_second(port, words.seconds, MOST)
-            service.wait(timeout=60)
-        finally:
-            service.kill()
-    print(f"1 connection: {one:.0f} frames a second")
-    print(f"{MOST} connections: {many:.0f} frames a second, {many / one:.2f} times as many")
+    ask = argparse.ArgumentParser(description="Measures the service over sockets, beside other makers of a mac.")
+    ask.add_argument("rounds", nargs="?", type=int, default=3)
+    ask.add_argument("--seconds", type=float, default=3.0, metavar="S")
+    ask.add_argument("--program", type=pathlib.Path, default=PROGRAM, metavar="PATH")
+    words = ask.parse_args()
+    with scratch_folder() as folder:
+        found = measured(words.program.resolve(), folder, words.rounds, words.seconds)
+    middle = {name: statistics.median(macs) for name, macs in found.items()}
+    for name, macs in middle.items():
+        frames = f"{2 * macs:9,.0f} frames a second" if name.startswith("service") else " " * 25
+        print(f"{name:<24}{macs:9,.0f} macs a second {frames} {macs / middle['service']:6.2f}")
 
 
 if __name__ == "__main__":

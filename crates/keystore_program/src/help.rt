@@ -7,10 +7,13 @@ const FORMS: &str = "Forms:
   keystore2 init
   keystore2 run [--fresh] [--slots N]  N from 1 to 64, and 16 where it is not said
   keystore2 soak SEED N                SEED from 0 to 18446744073709551615, N from 1 to 100000
+  keystore2 serve PORT CONNECTIONS WORKERS
+                                       PORT from 0 to 65535, CONNECTIONS from 1 to 65536, WORKERS from 1 to 64
   keystore2 --help
   keystore2 --version
 
 The store is the file store.ks of the current folder; a script is a line of JSON for each call, on standard input.
+A service listens on 127.0.0.1; docs/PROTOCOL.md tells its protocol.
 
 Examples:
   keystore2 init
@@ -27,9 +30,14 @@ fn command(alloc: Global) -> Result<Command<'static>, AllocError> {
     let soak = Command::new(alloc, "soak").about(
         "Serves the load of a seed over a store in memory, and prints its summary",
     );
+    let serve = Command::new(alloc, "serve").about(
+        "Serves so many connections to a port of this machine over the store, by so many workers",
+    );
     Command::new(alloc, "keystore2")
         .version("0.1.0")
-        .about("The key service of an Android device for symmetric keys, over a script of calls")
+        .about(
+            "The key service of an Android device for symmetric keys, over a script of calls, or over connections",
+        )
         .override_usage("keystore2 FORM")
         .disable_help_flag(true)
         .disable_help_subcommand(true)
@@ -37,7 +45,8 @@ fn command(alloc: Global) -> Result<Command<'static>, AllocError> {
         .after_help(FORMS)
         .subcommand(init)?
         .subcommand(run)?
-        .subcommand(soak)
+        .subcommand(soak)?
+        .subcommand(serve)
 }
 
 /// The help text, with its last LF.

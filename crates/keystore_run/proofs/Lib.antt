@@ -3,7 +3,6 @@ pub mod DrawLemmas
 pub mod Going
 pub mod KeepLemmas
 pub mod LineLemmas
-pub mod Numbers
 pub mod Openings
 pub mod Tickets
 pub mod Sessions

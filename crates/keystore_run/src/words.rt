@@ -1,11 +1,11 @@
 //! The forms of the command line.
 
-ghost use Rattle.std.specs.Prelude.{◌≡◌, ◌≤◌, ◌&&◌, ◌<◌, ◌^◌, ℕ, List, true, false, Some, None, min, codes, if◌then◌else◌, IfSome, string_bytes};
-ghost use Rattle.std.specs.List.{list_all};
+ghost use Rattle.std.specs.Prelude.{◌≡◌, Some, None, codes, if◌then◌else◌, IfSome};
 ghost use Rattle.std.specs.Str.{bytes_eq};
 ghost use Rattle.keystore_run.specs.Words as spec;
-ghost use Rattle.keystore_run.specs.Words.{IsWithin, is_digit as is_decimal, value_on};
+ghost use Rattle.keystore_run.specs.Words.{IsWithin};
 
+use command_words::number_in;
 use soak_lines::MOST_LINES;
 
 /// The slots of an engine where the words do not say.
@@ -13,56 +13,6 @@ const SLOTS: usize = 16;
 
 /// The most slots that the words may say.
 const MOST_SLOTS: u64 = 64;
-
-/// The most digits of a number.
-const DIGITS: usize = 20;
-
-fn is_digit(byte: u8) -> bool
-    ensures { result ≡ is_decimal byte }
-{
-    byte >= b'0' && byte <= b'9'
-}
-
-fn are_digits(text: &[u8]) -> bool
-    ensures { result ≡ list_all is_decimal text.now }
-{
-    text.iter().all(|byte| is_digit(*byte))
-}
-
-/// Whether a text is a number: one to twenty decimal digits.
-fn is_number(text: &[u8]) -> bool
-    ensures { result ≡ spec.is_number text.now }
-{
-    1 <= text.len() && text.len() <= DIGITS && are_digits(text)
-}
-
-/// The number of decimal digits, or the cap where it is greater.
-fn capped_value(digits: &[u8], cap: u128) -> u128
-    requires { cap ≤ 2 ^ 64 }
-    ensures { result ≡ min (value_on 0 digits.now) cap }
-{
-    let mut value = 0u128;
-    for byte in digits {
-        let digit = u128::from(byte.saturating_sub(b'0'));
-        value = (value * 10 + digit).min(cap);
-    }
-    value
-}
-
-/// The number that a word gives, where it is one within these bounds.
-fn number_in(least: u64, most: u64, text: &[u8]) -> Option<u64>
-    ensures { result ≡ spec.number_in least most text.now }
-{
-    if !is_number(text) {
-        return None;
-    }
-    let value = capped_value(text, u128::from(most) + 1);
-    if u128::from(least) <= value && value <= u128::from(most) {
-        Some(value as u64)
-    } else {
-        None
-    }
-}
 
 /// The slots that a word gives: a number from 1 to 64.
 fn slots_in(text: &[u8]) -> Option<usize>

@@ -1,6 +1,6 @@
 use Rattle.std.proofs.Common.{◌+◌, ◌*◌, min, ap, ◌∙◌, arith}
-use Rattle.keystore_run.proofs.Numbers.{value_step}
-use Rattle.keystore_run.proofs.words.capped_value.Goals as goal
+use Rattle.command_words.proofs.NumberLemmas.{value_step}
+use Rattle.command_words.proofs.numbers.capped_value.Goals as goal
 
 pub loop-byte-preserved : goal.loop-byte-preserved
 loop-byte-preserved c = record {

@@ -1,6 +1,6 @@
 use Rattle.std.proofs.Common.{◌≡◌, ◌≤◌, min, drop}
-use Rattle.keystore_run.specs.Words.{value_on}
-use Rattle.keystore_run.proofs.words.capped_value.Given as goal
+use Rattle.command_words.specs.Numbers.{value_on}
+use Rattle.command_words.proofs.numbers.capped_value.Given as goal
 
 abbrev pub invariant-loop-byte : goal.invariant-loop-byte
 invariant-loop-byte l = record {

@@ -2,7 +2,7 @@
 use Rattle.std.proofs.Common.{◌≡◌, ℕ, ◌+◌, ◌-◌, ◌*◌, ◌≤◌, ◌<◌, List, [], ◌∷◌, length, drop, get_or, min, refl, sym, ap, ◌∙◌, inl, inr, arith}
 use Rattle.std.proofs.lemmas.Bool.{cases_lt}
 use Rattle.std.proofs.lemmas.List.{drop_more}
-use Rattle.keystore_run.specs.Words.{value_on}
+use Rattle.command_words.specs.Numbers.{value_on}
 
 -- digits go on to no smaller number
 value_grows : (n : ℕ) (digits : List ℕ) → n ≤ value_on n digits

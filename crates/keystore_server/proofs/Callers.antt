@@ -1,0 +1,99 @@
+-- What a reply says of the client of a pass, and that a pass of a service is one in one way alone.
+use Rattle.std.proofs.Common.{◌≡◌, ℕ, Bool, true, false, ◌&&◌, ◌||◌, if◌then◌else◌, List, [], ◌∷◌, Option, Some, None, refl, sym, subst}
+use Rattle.std.proofs.Props.{props}
+use Rattle.std.specs.Coded.{Coded-set, Unit-prop, ×_prop}
+use Rattle.ks_outside.specs.declared.disk.Disk.{Ghosts as DiskGhosts}
+use Rattle.ks_outside.specs.declared.entropy.Entropy.{Ghosts as EntropyGhosts}
+use Rattle.rule_model.specs.declared.event.Act.{Act}
+use Rattle.rule_model.specs.declared.event.Act.TheVariants.{Connect, Disconnect, GenerateKey, ImportKey, CreateOperation, EnterAad, EnterUpdate, EnterFinish, Abort, GetKeyEntry, DeleteKey, Grant, Ungrant, GetNumberOfEntries, ListEntriesBatched, AddAuthToken, DeviceLocked, DeviceUnlocked, EarlyBootEnded, ClearNamespace, UserRemoved, Leave, Restart}
+use Rattle.rule_model.specs.declared.reply.Reply.{Reply}
+use Rattle.rule_model.specs.declared.reply.Reply.TheVariants.{Done, Broken, Stopped}
+use Rattle.rule_model.specs.Acts.{is_connect}
+use Rattle.rule_model.specs.Entries.{is_done}
+use Rattle.wire_frames.specs.Spelling.{is_framed}
+use Rattle.service_book.specs.Limits.{is_disconnect}
+use Rattle.service_book.specs.declared.entry.BookEntry.{BookEntry}
+use Rattle.connections.specs.Talks.{is_refusal}
+use Rattle.atomic_table.specs.Seated.{TableId, table_id_coded}
+use Rattle.turn_lock.specs.declared.lock.RestingMaker.{RestingMaker}
+use Rattle.turn_lock.specs.declared.view.Hand.{Hand}
+use Rattle.turn_lock.specs.Views.{AllNamed}
+use Rattle.shared_service.specs.declared.name.Name.{Name}
+use Rattle.shared_service.specs.declared.pass.Pass.{Pass}
+use Rattle.shared_service.specs.declared.shared.Shared.{Shared}
+use Rattle.shared_service.specs.Kinds.{connected_after}
+use Rattle.shared_service.specs.Passes.{HoldsMaker, IsOurs, RestsAt}
+use Rattle.keystore_server.specs.Settled.{IsSettled}
+
+-- ---- clients
+
+no_disconnect : (act : Act) → is_framed act ≡ true → is_disconnect act ≡ false
+no_disconnect (Connect uid) e = refl
+no_disconnect Disconnect e = absurd (cc)
+no_disconnect (GenerateKey key params) e = refl
+no_disconnect (ImportKey key params format material) e = refl
+no_disconnect (CreateOperation key params forced) e = refl
+no_disconnect (EnterAad op input) e = refl
+no_disconnect (EnterUpdate op input) e = refl
+no_disconnect (EnterFinish op input signature) e = refl
+no_disconnect (Abort op) e = refl
+no_disconnect (GetKeyEntry key) e = refl
+no_disconnect (DeleteKey key) e = refl
+no_disconnect (Grant key uid bits) e = refl
+no_disconnect (Ungrant key uid) e = refl
+no_disconnect (GetNumberOfEntries domain nspace) e = refl
+no_disconnect (ListEntriesBatched domain nspace past) e = refl
+no_disconnect (AddAuthToken challenge user authenticator kind time mac) e = refl
+no_disconnect (DeviceLocked user) e = refl
+no_disconnect (DeviceUnlocked user) e = refl
+no_disconnect EarlyBootEnded e = refl
+no_disconnect (ClearNamespace domain nspace) e = refl
+no_disconnect (UserRemoved user) e = refl
+no_disconnect (Leave ticket) e = refl
+no_disconnect (Restart root) e = refl
+
+one_of : (joins made parts before : Bool) → parts ≡ false → (if joins then true else if made && parts then false else before) ≡ (before || joins)
+one_of true made parts true e = refl
+one_of true made parts false e = refl
+one_of false made true before e = absurd (cc)
+one_of false true false true e = refl
+one_of false true false false e = refl
+one_of false false false true e = refl
+one_of false false false false e = refl
+
+-- a request that has a frame brings a client where it is a connect that was admitted, and ends none
+pub stays_connected : (act : Act) (reply : Reply) (before : Bool) → is_framed act ≡ true → connected_after act reply before ≡ (before || (is_done reply && is_connect act))
+stays_connected act reply before e = one_of (is_done reply && is_connect act) (is_done reply) (is_disconnect act) before (no_disconnect act e)
+
+gone : (reply : Reply) (before : Bool) → is_done reply ≡ true → connected_after Disconnect reply before ≡ false
+gone (Done fields) before e = refl
+gone (Broken rule code) before e = absurd (cc)
+gone (Stopped code) before e = absurd (cc)
+
+unrefused : (reply : Reply) → is_done reply ≡ true → is_refusal reply ≡ false
+unrefused (Done fields) e = refl
+unrefused (Broken rule code) e = refl
+unrefused (Stopped code) e = absurd (cc)
+
+-- an admitted disconnect ends the client, and is no refusal
+pub goes_away : (act : Act) (reply : Reply) (before : Bool) → act ≡ Disconnect → is_done reply ≡ true → (connected_after act reply before ≡ false) × (is_refusal reply ≡ false)
+goes_away act reply before e admitted = (
+  subst (λ (a : Act). connected_after a reply before ≡ false) (sym e) (gone reply before admitted),
+  unrefused reply admitted,
+)
+
+-- ---- passes
+
+named_prop : {E K : Type 0} → IsSettled K → (name : K) (hands : List (Hand E K)) → IsProp (AllNamed name hands)
+named_prop set name [] = Unit-prop
+named_prop set name (h ∷ hs) = ×_prop (set h.name name) (named_prop set name hs)
+
+rests_prop : IsSettled Name → (lock : TableId) (name : Name) (pass : Pass) → IsProp (RestsAt lock name pass)
+rests_prop set lock name pass = hlevel (props, Coded-set table_id_coded, named_prop {E = BookEntry} {K = Name} set)
+
+holds_prop : IsSettled Name → (lock : TableId) (name : Name) (count number : ℕ) (maker : Option (RestingMaker BookEntry Name)) → IsProp (HoldsMaker lock name count number maker)
+holds_prop set lock name count number None = hlevel props
+holds_prop set lock name count number (Some maker) = hlevel (props, Coded-set table_id_coded, named_prop {E = BookEntry} {K = Name} set)
+
+pub ours_prop : {D N : Type 0} {d : DiskGhosts D} {n : EntropyGhosts N} → IsSettled Name → (shared : Shared D N d n) (pass : Pass) → IsProp (IsOurs shared pass)
+ours_prop set shared pass = hlevel (rests_prop set, holds_prop set)

@@ -1,0 +1,4 @@
+pub mod Callers
+pub mod Chains
+pub mod Pairing
+pub mod Sending

@@ -1,0 +1,30 @@
+use Rattle.std.proofs.Common.{arith}
+use mir.Syntax.{named}
+use denote.Param.{param}
+use denote.Param.Send.{param_send, param_sync}
+use Rattle.keystore_server.proofs.Sending.{caller_send}
+use Rattle.keystore_server.proofs.Pairing.{all_answered, all_free, passes_same, passes_served}
+use Rattle.keystore_server.proofs.listening.serve_listener.Goals as goal
+
+pub serve_by-listener-requires-clause-some : goal.serve_by-listener-requires-clause-some
+serve_by-listener-requires-clause-some g c = omega (arith, c.requires.some, c.add_workers.ensures.paired.count)
+
+pub serve_by-listener-requires-clause-free : goal.serve_by-listener-requires-clause-free
+serve_by-listener-requires-clause-free g c κs within =
+    all_free c.add_workers.new.workers.items (λ caller. caller.shared.now) (λ caller. caller.pass) c.args.shared.now c.args.passes.items c.add_workers.ensures.paired c.requires.idle
+
+pub take_passes-requires-clause-answered : goal.take_passes-requires-clause-answered
+take_passes-requires-clause-answered g c =
+    all_answered c.add_workers.new.workers.items (λ caller. caller.shared.now) (λ caller. caller.pass) c.args.shared.now c.serve_by-listener.new.workers.items c.serve_by-listener.ensures.count
+    (all_free c.add_workers.new.workers.items (λ caller. caller.shared.now) (λ caller. caller.pass) c.args.shared.now c.args.passes.items c.add_workers.ensures.paired c.requires.idle) c.serve_by-listener.ensures.served
+
+pub returns-clause-served : goal.returns-clause-served
+returns-clause-served g c =
+    passes_served c.add_workers.new.workers.items (λ caller. caller.shared.now) (λ caller. caller.pass) c.args.shared.now c.args.passes.items c.take_passes.new.passes.items c.serve_by-listener.new.workers.items
+    c.requires.ours c.add_workers.ensures.paired c.serve_by-listener.ensures.count c.serve_by-listener.ensures.served c.take_passes.ensures.paired
+
+pub serve_by-listener-requires-send-A : goal.serve_by-listener-requires-send-A
+serve_by-listener-requires-send-A g c κs within =
+    let caller = caller_send (param 2 g.row.D) (param 3 g.row.N) (param 4 g.row.C) (param 5 g.row.G) g.D.Disk g.N.Entropy (record { mir = named 0; lft = κs.1.1.1.1.0 })
+    (param_send 2 g.row.D c.type_bounds.send-D) (param_send 3 g.row.N c.type_bounds.send-N) (param_sync 4 g.row.C c.type_bounds.sync-C) (param_sync 5 g.row.G c.type_bounds.sync-G) in
+    record { owned = caller.owned; leaving = caller.leaving }

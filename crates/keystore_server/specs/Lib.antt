@@ -1,0 +1,3 @@
+pub mod Calling
+pub mod Settled
+pub mod Listening

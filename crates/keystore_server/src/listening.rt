@@ -1,0 +1,75 @@
+//! All connections of a listener.
+
+ghost use Rattle.std.specs.Prelude.{◌≡◌, ◌<◌, All, length};
+ghost use Rattle.connection_workers.specs.Workers.{AllFree, AllServed, IsAttended};
+ghost use Rattle.shared_service.specs.Passes.{IsOurs};
+ghost use Rattle.keystore_server.specs.Listening.{PassesServed, IsIdle};
+
+use crate::workers::{add_workers, take_passes};
+use connection_workers::{Attendance, Worker, serve_all};
+use connections::Answerer;
+use ks_outside::{Clock, Disk, Entropy, Gate};
+use outside_net::HangsUp;
+use shared_service::{Pass, Shared};
+use std::alloc::Global;
+use std::sync::Wait;
+use std::thread::Threads;
+
+/// Has all of the workers serve the connections of a listener.
+fn serve_by<R: Threads + Wait + Sync, B: HangsUp + Send + Drop, A: Answerer + Send + Drop>(
+    rt: &R,
+    alloc: Global,
+    listener: B,
+    connections: u64,
+    workers: &mut Vec<Worker<B, A>>,
+) -> (B, Attendance)
+where
+    B::L: Send,
+    requires some { 0 < length workers.old.items }
+    requires free { AllFree A.connected workers.old.items }
+    ensures attended { IsAttended B.Listener connections listener result.0 result.1 }
+    ensures count { length workers.new.items ≡ length workers.old.items }
+    ensures served { AllServed A.answers A.connected workers.old.items workers.new.items }
+{
+    serve_all(rt, alloc, listener, connections, workers.as_mut_slice())
+}
+
+/// Serves so many connections of a listener, or as many as come, by passes of the service that have no client, each in a worker of its
+/// own: at once where threads can be made, else one after another. The passes come back in their order. Where memory for the workers is
+/// wanting, nothing is served.
+pub fn serve_listener<
+    R: Threads + Wait + Sync,
+    B: HangsUp + Send + Drop,
+    D: Disk + Send + Drop,
+    N: Entropy + Send + Drop,
+    C: Clock + Sync,
+    G: Gate + Sync,
+>(
+    rt: &R,
+    alloc: Global,
+    shared: &Shared<D, N>,
+    passes: Vec<Pass>,
+    listener: B,
+    connections: u64,
+    clock: &C,
+    gate: &G,
+) -> (Vec<Pass>, B, Attendance)
+where
+    B::L: Send,
+    requires some { 0 < length passes.items }
+    requires ours { All (IsOurs shared.now) passes.items }
+    requires idle { All IsIdle passes.items }
+    ensures attended { IsAttended B.Listener connections listener result.1 result.2 }
+    ensures served { PassesServed shared.now passes.items result.0.items }
+{
+    let Ok(mut workers) = Vec::with_capacity(alloc, passes.len()) else {
+        return (passes, listener, Attendance::Memory);
+    };
+    let Ok(mut back) = Vec::with_capacity(alloc, passes.len()) else {
+        return (passes, listener, Attendance::Memory);
+    };
+    add_workers(shared, passes, clock, gate, &mut workers);
+    let (listener, attendance) = serve_by(rt, alloc, listener, connections, &mut workers);
+    take_passes(workers, &mut back);
+    (back, listener, attendance)
+}

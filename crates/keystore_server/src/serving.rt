@@ -1,0 +1,44 @@
+//! One connection.
+
+ghost use Rattle.std.specs.Prelude.{◌≡◌, ◌-◌, ◌^◌, ◌<◌, false, List, [], Some};
+ghost use Rattle.std.specs.List.{AllByRecursion};
+ghost use Rattle.rule_model.specs.declared.event.Act.{Act};
+ghost use Rattle.wire_frames.specs.Spelling.{IsRequest};
+ghost use Rattle.wire_frames.specs.Streams.{stream_of};
+ghost use Rattle.connections.specs.Ends.{EndsWhole, Serves};
+ghost use Rattle.shared_service.specs.Passes.{IsOurs, connected_of, number_of};
+ghost use Rattle.keystore_server.specs.Calling.{IsAnswered};
+
+use crate::caller::Caller;
+use connections::{End, serve_link};
+use ks_outside::{Clock, Disk, Entropy, Gate, Link};
+use shared_service::{Pass, Shared};
+use std::alloc::Global;
+use std::sync::Wait;
+
+/// Serves a connection by a pass of the service that has no client: one call for each request, in their order, and its reply, until
+/// an end; whatever the end is, a client that has come is then disconnected. A connection takes memory for one frame and its
+/// requests. The clocks are read once for each call. Where the link brings whole frames of requests that are due and does not fail, all are
+/// answered, unless the run is full or memory is wanting.
+pub fn serve_connection<R: Wait, L: Link, D: Disk, N: Entropy, C: Clock, G: Gate>(
+    rt: &R,
+    alloc: Global,
+    shared: &Shared<D, N>,
+    pass: Pass,
+    link: &mut L,
+    clock: &C,
+    gate: &G,
+) -> (Pass, End)
+    requires ours { IsOurs shared.now pass }
+    requires free { connected_of pass ≡ false }
+    ensures serves { Serves L.Link (IsAnswered shared.now) link.old link.new pass result.0 result.1 }
+    ensures complete { (acts : List Act) → AllByRecursion IsRequest acts → L.incoming link.old ≡ Some (stream_of acts []) → L.fault_count link.old < 2 ^ 64 - 1
+        → L.fault_count link.new ≡ L.fault_count link.old → EndsWhole (IsAnswered shared.now) pass acts result.1 }
+    ensures ours { IsOurs shared.now result.0 }
+    ensures number { number_of result.0 ≡ number_of pass }
+    ensures free { connected_of result.0 ≡ false }
+{
+    let caller = Caller::new(shared, pass, clock, gate);
+    let (caller, end) = serve_link(rt, alloc, link, caller);
+    (caller.into_pass(), end)
+}
