@@ -433,14 +433,14 @@ fn is_begun(begin: &Begin, plan: Plan, wanted: usize, nonce: Option<&[u8]>) -> b
 
 /// Whether a begin is answered as its row says.
 fn is_answered(
-    answer: Result<Begin, BeginFault>,
+    answer: &Result<Begin, BeginFault>,
     nonce: Option<&[u8]>,
     expected: Result<(Plan, usize), (u8, Code)>,
 ) -> bool {
     match (answer, expected) {
-        (Ok(begin), Ok((plan, wanted))) => is_begun(&begin, plan, wanted, nonce),
+        (Ok(begin), Ok((plan, wanted))) => is_begun(begin, plan, wanted, nonce),
         (Err(BeginFault::Broken(rule, own)), Err((number, code))) => {
-            rule.table == RuleTable::B && rule.number == number && own == code
+            rule.table == RuleTable::B && rule.number == number && *own == code
         }
         _ => false,
     }
@@ -457,7 +457,8 @@ fn begins_so(alloc: Global, row: &Row) -> bool {
     };
     let asked = asked_list(alloc, asked, *nonce);
     let facts = facts_of(alloc, asked, key, material.len());
-    is_answered(plan_begin(alloc, &facts, material), *nonce, *expected)
+    let answer = plan_begin(alloc, &facts, material);
+    is_answered(&answer, *nonce, *expected)
 }
 
 #[test]
