@@ -1,6 +1,6 @@
 //! The forms of the command line.
 
-ghost use Rattle.std.specs.Prelude.{◌≡◌, Some, None, codes, if◌then◌else◌, IfSome};
+ghost use Rattle.std.specs.Prelude.{◌≡◌, true, false, Some, None, codes, if◌then◌else◌, IfSome};
 ghost use Rattle.std.specs.Str.{bytes_eq};
 ghost use Rattle.keystore_run.specs.Words as spec;
 ghost use Rattle.keystore_run.specs.Words.{IsWithin};
