@@ -1,7 +1,8 @@
 use Rattle.std.proofs.Common.{arith}
-use mir.Syntax.{named}
+use mir.Syntax.{named, of_param}
+use denote.Exit.{no}
 use denote.Param.{param}
-use denote.Param.Send.{param_send, param_sync}
+use denote.Param.Send.{Quiet-if}
 use Rattle.keystore_server.proofs.Sending.{caller_send}
 use Rattle.keystore_server.proofs.Pairing.{all_answered, all_free, passes_same, passes_served}
 use Rattle.keystore_server.proofs.listening.serve_listener.Goals as goal
@@ -25,6 +26,6 @@ returns-clause-served g c =
 
 pub serve_by-listener-requires-send-A : goal.serve_by-listener-requires-send-A
 serve_by-listener-requires-send-A g c κs within =
-    let caller = caller_send (param 2 g.row.D) (param 3 g.row.N) (param 4 g.row.C) (param 5 g.row.G) g.D.Disk g.N.Entropy (record { mir = named 0; lft = κs.1.1.1.1.0 })
-    (param_send 2 g.row.D c.type_bounds.send-D) (param_send 3 g.row.N c.type_bounds.send-N) (param_sync 4 g.row.C c.type_bounds.sync-C) (param_sync 5 g.row.G c.type_bounds.sync-G) in
-    record { owned = caller.owned; leaving = caller.leaving }
+    let caller = caller_send (param 2 g.row.D) (param 3 g.row.N) (param 4 g.row.C) (param 5 g.row.G) g.D.Disk g.N.Entropy (record { mir = named 4; lft = κs.1.1.1.1.0 })
+    c.type_bounds.send-D c.type_bounds.send-N c.type_bounds.sync-C c.type_bounds.sync-G in
+    record { owned = caller.owned; leaving = λ k. Quiet-if (k (of_param 2)) _ _ (caller.leaving no) (λ x w. tt) }
