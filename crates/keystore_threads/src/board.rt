@@ -11,6 +11,7 @@ const LOOKS: u64 = 1_000_000_000;
 #[derive(Debug, Drop)]
 pub struct Board {
     raised: AtomicU64,
+    tickets: AtomicU64,
     admitted: AtomicU64,
     right: AtomicU64,
     full: AtomicU64,
@@ -23,6 +24,7 @@ impl Board {
     pub fn new(holds: bool) -> Board {
         Board {
             raised: AtomicU64::new(0),
+            tickets: AtomicU64::new(0),
             admitted: AtomicU64::new(0),
             right: AtomicU64::new(0),
             full: AtomicU64::new(0),
@@ -61,6 +63,11 @@ impl Board {
         self.missed.fetch_add(counts.missed, Ordering::SeqCst);
     }
 
+    /// The sum of the tickets with which the gate was called.
+    pub fn tickets(&self) -> u64 {
+        self.tickets.load(Ordering::SeqCst)
+    }
+
     /// What all calls came to.
     pub fn counts(&self) -> Counts {
         Counts {
@@ -73,7 +80,8 @@ impl Board {
 }
 
 impl Gate for Board {
-    fn between(&self, _ticket: u64) {
+    fn between(&self, ticket: u64) {
+        self.tickets.fetch_add(ticket, Ordering::SeqCst);
         if self.holds {
             self.raise();
             self.wait_for(2);

@@ -30,12 +30,14 @@ static HELD: Plan = Plan {
     holds: true,
 };
 
-/// How many calls of a load are admitted at least, give the known answer and find the run full, and how many entries the book has.
+/// How many calls of a load are admitted at least, give the known answer and find the run full, the sum of the tickets with which the
+/// gate is called, and how many entries the book has.
 #[derive(Clone, Copy)]
 struct Wanted {
     admitted: u64,
     right: u64,
     full: u64,
+    tickets: u64,
     entries: usize,
 }
 
@@ -66,6 +68,7 @@ fn comes_to<R: Threads + Wait + Sync>(
         && counts.right == wanted.right
         && counts.full == wanted.full
         && counts.missed == 0
+        && board.tickets() == wanted.tickets
 }
 
 #[test]
@@ -74,6 +77,7 @@ fn two_threads_sign_and_the_book_has_ten_entries(rt: HostRuntime) -> Result<(), 
         admitted: 8,
         right: 2,
         full: 0,
+        tickets: 3,
         entries: 10,
     };
     let came = comes_to(&rt, rt.alloc(), &MACS, 1, 2, wanted);
@@ -87,6 +91,7 @@ fn eight_threads_use_a_limited_key_so_often_and_no_oftener(rt: HostRuntime) -> R
         admitted: 75,
         right: 29,
         full: 0,
+        tickets: 435,
         entries: 142,
     };
     let came = comes_to(&rt, rt.alloc(), &USES, 3, 8, wanted);
@@ -100,6 +105,7 @@ fn a_held_call_holds_no_other(rt: HostRuntime) -> Result<(), Fail> {
         admitted: 5,
         right: 0,
         full: 0,
+        tickets: 1,
         entries: 6,
     };
     let came = comes_to(&rt, rt.alloc(), &HELD, 0, 2, wanted);
@@ -113,6 +119,7 @@ fn a_full_book_still_takes_the_disconnect(rt: HostRuntime) -> Result<(), Fail> {
         admitted: 1_048_575,
         right: 1_048_573,
         full: 1,
+        tickets: 0,
         entries: 1_048_575,
     };
     let came = comes_to(&rt, rt.alloc(), &FILLS, 1_048_573, 1, wanted);
