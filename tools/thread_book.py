@@ -6,8 +6,8 @@
 The program of `crates/keystore_threads`, which `rt run` leaves there, has N threads (8 without the word) make macs with a key of their
 own and with one that all use and that five uses end, and writes its book as it stands in memory. The events of that book, in its order,
 go to second_model.py, which has to give the same replies and to draw the same bytes. Counted are the macs of the key that all use, of
-which there may be no more than its limit, and all macs, which have to be those that the threads were given. The exit status is 1 where
-a book differs. It needs the Python package `cryptography`."""
+which there may be no more than its limit, and all macs, which have to be those that the threads were given. It says nothing where all is
+well, and ends with status 1 where a book differs. Where the Python package `cryptography` is not there, it replays none and says so."""
 import argparse
 import pathlib
 import re
@@ -15,7 +15,11 @@ import subprocess
 import sys
 
 from keystore_client import NAMES
-from second_model import Service
+
+try:
+    from second_model import Service
+except ImportError:
+    Service = None
 
 PROGRAM = pathlib.Path(__file__).resolve().parent.parent / "crates" / "keystore_threads" / "out" / "keystore_threads"
 SLOTS = 64
@@ -146,7 +150,7 @@ def macs_of(lines):
 
 
 def check_run(rounds, threads):
-    """Looks at the book of one run, and gives how many entries it has."""
+    """Looks at the book of one run."""
     said = subprocess.run([PROGRAM, "book", str(rounds), str(threads)], capture_output=True, text=True, check=True).stdout.splitlines()
     book, last = said[:-1], said[-1]
     macs, shared = macs_of(book)
@@ -154,7 +158,6 @@ def check_run(rounds, threads):
         raise Differs(f"{macs} macs, {shared} of them of the key that all use")
     if last != f"{threads} threads: {macs} macs, {len(book)} entries":
         raise Differs(f"the threads were told otherwise: {last}")
-    return len(book)
 
 
 def main():
@@ -165,11 +168,14 @@ def main():
     words = parser.parse_args()
     if not PROGRAM.exists():
         sys.exit("tools/thread_book.py: there is no program yet: run `rt run` in crates/keystore_threads")
+    if Service is None:
+        print("tools/thread_book.py: without the package `cryptography` no book is replayed")
+        return
     try:
-        entries = sum(check_run(words.rounds, words.threads) for _run in range(words.runs))
+        for _run in range(words.runs):
+            check_run(words.rounds, words.threads)
     except Differs as differs:
         sys.exit(f"tools/thread_book.py: {differs}")
-    print(f"{words.runs} books, {entries} entries: each reply is the second model's")
 
 
 if __name__ == "__main__":

@@ -1,1 +1,1 @@
-mod Lengths
+mod Numbers

@@ -1,35 +1,39 @@
 //! What threads tell one another.
 
 use crate::counts::Counts;
+use crate::plan::Plan;
 use ks_outside::Gate;
 use std::sync::atomic::{AtomicU64, Ordering};
 
 /// How often a signal is looked for before a thread goes on without it.
 const LOOKS: u64 = 1_000_000_000;
 
-/// The signals of threads, and what all their calls came to. It is the gate of their calls too.
+/// What all threads of a load do and how often they make a round, their signals, and what their calls came to. It is the gate of their
+/// calls too.
 #[derive(Debug, Drop)]
 pub struct Board {
+    pub plan: &'static Plan,
+    pub rounds: u32,
     raised: AtomicU64,
     tickets: AtomicU64,
     admitted: AtomicU64,
     right: AtomicU64,
     full: AtomicU64,
     missed: AtomicU64,
-    holds: bool,
 }
 
 impl Board {
-    /// A board whose gate holds each work until two signals were raised, or holds none.
-    pub fn new(holds: bool) -> Board {
+    /// The board of a load that was not begun.
+    pub fn new(plan: &'static Plan, rounds: u32) -> Board {
         Board {
+            plan,
+            rounds,
             raised: AtomicU64::new(0),
             tickets: AtomicU64::new(0),
             admitted: AtomicU64::new(0),
             right: AtomicU64::new(0),
             full: AtomicU64::new(0),
             missed: AtomicU64::new(0),
-            holds,
         }
     }
 
@@ -82,7 +86,7 @@ impl Board {
 impl Gate for Board {
     fn between(&self, ticket: u64) {
         self.tickets.fetch_add(ticket, Ordering::SeqCst);
-        if self.holds {
+        if self.plan.holds {
             self.raise();
             self.wait_for(2);
         }

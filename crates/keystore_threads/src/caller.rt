@@ -1,25 +1,19 @@
 //! One thread's calls.
 
 ghost use Rattle.std.specs.Prelude.{◌≡◌};
-ghost use Rattle.shared_service.specs.Passes.{IsOurs, number_of};
+ghost use Rattle.shared_service.specs.Passes.{number_of};
 ghost use Rattle.keystore_threads.specs.Callers.{Goes, IsFor};
+ghost use Rattle.keystore_threads.specs.Services.{IsPassOf};
 
 use crate::board::Board;
 use crate::counts::{Counts, NO_CALLS};
-use crate::opening::Service;
-use crate::plan::{Call, Plan};
+use crate::plan::Call;
 use crate::requests::request_of;
-use ks_outside::Reading;
+use crate::service::Service;
 use rule_model::Reply;
 use shared_service::{Pass, Served};
 use std::alloc::Global;
 use std::sync::Wait;
-
-/// The reading of each call.
-const NOW: Reading = Reading {
-    boot: 0,
-    wall: 1000,
-};
 
 /// Who calls: a pass, the operation that it began last, and what its calls came to.
 #[derive(Drop)]
@@ -27,14 +21,6 @@ pub struct Caller {
     pass: Pass,
     op: u64,
     counts: Counts,
-}
-
-/// What all threads of a load do, how often they make a round, and what they tell one another.
-#[derive(Clone, Copy)]
-pub struct Load<'a> {
-    pub plan: &'a Plan,
-    pub rounds: u32,
-    pub board: &'a Board,
 }
 
 /// The operation that was begun last, after an answer.
@@ -49,13 +35,13 @@ fn op_after(op: u64, served: &Served) -> u64 {
 fn make<R: Wait>(
     rt: &R,
     alloc: Global,
-    shared: &Service,
+    service: &Service,
     caller: Caller,
     call: Call,
     board: &Board,
 ) -> Caller
-    requires ours { IsFor shared.now caller }
-    ensures goes { Goes shared.now caller result }
+    requires ours { IsFor service.now caller }
+    ensures goes { Goes service.now caller result }
 {
     let Caller { pass, op, counts } = caller;
     let Some(request) = request_of(alloc, call, pass.number(), op) else {
@@ -65,7 +51,7 @@ fn make<R: Wait>(
             counts: counts.with_missed(),
         };
     };
-    let (pass, served) = shared.call(rt, pass, NOW, request, board);
+    let (pass, served) = service.call(rt, pass, request, board);
     let op = op_after(op, &served);
     let counts = counts.with(&served);
     Caller { pass, op, counts }
@@ -75,17 +61,17 @@ fn make<R: Wait>(
 fn make_all<R: Wait>(
     rt: &R,
     alloc: Global,
-    shared: &Service,
+    service: &Service,
     caller: Caller,
     calls: &[Call],
     board: &Board,
 ) -> Caller
-    requires ours { IsFor shared.now caller }
-    ensures goes { Goes shared.now caller result }
+    requires ours { IsFor service.now caller }
+    ensures goes { Goes service.now caller result }
 {
     let mut caller = caller;
     for call in calls {
-        let next = make(rt, alloc, shared, caller, *call, board);
+        let next = make(rt, alloc, service, caller, *call, board);
         caller = next;
     }
     caller
@@ -95,28 +81,28 @@ fn make_all<R: Wait>(
 fn make_rounds<R: Wait>(
     rt: &R,
     alloc: Global,
-    shared: &Service,
+    service: &Service,
     caller: Caller,
-    load: Load<'_>,
+    board: &Board,
 ) -> Caller
-    requires ours { IsFor shared.now caller }
-    ensures goes { Goes shared.now caller result }
+    requires ours { IsFor service.now caller }
+    ensures goes { Goes service.now caller result }
 {
     let mut caller = caller;
-    for _round in 0..load.rounds {
-        let next = make_all(rt, alloc, shared, caller, load.plan.round, load.board);
+    for _round in 0..board.rounds {
+        let next = make_all(rt, alloc, service, caller, board.plan.round, board);
         caller = next;
     }
     caller
 }
 
 /// Makes the calls of one thread, behind the first calls of the first one, and says what they came to.
-pub fn work<R: Wait>(rt: &R, alloc: Global, shared: &Service, pass: Pass, load: Load<'_>) -> Pass
-    requires ours { IsOurs shared.now pass }
-    ensures ours { IsOurs shared.now result }
+pub fn work<R: Wait>(rt: &R, alloc: Global, service: &Service, pass: Pass, board: &Board) -> Pass
+    requires ours { IsPassOf service.now pass }
+    ensures ours { IsPassOf service.now result }
     ensures number { number_of result ≡ number_of pass }
 {
-    let Load { plan, board, .. } = load;
+    let plan = board.plan;
     let number = pass.number();
     board.let_in(number);
     let caller = Caller {
@@ -124,10 +110,10 @@ pub fn work<R: Wait>(rt: &R, alloc: Global, shared: &Service, pass: Pass, load: 
         op: 0,
         counts: NO_CALLS,
     };
-    let caller = make_all(rt, alloc, shared, caller, plan.beginning(number), board);
+    let caller = make_all(rt, alloc, service, caller, plan.beginning(number), board);
     board.raise();
-    let caller = make_rounds(rt, alloc, shared, caller, load);
-    let Caller { pass, counts, .. } = make_all(rt, alloc, shared, caller, plan.last, board);
+    let caller = make_rounds(rt, alloc, service, caller, board);
+    let Caller { pass, counts, .. } = make_all(rt, alloc, service, caller, plan.last, board);
     board.add(counts);
     pass
 }

@@ -15,16 +15,15 @@
 mod board;
 mod caller;
 mod counts;
-mod opening;
 mod plan;
 mod requests;
 mod running;
+mod service;
 #[cfg(test)]
 mod tests;
 mod words;
 
 use crate::board::Board;
-use crate::caller::Load;
 use crate::running::run;
 use crate::words::{Kind, Words};
 use std::io;
@@ -35,14 +34,8 @@ fn main(rt: HostRuntime) -> io::Result<ExitCode> {
         println!(rt; "keystore_threads: macs, updates or book, ROUNDS, and THREADS from 1 to 64")?;
         return Ok(ExitCode::from(2));
     };
-    let plan = words.kind.plan();
-    let board = Board::new(plan.holds);
-    let load = Load {
-        plan,
-        rounds: words.rounds,
-        board: &board,
-    };
-    let Some(book) = run(&rt, rt.alloc(), load, words.threads) else {
+    let board = Board::new(words.kind.plan(), words.rounds);
+    let Some(book) = run(&rt, rt.alloc(), &board, words.threads) else {
         println!(rt; "keystore_threads: want of memory")?;
         return Ok(ExitCode::from(1));
     };

@@ -1,10 +1,12 @@
 //! All threads of a load.
 
-ghost use Rattle.std.specs.Prelude.{◌≡◌, ◌×◌, ◌<◌, All, length, IfOk};
-ghost use Rattle.shared_service.specs.Passes.{AreNumbered, IsOurs, number_of, passes_of};
+ghost use Rattle.std.specs.Prelude.{◌≡◌, ◌<◌, All, length, IfOk};
+ghost use Rattle.shared_service.specs.Passes.{AreNumbered, number_of};
+ghost use Rattle.keystore_threads.specs.Services.{IsPassOf};
 
-use crate::caller::{Load, work};
-use crate::opening::{Service, opened};
+use crate::board::Board;
+use crate::caller::work;
+use crate::service::Service;
 use service_book::Book;
 use shared_service::Pass;
 use std::alloc::{AllocError, Global};
@@ -16,13 +18,13 @@ use std::thread::Threads;
 fn work_all<R: Threads + Wait + Sync>(
     rt: &R,
     alloc: Global,
-    shared: &Service,
+    service: &Service,
     passes: Vec<Pass>,
-    load: Load<'_>,
+    board: &Board,
 ) -> Result<Vec<Pass>, AllocError>
-    requires ours { All (IsOurs shared.now) passes.items }
+    requires ours { All (IsPassOf service.now) passes.items }
     requires numbers { AreNumbered passes.items }
-    ensures ours { IfOk result (λ v. All (IsOurs shared.now) v.items) }
+    ensures ours { IfOk result (λ v. All (IsPassOf service.now) v.items) }
     ensures numbers { IfOk result (λ v. AreNumbered v.items) }
     ensures count { IfOk result (λ v. length v.items ≡ length passes.items) }
 {
@@ -30,35 +32,24 @@ fn work_all<R: Threads + Wait + Sync>(
         rt,
         passes,
         &|pass: Pass| -> Pass
-            requires { IsOurs shared.now pass }
-            ensures { IsOurs shared.entry.now result × (number_of result ≡ number_of pass) }
-        { work(rt, alloc, shared, pass, load) },
+            requires { IsPassOf service.now pass }
+            ensures { IsPassOf service.entry.now result × (number_of result ≡ number_of pass) }
+        { work(rt, alloc, service, pass, board) },
     )
-}
-
-/// The book of a service that ends with all its passes, in their order.
-fn book_of<R: Wait>(rt: &R, shared: Service, passes: Vec<Pass>) -> Book
-    requires some { 0 < passes_of shared }
-    requires ours { All (IsOurs shared) passes.items }
-    requires numbers { AreNumbered passes.items }
-    requires count { length passes.items ≡ passes_of shared }
-{
-    let (_engine, _disk, _entropy, book) = shared.close(rt, passes);
-    book
 }
 
 /// The book of a service that so many threads called, where there is memory for it.
 pub fn run<R: Threads + Wait + Sync>(
     rt: &R,
     alloc: Global,
-    load: Load<'_>,
+    board: &Board,
     threads: u32,
 ) -> Option<Book>
     requires some { 0 < threads }
 {
-    let (shared, passes) = opened(alloc, threads)?;
-    match work_all(rt, alloc, &shared, passes, load) {
-        Ok(passes) => Some(book_of(rt, shared, passes)),
+    let (service, passes) = Service::open(alloc, threads)?;
+    match work_all(rt, alloc, &service, passes, board) {
+        Ok(passes) => Some(service.close(rt, passes)),
         Err(_) => None,
     }
 }

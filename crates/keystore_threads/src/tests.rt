@@ -3,7 +3,6 @@
 ghost use Rattle.std.specs.Prelude.{◌<◌};
 
 use crate::board::Board;
-use crate::caller::Load;
 use crate::plan::{Call, MACS, Plan, USES};
 use crate::running::run;
 use std::alloc::Global;
@@ -45,20 +44,15 @@ struct Wanted {
 fn comes_to<R: Threads + Wait + Sync>(
     rt: &R,
     alloc: Global,
-    plan: &Plan,
+    plan: &'static Plan,
     rounds: u32,
     threads: u32,
     wanted: Wanted,
 ) -> bool
     requires some { 0 < threads }
 {
-    let board = Board::new(plan.holds);
-    let load = Load {
-        plan,
-        rounds,
-        board: &board,
-    };
-    let entries = match run(rt, alloc, load, threads) {
+    let board = Board::new(plan, rounds);
+    let entries = match run(rt, alloc, &board, threads) {
         Some(book) => book.entries().len(),
         None => 0,
     };
