@@ -60,14 +60,14 @@ def policy(*rows):
 
 
 MANY = [[1000 + number, 7, 16] for number in range(256)]
-WRONG_DEVICES = [DEVICE[:-1], DEVICE + b"\0", b"", FOLDER]
+WRONG_DEVICES = [DEVICE[:-1], DEVICE + b"\0", DEVICE[:32], b"", FOLDER]
 RIGHT_POLICIES = [
-    policy(), policy(*MANY), policy([4294967295, 18446744073709551615, 4294967295]), b" [ [1,2,3] ,\n [1,2,4]]\n",
+    policy(), policy(*MANY), policy([4294967295, 18446744073709551615, 4294967295]), b" [ [1,2,3] ,\n [1,2,4]]\n", b" [ ]\n",
 ]
 WRONG_POLICIES = [
     policy(*MANY, [1, 2, 3]), policy([1, 2]), policy([1, 2, 3, 4]), policy([4294967296, 0, 0]), policy([0, 18446744073709551616, 0]),
     policy([0, 0, 4294967296]), policy([-1, 0, 0]), policy([1.5, 0, 0]), policy(["1", 0, 0]), policy(None), policy({}), b"{}", b"", b"[[1,2,3]",
-    b"[[1,2,3]]x", b"[[1,2,3],]", b"\xff", b"null", FOLDER,
+    b"[[1,2,3]]x", b"[[1,2,3]],", b"[[1,2,3],]", b"[1,2,3]", b"[[1,2,3.0]]", b"[[1,2,null]]", b"\xff", b"[\xff]", b"null", FOLDER,
 ]
 USAGE = ("", 2, "keystore2: usage")
 

@@ -3,8 +3,8 @@
 
     python3 tools/frames.py
 
-prints the tables that stand in `crates/frame_tests/src/frames.rt`. It shares no code with the crate: it is the
-independent writer that the tests of `wire_frames` compare with."""
+prints the tables that stand in `crates/frame_tests/src/frames.rt`: beside each frame its act, as Rust's `Debug` writes it. It
+shares no code with the crate: it is the independent writer that the tests of `wire_frames` compare with."""
 
 
 def number(value, size):
@@ -27,16 +27,55 @@ def optional(text):
     return b"\x00" if text is None else b"\x01" + counted(text)
 
 
-def key(domain, nspace, alias, blob):
-    return u32(domain) + u64(nspace) + optional(alias) + optional(blob)
-
-
 def frame(body):
     return u32(len(body)) + body
 
 
-def act(number_of_act, *fields):
-    return frame(bytes([number_of_act]) + b"".join(fields))
+def owned(text):
+    return f"Bytes {{ bytes: {list(text)} }}"
+
+
+def maybe(text):
+    return "None" if text is None else f"Some({owned(text)})"
+
+
+# The fields of an act: what a frame has of each, and how Rust writes it.
+
+
+def short(name, value):
+    return u32(value), f"{name}: {value}"
+
+
+def long(name, value):
+    return u64(value), f"{name}: {value}"
+
+
+def flag(name, value):
+    return bytes([value]), f"{name}: {str(value).lower()}"
+
+
+def text(name, value):
+    return counted(value), f"{name}: {owned(value)}"
+
+
+def given(name, value):
+    return optional(value), f"{name}: {maybe(value)}"
+
+
+def raw(name, value):
+    return value, f"{name}: {list(value)}"
+
+
+def key(domain, nspace, alias, blob):
+    parts = [short("domain", domain), long("nspace", nspace), given("alias", alias), given("blob", blob)]
+    return b"".join(part for part, _ in parts), f"key: Descriptor {{ {', '.join(spelled for _, spelled in parts)} }}"
+
+
+def act(number_of_act, name, *fields):
+    """The frame of an act, and the act in words."""
+    body = bytes([number_of_act]) + b"".join(part for part, _ in fields)
+    words = ", ".join(spelled for _, spelled in fields)
+    return frame(body), f"{name} {{ {words} }}" if fields else name
 
 
 ALIAS = key(0, 10001, b"m", None)
@@ -44,26 +83,27 @@ BLOB = key(3, 0, None, b"\xaa\xbb")
 BOTH = key(4294967295, 18446744073709551615, b"", b"\x00")
 
 REQUESTS = [
-    act(1, u32(10001)),
-    act(3, ALIAS, counted(b"\x00\x00")),
-    act(4, BLOB, counted(b"\x00\x01\x02"), u32(3), counted(b"\x11" * 16)),
-    act(5, BOTH, counted(b""), b"\x01"),
-    act(6, u64(7), counted(b"ad")),
-    act(7, u64(8), counted(b"text")),
-    act(8, u64(9), counted(b""), optional(b"\x5a\x5b")),
-    act(9, u64(72623859790382856)),
-    act(10, ALIAS),
-    act(11, BLOB),
-    act(12, ALIAS, u32(10002), u32(260)),
-    act(13, ALIAS, u32(10003)),
-    act(14, u32(2), u64(101)),
-    act(15, u32(0), u64(5), optional(b"a")),
-    act(16, u64(1), u64(2), u64(3), u32(4), u64(5), bytes(range(32))),
-    act(17, u32(0)),
-    act(18, u32(42949)),
-    act(19),
-    act(20, u32(2), u64(100)),
-    act(21, u32(10)),
+    act(1, "Connect", short("uid", 10001)),
+    act(3, "GenerateKey", ALIAS, text("params", b"\x00\x00")),
+    act(4, "ImportKey", BLOB, text("params", b"\x00\x01\x02"), short("format", 3), text("material", b"\x11" * 16)),
+    act(5, "CreateOperation", BOTH, text("params", b""), flag("forced", True)),
+    act(6, "EnterAad", long("op", 7), text("input", b"ad")),
+    act(7, "EnterUpdate", long("op", 8), text("input", b"text")),
+    act(8, "EnterFinish", long("op", 9), text("input", b""), given("signature", b"\x5a\x5b")),
+    act(9, "Abort", long("op", 72623859790382856)),
+    act(10, "GetKeyEntry", ALIAS),
+    act(11, "DeleteKey", BLOB),
+    act(12, "Grant", ALIAS, short("uid", 10002), short("bits", 260)),
+    act(13, "Ungrant", ALIAS, short("uid", 10003)),
+    act(14, "GetNumberOfEntries", short("domain", 2), long("nspace", 101)),
+    act(15, "ListEntriesBatched", short("domain", 0), long("nspace", 5), given("past", b"a")),
+    act(16, "AddAuthToken", long("challenge", 1), long("user", 2), long("authenticator", 3), short("kind", 4), long("time", 5),
+        raw("mac", bytes(range(32)))),
+    act(17, "DeviceLocked", short("user", 0)),
+    act(18, "DeviceUnlocked", short("user", 42949)),
+    act(19, "EarlyBootEnded"),
+    act(20, "ClearNamespace", short("domain", 2), long("nspace", 100)),
+    act(21, "UserRemoved", short("user", 10)),
 ]
 
 
@@ -89,11 +129,13 @@ def literal(text):
 
 
 def main():
-    for name, rows in (("FRAMES", REQUESTS), ("REPLIES", REPLIES)):
-        print(f"static {name}: [&[u8]; {len(rows)}] = [")
-        for row in rows:
-            print(f"    {literal(row)},")
-        print("];")
+    print(f"static FRAMES: [(&[u8], &str); {len(REQUESTS)}] = [")
+    for row, words in REQUESTS:
+        print(f"    ({literal(row)}, \"{words}\"),")
+    print(f"];\n\nstatic REPLIES: [&[u8]; {len(REPLIES)}] = [")
+    for row in REPLIES:
+        print(f"    {literal(row)},")
+    print("];")
 
 
 if __name__ == "__main__":

@@ -5,7 +5,5 @@
 #![tactic(auto)]
 
 mod compare;
-#[cfg(test)]
-mod tests;
 
 pub use compare::same_bytes;

@@ -9,8 +9,6 @@ mod answerer;
 mod answering;
 mod connection;
 mod end;
-#[cfg(test)]
-mod tests;
 mod writing;
 
 pub use answerer::Answerer;

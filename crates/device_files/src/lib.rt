@@ -9,8 +9,6 @@ mod device;
 mod fault;
 mod files;
 mod policy;
-#[cfg(test)]
-mod tests;
 
 pub use device::device_in;
 pub use fault::FileFault;

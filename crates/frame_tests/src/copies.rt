@@ -11,50 +11,69 @@ use std::test::Fail;
 use tags::{Bytes, Code, NoMemory};
 use wire_frames::reply_frame;
 
-/// Whether an act is the finish of `finishing`.
-fn is_finish(act: &Act) -> bool {
-    match act {
-        Act::EnterFinish {
-            op,
-            input,
-            signature: Some(signature),
-        } => *op == 9
-            && input.as_slice() == b"text".as_slice()
-            && signature.as_slice() == b"\x5a".as_slice(),
-        _ => false,
+/// Bytes; none where memory is wanting, so that what is compared is then another.
+fn bytes(alloc: Global, text: &[u8]) -> Bytes {
+    match Bytes::copy_of(alloc, text) {
+        Ok(bytes) => bytes,
+        Err(_) => Bytes::empty(alloc),
     }
 }
 
-fn finishing(alloc: Global) -> Result<Event, NoMemory> {
-    let input = Bytes::copy_of(alloc, b"text")?;
-    let signature = Some(Bytes::copy_of(alloc, b"\x5a")?);
-    Ok(Event {
+/// A finish.
+fn finishing(alloc: Global) -> Event {
+    Event {
         reading: Reading { boot: 3, wall: 5 },
         client: 2,
         act: Act::EnterFinish {
             op: 9,
-            input,
-            signature,
+            input: bytes(alloc, b"text"),
+            signature: Some(bytes(alloc, b"\x5a")),
         },
-    })
+    }
 }
+
+/// The copy of an event in words.
+fn words_of_copy(alloc: Global, event: &Event) -> Option<String> {
+    match event.copy(alloc) {
+        Ok(copy) => format!(in alloc; "{copy:?}").ok(),
+        Err(_) => None,
+    }
+}
+
+const FINISHING: &str =
+    "Event { reading: Reading { boot: 3, wall: 5 }, client: 2, act: EnterFinish { op: 9, input: Bytes { bytes: [116, 101, 120, 116] }, signature: Some(Bytes { bytes: [90] }) } }";
 
 #[test]
 fn an_event_is_copied(rt: HostRuntime) -> Result<(), Fail> {
-    let copy = finishing(rt.alloc())?.copy(rt.alloc())?;
-    assert!(&rt; copy.reading == Reading { boot: 3, wall: 5 } && copy.client == 2);
-    assert!(&rt; is_finish(&copy.act));
+    let event = finishing(rt.alloc());
+    let copy = words_of_copy(rt.alloc(), &event);
+    drop(event);
+    let copy = copy.ok_or("memory")?;
+    assert_eq!(rt; copy.as_str(), FINISHING);
     Ok(())
 }
 
 /// Whether the copy of a reply of such an act, with an output of at most `out` bytes, has the reply's frame.
-fn is_copied(alloc: Global, act: &Act, out: u64, reply: &Reply) -> Result<bool, Fail>
+fn is_copied(alloc: Global, act: &Act, out: u64, reply: &Reply) -> bool
     requires fits { Fits (sizes_of act.now out) reply.now }
     requires short { length (reply_body reply.now) < 2 ^ 32 }
 {
-    let copy = ReplyRoom::of(alloc, act, out)?.copy(reply);
-    let wanted = reply_frame(alloc, reply)?;
-    Ok(reply_frame(alloc, &copy)?.as_slice() == wanted.as_slice())
+    let Ok(room) = ReplyRoom::of(alloc, act, out) else {
+        return false;
+    };
+    let copy = room.copy(reply);
+    has_frame_of(alloc, &copy, reply)
+}
+
+/// Whether two replies have one frame.
+fn has_frame_of(alloc: Global, copy: &Reply, reply: &Reply) -> bool
+    requires copy { length (reply_body copy.now) < 2 ^ 32 }
+    requires reply { length (reply_body reply.now) < 2 ^ 32 }
+{
+    match (reply_frame(alloc, copy), reply_frame(alloc, reply)) {
+        (Ok(found), Ok(wanted)) => found.as_slice() == wanted.as_slice(),
+        _ => false,
+    }
 }
 
 /// A listing of two keys.
@@ -97,17 +116,43 @@ fn stopped() -> Reply
     }
 }
 
-#[test]
-fn replies_are_copied(rt: HostRuntime) -> Result<(), Fail> {
-    let alloc = rt.alloc();
+fn is_listing_copied(alloc: Global, list: &Act) -> bool
+    requires { list.now ≡ ListEntriesBatched 0 0 None }
+{
+    match listing(alloc, list) {
+        Ok(reply) => is_copied(alloc, list, 0, &reply),
+        Err(_) => false,
+    }
+}
+
+fn is_output_copied(alloc: Global, leave: &Act) -> bool
+    requires { leave.now ≡ Leave 1 }
+{
+    match output(alloc, leave) {
+        Ok(reply) => is_copied(alloc, leave, 4, &reply),
+        Err(_) => false,
+    }
+}
+
+/// Whether a call of a leave that was stopped is copied, and one with an output.
+fn are_leaves_copied(alloc: Global) -> (bool, bool) {
+    let leave = Act::Leave { ticket: 1 };
+    let copied = is_output_copied(alloc, &leave);
+    (is_copied(alloc, &leave, 0, &stopped()), copied)
+}
+
+fn are_listings_copied(alloc: Global) -> bool {
     let list = Act::ListEntriesBatched {
         domain: 0,
         nspace: 0,
         past: None,
     };
-    assert!(&rt; is_copied(alloc, &list, 0, &listing(alloc, &list)?)?);
-    let leave = Act::Leave { ticket: 1 };
-    assert!(&rt; is_copied(alloc, &leave, 4, &output(alloc, &leave)?)?);
-    assert!(&rt; is_copied(alloc, &leave, 0, &stopped())?);
-    Ok(())
+    is_listing_copied(alloc, &list)
+}
+
+#[test]
+fn replies_are_copied(rt: HostRuntime) {
+    let leaves = are_leaves_copied(rt.alloc());
+    let told = (leaves, are_listings_copied(rt.alloc()));
+    assert_eq!(rt; told, ((true, true), true));
 }

@@ -22,3 +22,4 @@ pub mod Beginning
 pub mod Stepping
 pub mod Complete
 pub mod Engine
+pub mod Opening

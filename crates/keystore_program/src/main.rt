@@ -1,29 +1,16 @@
 //! `keystore2`: the key service of an Android device for symmetric keys, over a script of calls.
 //!
-//! The one contract is that of `run_words`, in the module `run`: a legal history follows the lines of the input, its
+//! The one contract is that of `run_words`, in `keystore_run`: a legal history follows the lines of the input, its
 //! text is what was written, what was drawn for it is what the entropy gave, and what it changes of what lasts is on the
 //! disk. This file hands the process's words, input and output, the device, the policy and the store of the current folder
 //! and the system's random device to it.
 #![tactic(auto)]
 
-mod answer;
 mod help;
-mod jobs;
-mod reader;
-mod run;
-mod serve;
-mod session;
-mod soak;
-mod status;
-#[cfg(test)]
-mod tests;
-mod words;
-mod writer;
 
 use crate::help::{help_text, version_text};
-use crate::run::run_words;
-use crate::status::Status;
 use device_files::{FileFault, read_device, read_policy};
+use keystore_run::{Status, run_words};
 use ks_outside::{ReaderSource, WriterSink, open_device, open_store};
 use std::process::ExitCode;
 use std::{env, io};

@@ -2,36 +2,16 @@
 //! UTF-8, and lists that no key has. The other rules are in `checks/begins.jsonl` and `checks/begin-lists.jsonl`, the plans
 //! with their nonces in `beginnings.rt`.
 
-use crate::spelled::{MAC_KEY, Pairs, app_key, encoded};
+use crate::spelled::{MAC_KEY, Pairs, app_key, asked_list, begin_facts, key_list};
 use key_domains::Permissions;
-use std::alloc::{AllocError, Global};
-use std::test::Fail;
-use tag_lists::AuthList;
+use std::alloc::Global;
 use tags::{Bytes, Code, Descriptor, Plan, Rule, RuleTable, Tag};
 use use_rules::{BeginFacts, challenge_wanted, check_begin, nonce_given, nonce_wanted};
 
 /// Facts whose lists are these.
-fn begin(alloc: Global, asked: Pairs, key: Pairs) -> Result<BeginFacts, AllocError> {
-    let asked = encoded(alloc, asked, &[], None)?;
-    let key = encoded(alloc, key, &[], None)?;
-    Ok(BeginFacts {
-        connected: true,
-        descriptor: app_key(alloc, b"a")?,
-        row: None,
-        found: true,
-        bits: Permissions::of_bits(256),
-        forced: false,
-        asked: AuthList::read(alloc, &asked).map_err(|_| Code::InvalidTag),
-        opened: AuthList::read(alloc, &key).ok(),
-        fits: true,
-        wall: 1000,
-        user: 0,
-        early_ended: false,
-        unlocked: false,
-        timely: false,
-        begins: 0,
-        room: true,
-    })
+fn begin(alloc: Global, asked: Pairs, key: Pairs) -> BeginFacts {
+    let asked = asked_list(alloc, asked, None);
+    begin_facts(alloc, asked, key_list(alloc, key, &[]), true)
 }
 
 /// Whether the begin breaks this rule first, with this code.
@@ -78,21 +58,19 @@ fn access_breaks(mut facts: BeginFacts, byte: Descriptor, surrogate: Descriptor)
 }
 
 #[test]
-fn a_call_breaks_the_rules_before_its_lists(rt: HostRuntime) -> Result<(), Fail> {
+fn a_call_breaks_the_rules_before_its_lists(rt: HostRuntime) {
     let alloc = rt.alloc();
-    let facts = begin(alloc, SIGN, MAC_KEY)?;
+    let facts = begin(alloc, SIGN, MAC_KEY);
     let plan = check_begin(&facts);
-    let broken = lists_break(facts);
+    let lists = lists_break(facts);
+    let byte = app_key(alloc, b"\xff");
+    let surrogate = app_key(alloc, b"\xed\xa0\x80");
+    let access = access_breaks(begin(alloc, SIGN, MAC_KEY), byte, surrogate);
     let sign = Plan::HmacSign {
         digest: 4,
         size: 32,
     };
-    assert_eq!(rt; (plan, broken), (Ok(sign), [true; 7]));
-    let byte = app_key(alloc, b"\xff")?;
-    let surrogate = app_key(alloc, b"\xed\xa0\x80")?;
-    let broken = access_breaks(begin(alloc, SIGN, MAC_KEY)?, byte, surrogate);
-    assert_eq!(rt; broken, [true; 6]);
-    Ok(())
+    assert!(rt; (plan, lists, access) == (Ok(sign), [true; 7], [true; 6]));
 }
 
 /// A domain, whether there is an alias and a blob, the bits of the policy's row, the caller's bits, whether the begin
@@ -247,22 +225,22 @@ fn at_access(mut facts: BeginFacts, alloc: Global, access: &Access) -> BeginFact
 }
 
 /// Whether facts break this rule first, or none.
-fn breaks_so(facts: BeginFacts, broken: Broken) -> bool {
+fn breaks_so(facts: &BeginFacts, broken: Broken) -> bool {
     match broken {
-        None => check_begin(&facts).is_ok(),
-        Some((number, code)) => breaks(&facts, number, code),
+        None => check_begin(facts).is_ok(),
+        Some((number, code)) => breaks(facts, number, code),
     }
 }
 
 #[test]
-fn each_domain_has_its_form_and_its_rights(rt: HostRuntime) -> Result<(), Fail> {
+fn each_domain_has_its_form_and_its_rights(rt: HostRuntime) {
     let alloc = rt.alloc();
     for (row, access) in ACCESSES.iter().enumerate() {
-        let facts = at_access(begin(alloc, SIGN, MAC_KEY)?, alloc, access);
-        let right = breaks_so(facts, access.5);
+        let facts = at_access(begin(alloc, SIGN, MAC_KEY), alloc, access);
+        let right = breaks_so(&facts, access.5);
+        drop(facts);
         assert!(rt; right, "in row {row}");
     }
-    Ok(())
 }
 
 const SIGN: Pairs = &[(Tag::Purpose, 2), (Tag::MacLength, 256)];
@@ -476,16 +454,14 @@ fn meets(
         ..facts
     };
     let each_time = challenge_wanted(&facts) == 8;
-    (breaks_so(facts, broken), each_time)
+    (breaks_so(&facts, broken), each_time)
 }
 
 #[test]
-fn a_key_works_when_and_for_whom_it_is_made(rt: HostRuntime) -> Result<(), Fail> {
-    let alloc = rt.alloc();
+fn a_key_works_when_and_for_whom_it_is_made(rt: HostRuntime) {
     for (row, (asked, key, readings, states, broken)) in CONDITIONS.iter().enumerate() {
-        let facts = begin(alloc, asked, key)?;
+        let facts = begin(rt.alloc(), asked, key);
         let met = meets(facts, *readings, *states, *broken);
         assert_eq!(rt; met, (true, row == 24), "in row {row}");
     }
-    Ok(())
 }

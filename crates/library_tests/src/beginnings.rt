@@ -1,53 +1,29 @@
 //! What begins: the plan and its nonce.
 
-ghost use Rattle.std.specs.Prelude.{◌≡◌, length, IfOk, true};
+ghost use Rattle.std.specs.Prelude.{◌≡◌, true};
 ghost use Rattle.tag_lists.specs.Lookups.{IsKey};
 ghost use Rattle.use_rules.specs.Table.{key_of};
 
-use crate::spelled::{AES_KEY, GCM_KEY, MAC_KEY, Pairs, app_key, encoded};
-use key_domains::Permissions;
-use key_rules::{read_asked, usable};
+use crate::spelled::{AES_KEY, GCM_KEY, MAC_KEY, Pairs, asked_list, begin_facts, key_list};
+use key_rules::usable;
 use keymint_ops::{Begin, BeginFault, plan_begin};
 use std::alloc::Global;
-use std::test::Fail;
 use tag_lists::AuthList;
 use tags::Tag::{Algorithm, BlockMode, Digest, MacLength, MinMacLength, Padding, Purpose};
 use tags::{Code, Plan, RuleTable};
 use use_rules::BeginFacts;
 
-/// The facts of a begin with this list on a key whose material has so many bytes.
-fn facts_of(
-    alloc: Global,
-    asked: Pairs,
-    nonce: Option<&[u8]>,
-    key: Pairs,
-    size: usize,
-) -> Result<BeginFacts, Fail>
-    ensures { IfOk result (λ facts. facts.fits ≡ true → IsKey (key_of facts) size) }
+/// The facts of a begin on a key whose list is this and whose material has so many bytes.
+fn facts_of(alloc: Global, asked: Result<AuthList, Code>, key: Pairs, size: usize) -> BeginFacts
+    ensures { result.fits ≡ true → IsKey (key_of result) size }
 {
-    let descriptor = app_key(alloc, b"a")?;
-    let params = encoded(alloc, asked, &[], nonce)?;
-    let asked = read_asked(alloc, &params).map_err(|_| "memory")?;
-    let key = AuthList::read(alloc, &encoded(alloc, key, &[], None)?).map_err(|_| "a list")?;
-    let fits = usable(&key, size);
-    Ok(BeginFacts {
-        connected: true,
-        descriptor,
-        row: None,
-        found: true,
-        bits: Permissions::of_bits(256),
-        forced: false,
-        asked,
-        opened: Some(key),
-        fits,
-        wall: 1000,
-        user: 0,
-        early_ended: false,
-        unlocked: false,
-        timely: false,
-        begins: 0,
-        room: true,
-    })
+    match key_list(alloc, key, &[]) {
+        Some(key) => {
+            let fits = usable(&key, size);
+            begin_facts(alloc, asked, Some(key), fits)
+        }
+        None => begin_facts(alloc, asked, None, false),
+    }
 }
 
 /// The operation's list, the nonce in it, the key's list and its bytes; and the plan with the bytes that are drawn, or the
@@ -470,15 +446,24 @@ fn is_answered(
     }
 }
 
+/// Bytes of a material.
+static MATERIAL: [u8; 32] = [1; 32];
+
+/// Whether the begin of a row is answered as it says.
+fn begins_so(alloc: Global, row: &Row) -> bool {
+    let (asked, nonce, key, size, expected) = row;
+    let Some(material) = MATERIAL.get(..*size) else {
+        return false;
+    };
+    let asked = asked_list(alloc, asked, *nonce);
+    let facts = facts_of(alloc, asked, key, material.len());
+    is_answered(plan_begin(alloc, &facts, material), *nonce, *expected)
+}
+
 #[test]
-fn an_operation_begins_with_the_nonce_of_its_mode(rt: HostRuntime) -> Result<(), Fail> {
-    let alloc = rt.alloc();
-    for (row, (asked, nonce, key, size, expected)) in ROWS.iter().enumerate() {
-        let material = vec![in alloc; 1u8; *size]?;
-        let facts = facts_of(alloc, asked, *nonce, key, *size)?;
-        let right = is_answered(plan_begin(alloc, &facts, &material), *nonce, *expected);
-        drop((facts, material));
-        assert!(rt; right, "in row {row}");
+fn an_operation_begins_with_the_nonce_of_its_mode(rt: HostRuntime) {
+    for (number, row) in ROWS.iter().enumerate() {
+        let right = begins_so(rt.alloc(), row);
+        assert!(rt; right, "in row {number}");
     }
-    Ok(())
 }

@@ -1,12 +1,11 @@
 //! A new key's blob, and what a begin reads of it.
 
-use crate::spelled::{Pairs, app_key, encoded};
-use key_rules::{ImportFacts, NewFacts, read_asked};
+use crate::spelled::{Pairs, asked_list, new_facts};
 use keymint_ops::{open_key, plan_key, seal_key};
 use std::alloc::Global;
-use std::process::Abort;
 use std::test::Fail;
-use tags::{Bytes, DeviceSecrets, Tag};
+use tag_lists::AuthList;
+use tags::{Bytes, Code, DeviceSecrets, Tag};
 
 /// An HMAC key of an application with an id and data, one whose id has no bytes, and one of no application.
 const OWNED: Pairs = &[
@@ -58,74 +57,89 @@ static ROWS: [Row; 10] = [
 ];
 
 /// The blob of an imported key with this list, for the demo device.
-fn blob_of(alloc: Global, list: Pairs) -> Result<Bytes, Fail> {
-    let facts = NewFacts {
-        connected: true,
-        descriptor: app_key(alloc, b"k")?,
-        row: None,
-        params: Bytes::of(encoded(alloc, list, &[], None)?),
-        import: Some(ImportFacts {
-            format: 3,
-            length: 32,
-        }),
-        early_ended: false,
-        wall: 1000,
-    };
-    let Ok(key) = plan_key(alloc, &facts) else {
-        return Err(Fail::from("a key"));
-    };
-    let material = Bytes::of(vec![in alloc; 7; 32]?);
-    Ok(seal_key(alloc, &DeviceSecrets::demo(), [9; 12], key.plan, material).map_err(|_| "memory")?)
+fn blob_of(alloc: Global, list: Pairs) -> Option<Bytes> {
+    let material = Bytes::copy_of(alloc, &[7; 32]).ok()?;
+    let facts = new_facts(alloc, b"k", list, Some(32), 1000);
+    let planned = plan_key(alloc, &facts);
+    drop(facts);
+    match planned {
+        Ok(key) => seal_key(alloc, &DeviceSecrets::demo(), [9; 12], key.plan, material).ok(),
+        Err(_) => None,
+    }
 }
 
-/// Whether a blob opens, and whether it is for this device and caller; where it is, its material is there.
+/// Whether a blob opens, and whether it is for this device and caller; where it is, its material and its list are there, and else neither.
 fn opens(
-    rt: &impl Abort,
     alloc: Global,
     device: &DeviceSecrets,
     blob: &[u8],
-    asked: Pairs,
-) -> Result<(bool, bool), Fail> {
-    let asked = read_asked(alloc, &encoded(alloc, asked, &[], None)?).map_err(|_| "memory")?;
-    let key = open_key(alloc, device, blob, &asked).map_err(|_| "memory")?;
-    let material: &[u8] = if key.fits { &[7; 32] } else { &[] };
-    assert_eq!(rt; key.material.as_slice(), material);
-    let named = key
-        .list
-        .as_ref()
-        .is_some_and(|list| list.has(Tag::Origin, 2));
-    assert_eq!(rt; named, key.fits);
-    Ok((key.list.is_some(), key.fits))
+    asked: &Result<AuthList, Code>,
+) -> Option<(bool, bool)> {
+    let Ok(key) = open_key(alloc, device, blob, asked) else {
+        return None;
+    };
+    let own: &[u8] = if key.fits { &[7; 32] } else { &[] };
+    let material = key.material.as_slice() == own;
+    let (opens, named) = match &key.list {
+        Some(list) => (true, list.has(Tag::Origin, 2)),
+        None => (false, false),
+    };
+    if material && named == key.fits {
+        Some((opens, key.fits))
+    } else {
+        None
+    }
+}
+
+/// What comes of the blob of a key with this list, under an operation's list.
+fn told(alloc: Global, list: Pairs, asked: Pairs) -> Option<(bool, bool)> {
+    let blob = blob_of(alloc, list)?;
+    let asked = asked_list(alloc, asked, None);
+    opens(alloc, &DeviceSecrets::demo(), blob.as_slice(), &asked)
 }
 
 #[test]
-fn a_blob_is_for_its_application_alone(rt: HostRuntime) -> Result<(), Fail> {
-    let alloc = rt.alloc();
-    let device = DeviceSecrets::demo();
+fn a_blob_is_for_its_application_alone(rt: HostRuntime) {
     for (row, (list, asked, own)) in ROWS.iter().enumerate() {
-        let blob = blob_of(alloc, list)?;
-        let told = opens(&rt, alloc, &device, blob.as_slice(), asked)?;
-        assert_eq!(rt; told, (true, *own), "in row {row}");
+        let told = told(rt.alloc(), list, asked);
+        assert_eq!(rt; told, Some((true, *own)), "in row {row}");
     }
-    Ok(())
+}
+
+/// What comes of a blob for the demo device on that device, on devices with another secret each, and of no bytes.
+fn on_devices(alloc: Global, blob: &[u8]) -> [Option<(bool, bool)>; 5] {
+    let asked = Ok(AuthList::empty(alloc));
+    let demo = DeviceSecrets::demo();
+    let token = DeviceSecrets {
+        token: [0; 32],
+        ..demo
+    };
+    let root = DeviceSecrets {
+        root: [2; 32],
+        ..token
+    };
+    let seal = DeviceSecrets {
+        seal: [3; 32],
+        ..root
+    };
+    [
+        opens(alloc, &demo, blob, &asked),
+        opens(alloc, &token, blob, &asked),
+        opens(alloc, &root, blob, &asked),
+        opens(alloc, &seal, blob, &asked),
+        opens(alloc, &demo, &[], &asked),
+    ]
 }
 
 #[test]
 fn a_blob_is_for_its_device_and_root_of_trust_alone(rt: HostRuntime) -> Result<(), Fail> {
-    let alloc = rt.alloc();
-    let blob = blob_of(alloc, FREE)?;
-    let blob = blob.as_slice();
-    let mut device = DeviceSecrets::demo();
-    assert_eq!(rt; opens(&rt, alloc, &device, blob, &[])?, (true, true));
-    device.token = [0; 32];
-    assert_eq!(rt; opens(&rt, alloc, &device, blob, &[])?, (true, true));
-    device.root = [2; 32];
-    assert_eq!(rt; opens(&rt, alloc, &device, blob, &[])?, (true, false));
-    device.seal = [3; 32];
-    assert_eq!(rt; opens(&rt, alloc, &device, blob, &[])?, (false, false));
+    let blob = blob_of(rt.alloc(), FREE).ok_or("a blob")?;
+    let told = on_devices(rt.alloc(), blob.as_slice());
+    drop(blob);
+    let (own, other, none) = ((true, true), (true, false), (false, false));
     assert_eq!(rt;
-        opens(&rt, alloc, &DeviceSecrets::demo(), &[], &[])?,
-        (false, false)
+        told,
+        [Some(own), Some(own), Some(other), Some(none), Some(none)]
     );
     Ok(())
 }

@@ -1,8 +1,9 @@
 //! Blocks of AES: the vectors that FIPS 197 and SP 800-38A print, and many blocks at once beside one by one.
 
+ghost use Rattle.std.specs.Prelude.{◌≤◌};
+
 use aes_core::{AesKey, BlockCipher, ManyBlocks};
 use aes_wide::WideAes;
-use std::test::Fail;
 
 /// The keys of FIPS 197, appendix C: the bytes 00, 01, 02 and so on.
 const COUNTING_KEY: [u8; 32] =
@@ -100,16 +101,31 @@ static VECTORS: [Vector; 15] = [
     ),
 ];
 
-#[test]
-fn the_vectors_of_fips_197_and_sp_800_38a_both_ways(rt: HostRuntime) -> Result<(), Fail> {
-    for (key, text, cipher) in &VECTORS {
-        let (text, cipher) = (text.to_be_bytes(), cipher.to_be_bytes());
-        let plain = AesKey::new(key).ok_or("a size")?;
-        let wide = WideAes::new(key).ok_or("a size")?;
-        assert!(rt; plain.encrypt(text) == cipher && plain.decrypt(cipher) == text);
-        assert!(rt; wide.encrypt(text) == cipher && wide.decrypt(cipher) == text);
+/// Whether a block becomes this one, and back, one by one and beside others.
+fn goes_both_ways(vector: &Vector) -> bool {
+    let (key, text, cipher) = vector;
+    let plain = match AesKey::new(key) {
+        Some(key) => goes(&key, *text, *cipher),
+        None => false,
+    };
+    match WideAes::new(key) {
+        Some(key) => goes(&key, *text, *cipher) && plain,
+        None => false,
     }
-    Ok(())
+}
+
+/// Whether a cipher makes the one block of the other, and back.
+fn goes<C: BlockCipher>(key: &C, text: u128, cipher: u128) -> bool {
+    let (text, cipher) = (text.to_be_bytes(), cipher.to_be_bytes());
+    key.encrypt(text) == cipher && key.decrypt(cipher) == text
+}
+
+#[test]
+fn the_vectors_of_fips_197_and_sp_800_38a_both_ways(rt: HostRuntime) {
+    for (row, vector) in VECTORS.iter().enumerate() {
+        let right = goes_both_ways(vector);
+        assert!(rt; right, "in row {row}");
+    }
 }
 
 /// Blocks that differ.
@@ -126,33 +142,55 @@ fn different() -> [[u8; 16]; 33] {
 /// The sizes of a key.
 static SIZES: [usize; 3] = [16, 24, 32];
 
+/// Whether so many blocks at once become what they become one by one, and back.
+fn are_as_one_by_one(plain: &AesKey, wide: &WideAes, count: usize) -> bool
+    requires { count ≤ 33 }
+{
+    let (mut one, mut other) = (different(), different());
+    for block in &mut one[..count] {
+        *block = plain.encrypt(*block);
+    }
+    wide.encrypt_all(&mut other[..count]);
+    let sealed = one == other;
+    plain.decrypt_all(&mut one[..count]);
+    wide.decrypt_all(&mut other[..count]);
+    sealed && one == different() && other == different()
+}
+
+/// Whether each count from 0 to 33 does, under a key.
+fn are_always(key: &[u8]) -> bool {
+    match (AesKey::new(key), WideAes::new(key)) {
+        (Some(plain), Some(wide)) => {
+            let mut same = true;
+            for count in 0..34usize {
+                same &= are_as_one_by_one(&plain, &wide, count);
+            }
+            same
+        }
+        _ => false,
+    }
+}
+
 // As many as go through in one call: none, and about one, two and four groups of eight.
 #[test]
-fn many_blocks_at_once_are_as_one_by_one(rt: HostRuntime) -> Result<(), Fail> {
+fn many_blocks_at_once_are_as_one_by_one(rt: HostRuntime) {
     for size in &SIZES {
-        let plain = AesKey::new(&COUNTING_KEY[..*size]).ok_or("a size")?;
-        let wide = WideAes::new(&COUNTING_KEY[..*size]).ok_or("a size")?;
-        for count in 0..34usize {
-            let (mut one, mut other) = (different(), different());
-            for block in &mut one[..count] {
-                *block = plain.encrypt(*block);
-            }
-            wide.encrypt_all(&mut other[..count]);
-            assert!(rt; one == other, "{count}");
-            plain.decrypt_all(&mut one[..count]);
-            wide.decrypt_all(&mut other[..count]);
-            assert!(rt; one == different() && other == different(), "{count}");
-        }
+        let right = are_always(&COUNTING_KEY[..*size]);
+        assert!(rt; right, "of {size}");
     }
-    Ok(())
 }
 
 #[test]
 fn other_sizes_are_no_keys(rt: HostRuntime) {
     let bytes = [0; 40];
-    for size in 0..41 {
+    let mut other = None;
+    for size in 0..41usize {
         let is_size = size == 16 || size == 24 || size == 32;
-        assert_eq!(rt; AesKey::new(&bytes[..size]).is_some(), is_size);
-        assert_eq!(rt; WideAes::new(&bytes[..size]).is_some(), is_size);
+        let plain = AesKey::new(&bytes[..size]).is_some();
+        let wide = WideAes::new(&bytes[..size]).is_some();
+        if (plain, wide) != (is_size, is_size) {
+            other = Some(size);
+        }
     }
+    assert_eq!(rt; other, None);
 }

@@ -5,7 +5,7 @@ ghost use Rattle.std.specs.Prelude.{◌≡◌, ℕ, Option, None, Some, ◌==◌
 use key_domains::{Access, GrantedRow, KeyLookups, KeyRow, Permission, Permissions, find_key};
 use std::alloc::Global;
 use std::test::Fail;
-use tags::{Bytes, Descriptor, NoMemory, Policy, PolicyRow};
+use tags::{Bytes, Descriptor, Policy, PolicyRow};
 
 /// Keys 1 and 2 of the app 10001, with aliases of 1 and of 256 bytes; key 3 of the namespace 100 and key 4 of the app
 /// 1000, with aliases of 1 byte. Grants 1 and 3 of key 1 and grants 2 and 4 of key 3; the key of grant 9 has ended.
@@ -166,62 +166,69 @@ static CASES: [Case; 46] = [
     (5, 1, Some((1, 97)), 1000, 0, 0),
 ];
 
-fn policy(alloc: Global) -> Result<Option<Policy>, NoMemory> {
+fn policy(alloc: Global) -> Option<Policy> {
     let row = |uid: u32, nspace: u64, bits: u32| PolicyRow { uid, nspace, bits };
-    Ok(Policy::of(vec![in alloc;
+    let rows = vec![in alloc;
         row(1000, 100, 509),
         row(1000, 0, 64),
         row(1000, 100, 1),
         row(10003, 100, 4),
         row(10003, 100, 256),
-    ]?))
+    ];
+    Policy::of(rows.ok()?)
 }
 
-fn descriptor(alloc: Global, case: &Case) -> Result<Descriptor, NoMemory> {
-    let alias = match case.2 {
-        Some((length, byte)) => Some(Bytes::of(vec![in alloc; byte; length]?)),
-        None => None,
-    };
-    Ok(Descriptor {
+/// An alias of so many such bytes.
+fn alias(alloc: Global, of: Option<(usize, u8)>) -> Option<Bytes> {
+    let (length, byte) = of?;
+    let bytes = vec![in alloc; byte; length].ok()?;
+    Some(Bytes::of(bytes))
+}
+
+fn finds(alloc: Global, case: &Case, policy: &Policy) -> bool {
+    let descriptor = Descriptor {
         domain: case.0,
         nspace: case.1,
-        alias,
+        alias: alias(alloc, case.2),
         blob: None,
-    })
+    };
+    match find_key(&descriptor, case.3, policy, &FewKeys) {
+        Access::Found { key, bits } => (key.id, bits.bits()) == (case.4, case.5),
+        Access::Blob { bits } => (BLOB, bits.bits()) == (case.4, case.5),
+        Access::Nothing => case.4 == 0,
+    }
 }
 
-fn finds(alloc: Global, case: &Case, policy: &Policy) -> Result<bool, NoMemory> {
-    let descriptor = descriptor(alloc, case)?;
-    Ok(match find_key(&descriptor, case.3, policy, &FewKeys) {
-        Access::Found { key, bits } => key.id == case.4 && bits.bits() == case.5,
-        Access::Blob { bits } => case.4 == BLOB && bits.bits() == case.5,
-        Access::Nothing => case.4 == 0,
-    })
+/// The number of the last case that finds otherwise.
+fn last_other(alloc: Global, policy: &Policy) -> Option<usize> {
+    let mut other = None;
+    for (number, case) in CASES.iter().enumerate() {
+        if !finds(alloc, case, policy) {
+            other = Some(number);
+        }
+    }
+    other
 }
 
 #[test]
 fn each_domain_finds_its_keys(rt: HostRuntime) -> Result<(), Fail> {
-    let policy = policy(rt.alloc())?.ok_or("five rows are a policy")?;
-    for case in &CASES {
-        assert!(rt;
-            finds(rt.alloc(), case, &policy)?,
-            "in domain {}, nspace {}",
-            case.0,
-            case.1
-        );
-    }
+    let policy = policy(rt.alloc()).ok_or("five rows are a policy")?;
+    let other = last_other(rt.alloc(), &policy);
+    drop(policy);
+    assert_eq!(rt; other, None);
     Ok(())
 }
 
 #[test]
-fn a_grant_passes_on_what_its_giver_has_but_for_the_right_to_grant(
-    rt: HostRuntime,
-) -> Result<(), Fail> {
+fn a_grant_passes_on_what_its_giver_has_but_for_the_right_to_grant(rt: HostRuntime) {
     let owner = Permissions::of_bits(429);
-    assert!(rt; owner.has(Permission::Rebind) && !owner.has(Permission::ManageBlob));
-    assert!(rt; owner.can_share(Permissions::of_bits(260)));
-    assert!(rt; owner.can_share(Permissions::of_bits(0)));
-    assert!(rt; !owner.can_share(Permissions::of_bits(264)));
-    assert!(rt; !owner.can_share(Permissions::of_bits(320)));
-    Ok(())
+    let told = [
+        owner.has(Permission::Rebind),
+        owner.has(Permission::ManageBlob),
+        owner.can_share(Permissions::of_bits(260)),
+        owner.can_share(Permissions::of_bits(0)),
+        owner.can_share(Permissions::of_bits(264)),
+        owner.can_share(Permissions::of_bits(320)),
+    ];
+    assert_eq!(rt; told, [true, false, true, true, false, false]);
 }

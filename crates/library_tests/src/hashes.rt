@@ -151,14 +151,20 @@ static CASES: [Case; 12] = [
     },
 ];
 
+// The hash of blocks, one after another.
+fn in_turn(subkey: u128, blocks: &[u128]) -> u128 {
+    let mut hash = Ghash::new(subkey.to_be_bytes());
+    for block in blocks {
+        hash.absorb(block.to_be_bytes());
+    }
+    u128::from_be_bytes(hash.value())
+}
+
 #[test]
 fn hashes_the_blocks_of_the_gcm_specification(rt: HostRuntime) {
-    for case in &CASES {
-        let mut hash = Ghash::new(case.subkey.to_be_bytes());
-        for block in case.blocks {
-            hash.absorb(block.to_be_bytes());
-        }
-        assert_eq!(rt; u128::from_be_bytes(hash.value()), case.value);
+    for (row, case) in CASES.iter().enumerate() {
+        let value = in_turn(case.subkey, case.blocks);
+        assert!(rt; value == case.value, "in row {row}");
     }
 }
 
@@ -171,22 +177,35 @@ fn bit_by_bit(subkey: u128, blocks: &[[u8; 16]]) -> u128 {
     sum
 }
 
-#[test]
-fn many_blocks_hash_as_bit_by_bit(rt: HostRuntime) {
-    let subkey = 0xacbef205_79b4b8eb_ce889bac_8732dad7u128;
+// A hundred blocks that differ.
+fn hundred() -> [[u8; 16]; 100] {
     let mut blocks = [[0u8; 16]; 100];
     for (i, block) in blocks.iter_mut().enumerate() {
         for (j, byte) in block.iter_mut().enumerate() {
             *byte = ((i * 16 + j) * 37 % 256) as u8;
         }
     }
+    blocks
+}
+
+// Their hash at once, in turn, and bit by bit.
+fn hashed(subkey: u128) -> [u128; 3] {
+    let blocks = hundred();
     let mut at_once = Ghash::new(subkey.to_be_bytes());
     at_once.absorb_all(&blocks);
     let mut in_turn = Ghash::new(subkey.to_be_bytes());
     for block in &blocks {
         in_turn.absorb(*block);
     }
-    let wanted = bit_by_bit(subkey, &blocks);
-    assert_eq!(rt; u128::from_be_bytes(at_once.value()), wanted);
-    assert_eq!(rt; u128::from_be_bytes(in_turn.value()), wanted);
+    [
+        u128::from_be_bytes(at_once.value()),
+        u128::from_be_bytes(in_turn.value()),
+        bit_by_bit(subkey, &blocks),
+    ]
+}
+
+#[test]
+fn many_blocks_hash_as_bit_by_bit(rt: HostRuntime) {
+    let [at_once, in_turn, wanted] = hashed(0xacbef205_79b4b8eb_ce889bac_8732dad7);
+    assert_eq!(rt; (at_once, in_turn), (wanted, wanted));
 }

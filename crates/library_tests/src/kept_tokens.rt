@@ -1,6 +1,6 @@
 //! Which keys a token fits and opens in time, and a store that is full.
 
-use crate::spelled::{Pairs, encoded};
+use crate::spelled::{Pairs, key_list};
 use auth_tokens::AuthToken;
 use std::alloc::Global;
 use std::test::Fail;
@@ -129,11 +129,6 @@ static KEYS: [Key; 7] = [
     },
 ];
 
-/// The list of a key.
-fn list_of(alloc: Global, list: Pairs) -> Result<AuthList, Fail> {
-    Ok(AuthList::read(alloc, &encoded(alloc, list, &[], None)?)?)
-}
-
 /// Whether a token is timely for a key at a reading: in a store without it, with it alone, and in one that is cleared.
 fn timely(store: &mut TokenStore, list: &AuthList, token: AuthToken, boot: u64) -> [bool; 3] {
     let before = store.timely(list, boot);
@@ -148,8 +143,8 @@ fn first_other(store: &mut TokenStore, list: &AuthList, key: &Key) -> Option<usi
     let mut other = None;
     for (number, (fields, boot, fitting, is_timely)) in key.rows.iter().enumerate() {
         let token = token(*fields);
-        let same = fits(&token, list) == *fitting
-            && timely(store, list, token, *boot) == [false, *is_timely, false];
+        let told = (fits(&token, list), timely(store, list, token, *boot));
+        let same = told == (*fitting, [false, *is_timely, false]);
         if other.is_none() && !same {
             other = Some(number);
         }
@@ -157,15 +152,19 @@ fn first_other(store: &mut TokenStore, list: &AuthList, key: &Key) -> Option<usi
     other
 }
 
+/// The same of a key by itself; of one without a list, its number of rows.
+fn first_other_of(alloc: Global, mut store: TokenStore, key: &Key) -> Option<usize> {
+    match key_list(alloc, key.list, &[]) {
+        Some(list) => first_other(&mut store, &list, key),
+        None => Some(key.rows.len()),
+    }
+}
+
 #[test]
 fn a_token_is_timely_for_the_keys_that_it_fits(rt: HostRuntime) -> Result<(), Fail> {
-    let alloc = rt.alloc();
     for (number, key) in KEYS.iter().enumerate() {
-        let list = list_of(alloc, key.list)?;
-        let mut store = TokenStore::with_room(alloc)?;
-        let other = first_other(&mut store, &list, key);
-        drop(store);
-        drop(list);
+        let store = TokenStore::with_room(rt.alloc())?;
+        let other = first_other_of(rt.alloc(), store, key);
         assert_eq!(rt; other, None, "of key {number}");
     }
     Ok(())
@@ -175,7 +174,7 @@ fn a_token_is_timely_for_the_keys_that_it_fits(rt: HostRuntime) -> Result<(), Fa
 fn add_users(store: &mut TokenStore) -> bool {
     let mut taken = true;
     for user in 1..257u64 {
-        taken = taken && store.add(token((user, 0, 1, 1000))).is_ok();
+        taken &= store.add(token((user, 0, 1, 1000))).is_ok();
     }
     taken
 }
@@ -194,9 +193,10 @@ static MORE: [((u64, u64, u32, u64), bool, [bool; 5]); 6] = [
 
 /// Whether a full store takes these tokens so, and one that is cleared takes the last.
 fn takes_more(mut store: TokenStore, list: &AuthList, last: &AuthList) -> bool {
-    let mut same = add_users(&mut store) && !store.timely(last, 2000);
+    let mut same = add_users(&mut store);
+    same &= !store.timely(last, 2000);
     for (fields, taken, opens) in &MORE {
-        same = same && store.add(token(*fields)).is_ok() == *taken;
+        same &= store.add(token(*fields)).is_ok() == *taken;
         let told = [
             store.timely(list, 1000),
             store.timely(list, 1500),
@@ -204,21 +204,21 @@ fn takes_more(mut store: TokenStore, list: &AuthList, last: &AuthList) -> bool {
             store.timely(list, 2500),
             store.timely(list, 3000),
         ];
-        same = same && told == *opens;
+        same &= told == *opens;
     }
-    same = same && !store.timely(last, 2000);
+    same &= !store.timely(last, 2000);
     store.clear();
-    same = same && !store.timely(list, 1500) && store.add(token((257, 0, 1, 1000))).is_ok();
+    same &= !store.timely(list, 1500);
+    same &= store.add(token((257, 0, 1, 1000))).is_ok();
     same && store.timely(last, 2000)
 }
 
 #[test]
 fn a_known_triple_is_replaced_and_a_257th_refused(rt: HostRuntime) -> Result<(), Fail> {
     let alloc = rt.alloc();
-    let first = list_of(alloc, FIRST)?;
-    let last = list_of(alloc, LAST)?;
-    let store = TokenStore::with_room(alloc)?;
-    let same = takes_more(store, &first, &last);
+    let first = key_list(alloc, FIRST, &[]).ok_or("a list")?;
+    let last = key_list(alloc, LAST, &[]).ok_or("a list")?;
+    let same = takes_more(TokenStore::with_room(alloc)?, &first, &last);
     drop((first, last));
     assert!(rt; same);
     Ok(())

@@ -35,12 +35,11 @@ fn answers<L: Link>(link: &mut L, call: &Call) -> bool {
 }
 
 fn answers_all<L: Link>(link: &mut L, calls: &[Call]) -> bool {
+    let mut right = true;
     for call in calls {
-        if !answers(link, call) {
-            return false;
-        }
+        right &= answers(link, call);
     }
-    true
+    right
 }
 
 /// Reads and writes are counted together, and a call moves its own direction alone: the calls 2 and 5 fail.
@@ -53,15 +52,21 @@ static PLANNED: [Call; 6] = [
     Call::Read(3, Some(b"")),
 ];
 
+/// Whether a link in memory answers so, and has taken and given what it told, and how many of its calls failed.
+fn answers_in_memory(mut link: MemoryLink) -> (bool, bool, u64) {
+    let right = answers_all(&mut link, &PLANNED);
+    let moved = (link.left(), link.written()) == (b"".as_slice(), b"xyz".as_slice());
+    (
+        right,
+        moved && link.pieces() == [3].as_slice(),
+        link.faults(),
+    )
+}
+
 #[test]
 fn links_in_memory(rt: HostRuntime) -> Result<(), Fail> {
-    let mut link = MemoryLink::with_room(rt.alloc(), b"abcde", 3, 1, &[2, 5])?;
-    assert!(rt; answers_all(&mut link, &PLANNED));
-    assert_eq!(rt;
-        (link.left(), link.written()),
-        (b"".as_slice(), b"xyz".as_slice())
-    );
-    assert_eq!(rt; (link.pieces(), link.faults()), ([3].as_slice(), 2));
+    let told = answers_in_memory(MemoryLink::with_room(rt.alloc(), b"abcde", 3, 1, &[2, 5])?);
+    assert_eq!(rt; told, (true, true, 2));
     Ok(())
 }
 
@@ -95,12 +100,20 @@ static FAILING: [Call; 2] = [Call::Read(3, None), Call::Write(b"a", None)];
 
 static FULL: [Call; 2] = [Call::Write(b"a", None), Call::Write(b"", Some(0))];
 
+/// Whether a link answers so, and how many of its calls fail then.
+fn answers_over(stream: Broken, calls: &[Call]) -> (bool, u64) {
+    let mut link = StreamLink::new(stream);
+    let right = answers_all(&mut link, calls);
+    (right, link.faults())
+}
+
 #[test]
 fn links_over_streams(rt: HostRuntime) {
-    let mut broken = StreamLink::new(Broken { fails: true });
-    assert!(rt; answers_all(&mut broken, &FAILING) && broken.faults() == 2);
-    let mut full = StreamLink::new(Broken { fails: false });
-    assert!(rt; answers_all(&mut full, &FULL) && full.faults() == 1);
+    let told = [
+        answers_over(Broken { fails: true }, &FAILING),
+        answers_over(Broken { fails: false }, &FULL),
+    ];
+    assert_eq!(rt; told, [(true, 2), (true, 1)]);
 }
 
 /// Two links with one byte each.
@@ -119,24 +132,29 @@ fn next_left<'a>(listener: &mut MemoryListener<'a>) -> Option<&'a [u8]> {
     Some(left)
 }
 
+/// How many calls of a listener failed, how many links it gave, and how often it told the end.
+fn counts(listener: &MemoryListener) -> (u64, u64, u64) {
+    (listener.faults(), listener.given(), listener.ended())
+}
+
+/// Whether a listener of two links whose second call fails gives them so; and its counts behind that call and at the end.
+fn gives_two(mut listener: MemoryListener) -> (bool, [(u64, u64, u64); 2], usize) {
+    let first = (next_left(&mut listener), next_left(&mut listener));
+    let before = counts(&listener);
+    let second = (next_left(&mut listener), next_left(&mut listener));
+    let end = next_left(&mut listener);
+    let given = first == (Some(b"a".as_slice()), None)
+        && second == (Some(b"b".as_slice()), None)
+        && end.is_none();
+    (given, [before, counts(&listener)], listener.served().len())
+}
+
 // The links come in order and are kept; a call that fails takes none, and the end is told each time.
 #[test]
 fn a_listener_in_memory(rt: HostRuntime) -> Result<(), Fail> {
-    let mut listener = MemoryListener::with_links(rt.alloc(), two(rt.alloc())?, &[2])?;
-    assert_eq!(rt; next_left(&mut listener), Some(b"a".as_slice()));
-    assert_eq!(rt; next_left(&mut listener), None);
-    assert_eq!(rt;
-        (listener.faults(), listener.given(), listener.ended()),
-        (1, 1, 0)
-    );
-    assert_eq!(rt; next_left(&mut listener), Some(b"b".as_slice()));
-    assert_eq!(rt; next_left(&mut listener), None);
-    assert_eq!(rt; next_left(&mut listener), None);
-    assert_eq!(rt;
-        (listener.faults(), listener.given(), listener.ended()),
-        (1, 2, 2)
-    );
-    assert_eq!(rt; listener.served().len(), 2);
+    let links = two(rt.alloc())?;
+    let told = gives_two(MemoryListener::with_links(rt.alloc(), links, &[2])?);
+    assert_eq!(rt; told, (true, [(1, 1, 0), (1, 2, 2)], 2));
     Ok(())
 }
 
@@ -164,22 +182,20 @@ impl time::Clock for Stub {
 #[test]
 fn clocks(rt: HostRuntime) {
     let reading = Reading { boot: 3, wall: 5 };
-    assert_eq!(rt; FixedClock::at(reading).now(), reading);
-    let stub = Stub {
-        boot: 3,
-        wall: Some(5),
-    };
-    assert_eq!(rt; MachineClock::new(&stub).now(), reading);
-    let unset = Stub {
-        boot: 3,
-        wall: None,
-    };
-    assert_eq!(rt;
-        MachineClock::new(&unset).now(),
-        Reading { boot: 3, wall: 0 }
-    );
+    let unread = Reading { boot: 3, wall: 0 };
+    let told = [
+        FixedClock::at(reading).now(),
+        stub_reading(Some(5)),
+        stub_reading(None),
+    ];
+    assert_eq!(rt; told, [reading, reading, unread]);
     let machine = MachineClock::new(&rt);
     let (first, second) = (machine.now(), machine.now());
     assert!(rt; first.wall > 1_577_836_800_000 && first.boot <= second.boot);
     OpenGate.between(1);
+}
+
+/// What is read of a stub.
+fn stub_reading(wall: Option<u64>) -> Reading {
+    MachineClock::new(&Stub { boot: 3, wall }).now()
 }

@@ -1,6 +1,6 @@
 //! Authorization lists against another reader of the format, each fault with its offset, and the longest list.
 
-use std::alloc::Global;
+use std::alloc::{AllocError, Global};
 use std::test::Fail;
 use tag_lists::{AuthList, ListFault};
 use tags::{Param, ParamValue, Tag};
@@ -57,7 +57,7 @@ fn next(state: &mut u64) -> u64 {
 }
 
 /// A parameter, often right.
-fn put_made_up(bytes: &mut Vec<u8>, state: &mut u64) -> Result<(), Fail> {
+fn put_made_up(bytes: &mut Vec<u8>, state: &mut u64) -> Result<(), AllocError> {
     let (low, own) = TAGS[(next(state) % 28) as usize];
     let kind = if next(state) % 32 == 0 {
         (next(state) % 16) as u32
@@ -81,7 +81,7 @@ fn put_made_up(bytes: &mut Vec<u8>, state: &mut u64) -> Result<(), Fail> {
 }
 
 /// Bytes that are often, and not always, a list.
-fn made_up(alloc: Global, state: &mut u64) -> Result<Vec<u8>, Fail> {
+fn made_up(alloc: Global, state: &mut u64) -> Result<Vec<u8>, AllocError> {
     let mut bytes = Vec::new(alloc);
     let count = next(state) % 6;
     bytes.extend_from_slice(&(count as u16).to_be_bytes())?;
@@ -133,19 +133,26 @@ static DIGESTS: [u64; 8] = [
     0x2a8dec5ef24bb85e,
 ];
 
+/// The digest gone on with over 500 made-up byte strings.
+fn digest_of_many(alloc: Global, state: &mut u64, total: u64) -> u64 {
+    let mut total = total;
+    for _ in 0..500 {
+        total = match made_up(alloc, state) {
+            Ok(bytes) => digest_of(total, &again(alloc, &bytes)),
+            Err(_) => 0,
+        };
+    }
+    total
+}
+
 #[test]
-fn random_bytes_read_as_another_reader_reads_them(rt: HostRuntime) -> Result<(), Fail> {
-    let alloc = rt.alloc();
+fn random_bytes_read_as_another_reader_reads_them(rt: HostRuntime) {
     let mut state = 88172645463325252u64;
     let mut total = 0xcbf29ce484222325u64;
     for (row, expected) in DIGESTS.iter().enumerate() {
-        for _ in 0..500 {
-            let bytes = made_up(alloc, &mut state)?;
-            total = digest_of(total, &again(alloc, &bytes));
-        }
+        total = digest_of_many(rt.alloc(), &mut state, total);
         assert!(rt; total == *expected, "among the strings of row {row}");
     }
-    Ok(())
 }
 
 /// Bytes, and the fault of least offset.
@@ -233,88 +240,120 @@ static FAULTS: [(&[u8], ListFault); 25] = [
 
 #[test]
 fn each_fault_has_its_offset(rt: HostRuntime) {
-    for (bytes, fault) in &FAULTS {
-        match AuthList::read(rt.alloc(), bytes) {
-            Ok(_) => assert!(rt; false, "{bytes:?} was read"),
-            Err(found) => assert!(rt; found == *fault, "{found:?} of {bytes:?}"),
+    for (row, (bytes, fault)) in FAULTS.iter().enumerate() {
+        let found = AuthList::read(rt.alloc(), bytes).err();
+        assert_eq!(rt; found, Some(*fault), "in row {row}");
+    }
+}
+
+/// Spellings of one list: its canonical one, and others that read alike.
+static ALIKE: [&[u8]; 3] = [
+    b"\x00\x02\x20\x00\x00\x01\x00\x00\x00\x02\x70\x00\x01\xf7\x01",
+    b"\x00\x02\x70\x00\x01\xf7\x01\x20\x00\x00\x01\x00\x00\x00\x02",
+    b"\x00\x03\x20\x00\x00\x01\x00\x00\x00\x02\x70\x00\x01\xf7\x01\x20\x00\x00\x01\x00\x00\x00\x02",
+];
+
+/// Whether a list is written so.
+fn is_written(alloc: Global, list: &AuthList, bytes: &[u8]) -> bool {
+    match list.write(alloc) {
+        Ok(written) => written.as_slice() == bytes,
+        Err(_) => false,
+    }
+}
+
+/// What is told of a list: how many parameters it has, and of PURPOSE, and of some whether they are there.
+fn told(list: &AuthList) -> (usize, usize, [bool; 4]) {
+    let here = [
+        list.has(Tag::Purpose, 2),
+        list.has(Tag::Purpose, 3),
+        list.one(Tag::NoAuthRequired).is_some(),
+        list.one(Tag::KeySize).is_some(),
+    ];
+    (list.params().len(), list.all(Tag::Purpose).len(), here)
+}
+
+/// Whether bytes read as the list of ALIKE.
+fn is_alike(alloc: Global, bytes: &[u8]) -> bool {
+    match AuthList::read(alloc, bytes) {
+        Ok(list) => {
+            let written = is_written(alloc, &list, ALIKE[0]);
+            written && told(&list) == (2, 1, [true, false, true, false])
         }
+        Err(_) => false,
     }
 }
 
 #[test]
-fn two_parameters_read_alike_in_either_order(rt: HostRuntime) -> Result<(), Fail> {
-    let alloc = rt.alloc();
-    let canonical = b"\x00\x02\x20\x00\x00\x01\x00\x00\x00\x02\x70\x00\x01\xf7\x01";
-    let other = b"\x00\x02\x70\x00\x01\xf7\x01\x20\x00\x00\x01\x00\x00\x00\x02";
-    let twice =
-        b"\x00\x03\x20\x00\x00\x01\x00\x00\x00\x02\x70\x00\x01\xf7\x01\x20\x00\x00\x01\x00\x00\x00\x02";
-    for bytes in [canonical.as_slice(), other.as_slice(), twice.as_slice()] {
-        let Ok(list) = AuthList::read(alloc, bytes) else {
-            assert!(rt; false, "{bytes:?} was not read");
-            continue;
-        };
-        assert!(rt; list.params().len() == 2);
-        assert!(rt; list.has(Tag::Purpose, 2) && !list.has(Tag::Purpose, 3));
-        assert!(rt; list.one(Tag::NoAuthRequired).is_some() && list.one(Tag::KeySize).is_none());
-        assert!(rt; list.all(Tag::Purpose).len() == 1);
-        let Ok(written) = list.write(alloc) else {
-            assert!(rt; false, "no memory");
-            continue;
-        };
-        assert!(rt; written.as_slice() == canonical.as_slice());
+fn two_parameters_read_alike_in_either_order(rt: HostRuntime) {
+    let mut alike = AuthList::empty(rt.alloc()).params().is_empty();
+    for bytes in &ALIKE {
+        alike &= is_alike(rt.alloc(), bytes);
     }
-    assert!(rt; AuthList::empty(alloc).params().is_empty());
-    Ok(())
+    assert!(rt; alike);
 }
 
-#[test]
-fn the_longest_list_is_sorted(rt: HostRuntime) -> Result<(), Fail> {
-    let alloc = rt.alloc();
+/// A list of 65,535 parameters, in falling order.
+fn longest(alloc: Global) -> Result<Vec<u8>, AllocError> {
     let mut bytes = Vec::new(alloc);
     bytes.extend_from_slice(b"\xff\xff")?;
     for i in 0..65535u64 {
         bytes.extend_from_slice(b"\xa0\x00\x01\xf6")?;
         bytes.extend_from_slice(&(65535 - i).to_be_bytes())?;
     }
-    let Ok(list) = AuthList::read(alloc, &bytes) else {
-        assert!(rt; false, "the list was not read");
-        return Ok(());
-    };
-    assert!(rt; list.params().len() == 65535);
-    assert!(rt; list.has(Tag::UserSecureId, 1) && list.has(Tag::UserSecureId, 65535));
-    assert!(rt; !list.has(Tag::UserSecureId, 0) && !list.has(Tag::UserSecureId, 65536));
-    Ok(())
+    Ok(bytes)
+}
+
+/// How many parameters bytes have as a list, and whether it has these secure ids.
+fn ids_of(alloc: Global, bytes: &[u8]) -> (usize, [bool; 4]) {
+    match AuthList::read(alloc, bytes) {
+        Ok(list) => {
+            let ids = [
+                list.has(Tag::UserSecureId, 0),
+                list.has(Tag::UserSecureId, 1),
+                list.has(Tag::UserSecureId, 65535),
+                list.has(Tag::UserSecureId, 65536),
+            ];
+            (list.params().len(), ids)
+        }
+        Err(_) => (0, [false; 4]),
+    }
 }
 
 #[test]
-fn a_parameter_takes_the_place_of_its_tags_others(rt: HostRuntime) -> Result<(), Fail> {
-    let alloc = rt.alloc();
-    let bytes =
-        b"\x00\x04\x20\x00\x00\x01\x00\x00\x00\x02\x20\x00\x00\x01\x00\x00\x00\x03\x30\x00\x00\x03\x00\x00\x00\x80\x70\x00\x01\xf7\x01";
-    let Ok(list) = AuthList::read(alloc, bytes) else {
-        assert!(rt; false, "the list was not read");
-        return Ok(());
-    };
-    let kept = list.without(Tag::Purpose);
+fn the_longest_list_is_sorted(rt: HostRuntime) -> Result<(), Fail> {
+    let bytes = longest(rt.alloc())?;
+    let told = ids_of(rt.alloc(), &bytes);
+    drop(bytes);
+    assert_eq!(rt; told, (65535, [false, true, true, false]));
+    Ok(())
+}
+
+/// A list without its purposes, and with another key size.
+fn changed(alloc: Global, bytes: &[u8]) -> Option<AuthList> {
+    let kept = AuthList::read(alloc, bytes).ok()?.without(Tag::Purpose);
     if kept.params().len() > 100 {
-        assert!(rt; false, "the list is too long");
-        return Ok(());
+        return None;
     }
     let size = Param {
         tag: Tag::KeySize,
         value: ParamValue::Number(256),
     };
-    let Ok(list) = kept.with(size) else {
-        assert!(rt; false, "no memory");
-        return Ok(());
-    };
-    let Ok(written) = list.write(alloc) else {
-        assert!(rt; false, "no memory");
-        return Ok(());
-    };
-    assert!(rt;
-        written.as_slice()
-            == b"\x00\x02\x30\x00\x00\x03\x00\x00\x01\x00\x70\x00\x01\xf7\x01".as_slice()
-    );
-    Ok(())
+    kept.with(size).ok()
+}
+
+/// Whether a list is written so, where there is one.
+fn is_changed(alloc: Global, list: Option<AuthList>, bytes: &[u8]) -> bool {
+    match list {
+        Some(list) => is_written(alloc, &list, bytes),
+        None => false,
+    }
+}
+
+#[test]
+fn a_parameter_takes_the_place_of_its_tags_others(rt: HostRuntime) {
+    let bytes =
+        b"\x00\x04\x20\x00\x00\x01\x00\x00\x00\x02\x20\x00\x00\x01\x00\x00\x00\x03\x30\x00\x00\x03\x00\x00\x00\x80\x70\x00\x01\xf7\x01";
+    let wanted = b"\x00\x02\x30\x00\x00\x03\x00\x00\x01\x00\x70\x00\x01\xf7\x01";
+    let list = changed(rt.alloc(), bytes);
+    assert!(rt; is_changed(rt.alloc(), list, wanted));
 }

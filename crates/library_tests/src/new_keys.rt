@@ -2,35 +2,12 @@
 //! and lists and lengths that are no key's. What a script shows is in `checks/new-keys.jsonl` and
 //! `checks/new-key-lists.jsonl`.
 
-use crate::spelled::{AES_KEY, GCM_KEY, MAC_KEY, Pairs, app_key, encoded};
-use key_rules::{ImportFacts, NewFacts, NewFault, check_new, read_asked, usable};
+use crate::spelled::{AES_KEY, GCM_KEY, MAC_KEY, Pairs, key_list, new_facts};
+use key_rules::{KeyPlan, NewFacts, NewFault, check_new, read_asked, usable};
 use keymint_ops::plan_key;
-use std::alloc::{AllocError, Global};
-use std::test::Fail;
+use std::alloc::Global;
+use tag_lists::AuthList;
 use tags::{Bytes, Code, Rule, RuleTable, Tag};
-
-/// What a call of making a key is asked: the alias, the list, the length of an imported material, and the wall reading.
-fn asked(
-    alloc: Global,
-    alias: &[u8],
-    list: Pairs,
-    length: Option<u64>,
-    wall: u64,
-) -> Result<NewFacts, AllocError> {
-    let import = match length {
-        None => None,
-        Some(length) => Some(ImportFacts { format: 3, length }),
-    };
-    Ok(NewFacts {
-        connected: true,
-        descriptor: app_key(alloc, alias)?,
-        row: None,
-        params: Bytes::of(encoded(alloc, list, &[], None)?),
-        import,
-        early_ended: false,
-        wall,
-    })
-}
 
 /// A list, the length of an import, the wall reading, the kept list, and the bytes of the material.
 type Kept = (Pairs, Option<u64>, u64, &'static [u8], usize);
@@ -104,30 +81,44 @@ static KEPT: [Kept; 5] = [
     ),
 ];
 
-/// Whether the key of these facts is kept with this list, without a limit, and draws its size where it is generated.
-fn is_kept(alloc: Global, facts: &NewFacts, list: &[u8], size: usize) -> Result<bool, Fail> {
-    let plan = check_new(alloc, facts).map_err(|_| "a rule is broken")?;
-    let key = plan_key(alloc, facts).map_err(|_| "a rule is broken")?;
-    let written = plan.list.write(alloc).map_err(|_| "no memory")?;
-    let drawn = if facts.import.is_some() { 0 } else { size };
-    Ok(
-        plan.limit == 0
-            && plan.size == drawn
-            && written.as_slice() == list
-            && key.list.as_slice() == list
-            && key.plan.limit == 0
-            && key.plan.size == drawn,
-    )
+/// Whether a list is spelled so.
+fn is_spelled(alloc: Global, list: &AuthList, bytes: &[u8]) -> bool {
+    match list.write(alloc) {
+        Ok(written) => written.as_slice() == bytes,
+        Err(_) => false,
+    }
+}
+
+/// Whether a plan keeps this list, without a limit, and draws so many bytes.
+fn keeps(alloc: Global, plan: &KeyPlan, list: &[u8], drawn: usize) -> bool {
+    is_spelled(alloc, &plan.list, list) && (plan.limit, plan.size) == (0, drawn)
+}
+
+/// Whether the key of these facts is planned so, by the rules alone and with its list spelled.
+fn is_kept(alloc: Global, facts: &NewFacts, list: &[u8], drawn: usize) -> bool {
+    let checked = match check_new(alloc, facts) {
+        Ok(plan) => keeps(alloc, &plan, list, drawn),
+        Err(_) => false,
+    };
+    match plan_key(alloc, facts) {
+        Ok(key) => {
+            let spelled = key.list.as_slice() == list;
+            spelled && checked && keeps(alloc, &key.plan, list, drawn)
+        }
+        Err(_) => false,
+    }
 }
 
 #[test]
-fn the_kept_list_has_what_is_set_and_not_what_is_dropped(rt: HostRuntime) -> Result<(), Fail> {
+fn the_kept_list_has_what_is_set_and_not_what_is_dropped(rt: HostRuntime) {
     let alloc = rt.alloc();
     for (row, (list, length, wall, expected, size)) in KEPT.iter().enumerate() {
-        let facts = asked(alloc, b"k", list, *length, *wall)?;
-        assert!(rt; is_kept(alloc, &facts, expected, *size)?, "in row {row}");
+        let drawn = if length.is_some() { 0 } else { *size };
+        let facts = new_facts(alloc, b"k", list, *length, *wall);
+        let kept = is_kept(alloc, &facts, expected, drawn);
+        drop(facts);
+        assert!(rt; kept, "in row {row}");
     }
-    Ok(())
 }
 
 /// An alias, a list, the length of an import, and the rule that is broken with its code.
@@ -150,34 +141,39 @@ static REFUSED: [Refused; 6] = [
     (b"\xc3", MAC_KEY, Some(20), 2, Code::InvalidArgument),
 ];
 
-/// Whether a call breaks this rule, with this code.
-fn breaks<T>(answer: &Result<T, NewFault>, rule: Rule, code: Code) -> bool {
-    match answer {
-        Err(NewFault::Broken(own, other)) => *own == rule && *other == code,
-        _ => false,
+/// The rule that a fault tells, with its code.
+fn rule_of(fault: NewFault) -> Option<(Rule, Code)> {
+    match fault {
+        NewFault::Broken(rule, code) => Some((rule, code)),
+        NewFault::Memory => None,
     }
 }
 
+/// The rule that a new key breaks, by the rules alone, and where its list is spelled.
+fn broken(alloc: Global, facts: &NewFacts) -> [Option<(Rule, Code)>; 2] {
+    let checked = match check_new(alloc, facts) {
+        Ok(_) => None,
+        Err(fault) => rule_of(fault),
+    };
+    let planned = match plan_key(alloc, facts) {
+        Ok(_) => None,
+        Err(fault) => rule_of(fault),
+    };
+    [checked, planned]
+}
+
 #[test]
-fn a_key_that_breaks_a_rule_is_not_made(rt: HostRuntime) -> Result<(), Fail> {
+fn a_key_that_breaks_a_rule_is_not_made(rt: HostRuntime) {
     let alloc = rt.alloc();
     let table = RuleTable::K;
     for (row, (alias, list, length, number, code)) in REFUSED.iter().enumerate() {
-        let facts = asked(alloc, alias, list, *length, 1000)?;
-        let rule = Rule {
-            table,
-            number: *number,
-        };
-        assert!(rt;
-            breaks(&check_new(alloc, &facts), rule, *code),
-            "in row {row}"
-        );
-        assert!(rt;
-            breaks(&plan_key(alloc, &facts), rule, *code),
-            "in row {row}"
-        );
+        let facts = new_facts(alloc, alias, list, *length, 1000);
+        let told = broken(alloc, &facts);
+        drop(facts);
+        let number = *number;
+        let rule = Some((Rule { table, number }, *code));
+        assert!(rt; told == [rule, rule], "in row {row}");
     }
-    Ok(())
 }
 
 /// An HMAC key that begins once a boot.
@@ -333,8 +329,8 @@ static PLACED: [Placed; 19] = [
 ];
 
 /// The facts of an import of 20 bytes to such a place.
-fn placed(alloc: Global, row: &Placed) -> Result<NewFacts, AllocError> {
-    let mut facts = asked(alloc, b"k", row.4, Some(20), 1000)?;
+fn placed(alloc: Global, row: &Placed) -> NewFacts {
+    let mut facts = new_facts(alloc, b"k", row.4, Some(20), 1000);
     facts.descriptor.domain = row.0;
     if !row.1 {
         facts.descriptor.alias = None;
@@ -343,21 +339,25 @@ fn placed(alloc: Global, row: &Placed) -> Result<NewFacts, AllocError> {
         facts.descriptor.blob = Some(Bytes::empty(alloc));
     }
     facts.row = row.3;
-    Ok(facts)
+    facts
+}
+
+/// Whether such a key is made, or breaks its rule.
+fn is_placed(alloc: Global, row: &Placed) -> bool {
+    let facts = placed(alloc, row);
+    match (check_new(alloc, &facts), row.5) {
+        (Ok(_), None) => true,
+        (Err(NewFault::Broken(rule, code)), Some(wanted)) => (rule.number, code) == wanted,
+        _ => false,
+    }
 }
 
 #[test]
-fn keys_are_made_where_the_domain_and_the_policy_let_them(rt: HostRuntime) -> Result<(), Fail> {
-    let alloc = rt.alloc();
+fn keys_are_made_where_the_domain_and_the_policy_let_them(rt: HostRuntime) {
     for (number, row) in PLACED.iter().enumerate() {
-        let told = match check_new(alloc, &placed(alloc, row)?) {
-            Ok(_) => None,
-            Err(NewFault::Broken(rule, code)) => Some((rule.number, code)),
-            Err(NewFault::Memory) => return Err("memory".into()),
-        };
-        assert!(rt; told == row.5, "in row {number}");
+        let right = is_placed(rt.alloc(), row);
+        assert!(rt; right, "in row {number}");
     }
-    Ok(())
 }
 
 /// A list, the tags that are taken out of it, the material's length, and whether that is a key's.
@@ -415,18 +415,23 @@ static USED: [Use; 9] = [
     (AES_KEY, &[], 64, false),
 ];
 
-#[test]
-fn a_list_and_a_length_are_a_keys_or_not(rt: HostRuntime) -> Result<(), Fail> {
-    let alloc = rt.alloc();
-    for (row, (params, dropped, length, expected)) in USED.iter().enumerate() {
-        let Ok(Ok(list)) = read_asked(alloc, &encoded(alloc, params, dropped, None)?) else {
-            assert!(rt; false, "no list in row {row}");
-            continue;
-        };
-        assert!(rt; list.has(Tag::Purpose, 3) || list.is_aes(), "in row {row}");
-        assert!(rt; usable(&list, *length) == *expected, "in row {row}");
+/// Whether a list and a length are a key's; each of the lists here is of AES or verifies.
+fn is_key(alloc: Global, row: &Use) -> Option<bool> {
+    let (params, dropped, length, _) = row;
+    let list = key_list(alloc, params, dropped)?;
+    if list.has(Tag::Purpose, 3) || list.is_aes() {
+        Some(usable(&list, *length))
+    } else {
+        None
     }
-    let cut = read_asked(alloc, b"\x00");
-    assert!(rt; matches!(cut, Ok(Err(Code::InvalidTag))));
-    Ok(())
+}
+
+#[test]
+fn a_list_and_a_length_are_a_keys_or_not(rt: HostRuntime) {
+    for (number, row) in USED.iter().enumerate() {
+        let told = is_key(rt.alloc(), row);
+        assert_eq!(rt; told, Some(row.3), "in row {number}");
+    }
+    let cut = matches!(read_asked(rt.alloc(), b"\x00"), Ok(Err(Code::InvalidTag)));
+    assert!(rt; cut);
 }

@@ -66,34 +66,37 @@ fn begins_with(out: &[u8; 8], bytes: &[u8]) -> bool {
 
 /// Whether each read gives the bytes of its row, and leaves the rest of the buffer as it was.
 fn reads<S: Source>(source: &mut S, rows: &[Fill]) -> bool {
+    let mut right = true;
     for (room, wanted) in rows {
         let mut out = [9; 8];
         let end = (*room).min(8);
-        let right = match (source.read(&mut out[..end]), *wanted) {
+        right &= match (source.read(&mut out[..end]), *wanted) {
             (Ok(count), Some(bytes)) => count == bytes.len() && begins_with(&out, bytes),
             (Err(Failed), None) => begins_with(&out, b""),
             _ => false,
         };
-        if !right {
-            return false;
-        }
     }
-    true
+    right
 }
 
 static STEADY: [Fill; 3] = [(3, Some(b"abc")), (3, Some(b"de")), (3, Some(b""))];
 
 static PLANNED: [Fill; 3] = [(3, None), (3, Some(b"abc")), (3, None)];
 
+/// How many bytes a steady source leaves, and one that fails twice.
+fn left_in_memory() -> (usize, usize, u64) {
+    let mut steady = SteadySource::new(b"abcde");
+    let mut failing = MemorySource::new(b"abcde", &[1, 3]);
+    if reads(&mut steady, &STEADY) && reads(&mut failing, &PLANNED) {
+        (steady.left().len(), failing.left().len(), failing.faults())
+    } else {
+        (5, 5, 0)
+    }
+}
+
 #[test]
 fn sources_in_memory(rt: HostRuntime) {
-    let mut steady = SteadySource::new(b"abcde");
-    assert!(rt; reads(&mut steady, &STEADY));
-    assert_eq!(rt; steady.left().len(), 0);
-    let mut failing = MemorySource::new(b"abcde", &[1, 3]);
-    assert!(rt; reads(&mut failing, &PLANNED));
-    assert_eq!(rt; failing.left(), b"de".as_slice());
-    assert_eq!(rt; failing.faults(), 2);
+    assert_eq!(rt; left_in_memory(), (0, 2, 2));
 }
 
 static AT_END: [Fill; 1] = [(0, Some(b""))];
@@ -104,17 +107,23 @@ static FAILED: [Fill; 1] = [(4, None)];
 
 static ONCE: [Fill; 2] = [(3, None), (3, Some(b"\x07\x07\x07"))];
 
+/// Whether a source reads so, and how many of its calls fail then.
+fn reads_over<R: Read + Drop>(reader: R, rows: &[Fill]) -> (bool, u64) {
+    let mut source = ReaderSource::new(reader);
+    let right = reads(&mut source, rows);
+    (right, source.faults())
+}
+
 // Each read is one call of the reader, whatever the buffer's length, and a failed one is answered and counted.
 #[test]
 fn sources_over_readers(rt: HostRuntime) {
-    let mut input = ReaderSource::new(rt.stdin());
-    assert!(rt; reads(&mut input, &AT_END) && input.faults() == 0);
-    let mut text = ReaderSource::new(b"abcde".as_slice());
-    assert!(rt; reads(&mut text, &CUT) && text.faults() == 0);
-    let mut broken = ReaderSource::new(Broken { fails: true });
-    assert!(rt; reads(&mut broken, &FAILED) && broken.faults() == 1);
-    let mut once = ReaderSource::new(FailsOnce { asked: 0 });
-    assert!(rt; reads(&mut once, &ONCE) && once.faults() == 1);
+    let told = [
+        reads_over(rt.stdin(), &AT_END),
+        reads_over(b"abcde".as_slice(), &CUT),
+        reads_over(Broken { fails: true }, &FAILED),
+        reads_over(FailsOnce { asked: 0 }, &ONCE),
+    ];
+    assert_eq!(rt; told, [(true, 0), (true, 0), (true, 1), (true, 1)]);
 }
 
 /// A piece, and how many of its bytes are taken; `None` where the write fails.
@@ -122,12 +131,11 @@ type Put = (&'static [u8], Option<usize>);
 
 /// Whether each write takes as much as its row says.
 fn writes<K: Sink>(sink: &mut K, rows: &[Put]) -> bool {
+    let mut right = true;
     for (piece, wanted) in rows {
-        if sink.write(piece).ok() != *wanted {
-            return false;
-        }
+        right &= sink.write(piece).ok() == *wanted;
     }
-    true
+    right
 }
 
 static KEPT: [Put; 4] = [
@@ -141,36 +149,46 @@ static NOTHING: [Put; 1] = [(b"", Some(0))];
 
 static REFUSED: [Put; 2] = [(b"a", None), (b"", Some(0))];
 
+/// Whether a sink in memory takes pieces so, and has what it took, and how many of its calls fail then.
+fn writes_in_memory(mut sink: MemorySink) -> (bool, bool, u64) {
+    let right = writes(&mut sink, &KEPT);
+    let kept = sink.written() == b"abcde".as_slice() && sink.pieces() == [3, 0, 2].as_slice();
+    (right, kept, sink.faults())
+}
+
+/// Whether a sink writes so, and how many of its calls fail then.
+fn writes_over<W: Write + Drop>(writer: W, rows: &[Put]) -> (bool, u64) {
+    let mut sink = WriterSink::new(writer);
+    let right = writes(&mut sink, rows);
+    (right, sink.faults())
+}
+
 #[test]
 fn sinks_in_memory_and_over_writers(rt: HostRuntime) -> Result<(), Fail> {
-    let mut sink = MemorySink::with_room(rt.alloc(), 5, 2, &[2])?;
-    assert!(rt; writes(&mut sink, &KEPT) && sink.faults() == 1);
-    assert_eq!(rt; sink.written(), b"abcde".as_slice());
-    assert_eq!(rt; sink.pieces(), [3, 0, 2].as_slice());
-    let mut output = WriterSink::new(rt.stdout());
-    assert!(rt; writes(&mut output, &NOTHING) && output.faults() == 0);
-    let mut failing = WriterSink::new(Broken { fails: true });
-    assert!(rt; writes(&mut failing, &REFUSED[..1]) && failing.faults() == 1);
-    let mut full = WriterSink::new(Broken { fails: false });
-    assert!(rt; writes(&mut full, &REFUSED) && full.faults() == 1);
+    let memory = writes_in_memory(MemorySink::with_room(rt.alloc(), 5, 2, &[2])?);
+    let told = [
+        writes_over(rt.stdout(), &NOTHING),
+        writes_over(Broken { fails: true }, &REFUSED[..1]),
+        writes_over(Broken { fails: false }, &REFUSED),
+    ];
+    assert_eq!(rt; memory, (true, true, 1));
+    assert_eq!(rt; told, [(true, 0), (true, 1), (true, 1)]);
     Ok(())
 }
 
-/// Whether each draw gives the bytes of its row, and so many failed in all.
-fn draws<N: Entropy>(entropy: &mut N, rows: &[Fill], faults: u64) -> bool {
+/// Whether each draw gives the bytes of its row, and how many failed in all.
+fn draws<N: Entropy>(entropy: &mut N, rows: &[Fill]) -> (bool, u64) {
+    let mut right = true;
     for (room, wanted) in rows {
         let mut out = [9; 8];
         let end = (*room).min(8);
-        let right = match (entropy.draw(&mut out[..end]), *wanted) {
+        right &= match (entropy.draw(&mut out[..end]), *wanted) {
             (Ok(()), Some(bytes)) => end == bytes.len() && begins_with(&out, bytes),
             (Err(Failed), None) => true,
             _ => false,
         };
-        if !right {
-            return false;
-        }
     }
-    entropy.faults() == faults
+    (right, entropy.faults())
 }
 
 static AROUND: [Fill; 2] = [(0, Some(b"")), (3, Some(b"\xff\x00\x01"))];
@@ -191,32 +209,48 @@ static KEY_STREAM: [Fill; 3] = [
     (3, Some(b"\x5d\x6a\xe5")),
 ];
 
-#[test]
-fn entropies_in_memory(rt: HostRuntime) {
+/// Whether the counting bytes are drawn up to their end and from their start on again.
+fn draws_around() -> (bool, u64) {
     let mut all = [0; 255];
     let mut steady = SteadyEntropy::counting();
-    assert_eq!(rt; steady.draw(&mut all), Ok(()));
-    assert_eq!(rt; (all[0], all[1], all[254]), (0, 1, 254));
-    assert!(rt; draws(&mut steady, &AROUND, 0));
-    assert!(rt; draws(&mut MemoryEntropy::counting(), &COUNTED, 0));
-    assert!(rt; draws(&mut MemoryEntropy::failing(&[1, 3]), &COUNTED_BETWEEN, 2));
-    assert!(rt; draws(&mut SeededEntropy::new([0; 32]), &KEY_STREAM, 0));
+    let drawn = steady.draw(&mut all);
+    let counted = (drawn, all[0], all[1], all[254]) == (Ok(()), 0, 1, 254);
+    let (right, faults) = draws(&mut steady, &AROUND);
+    (counted && right, faults)
+}
+
+#[test]
+fn entropies_in_memory(rt: HostRuntime) {
+    let told = [
+        draws_around(),
+        draws(&mut MemoryEntropy::counting(), &COUNTED),
+        draws(&mut MemoryEntropy::failing(&[1, 3]), &COUNTED_BETWEEN),
+        draws(&mut SeededEntropy::new([0; 32]), &KEY_STREAM),
+    ];
+    assert_eq!(rt; told, [(true, 0), (true, 0), (true, 2), (true, 0)]);
 }
 
 static SHORT: [Fill; 2] = [(3, Some(b"abc")), (3, None)];
 
+/// Whether two draws of 64 bytes differ, and neither is of zeros.
+fn draws_twice<N: Entropy>(device: &mut N) -> bool {
+    let (mut first, mut second) = ([0; 64], [0; 64]);
+    let drawn = (device.draw(&mut first), device.draw(&mut second));
+    drawn == (Ok(()), Ok(())) && first != second && first != [0; 64] && second != [0; 64]
+}
+
 #[test]
 fn entropy_of_the_random_device(rt: HostRuntime) {
-    let (mut first, mut second) = ([0; 64], [0; 64]);
-    let mut device = open_device(&rt);
-    assert_eq!(rt; device.draw(&mut first), Ok(()));
-    assert_eq!(rt; device.draw(&mut second), Ok(()));
-    assert!(rt; first != second && first != [0; 64] && second != [0; 64]);
-    assert!(rt; draws(&mut device, &AT_END, 0));
-    assert!(rt; draws(&mut open_device_at(&rt, "no_such_device"), &FAILED, 1));
-    assert!(rt; draws(&mut DeviceEntropy::new(b"abcde".as_slice()), &SHORT, 1));
-    assert!(rt; draws(&mut DeviceEntropy::new(Broken { fails: true }), &FAILED, 1));
-    assert!(rt; draws(&mut DeviceEntropy::new(FailsOnce { asked: 0 }), &ONCE, 1));
+    let told = [
+        draws(&mut open_device(&rt), &AT_END),
+        draws(&mut open_device_at(&rt, "no_such_device"), &FAILED),
+        draws(&mut DeviceEntropy::new(b"abcde".as_slice()), &SHORT),
+        draws(&mut DeviceEntropy::new(Broken { fails: true }), &FAILED),
+        draws(&mut DeviceEntropy::new(FailsOnce { asked: 0 }), &ONCE),
+    ];
+    let twice = draws_twice(&mut open_device(&rt));
+    let faults = [(true, 0), (true, 1), (true, 1), (true, 1), (true, 1)];
+    assert_eq!(rt; (told, twice), (faults, true));
 }
 
 /// What is taken of a cursor: a number, or so many bytes.
@@ -255,14 +289,12 @@ static PARTS: [(Part, usize); 8] = [
 fn a_cursor_over_bytes(rt: HostRuntime) {
     let bytes = b"\x07\x01\x02\x00\x00\x01\x00\x80\x00\x00\x00\x00\x00\x00\x01abc";
     let mut cursor = Cursor::new(bytes);
+    let mut right = true;
     for (part, offset) in &PARTS {
-        assert!(rt; gives(&mut cursor, part), "before {offset}");
-        assert_eq!(rt;
-            (cursor.offset(), cursor.is_at_end()),
-            (*offset, *offset == 18)
-        );
+        right &= gives(&mut cursor, part);
+        right &= (cursor.offset(), cursor.is_at_end()) == (*offset, *offset == 18);
     }
-    assert_eq!(rt; cursor.left().len(), 0);
+    assert_eq!(rt; (right, cursor.left().len()), (true, 0));
 }
 
 /// The permissions of a file.
@@ -329,24 +361,35 @@ static FILE_CALLS: [(Ask, Result<u64, Failed>); 8] = [
     ),
 ];
 
+/// Whether a disk answers so, and its bytes from 1 on, once it has those of the calls.
+fn answers_all<D: Disk>(disk: &mut D) -> (bool, [u8; 4]) {
+    let mut right = true;
+    for (ask, wanted) in &FILE_CALLS {
+        right &= answer(disk, ask) == *wanted;
+    }
+    let mut out = [9; 4];
+    right &= (disk.read(1, &mut out), disk.faults()) == (Ok(4), 2);
+    (right, out)
+}
+
+/// Whether each call of a disk fails.
+fn fails<D: Disk + Drop>(mut missing: D) -> bool {
+    let failed = (missing.len(), missing.sync(), missing.faults());
+    failed == (Err(Failed), Err(Failed), 2)
+}
+
 #[test]
 fn a_store_in_a_file(rt: HostRuntime) -> Result<(), Fail> {
     let path = "a_store_in_a_file.ks";
     let mut disk = open_store(&rt, path);
-    assert!(rt; fs::metadata(&rt, path).is_err() && EmptyDisk.faults() == 0);
-    for (ask, wanted) in &FILE_CALLS {
-        assert_eq!(rt; &answer(&mut disk, ask), wanted);
-    }
-    let mut out = [9; 4];
-    assert_eq!(rt; (disk.read(1, &mut out), disk.faults()), (Ok(4), 2));
-    assert_eq!(rt; (out, mode_of(&rt, path)?), ([0, b'a', b'b', b'c'], 0o600));
+    let none = fs::metadata(&rt, path).is_err() && EmptyDisk.faults() == 0;
+    let told = answers_all(&mut disk);
+    drop(disk);
+    let mode = mode_of(&rt, path)?;
     fs::remove_file(&rt, path)?;
-
-    let mut missing = open_store(&rt, "no_such_folder/store.ks");
-    assert_eq!(rt;
-        (missing.len(), missing.sync(), missing.faults()),
-        (Err(Failed), Err(Failed), 2)
-    );
+    let missing = fails(open_store(&rt, "no_such_folder/store.ks"));
+    assert_eq!(rt; (none, mode, missing), (true, 0o600, true));
+    assert_eq!(rt; told, (true, [0, b'a', b'b', b'c']));
     Ok(())
 }
 
@@ -361,21 +404,28 @@ static SECOND_CALLS: [Ask; 4] = [
     Ask::Read { at: 0, count: 3 },
 ];
 
+/// What the first of two handles reads once the second has failed at each of its calls, whether they did, and what the second finds once
+/// the first is let go.
+fn two_handles<D: Disk + Drop>(
+    mut first: D,
+    mut second: D,
+) -> ([u8; 3], bool, (Result<u64, Failed>, u64)) {
+    let mut out = [9; 3];
+    let mut failed = first.write_at(0, b"abc") == Ok(());
+    for ask in &SECOND_CALLS {
+        failed &= answer(&mut second, ask) == Err(Failed);
+    }
+    failed &= (first.read(0, &mut out), first.faults()) == (Ok(3), 0);
+    drop(first);
+    (out, failed, (second.len(), second.faults()))
+}
+
 // As long as one handle has the store, each call of another fails, and harms nothing.
 #[test]
 fn two_handles_of_one_store(rt: HostRuntime) -> Result<(), Fail> {
     let path = "two_handles_of_one_store.ks";
-    let mut first = open_store(&rt, path);
-    let mut second = open_store(&rt, path);
-    assert_eq!(rt; first.write_at(0, b"abc"), Ok(()));
-    for ask in &SECOND_CALLS {
-        assert_eq!(rt; answer(&mut second, ask), Err(Failed));
-    }
-    let mut out = [9; 3];
-    assert_eq!(rt; (first.read(0, &mut out), first.faults()), (Ok(3), 0));
-    assert_eq!(rt; out, [b'a', b'b', b'c']);
-    drop(first);
-    assert_eq!(rt; (second.len(), second.faults()), (Ok(3), 4));
+    let told = two_handles(open_store(&rt, path), open_store(&rt, path));
     fs::remove_file(&rt, path)?;
+    assert_eq!(rt; told, ([b'a', b'b', b'c'], true, (Ok(3), 4)));
     Ok(())
 }

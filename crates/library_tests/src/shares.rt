@@ -90,51 +90,62 @@ fn many(alloc: Global) -> Result<Grants, NoMemory> {
 /// Looks up sixteen million times by each of both, and ends as many keys that have no grant. A walk of the rows in one
 /// of these would meet more than 10^11 of them.
 fn finds_each(grants: &mut Grants) -> bool {
+    let mut found = true;
     for round in 0..16_000_000u64 {
         let number = round % 65_536 + 1;
-        if grants.find(number).is_none() || grants.of_key(number, 10001).is_none() {
-            return false;
-        }
+        found &= grants.find(number).is_some();
+        found &= grants.of_key(number, 10001).is_some();
         grants.end_key(100_000 + round);
     }
-    true
+    found
+}
+
+/// Whether each is found, and none went.
+fn finds_all(mut grants: Grants) -> (bool, usize) {
+    let found = finds_each(&mut grants);
+    (found, grants.len())
 }
 
 #[test]
 fn no_call_goes_through_the_rows(rt: HostRuntime) -> Result<(), Fail> {
-    let mut grants = many(rt.alloc())?;
-    assert!(rt; finds_each(&mut grants));
-    assert!(rt; grants.len() == 65_536);
+    let told = finds_all(many(rt.alloc())?);
+    assert_eq!(rt; told, (true, 65_536));
     Ok(())
+}
+
+/// Whether each of these stands, and how many grants there are.
+fn standing(grants: &Grants, rows: &[(u64, u32, u64, u32)]) -> (bool, usize) {
+    let mut same = true;
+    for (key, uid, number, bits) in rows {
+        same &= stands(grants, *key, *uid, *number, *bits);
+    }
+    (same, grants.len())
+}
+
+/// What stands of five that are made; whether grants are found and taken back that are not there, are, and were; what stands once key 7
+/// has ended; and whether none does once all have.
+fn told_in_turn(mut grants: Grants) -> ((bool, usize), [bool; 5], (bool, usize), bool) {
+    let made = standing(&grants, &STANDING);
+    let calls = [
+        grants.find(4).is_some(),
+        grants.find(0).is_some(),
+        grants.ungrant(4).is_some(),
+        grants.ungrant(1).is_some(),
+        grants.ungrant(1).is_some(),
+    ];
+    grants.end_key(7);
+    let ended = standing(&grants, &ENDED);
+    grants.end_key(8);
+    grants.end_key(9);
+    (made, calls, ended, grants.is_empty())
 }
 
 #[test]
 fn a_second_grant_keeps_its_number_and_a_key_takes_its_grants_along(
     rt: HostRuntime,
 ) -> Result<(), Fail> {
-    let mut grants = five(rt.alloc())?;
-    assert!(rt; grants.len() == 4);
-    for (key, uid, number, bits) in &STANDING {
-        assert!(rt;
-            stands(&grants, *key, *uid, *number, *bits),
-            "key {key} to {uid}"
-        );
-    }
-    assert!(rt; grants.find(4).is_none() && grants.find(0).is_none());
-    assert!(rt; grants.ungrant(4).is_none());
-    assert!(rt; grants.ungrant(1).is_some());
-    assert!(rt; grants.ungrant(1).is_none());
-    assert!(rt; grants.len() == 3);
-    grants.end_key(7);
-    for (key, uid, number, bits) in &ENDED {
-        assert!(rt;
-            stands(&grants, *key, *uid, *number, *bits),
-            "key {key} to {uid} at the end"
-        );
-    }
-    assert!(rt; grants.len() == 2);
-    grants.end_key(8);
-    grants.end_key(9);
-    assert!(rt; grants.is_empty());
+    let told = told_in_turn(five(rt.alloc())?);
+    let calls = [false, false, false, true, false];
+    assert_eq!(rt; told, ((true, 4), calls, (true, 2), true));
     Ok(())
 }

@@ -1,7 +1,13 @@
 //! The keys that the tests make and use, and how their lists are spelled.
 
+ghost use Rattle.std.specs.Prelude.{◌≡◌};
+
+use key_domains::Permissions;
+use key_rules::{ImportFacts, NewFacts, read_asked};
 use std::alloc::{AllocError, Global};
-use tags::{Bytes, Descriptor, Tag, TagType};
+use tag_lists::AuthList;
+use tags::{Bytes, Code, Descriptor, Tag, TagType};
+use use_rules::BeginFacts;
 
 /// The parameters of a key or an operation: of a BYTES tag the number of zero bytes.
 pub type Pairs = &'static [(Tag, u64)];
@@ -64,6 +70,15 @@ fn put(bytes: &mut Vec<u8>, tag: Tag, number: u64) -> Result<(), AllocError> {
     }
 }
 
+/// How many of the parameters are left without those of some tags.
+fn count(params: Pairs, dropped: &[Tag]) -> u16 {
+    let mut count = 0u16;
+    for (tag, _) in params {
+        count = count.wrapping_add(u16::from(!dropped.contains(tag)));
+    }
+    count
+}
+
 /// The encoded list of these parameters without those of some tags, and of a nonce where there is one.
 pub fn encoded(
     alloc: Global,
@@ -71,32 +86,104 @@ pub fn encoded(
     dropped: &[Tag],
     nonce: Option<&[u8]>,
 ) -> Result<Vec<u8>, AllocError> {
-    let mut count = 0u16;
-    let mut body = Vec::new(alloc);
+    let mut bytes = Vec::new(alloc);
+    let all = count(params, dropped).wrapping_add(u16::from(nonce.is_some()));
+    bytes.extend_from_slice(&all.to_be_bytes())?;
     for (tag, number) in params {
         if !dropped.contains(tag) {
-            put(&mut body, *tag, *number)?;
-            count = count.wrapping_add(1);
+            put(&mut bytes, *tag, *number)?;
         }
     }
     if let Some(nonce) = nonce {
-        body.extend_from_slice(&Tag::Nonce.number().to_be_bytes())?;
-        body.extend_from_slice(&((nonce.len() % 65536) as u16).to_be_bytes())?;
-        body.extend_from_slice(nonce)?;
-        count = count.wrapping_add(1);
+        bytes.extend_from_slice(&Tag::Nonce.number().to_be_bytes())?;
+        bytes.extend_from_slice(&((nonce.len() % 65536) as u16).to_be_bytes())?;
+        bytes.extend_from_slice(nonce)?;
     }
-    let mut bytes = Vec::new(alloc);
-    bytes.extend_from_slice(&count.to_be_bytes())?;
-    bytes.extend_from_slice(&body)?;
     Ok(bytes)
 }
 
-/// The key of an app under an alias.
-pub fn app_key(alloc: Global, alias: &[u8]) -> Result<Descriptor, AllocError> {
-    Ok(Descriptor {
+/// The key of an app under an alias, which is left out where memory is wanting.
+pub fn app_key(alloc: Global, alias: &[u8]) -> Descriptor {
+    Descriptor {
         domain: 0,
         nspace: 0,
-        alias: Some(Bytes::of(Vec::from_slice(alloc, alias)?)),
+        alias: Bytes::copy_of(alloc, alias).ok(),
         blob: None,
-    })
+    }
+}
+
+/// The list of these parameters, with a nonce where there is one, as an operation asks for it.
+pub fn asked_list(alloc: Global, params: Pairs, nonce: Option<&[u8]>) -> Result<AuthList, Code> {
+    let Ok(bytes) = encoded(alloc, params, &[], nonce) else {
+        return Err(Code::MemoryAllocationFailed);
+    };
+    match read_asked(alloc, &bytes) {
+        Ok(asked) => asked,
+        Err(_) => Err(Code::MemoryAllocationFailed),
+    }
+}
+
+/// The list of these parameters without those of some tags, where there is memory for it.
+pub fn key_list(alloc: Global, params: Pairs, dropped: &[Tag]) -> Option<AuthList> {
+    let bytes = encoded(alloc, params, dropped, None).ok()?;
+    AuthList::read(alloc, &bytes).ok()
+}
+
+/// The facts of a begin by an app under an alias, on a key that opens to a list or does not: at the wall reading 1000, without a user or a
+/// token, in early boot, on a locked device, with a slot that is free.
+pub fn begin_facts(
+    alloc: Global,
+    asked: Result<AuthList, Code>,
+    opened: Option<AuthList>,
+    fits: bool,
+) -> BeginFacts
+    ensures opened { result.opened ≡ opened }
+    ensures fits { result.fits ≡ fits }
+{
+    BeginFacts {
+        connected: true,
+        descriptor: app_key(alloc, b"a"),
+        row: None,
+        found: true,
+        bits: Permissions::of_bits(256),
+        forced: false,
+        asked,
+        opened,
+        fits,
+        wall: 1000,
+        user: 0,
+        early_ended: false,
+        unlocked: false,
+        timely: false,
+        begins: 0,
+        room: true,
+    }
+}
+
+/// What a call of making a key is asked: the alias, the list, the length of an imported material, and the wall reading. The list has no
+/// bytes where memory is wanting.
+pub fn new_facts(
+    alloc: Global,
+    alias: &[u8],
+    list: Pairs,
+    length: Option<u64>,
+    wall: u64,
+) -> NewFacts {
+    let params = match encoded(alloc, list, &[], None) {
+        Ok(bytes) => Bytes::of(bytes),
+        Err(_) => Bytes::empty(alloc),
+    };
+    let import = match length {
+        None => None,
+        Some(length) => Some(ImportFacts { format: 3, length }),
+    };
+    NewFacts {
+        connected: true,
+        descriptor: app_key(alloc, alias),
+        row: None,
+        params,
+        import,
+        early_ended: false,
+        wall,
+    }
 }

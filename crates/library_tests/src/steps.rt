@@ -1,6 +1,5 @@
 //! Each rule of table S alone and before a later one.
 
-use std::test::Fail;
 use step_rules::{StepFacts, StepKind, check_step, ends_operation};
 use tags::{Code, Plan, Rule, RuleTable};
 
@@ -217,48 +216,50 @@ fn where_it_waits(kind: StepKind, want: Broken) -> Broken {
     }
 }
 
+/// The facts of a row, where a token was shown.
+fn facts_of(row: &Row) -> StepFacts {
+    let (kind, state, plan, lengths, _) = row;
+    StepFacts {
+        kind: *kind,
+        own: state.0,
+        busy: state.1,
+        input: lengths[2],
+        signature: lengths[3],
+        ended: state.2,
+        waiting: false,
+        plan: *plan,
+        aad: lengths[0],
+        text: lengths[1],
+    }
+}
+
 #[test]
-fn each_rule_breaks_alone_and_before_a_later_one(rt: HostRuntime) -> Result<(), Fail> {
-    for (row, (kind, state, plan, lengths, want)) in ROWS.iter().enumerate() {
-        let facts = StepFacts {
-            kind: *kind,
-            own: state.0,
-            busy: state.1,
-            input: lengths[2],
-            signature: lengths[3],
-            ended: state.2,
-            waiting: false,
-            plan: *plan,
-            aad: lengths[0],
-            text: lengths[1],
-        };
-        assert!(rt; breaks(&facts, *want), "in row {row}");
+fn each_rule_breaks_alone_and_before_a_later_one(rt: HostRuntime) {
+    for (number, row) in ROWS.iter().enumerate() {
+        let facts = facts_of(row);
+        let alone = breaks(&facts, row.4);
         let waiting = StepFacts {
             waiting: true,
             ..facts
         };
-        assert!(rt;
-            breaks(&waiting, where_it_waits(*kind, *want)),
-            "of a token in row {row}"
-        );
+        let waits = breaks(&waiting, where_it_waits(row.0, row.4));
+        assert_eq!(rt; (alone, waits), (true, true), "in row {number}");
     }
-    Ok(())
+}
+
+/// Whether a rule of the table ends the operation.
+fn ends(table: RuleTable, number: u8) -> bool {
+    ends_operation(Rule { table, number })
 }
 
 #[test]
-fn four_rules_end_the_operation(rt: HostRuntime) -> Result<(), Fail> {
+fn four_rules_end_the_operation(rt: HostRuntime) {
+    let mut other = None;
     for number in 0..=255u8 {
-        let ends = number == 4 || number >= 6 && number <= 8;
-        let rule = Rule {
-            table: RuleTable::S,
-            number,
-        };
-        let other = Rule {
-            table: RuleTable::B,
-            number,
-        };
-        assert!(rt; ends_operation(rule) == ends, "of {number}");
-        assert!(rt; !ends_operation(other), "of {number}");
+        let four = number == 4 || number >= 6 && number <= 8;
+        if (ends(RuleTable::S, number), ends(RuleTable::B, number)) != (four, false) {
+            other = Some(number);
+        }
     }
-    Ok(())
+    assert_eq!(rt; other, None);
 }

@@ -7,7 +7,6 @@ use pruning::victim;
 use std::alloc::Global;
 use std::marker::Brand;
 use std::sync::ledger::{Blank, Ledger};
-use std::test::Fail;
 
 /// Slots with the stamp that comes next, which is greater than every stamp held.
 #[derive(Drop)]
@@ -294,11 +293,8 @@ static CASES: [Case; 18] = [
     },
 ];
 
-fn fill(alloc: Global, case: &Case) -> Result<Desk, Fail> {
-    let mut desk = Desk {
-        slots: Slots::with_capacity(alloc, 16)?,
-        next: 1,
-    };
+/// Begins the operations of a case, and waits until now.
+fn fill(desk: &mut Desk, case: &Case) {
     for place in 0..16u64 {
         desk.wait_until(NOW.saturating_sub(case.ages[place as usize]));
         let op = (7 * place + 3) % 16 + 1;
@@ -308,18 +304,25 @@ fn fill(alloc: Global, case: &Case) -> Result<Desk, Fail> {
         }
     }
     desk.wait_until(NOW);
-    Ok(desk)
+}
+
+/// How many operations of a case are open, this moment, and the first to go.
+fn first_to_go(alloc: Global, case: &Case) -> (usize, u64, Option<OpId>) {
+    let Ok(slots) = Slots::with_capacity(alloc, 16) else {
+        return (0, 0, None);
+    };
+    let mut desk = Desk { slots, next: 1 };
+    fill(&mut desk, case);
+    let victim = pruned::<Brand>(&desk, case.uid, case.forced, Blank::new(1));
+    (desk.slots.open_count(), desk.next, victim)
 }
 
 #[test]
-fn the_first_to_go_of_sixteen(rt: HostRuntime) -> Result<(), Fail> {
-    for case in &CASES {
-        let desk = fill(rt.alloc(), case)?;
-        assert!(rt; desk.slots.open_count() == 16);
-        assert!(rt; desk.next == NOW);
-        assert!(rt; pruned::<Brand>(&desk, case.uid, case.forced, Blank::new(1)) == case.want);
+fn the_first_to_go_of_sixteen(rt: HostRuntime) {
+    for (row, case) in CASES.iter().enumerate() {
+        let told = first_to_go(rt.alloc(), case);
+        assert!(rt; told == (16, NOW, case.want), "in row {row}");
     }
-    Ok(())
 }
 
 /// The same operations in a plain list of the test's own.
@@ -397,8 +400,8 @@ impl Draws {
     }
 }
 
-/// One event on the slots and on the plain list.
-fn act(desk: &mut Desk, rows: &mut Vec<Row>, draws: &mut Draws, uids: u32) -> Result<(), Fail> {
+/// One event on the slots and on the plain list, and whether there was memory for it.
+fn act(desk: &mut Desk, rows: &mut Vec<Row>, draws: &mut Draws, uids: u32) -> bool {
     let pause = draws.below(3).wrapping_mul(draws.below(40)) as u64;
     desk.wait_until(desk.next.saturating_add(pause));
     let stamp = desk.next;
@@ -408,12 +411,13 @@ fn act(desk: &mut Desk, rows: &mut Vec<Row>, draws: &mut Draws, uids: u32) -> Re
             let uid = draws.below(uids);
             let fresh = rows.iter().all(|row| row.op != op);
             if fresh && desk.begin(op, uid) {
-                rows.push(Row {
+                let row = Row {
                     op,
                     uid,
                     stamp,
                     busy: false,
-                })?;
+                };
+                return rows.push(row).is_ok();
             }
         }
         4 | 5 => {
@@ -432,7 +436,7 @@ fn act(desk: &mut Desk, rows: &mut Vec<Row>, draws: &mut Draws, uids: u32) -> Re
             }
         }
     }
-    Ok(())
+    true
 }
 
 fn change<F: Fn(&Row) -> Row>(rows: &mut [Row], op: OpId, to: F)
@@ -451,26 +455,33 @@ fn agree(desk: &Desk, rows: &[Row]) -> bool {
     for uid in 0..6u32 {
         for forced in [false, true] {
             let answer = pruned::<Brand>(desk, uid, forced, Blank::new(1));
-            same = same && answer == by_definition(rows, uid, forced, desk.next);
+            same &= answer == by_definition(rows, uid, forced, desk.next);
         }
     }
     same
 }
 
-#[test]
-fn random_slot_lists_agree_with_the_definition(rt: HostRuntime) -> Result<(), Fail> {
-    let mut draws = Draws { state: 22 };
-    for _ in 0..10_000 {
-        let uids = draws.below(5).max(1);
-        let mut desk = Desk {
-            slots: Slots::with_capacity(rt.alloc(), 16)?,
-            next: 1,
-        };
-        let mut rows = Vec::new(rt.alloc());
-        for _ in 0..60 {
-            act(&mut desk, &mut rows, &mut draws, uids)?;
-        }
-        assert!(rt; agree(&desk, rows.as_slice()));
+/// Whether the slots answer as the definition does behind sixty events.
+fn agree_behind_events(alloc: Global, draws: &mut Draws) -> bool {
+    let Ok(slots) = Slots::with_capacity(alloc, 16) else {
+        return false;
+    };
+    let mut desk = Desk { slots, next: 1 };
+    let mut rows = Vec::new(alloc);
+    let uids = draws.below(5).max(1);
+    let mut same = true;
+    for _ in 0..60 {
+        same &= act(&mut desk, &mut rows, draws, uids);
     }
-    Ok(())
+    same && agree(&desk, rows.as_slice())
+}
+
+#[test]
+fn random_slot_lists_agree_with_the_definition(rt: HostRuntime) {
+    let mut draws = Draws { state: 22 };
+    let mut agree = true;
+    for _ in 0..10_000 {
+        agree &= agree_behind_events(rt.alloc(), &mut draws);
+    }
+    assert!(rt; agree);
 }

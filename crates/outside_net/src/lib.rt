@@ -7,8 +7,6 @@
 mod closing;
 mod hang_up;
 mod listener;
-#[cfg(test)]
-mod tests;
 
 pub use hang_up::HangsUp;
 pub use listener::{PortListener, listen};

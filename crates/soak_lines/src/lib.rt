@@ -9,8 +9,6 @@ mod call;
 mod line;
 mod script;
 mod summary;
-#[cfg(test)]
-mod tests;
 
 pub use script::{MOST_LINES, SoakScript, seed_of};
 pub use summary::Summary;

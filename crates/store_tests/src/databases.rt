@@ -1,10 +1,15 @@
+//! A database over a disk, and the table of what lasts without one.
+
+ghost use Rattle.std.specs.Prelude.{◌≡◌, OnOk};
+ghost use Rattle.key_database.specs.Held.{lasting_in, HasRoomFor};
+
 use disk_model::{MemoryDisk, Room};
-use grants::GrantRow;
-use journal_records::{Change, StoreFault};
-use key_database::KeyDatabase;
-use key_domains::Permissions;
-use std::alloc::{AllocError, Global};
-use tags::{Bytes, Settled};
+use journal_records::{Change, StoreFault, parse};
+use key_database::{KeyDatabase, LastingTable};
+use key_domains::{GrantedRow, KeyLookups, KeyRow, Permissions};
+use std::alloc::Global;
+use std::test::Fail;
+use tags::{NoMemory, Settled};
 use use_journal::Journal;
 
 /// Room for the tests.
@@ -14,112 +19,150 @@ const ROOM: Room = Room {
     pages: 4,
 };
 
-/// A change that is made, with the number that a new key or grant takes left to the database.
-#[derive(Drop)]
-pub(crate) enum Step {
-    Create {
-        domain: u8,
-        nspace: u64,
-        alias: &'static [u8],
-        limit: u32,
-    },
-    Delete {
-        id: u64,
-    },
-    Use {
-        id: u64,
-    },
-    Grant {
-        key: u64,
-        uid: u32,
-    },
-    Ungrant {
-        grant: u64,
-    },
-    Clear {
-        domain: u8,
-        nspace: u64,
-    },
-    Removed {
-        user: u32,
-    },
-}
+/// How many keys uid 10001 and namespace 10001 have, how many grants there are, and the next numbers.
+type Told = ((u64, u64), usize, (u64, u64));
 
-/// The change of a step.
-pub(crate) fn change_of(
-    alloc: Global,
-    step: &Step,
-    next: (u64, u64),
-) -> Result<Change, AllocError> {
-    let change = match step {
-        Step::Create {
-            domain,
-            nspace,
-            alias,
-            limit,
-        } => Change::Create {
-            id: next.0,
-            domain: *domain,
-            nspace: *nspace,
-            alias: copied(alloc, alias)?,
-            blob: copied(alloc, b"\xaa")?,
-            list: copied(alloc, b"\0\0")?,
-            limit: *limit,
-        },
-        Step::Delete { id } => Change::Delete { id: *id },
-        Step::Use { id } => Change::Use { id: *id },
-        Step::Grant { key, uid } => Change::Grant {
-            row: GrantRow {
-                grant: next.1,
-                key: *key,
-                uid: *uid,
-                bits: Permissions::of_bits(256),
-            },
-        },
-        Step::Ungrant { grant } => Change::Ungrant { grant: *grant },
-        Step::Clear { domain, nspace } => Change::Clear {
-            domain: *domain,
-            nspace: *nspace,
-        },
-        Step::Removed { user } => Change::Removed { user: *user },
-    };
-    Ok(change)
-}
+/// Records, as `framed` of `tools/read_store.py` spells them, and what is told after each: keys of uid 10001 but where it is said, with a
+/// blob and a list of their own, and grants to uids from 10002 on.
+static STEPS: [(&[u8], Told); 22] = [
+    (
+        b"\x4b\x00\x00\x00\x26\x01\x00\x00\x00\x00\x00\x00\x00\x01\x00\x00\x00\x00\x00\x00\x00\x27\x11\x00\x00\x00\x01\x6d\x00\x00\x00\x01\xaa\x00\x00\x00\x02\x00\x00\x00\x00\x00\x00",
+        ((1, 0), 0, (2, 1)),
+    ),
+    (
+        b"\x4b\x00\x00\x00\x19\x04\x00\x00\x00\x00\x00\x00\x00\x01\x00\x00\x00\x00\x00\x00\x00\x01\x00\x00\x27\x12\x00\x00\x01\x00",
+        ((1, 0), 1, (2, 2)),
+    ),
+    // a rebinding ends the key and its grant
+    (
+        b"\x4b\x00\x00\x00\x26\x01\x00\x00\x00\x00\x00\x00\x00\x02\x00\x00\x00\x00\x00\x00\x00\x27\x11\x00\x00\x00\x01\x6d\x00\x00\x00\x01\xaa\x00\x00\x00\x02\x00\x00\x00\x00\x00\x00",
+        ((1, 0), 0, (3, 2)),
+    ),
+    (
+        b"\x4b\x00\x00\x00\x19\x04\x00\x00\x00\x00\x00\x00\x00\x02\x00\x00\x00\x00\x00\x00\x00\x02\x00\x00\x27\x12\x00\x00\x01\x00",
+        ((1, 0), 1, (3, 3)),
+    ),
+    (
+        b"\x4b\x00\x00\x00\x19\x04\x00\x00\x00\x00\x00\x00\x00\x03\x00\x00\x00\x00\x00\x00\x00\x02\x00\x00\x27\x13\x00\x00\x01\x00",
+        ((1, 0), 2, (3, 4)),
+    ),
+    // and so does a last use
+    (
+        b"\x4b\x00\x00\x00\x26\x01\x00\x00\x00\x00\x00\x00\x00\x03\x00\x00\x00\x00\x00\x00\x00\x27\x11\x00\x00\x00\x01\x6e\x00\x00\x00\x01\xaa\x00\x00\x00\x02\x00\x00\x00\x00\x00\x02",
+        ((2, 0), 2, (4, 4)),
+    ),
+    (
+        b"\x4b\x00\x00\x00\x19\x04\x00\x00\x00\x00\x00\x00\x00\x04\x00\x00\x00\x00\x00\x00\x00\x03\x00\x00\x27\x12\x00\x00\x01\x00",
+        ((2, 0), 3, (4, 5)),
+    ),
+    (
+        b"\x4b\x00\x00\x00\x09\x03\x00\x00\x00\x00\x00\x00\x00\x03",
+        ((2, 0), 3, (4, 5)),
+    ),
+    (
+        b"\x4b\x00\x00\x00\x09\x03\x00\x00\x00\x00\x00\x00\x00\x03",
+        ((1, 0), 2, (4, 5)),
+    ),
+    // a namespace of the same number is another owner
+    (
+        b"\x4b\x00\x00\x00\x26\x01\x00\x00\x00\x00\x00\x00\x00\x04\x02\x00\x00\x00\x00\x00\x00\x27\x11\x00\x00\x00\x01\x6d\x00\x00\x00\x01\xaa\x00\x00\x00\x02\x00\x00\x00\x00\x00\x00",
+        ((1, 1), 2, (5, 5)),
+    ),
+    (
+        b"\x4b\x00\x00\x00\x19\x04\x00\x00\x00\x00\x00\x00\x00\x05\x00\x00\x00\x00\x00\x00\x00\x04\x00\x00\x27\x12\x00\x00\x01\x00",
+        ((1, 1), 3, (5, 6)),
+    ),
+    (
+        b"\x4b\x00\x00\x00\x0a\x06\x00\x00\x00\x00\x00\x00\x00\x27\x11",
+        ((0, 1), 1, (5, 6)),
+    ),
+    // a user's keys, and not those of the next user, nor a namespace's
+    (
+        b"\x4b\x00\x00\x00\x26\x01\x00\x00\x00\x00\x00\x00\x00\x05\x00\x00\x00\x00\x00\x00\x01\x86\xa0\x00\x00\x00\x01\x6d\x00\x00\x00\x01\xaa\x00\x00\x00\x02\x00\x00\x00\x00\x00\x00",
+        ((0, 1), 1, (6, 6)),
+    ),
+    (
+        b"\x4b\x00\x00\x00\x26\x01\x00\x00\x00\x00\x00\x00\x00\x06\x00\x00\x00\x00\x00\x00\x01\x86\x9f\x00\x00\x00\x01\x6d\x00\x00\x00\x01\xaa\x00\x00\x00\x02\x00\x00\x00\x00\x00\x00",
+        ((0, 1), 1, (7, 6)),
+    ),
+    (
+        b"\x4b\x00\x00\x00\x26\x01\x00\x00\x00\x00\x00\x00\x00\x07\x00\x00\x00\x00\x00\x00\x00\x27\x11\x00\x00\x00\x01\x6f\x00\x00\x00\x01\xaa\x00\x00\x00\x02\x00\x00\x00\x00\x00\x00",
+        ((1, 1), 1, (8, 6)),
+    ),
+    (
+        b"\x4b\x00\x00\x00\x19\x04\x00\x00\x00\x00\x00\x00\x00\x06\x00\x00\x00\x00\x00\x00\x00\x05\x00\x00\x27\x12\x00\x00\x01\x00",
+        ((1, 1), 2, (8, 7)),
+    ),
+    (
+        b"\x4b\x00\x00\x00\x19\x04\x00\x00\x00\x00\x00\x00\x00\x07\x00\x00\x00\x00\x00\x00\x00\x06\x00\x00\x27\x12\x00\x00\x01\x00",
+        ((1, 1), 3, (8, 8)),
+    ),
+    (
+        b"\x4b\x00\x00\x00\x05\x07\x00\x00\x00\x00",
+        ((0, 1), 2, (8, 8)),
+    ),
+    (
+        b"\x4b\x00\x00\x00\x05\x07\x00\x00\x00\x01",
+        ((0, 1), 1, (8, 8)),
+    ),
+    // one grant, and then its key
+    (
+        b"\x4b\x00\x00\x00\x19\x04\x00\x00\x00\x00\x00\x00\x00\x08\x00\x00\x00\x00\x00\x00\x00\x04\x00\x00\x27\x13\x00\x00\x01\x00",
+        ((0, 1), 2, (8, 9)),
+    ),
+    (
+        b"\x4b\x00\x00\x00\x09\x05\x00\x00\x00\x00\x00\x00\x00\x05",
+        ((0, 1), 1, (8, 9)),
+    ),
+    (
+        b"\x4b\x00\x00\x00\x09\x02\x00\x00\x00\x00\x00\x00\x00\x04",
+        ((0, 0), 0, (8, 9)),
+    ),
+];
 
-fn copied(alloc: Global, bytes: &[u8]) -> Result<Bytes, AllocError> {
-    match Bytes::copy_of(alloc, bytes) {
-        Ok(bytes) => Ok(bytes),
-        Err(_) => Err(AllocError),
+/// Makes room by the kind of a change, as a caller does who draws bytes of the change later.
+fn make_room(table: &mut LastingTable, change: &Change) -> Result<(), NoMemory>
+    ensures room { OnOk result (HasRoomFor change.now table.new) }
+    ensures same { lasting_in table.new ≡ lasting_in table.old }
+{
+    match change {
+        Change::Create { .. } => table.reserve_key(),
+        Change::Grant { .. } => table.reserve_grant(),
+        _ => Ok(()),
     }
 }
 
-/// A disk with an empty store, and its database.
-fn fresh<'a>(
-    alloc: Global,
-    failing: &'a [u64],
-) -> Result<(MemoryDisk<'a>, KeyDatabase), StoreFault> {
-    let Ok(mut disk) = MemoryDisk::with_room(alloc, ROOM, failing) else {
-        return Err(StoreFault::Memory);
+/// Makes a change of a table, where its need is met.
+fn make(alloc: Global, table: &mut LastingTable, record: &[u8]) -> bool {
+    let Ok(change) = parse(alloc, record) else {
+        return false;
     };
-    Journal::format(&mut disk)?;
-    let database = KeyDatabase::open(alloc, &mut disk)?;
-    Ok((disk, database))
+    if !table.meets(&change) {
+        return false;
+    }
+    let Ok(()) = make_room(table, &change) else {
+        return false;
+    };
+    table.make(change);
+    true
 }
 
-/// Makes a step; one whose need is not met, or at a database that waits, is answered with Memory.
-fn make(
+/// Makes a change of a database, where it is settled and the need is met.
+fn apply(
     alloc: Global,
     database: &mut KeyDatabase,
     disk: &mut MemoryDisk,
-    step: &Step,
-) -> Result<(), StoreFault> {
-    let Ok(change) = change_of(alloc, step, database.next_numbers()) else {
-        return Err(StoreFault::Memory);
+    record: &[u8],
+) -> Option<Result<(), StoreFault>> {
+    let Ok(change) = parse(alloc, record) else {
+        return None;
     };
-    if !database.is_settled() || !database.meets(&change) {
-        return Err(StoreFault::Memory);
+    let (settled, met) = (database.is_settled(), database.meets(&change));
+    if !settled || !met {
+        drop(change);
+        return None;
     }
-    database.apply(disk, change)
+    Some(database.apply(disk, change))
 }
 
 /// What a database tells.
@@ -131,191 +174,126 @@ fn told(database: &KeyDatabase) -> Told {
     )
 }
 
-/// How many keys uid 10001 and namespace 10001 have, how many grants there are, and the next numbers.
-pub(crate) type Told = ((u64, u64), usize, (u64, u64));
-
-/// Steps, and what is told after each.
-pub(crate) static STEPS: [(Step, Told); 22] = [
+/// What a table tells.
+fn table_told(table: &LastingTable) -> Told {
     (
-        Step::Create {
-            domain: 0,
-            nspace: 10_001,
-            alias: b"m",
-            limit: 0,
-        },
-        ((1, 0), 0, (2, 1)),
-    ),
-    (
-        Step::Grant {
-            key: 1,
-            uid: 10_002,
-        },
-        ((1, 0), 1, (2, 2)),
-    ),
-    // a rebinding ends the key and its grant
-    (
-        Step::Create {
-            domain: 0,
-            nspace: 10_001,
-            alias: b"m",
-            limit: 0,
-        },
-        ((1, 0), 0, (3, 2)),
-    ),
-    (
-        Step::Grant {
-            key: 2,
-            uid: 10_002,
-        },
-        ((1, 0), 1, (3, 3)),
-    ),
-    (
-        Step::Grant {
-            key: 2,
-            uid: 10_003,
-        },
-        ((1, 0), 2, (3, 4)),
-    ),
-    // and so does a last use
-    (
-        Step::Create {
-            domain: 0,
-            nspace: 10_001,
-            alias: b"n",
-            limit: 2,
-        },
-        ((2, 0), 2, (4, 4)),
-    ),
-    (
-        Step::Grant {
-            key: 3,
-            uid: 10_002,
-        },
-        ((2, 0), 3, (4, 5)),
-    ),
-    (Step::Use { id: 3 }, ((2, 0), 3, (4, 5))),
-    (Step::Use { id: 3 }, ((1, 0), 2, (4, 5))),
-    // a namespace of the same number is another owner
-    (
-        Step::Create {
-            domain: 2,
-            nspace: 10_001,
-            alias: b"m",
-            limit: 0,
-        },
-        ((1, 1), 2, (5, 5)),
-    ),
-    (
-        Step::Grant {
-            key: 4,
-            uid: 10_002,
-        },
-        ((1, 1), 3, (5, 6)),
-    ),
-    (
-        Step::Clear {
-            domain: 0,
-            nspace: 10_001,
-        },
-        ((0, 1), 1, (5, 6)),
-    ),
-    // a user's keys, and not those of the next user, nor a namespace's
-    (
-        Step::Create {
-            domain: 0,
-            nspace: 100_000,
-            alias: b"m",
-            limit: 0,
-        },
-        ((0, 1), 1, (6, 6)),
-    ),
-    (
-        Step::Create {
-            domain: 0,
-            nspace: 99_999,
-            alias: b"m",
-            limit: 0,
-        },
-        ((0, 1), 1, (7, 6)),
-    ),
-    (
-        Step::Create {
-            domain: 0,
-            nspace: 10_001,
-            alias: b"o",
-            limit: 0,
-        },
-        ((1, 1), 1, (8, 6)),
-    ),
-    (
-        Step::Grant {
-            key: 5,
-            uid: 10_002,
-        },
-        ((1, 1), 2, (8, 7)),
-    ),
-    (
-        Step::Grant {
-            key: 6,
-            uid: 10_002,
-        },
-        ((1, 1), 3, (8, 8)),
-    ),
-    (Step::Removed { user: 0 }, ((0, 1), 2, (8, 8))),
-    (Step::Removed { user: 1 }, ((0, 1), 1, (8, 8))),
-    // one grant, and then its key
-    (
-        Step::Grant {
-            key: 4,
-            uid: 10_003,
-        },
-        ((0, 1), 2, (8, 9)),
-    ),
-    (Step::Ungrant { grant: 5 }, ((0, 1), 1, (8, 9))),
-    (Step::Delete { id: 4 }, ((0, 0), 0, (8, 9))),
-];
-
-/// Makes a step, and tells what the database tells then, here and opened anew.
-fn told_after(
-    alloc: Global,
-    database: &mut KeyDatabase,
-    disk: &mut MemoryDisk,
-    step: &Step,
-) -> Option<(Told, Told)> {
-    make(alloc, database, disk, step).ok()?;
-    let anew = KeyDatabase::open(alloc, disk).ok()?;
-    Some((told(database), told(&anew)))
+        (table.count(0, 10_001), table.count(2, 10_001)),
+        table.grants().len(),
+        table.next_numbers(),
+    )
 }
 
-/// The number of the first step that is not made, or after which another thing is told.
-fn first_other(alloc: Global) -> Option<usize> {
-    let Ok((mut disk, mut database)) = fresh(alloc, &[]) else {
-        return Some(0);
-    };
-    let mut other = None;
-    for (number, (step, wanted)) in STEPS.iter().enumerate() {
-        let told = told_after(alloc, &mut database, &mut disk, step);
-        if other.is_none() && told != Some((*wanted, *wanted)) {
-            other = Some(number);
-        }
+/// What the database of a disk tells, opened anew.
+fn told_anew(alloc: Global, disk: &mut MemoryDisk) -> Option<Told> {
+    match KeyDatabase::open(alloc, disk) {
+        Ok(database) => Some(told(&database)),
+        Err(_) => None,
     }
-    other
+}
+
+/// Makes an empty store on a disk, and opens its database.
+fn fresh(alloc: Global, disk: &mut MemoryDisk) -> Option<KeyDatabase> {
+    match Journal::format(disk) {
+        Ok(()) => KeyDatabase::open(alloc, disk).ok(),
+        Err(_) => None,
+    }
+}
+
+/// Whether each of the steps is made in a database and in a table, with the same told by both, and by the database opened anew.
+fn make_steps(
+    alloc: Global,
+    table: &mut LastingTable,
+    database: &mut KeyDatabase,
+    disk: &mut MemoryDisk,
+) -> bool {
+    let mut same = true;
+    for (record, wanted) in &STEPS {
+        let made = make(alloc, table, record);
+        let applied = apply(alloc, database, disk, record) == Some(Ok(()));
+        let anew = told_anew(alloc, disk);
+        let all = (made, applied, table_told(table), told(database), anew);
+        same &= all == (true, true, *wanted, *wanted, Some(*wanted));
+    }
+    same
+}
+
+/// The same over an empty store.
+fn make_all(alloc: Global, disk: &mut MemoryDisk) -> bool {
+    match fresh(alloc, disk) {
+        Some(mut database) => {
+            let mut table = LastingTable::empty(alloc);
+            make_steps(alloc, &mut table, &mut database, disk)
+        }
+        None => false,
+    }
 }
 
 #[test]
-fn what_a_key_ends_with_it(rt: HostRuntime) {
-    assert_eq!(rt; first_other(rt.alloc()), None);
+fn what_a_key_ends_with_it(rt: HostRuntime) -> Result<(), Fail> {
+    let mut disk = MemoryDisk::with_room(rt.alloc(), ROOM, &[])?;
+    let same = make_all(rt.alloc(), &mut disk);
+    drop(disk);
+    assert!(rt; same);
+    Ok(())
 }
 
-/// A key, whose making is four calls of the device.
-static KEY: Step = Step::Create {
+/// A key of uid 10001, and a grant of it to uid 10002.
+static SHARED: [&[u8]; 2] = [
+    b"\x4b\x00\x00\x00\x26\x01\x00\x00\x00\x00\x00\x00\x00\x01\x00\x00\x00\x00\x00\x00\x00\x27\x11\x00\x00\x00\x01\x6d\x00\x00\x00\x01\xaa\x00\x00\x00\x02\x00\x00\x00\x00\x00\x00",
+    b"\x4b\x00\x00\x00\x19\x04\x00\x00\x00\x00\x00\x00\x00\x01\x00\x00\x00\x00\x00\x00\x00\x01\x00\x00\x27\x12\x00\x00\x01\x00",
+];
+
+const ROW: KeyRow = KeyRow {
+    id: 1,
     domain: 0,
     nspace: 10_001,
-    alias: b"m",
-    limit: 0,
 };
 
-/// Of the calls 6 to 9, which make that key, the one that fails; how it settles, and how many keys there are then.
+/// What the look-ups of access find: the key `m` of uid 10001, of uid 10002, of namespace 10001 and of domain 256; key 1; grant 1; and the
+/// bits of that key for uid 10002.
+type Found = (
+    [Option<KeyRow>; 4],
+    Option<KeyRow>,
+    Option<GrantedRow>,
+    Option<u32>,
+);
+
+fn found<K: KeyLookups>(keys: &K) -> Found {
+    let named = [
+        keys.by_name(0, 10_001, b"m"),
+        keys.by_name(0, 10_002, b"m"),
+        keys.by_name(2, 10_001, b"m"),
+        keys.by_name(256, 10_001, b"m"),
+    ];
+    let bits = match keys.shared_with(1, 10_002) {
+        Some(bits) => Some(bits.bits()),
+        None => None,
+    };
+    (named, keys.by_id(1), keys.by_grant(1), bits)
+}
+
+/// What they find in a table with that key and that grant.
+fn shared_found(alloc: Global) -> Found {
+    let mut table = LastingTable::empty(alloc);
+    for record in &SHARED {
+        make(alloc, &mut table, record);
+    }
+    found(&table)
+}
+
+#[test]
+fn the_look_ups_of_access(rt: HostRuntime) {
+    let granted = GrantedRow {
+        key: ROW,
+        uid: 10_002,
+        bits: Permissions::of_bits(256),
+    };
+    let named = [Some(ROW), None, None, None];
+    let wanted = (named, Some(ROW), Some(granted), Some(256));
+    assert!(rt; shared_found(rt.alloc()) == wanted);
+}
+
+/// Of the calls 6 to 9, which make the first key, the one that fails; how it settles, and how many keys there are then.
 static FAULTS: [(&[u64], Settled, u64); 4] = [
     (&[6], Settled::Lost, 0),
     (&[7], Settled::Lost, 0),
@@ -323,10 +301,12 @@ static FAULTS: [(&[u64], Settled, u64); 4] = [
     (&[9], Settled::Kept, 1),
 ];
 
-/// How many keys a disk has, opened anew.
-fn told_anew(alloc: Global, disk: &mut MemoryDisk) -> Option<(u64, u64)> {
-    let anew = KeyDatabase::open(alloc, disk).ok()?;
-    Some(told(&anew).0)
+/// How many keys the database of a disk has, opened anew.
+fn count_anew(alloc: Global, disk: &mut MemoryDisk) -> Option<(u64, u64)> {
+    match told_anew(alloc, disk) {
+        Some(told) => Some(told.0),
+        None => None,
+    }
 }
 
 /// Whether a database that waits settles so, and has so many keys then, here and opened anew.
@@ -337,27 +317,30 @@ fn settles(
     settled: Settled,
     count: u64,
 ) -> bool {
-    !database.is_settled()
-        && database.settle(disk) == Ok(settled)
-        && told(database).0 == (count, 0)
-        && told_anew(alloc, disk) == Some((count, 0))
+    let waits = !database.is_settled();
+    let is_settled = database.settle(disk) == Ok(settled);
+    let found = (told(database).0, count_anew(alloc, disk));
+    waits & is_settled & (found == ((count, 0), Some((count, 0))))
 }
 
-/// Whether a making with a failing call is refused, makes no key that is told, and settles so.
+/// Whether the making of a key with a failing call is refused, makes no key that is told, and settles so.
 fn fails_so(alloc: Global, failing: &[u64], settled: Settled, count: u64) -> bool {
-    let Ok((mut disk, mut database)) = fresh(alloc, failing) else {
+    let Ok(mut disk) = MemoryDisk::with_room(alloc, ROOM, failing) else {
         return false;
     };
-    make(alloc, &mut database, &mut disk, &KEY) == Err(StoreFault::Device)
-        && told(&database).0 == (0, 0)
-        && settles(alloc, &mut database, &mut disk, settled, count)
+    let Some(mut database) = fresh(alloc, &mut disk) else {
+        return false;
+    };
+    let made = apply(alloc, &mut database, &mut disk, SHARED[0]);
+    let refused = made == Some(Err(StoreFault::Device)) && told(&database).0 == (0, 0);
+    refused & settles(alloc, &mut database, &mut disk, settled, count)
 }
 
 #[test]
 fn each_call_of_a_change_fails(rt: HostRuntime) {
     let mut all = true;
     for (failing, settled, count) in &FAULTS {
-        all = all && fails_so(rt.alloc(), failing, *settled, *count);
+        all &= fails_so(rt.alloc(), failing, *settled, *count);
     }
     assert!(rt; all);
 }

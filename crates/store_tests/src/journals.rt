@@ -1,15 +1,12 @@
-ghost use Rattle.std.specs.Prelude.{◌≤◌, None, length, IfOk};
-ghost use Rattle.journal_records.specs.Spelling.{IsShort};
+ghost use Rattle.std.specs.Prelude.{None};
 ghost use Rattle.ks_outside.specs.Telling.{none_is_some};
 
+use crate::records::is_read_and_written;
 use disk_model::{Choice, MemoryDisk, Room};
-use grants::GrantRow;
-use journal_records::{Change, StoreFault, frame};
-use key_domains::Permissions;
+use journal_records::StoreFault;
 use ks_outside::{Disk, Failed, read_synced, write_synced};
 use std::alloc::{AllocError, Global};
-use std::test::Fail;
-use tags::{Bytes, Settled};
+use tags::Settled;
 use use_journal::Journal;
 
 /// The records of a key with two uses, of a grant of it, and of one use, each with a closing byte.
@@ -46,14 +43,25 @@ fn settle<D: Disk>(journal: &mut Journal, disk: &mut D) -> Result<Settled, Store
     journal.settle(disk)
 }
 
-/// A disk with an empty journal, and the journal.
-fn fresh<'a>(alloc: Global, failing: &'a [u64]) -> Result<(MemoryDisk<'a>, Journal), StoreFault> {
-    let Ok(mut disk) = MemoryDisk::with_room(alloc, ROOM, failing) else {
-        return Err(StoreFault::Memory);
-    };
-    Journal::format(&mut disk)?;
-    let (journal, _) = Journal::open(alloc, &mut disk)?;
-    Ok((disk, journal))
+/// A disk.
+fn disk_of<'a>(alloc: Global, failing: &'a [u64]) -> Option<MemoryDisk<'a>> {
+    MemoryDisk::with_room(alloc, ROOM, failing).ok()
+}
+
+/// Makes an empty journal on a disk.
+fn fresh(alloc: Global, disk: &mut MemoryDisk) -> Option<Journal> {
+    match Journal::format(disk) {
+        Ok(()) => opened(alloc, disk),
+        Err(_) => None,
+    }
+}
+
+/// The journal of a disk.
+fn opened(alloc: Global, disk: &mut MemoryDisk) -> Option<Journal> {
+    match Journal::open(alloc, disk) {
+        Ok((journal, _)) => Some(journal),
+        Err(_) => None,
+    }
 }
 
 /// How many changes a disk's journal has, opened anew.
@@ -114,39 +122,51 @@ static FAULTS: [Fault; 8] = [
     },
 ];
 
+/// Whether so many settlings fail.
+fn settlings_fail(journal: &mut Journal, disk: &mut MemoryDisk, count: usize) -> bool {
+    let mut failed = true;
+    for _ in 0..count {
+        failed &= settle(journal, disk) == Err(StoreFault::Device);
+    }
+    failed
+}
+
 /// Whether the use is refused, settles as the row says, and is in the journal that is opened then exactly where it
 /// was kept; and whether the journal goes on.
+fn settles_so(alloc: Global, fault: &Fault, journal: &mut Journal, disk: &mut MemoryDisk) -> bool {
+    let added = add(journal, disk, KEY);
+    let refused = add(journal, disk, USE);
+    let failed = settlings_fail(journal, disk, fault.failed);
+    let settled = settle(journal, disk);
+    let then = count(alloc, disk);
+    let more = add(journal, disk, GRANT);
+    let last = count(alloc, disk);
+    let kept = usize::from(fault.settled == Settled::Kept);
+    let ends = (failed, settled, then, last);
+    (added, refused, more) == (Ok(()), Err(StoreFault::Device), Ok(()))
+        && ends == (true, Ok(fault.settled), Ok(1 + kept), Ok(2 + kept))
+}
+
+/// The same of a journal on a disk of its own.
 fn is_settled_so(alloc: Global, fault: &Fault) -> bool {
-    let Ok((mut disk, mut journal)) = fresh(alloc, fault.failing) else {
+    let Some(mut disk) = disk_of(alloc, fault.failing) else {
         return false;
     };
-    let added = add(&mut journal, &mut disk, KEY);
-    let refused = add(&mut journal, &mut disk, USE);
-    let mut failed = true;
-    for _ in 0..fault.failed {
-        let settled = settle(&mut journal, &mut disk);
-        failed = failed && settled == Err(StoreFault::Device);
+    match fresh(alloc, &mut disk) {
+        Some(mut journal) => settles_so(alloc, fault, &mut journal, &mut disk),
+        None => false,
     }
-    let settled = settle(&mut journal, &mut disk);
-    let then = count(alloc, &mut disk);
-    let more = add(&mut journal, &mut disk, GRANT);
-    let last = count(alloc, &mut disk);
-    let kept = match fault.settled {
-        Settled::Kept => 1,
-        Settled::Lost => 0,
-    };
-    (added, more) == (Ok(()), Ok(()))
-        && refused == Err(StoreFault::Device)
-        && failed
-        && settled == Ok(fault.settled)
-        && (then, last) == (Ok(1 + kept), Ok(2 + kept))
 }
 
 #[test]
 fn each_call_of_an_append_fails(rt: HostRuntime) {
-    for fault in &FAULTS {
-        assert!(rt; is_settled_so(rt.alloc(), fault));
+    let mut other = None;
+    for (row, fault) in FAULTS.iter().enumerate() {
+        if !is_settled_so(rt.alloc(), fault) {
+            other = Some(row);
+        }
     }
+    assert_eq!(rt; other, None);
 }
 
 /// A crash: what it leaves of each write that no sync followed, and how many changes there are then, by the writes and
@@ -188,14 +208,15 @@ fn changes_left(
     count(alloc, &mut image)
 }
 
-/// A disk whose journal got a key and a use of it.
-fn used(alloc: Global) -> Result<MemoryDisk<'static>, StoreFault> {
-    let (mut disk, mut journal) = fresh(alloc, &[])?;
-    let added = add(&mut journal, &mut disk, KEY);
-    let used = add(&mut journal, &mut disk, USE);
-    match (added, used) {
-        (Ok(()), Ok(())) => Ok(disk),
-        _ => Err(StoreFault::Device),
+/// Adds a key and a use of it to an empty journal on a disk.
+fn use_once(alloc: Global, disk: &mut MemoryDisk) -> bool {
+    match fresh(alloc, disk) {
+        Some(mut journal) => {
+            let added = add(&mut journal, disk, KEY);
+            let used = add(&mut journal, disk, USE);
+            (added, used) == (Ok(()), Ok(()))
+        }
+        None => false,
     }
 }
 
@@ -205,91 +226,26 @@ fn leaves_so(alloc: Global, disk: &MemoryDisk, crash: &Crash) -> bool {
     let mut same = true;
     for (moment, changes) in crash.changes.iter().enumerate() {
         let left = changes_left(alloc, disk, moment.saturating_add(3), &choices);
-        same = same && left == Ok(*changes);
+        same &= left == Ok(*changes);
+    }
+    same
+}
+
+/// Whether each crash leaves what its row says.
+fn leave_so(alloc: Global) -> bool {
+    let Some(mut disk) = disk_of(alloc, &[]) else {
+        return false;
+    };
+    let mut same = use_once(alloc, &mut disk);
+    for crash in &CRASHES {
+        same &= leaves_so(alloc, &disk, crash);
     }
     same
 }
 
 #[test]
-fn an_image_of_each_moment_opens(rt: HostRuntime) -> Result<(), Fail> {
-    let disk = used(rt.alloc()).map_err(|_| "a disk")?;
-    let mut same = true;
-    for crash in &CRASHES {
-        same = same && leaves_so(rt.alloc(), &disk, crash);
-    }
-    drop(disk);
-    assert!(rt; same);
-    Ok(())
-}
-
-/// A store of three records, `THREE` of `tools/read_store.py`; its gates stand at 8, 53, 83 and 97.
-static STORE: [u8; 98] = *b"KSJRNL01\
-\x4b\x00\x00\x00\x28\x01\x00\x00\x00\x00\x00\x00\x00\x01\x00\x00\x00\x00\x00\x00\x00\x27\x11\
-\x00\x00\x00\x01m\x00\x00\x00\x03\xaa\xbb\xcc\x00\x00\x00\x02\x00\x00\x00\x00\x00\x02\
-\x4b\x00\x00\x00\x19\x04\x00\x00\x00\x00\x00\x00\x00\x01\x00\x00\x00\x00\x00\x00\x00\x01\
-\x00\x00\x27\x12\x00\x00\x01\x00\
-\x4b\x00\x00\x00\x09\x03\x00\x00\x00\x00\x00\x00\x00\x01\x00";
-
-/// What is read where one byte of that store is changed to this one, by its place, as `tools/read_store.py
-/// --damage` says: `.` where the bytes are a journal, `h` for offset 0, and `a` to `d` for the offset of a gate.
-static DAMAGED: [(u8, &[u8]); 3] = [
-    (
-        0x00,
-        b"hhhhhhhh....aa....................a....a......a..........bb............................cc.........",
-    ),
-    (
-        0x4b,
-        b".hhhhhhh.aaaaa.................aaaa.aaaa...aaaa.......bbbbb.........................ccccc........d",
-    ),
-    (
-        0xff,
-        b"hhhhhhhh.aaaaa.................aaaa.aaaa...aaaa.......bbbbb.........................ccccc.........",
-    ),
-];
-
-/// The same where the store is cut, by how many bytes are left.
-static CUT: &[u8] =
-    b"hhhhhhhhaaaaaaaaaaaaaaaaaaaaaaaaaaaaaaaaaaaaaaaaaaaaabbbbbbbbbbbbbbbbbbbbbbbbbbbbbbccccccccccccccd.";
-
-/// A disk with these bytes.
-fn disk_of(alloc: Global, bytes: &[u8]) -> Result<MemoryDisk<'static>, StoreFault> {
-    let Ok(mut disk) = MemoryDisk::with_room(alloc, ROOM, &[]) else {
-        return Err(StoreFault::Memory);
-    };
-    match write_synced(&mut disk, 0, bytes) {
-        Ok(()) => Ok(disk),
-        Err(Failed) => Err(StoreFault::Memory),
-    }
-}
-
-/// The letter of what is read of these bytes.
-fn letter(alloc: Global, bytes: &[u8]) -> u8 {
-    let Ok(mut disk) = disk_of(alloc, bytes) else {
-        return b'?';
-    };
-    match Journal::open(alloc, &mut disk) {
-        Ok(_) => b'.',
-        Err(StoreFault::Corrupted { offset: 0 }) => b'h',
-        Err(StoreFault::Corrupted { offset: 8 }) => b'a',
-        Err(StoreFault::Corrupted { offset: 53 }) => b'b',
-        Err(StoreFault::Corrupted { offset: 83 }) => b'c',
-        Err(StoreFault::Corrupted { offset: 97 }) => b'd',
-        Err(_) => b'?',
-    }
-}
-
-#[test]
-fn a_damaged_store_is_refused_at_the_place_of_the_damage(rt: HostRuntime) {
-    for (byte, letters) in &DAMAGED {
-        for at in 0..STORE.len() {
-            let mut store = STORE;
-            store[at] = *byte;
-            assert_eq!(rt; Some(&letter(rt.alloc(), &store)), letters.get(at));
-        }
-    }
-    for size in 0..=STORE.len() {
-        assert_eq!(rt; Some(&letter(rt.alloc(), &STORE[..size])), CUT.get(size));
-    }
+fn an_image_of_each_moment_opens(rt: HostRuntime) {
+    assert!(rt; leave_so(rt.alloc()));
 }
 
 /// A disk that reads as a journal of one key, with the alias `a`, a list of two bytes 00 and a blob of bytes 00. It
@@ -410,6 +366,9 @@ struct Draws {
     state: u64,
 }
 
+/// The fields of the bodies of records, by their kinds from 1 on: a number of eight bytes (l), of four (s), a byte (b), and counted bytes (t).
+static FORMS: [&[u8]; 7] = [b"lblttts", b"l", b"l", b"llss", b"l", b"bl", b"s"];
+
 impl Draws {
     fn next(&mut self) -> u64 {
         let mut x = self.state;
@@ -424,56 +383,44 @@ impl Draws {
         (self.next() % 256) as u8
     }
 
-    fn short(&mut self) -> u32 {
-        (self.next() % (1 << 32)) as u32
-    }
-
-    /// Up to eleven bytes.
-    fn bytes(&mut self, alloc: Global) -> Result<Bytes, AllocError>
-        ensures { IfOk result (λ bytes. length bytes ≤ 12) }
-    {
-        let mut bytes = Vec::new(alloc);
-        for _ in 0..self.next() % 12 {
-            bytes.push(self.byte())?;
+    /// Adds up to eleven bytes behind their count.
+    fn put_bytes(&mut self, body: &mut Vec<u8>) -> Result<(), AllocError> {
+        let count = (self.next() % 12) as u32;
+        body.extend_from_slice(&count.to_be_bytes())?;
+        for _ in 0..count {
+            body.push(self.byte())?;
         }
-        bytes.truncate(12);
-        Ok(Bytes::of(bytes))
+        Ok(())
     }
 
-    /// A change of any kind.
-    fn change(&mut self, alloc: Global) -> Result<Change, AllocError>
-        ensures { IfOk result (λ change. IsShort change) }
-    {
-        let change = match self.next() % 7 {
-            0 => Change::Create {
-                id: self.next(),
-                domain: self.byte(),
-                nspace: self.next(),
-                alias: self.bytes(alloc)?,
-                blob: self.bytes(alloc)?,
-                list: self.bytes(alloc)?,
-                limit: self.short(),
-            },
-            1 => Change::Delete { id: self.next() },
-            2 => Change::Use { id: self.next() },
-            3 => Change::Grant { row: self.row() },
-            4 => Change::Ungrant { grant: self.next() },
-            5 => Change::Clear {
-                domain: self.byte(),
-                nspace: self.next(),
-            },
-            _ => Change::Removed { user: self.short() },
-        };
-        Ok(change)
-    }
-
-    fn row(&mut self) -> GrantRow {
-        GrantRow {
-            grant: self.next(),
-            key: self.next(),
-            uid: self.short(),
-            bits: Permissions::of_bits(self.short()),
+    /// Adds a field.
+    fn put(&mut self, form: u8, body: &mut Vec<u8>) -> Result<(), AllocError> {
+        match form {
+            b'l' => body.extend_from_slice(&self.next().to_be_bytes()),
+            b's' => body.extend_from_slice(&((self.next() % (1 << 32)) as u32).to_be_bytes()),
+            b'b' => body.extend_from_slice(&[self.byte()]),
+            _ => self.put_bytes(body),
         }
+    }
+
+    /// The body of a record of any kind.
+    fn body(&mut self, alloc: Global) -> Result<Vec<u8>, AllocError> {
+        let mut body = Vec::new(alloc);
+        let kind = (self.next() % 7) as usize;
+        body.push(kind as u8 + 1)?;
+        for form in FORMS[kind] {
+            self.put(*form, &mut body)?;
+        }
+        Ok(body)
+    }
+
+    /// A record of any kind, without its closing byte.
+    fn record(&mut self, alloc: Global) -> Result<Vec<u8>, AllocError> {
+        let body = self.body(alloc)?;
+        let mut record = Vec::from_slice(alloc, b"\x4b")?;
+        record.extend_from_slice(&((body.len() % 65_536) as u32).to_be_bytes())?;
+        record.extend_from_slice(body.as_slice())?;
+        Ok(record)
     }
 }
 
@@ -486,24 +433,19 @@ fn digest(bytes: &[u8], state: u64) -> u64 {
     state
 }
 
-/// Adds a drawn change.
+/// Adds a drawn record, which is read and written so besides.
 fn add_drawn(
     alloc: Global,
     draws: &mut Draws,
     journal: &mut Journal,
     disk: &mut MemoryDisk,
-) -> Result<(), StoreFault> {
-    let Ok(change) = draws.change(alloc) else {
-        return Err(StoreFault::Memory);
+) -> bool {
+    let Ok(mut record) = draws.record(alloc) else {
+        return false;
     };
-    let Ok(record) = frame(alloc, &change) else {
-        return Err(StoreFault::Memory);
-    };
-    let mut closed = record.into_vec();
-    let Ok(()) = closed.push(0) else {
-        return Err(StoreFault::Memory);
-    };
-    add(journal, disk, closed.as_slice())
+    let written = is_read_and_written(alloc, record.as_slice());
+    let closed = record.push(0).is_ok();
+    written && closed && add(journal, disk, record.as_slice()).is_ok()
 }
 
 /// What is read of a disk, as two numbers: how many changes and where they end; or 2^64 - 1 and the offset.
@@ -515,41 +457,57 @@ fn reading(alloc: Global, disk: &mut MemoryDisk) -> (u64, u64) {
     }
 }
 
-/// Makes a store of drawn changes, changes one byte of it and reads it, and goes on with the digest of the store
-/// and of what was read.
-fn digest_of_store(alloc: Global, draws: &mut Draws, state: u64) -> Result<u64, StoreFault> {
-    let (mut disk, mut journal) = fresh(alloc, &[])?;
-    for _ in 0..draws.next() % 8 {
-        add_drawn(alloc, draws, &mut journal, &mut disk)?;
-    }
-    let Ok(bytes) = read_synced(alloc, &mut disk) else {
-        return Err(StoreFault::Device);
-    };
-    if bytes.is_empty() {
-        return Err(StoreFault::Device);
-    }
-    let at = draws.next() % bytes.len() as u64;
+/// Changes one byte of a disk with these bytes, reads it, and goes on with the digest of the bytes and of what was read.
+fn digest_of_damage(
+    alloc: Global,
+    draws: &mut Draws,
+    disk: &mut MemoryDisk,
+    bytes: &[u8],
+    state: u64,
+) -> u64 {
+    let at = draws.next().checked_rem(bytes.len() as u64).unwrap_or(0);
     let damage = [draws.byte()];
-    let Ok(()) = write_synced(&mut disk, at, &damage) else {
-        return Err(StoreFault::Device);
-    };
-    let (first, second) = reading(alloc, &mut disk);
-    let state = digest(bytes.as_slice(), state);
+    let _ = write_synced(disk, at, &damage);
+    let (first, second) = reading(alloc, disk);
+    let state = digest(bytes, state);
     let state = digest(&first.to_be_bytes(), state);
-    Ok(digest(&second.to_be_bytes(), state))
+    digest(&second.to_be_bytes(), state)
+}
+
+/// Makes a journal of drawn changes on a disk, where all are added.
+fn draw_changes(alloc: Global, draws: &mut Draws, disk: &mut MemoryDisk) -> bool {
+    match fresh(alloc, disk) {
+        Some(mut journal) => {
+            let mut added = true;
+            for _ in 0..draws.next() % 8 {
+                added &= add_drawn(alloc, draws, &mut journal, disk);
+            }
+            added
+        }
+        None => false,
+    }
+}
+
+/// Makes a store of drawn changes, and goes on with the digest of it and of what is read where it is damaged. Where a change was not
+/// added the digest begins anew.
+fn digest_of_store(alloc: Global, draws: &mut Draws, state: u64) -> u64 {
+    let Some(mut disk) = disk_of(alloc, &[]) else {
+        return 0;
+    };
+    let drawn = draw_changes(alloc, draws, &mut disk);
+    match read_synced(alloc, &mut disk) {
+        Ok(bytes) if drawn => digest_of_damage(alloc, draws, &mut disk, bytes.as_slice(), state),
+        _ => 0,
+    }
 }
 
 // The digest is what `tools/read_store.py --stores` prints, which writes and reads the same stores without this code.
 #[test]
-fn a_thousand_stores_are_those_of_another_reader(rt: HostRuntime) -> Result<(), Fail> {
+fn a_thousand_stores_are_those_of_another_reader(rt: HostRuntime) {
     let mut draws = Draws { state: 1 };
     let mut state = 0xcbf2_9ce4_8422_2325;
     for _ in 0..1000 {
-        let Ok(next) = digest_of_store(rt.alloc(), &mut draws, state) else {
-            return Err("a store was not made".into());
-        };
-        state = next;
+        state = digest_of_store(rt.alloc(), &mut draws, state);
     }
     assert_eq!(rt; state, 0xa785_1eeb_585e_c4ec);
-    Ok(())
 }

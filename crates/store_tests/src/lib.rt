@@ -9,8 +9,4 @@ mod disks;
 #[cfg(test)]
 mod journals;
 #[cfg(test)]
-mod needs;
-#[cfg(test)]
 mod records;
-#[cfg(test)]
-mod tables;

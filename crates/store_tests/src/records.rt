@@ -1,6 +1,6 @@
 ghost use Rattle.journal_records.specs.Worked.{WorkedExamples};
 
-use journal_records::{Change, RecordFault, frame, frame_into, framed_length, parse};
+use journal_records::{RecordFault, frame, frame_into, framed_length, parse};
 use std::alloc::Global;
 use std::test::Fail;
 
@@ -33,7 +33,7 @@ static NO_RECORDS: [&[u8]; 9] = [
 ];
 
 /// Whether the record is read, and written so again with a byte 00 behind it and nothing more.
-fn is_read_and_written(alloc: Global, record: &[u8]) -> bool {
+pub(crate) fn is_read_and_written(alloc: Global, record: &[u8]) -> bool {
     let Ok(change) = parse(alloc, record) else {
         return false;
     };
@@ -52,48 +52,39 @@ fn is_read_and_written(alloc: Global, record: &[u8]) -> bool {
         && end == record.len() + 1
 }
 
+/// Whether the bytes are no record.
+fn is_no_record(alloc: Global, bytes: &[u8]) -> bool {
+    matches!(parse(alloc, bytes), Err(RecordFault::Bad))
+}
+
 #[test]
 fn records_of_each_kind(rt: HostRuntime) {
+    let mut read = true;
     for record in &RECORDS {
-        assert!(rt; is_read_and_written(rt.alloc(), record));
-        assert!(rt; parse(rt.alloc(), &record[..record.len() - 1]).is_err());
+        read &= is_read_and_written(rt.alloc(), record);
+        read &= is_no_record(rt.alloc(), &record[..record.len() - 1]);
     }
+    let mut bad = true;
     for bytes in &NO_RECORDS {
-        assert!(rt; matches!(parse(rt.alloc(), bytes), Err(RecordFault::Bad)));
+        bad &= is_no_record(rt.alloc(), bytes);
     }
+    assert_eq!(rt; (read, bad), (true, true));
+}
+
+/// The new key of `RECORDS` in words.
+const NEW_KEY: &str =
+    "Create { id: 15130880334998875822, domain: 174, nspace: 1648209070578717474, alias: Bytes { bytes: [17, 116, 43, 68, 88, 200] }, blob: Bytes { bytes: [67, 175, 216, 72, 237, 182, 248, 221] }, list: Bytes { bytes: [97, 89, 189, 174, 77, 146] }, limit: 710582178 }";
+
+/// A record's change in words.
+fn words_of(alloc: Global, record: &[u8]) -> Option<String> {
+    let change = parse(alloc, record).ok()?;
+    format!(in alloc; "{change:?}").ok()
 }
 
 #[test]
 fn the_fields_of_a_new_key(rt: HostRuntime) -> Result<(), Fail> {
-    let Ok(
-        Change::Create {
-            id,
-            domain,
-            nspace,
-            alias,
-            blob,
-            list,
-            limit,
-        },
-    ) = parse(rt.alloc(), RECORDS[0])
-    else {
-        return Err("no new key".into());
-    };
-    assert_eq!(rt;
-        (id, domain, nspace, limit),
-        (
-            0xd1fb_af7f_728d_2eae,
-            0xae,
-            0x16df_9d6a_c76b_d322,
-            0x2a5a_9fa2
-        )
-    );
-    assert_eq!(rt; alias.as_slice(), b"\x11\x74\x2b\x44\x58\xc8".as_slice());
-    assert_eq!(rt;
-        blob.as_slice(),
-        b"\x43\xaf\xd8\x48\xed\xb6\xf8\xdd".as_slice()
-    );
-    assert_eq!(rt; list.as_slice(), b"\x61\x59\xbd\xae\x4d\x92".as_slice());
+    let words = words_of(rt.alloc(), RECORDS[0]).ok_or("a change")?;
+    assert_eq!(rt; words.as_str(), NEW_KEY);
     Ok(())
 }
 

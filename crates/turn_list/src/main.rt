@@ -15,8 +15,6 @@ mod list;
 mod order;
 mod plain;
 mod run;
-#[cfg(test)]
-mod tests;
 mod words;
 
 ghost use Rattle.std.specs.Prelude.{◌≡◌, IfOk};

@@ -1,0 +1,43 @@
+-- What a store that was opened holds, and what is fixed in a run over it.
+use Rattle.std.proofs.Common.{◌≡◌, ℕ, List, [], length, Some, refl, ◌∙◌}
+use Rattle.ks_outside.specs.Images.{AllImages}
+use Rattle.ks_outside.specs.declared.disk.Disk.{Ghosts as DiskGhosts}
+use Rattle.tags.specs.declared.policy.PolicyRow.{PolicyRow}
+use Rattle.tags.specs.declared.secrets.DeviceSecrets.{DeviceSecrets}
+use Rattle.journal_records.specs.declared.change.Change.{Change}
+use Rattle.journal_records.specs.Effects.{lasting_of as lasting_after}
+use Rattle.journal_records.specs.Holding.{Sure}
+use Rattle.use_journal.specs.Journal.{AreChanges, IsJournal, written}
+use Rattle.key_database.specs.declared.database.KeyDatabase.{KeyDatabase}
+use Rattle.key_database.specs.Stands.{Holds, store_bytes}
+use Rattle.rule_model.specs.Setup.{Setup}
+use Rattle.keystore_core.specs.declared.engine.Engine.{Engine}
+use Rattle.keystore_core.specs.Engine.{IsOpened, StoreStands, bytes_of, lasting_of}
+
+-- the image is a journal whose changes leave the lasting part at the start, in so many bytes
+pub record IsStart (setup : Setup) (image : List ℕ) : Type 0 where
+  pub past : List Change
+  pub changes : AreChanges past
+  pub journal : IsJournal past image
+  pub lasting : lasting_after past ≡ Some setup.start
+  pub bytes : setup.bytes ≡ length (written past)
+
+-- what is fixed over an engine that was opened
+abbrev pub setup_of : DeviceSecrets → List PolicyRow → ℕ → Engine → Setup
+setup_of device policy slots engine = record { device = device; policy = policy; slots = slots; start = lasting_of engine; bytes = bytes_of engine }
+
+pub is_opened : (device : DeviceSecrets) (policy : List PolicyRow) (slots : ℕ) (engine : Engine) → IsOpened (setup_of device policy slots engine) device policy slots engine
+is_opened device policy slots engine = record { start = refl; bytes = refl; device_is = refl; policy_is = refl; slots_are = refl }
+
+start_images : {D : Type 0} (d : DiskGhosts D) (setup : Setup) (keys : KeyDatabase) (disk : D) → Holds d keys disk (Sure setup.start) → setup.bytes ≡ store_bytes keys → AllImages d disk (IsStart setup)
+start_images d setup keys disk is bytes c image = record {
+  past = is.past;
+  changes = is.settled.changes;
+  journal = is.settled.images c image;
+  lasting = is.left;
+  bytes = bytes ∙ is.settled.place;
+}
+
+-- the images after an opening are the store of the start
+pub opened_images : {D : Type 0} (d : DiskGhosts D) (device : DeviceSecrets) (policy : List PolicyRow) (slots : ℕ) (engine : Engine) (disk : D) → StoreStands d (setup_of device policy slots engine) engine disk [] → AllImages d disk (IsStart (setup_of device policy slots engine))
+opened_images d device policy slots engine disk store = start_images d (setup_of device policy slots engine) _ disk store refl

@@ -1,7 +1,0 @@
-use Rattle.keystore_program.proofs.Soaking.{soaks_front}
-use Rattle.keystore_program.proofs.soak.soak.Goals as goal
-
-pub returns-clause-soaks : goal.returns-clause-soaks
-returns-clause-soaks g c =
-    let wrote = c.in-Err.ensures.err in
-    soaks_front g.K.Sink c.args.seed c.args.lines _ _ _ _ wrote.0 wrote.1 c.in-Ok.ensures.summary c.as_bytes.ensures.value wrote.2 wrote.3

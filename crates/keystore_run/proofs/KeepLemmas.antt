@@ -1,0 +1,167 @@
+-- What a history leaves on a disk, part by part.
+use Rattle.std.proofs.Common.{◌≡◌, ℕ, ◌+◌, ◌-◌, ◌^◌, ◌<◌, ◌≤◌, ◌⊎◌, inl, inr, ⊎_elim, Bool, true, false, if◌then◌else◌, List, [], ◌∷◌, ◌++◌, Option, None, Some, refl, sym, ap, ◌∙◌, arith, append_assoc}
+use Rattle.ks_outside.proofs.Joins.{each_moment, passes_as, passes_none, passes_on}
+use Rattle.ks_outside.proofs.Shown.{counts_none, counts_on}
+use Rattle.ks_outside.specs.Faults.{CountsFaults}
+use Rattle.ks_outside.specs.Images.{AllImages, Passes, tells}
+use Rattle.ks_outside.specs.declared.disk.Disk.{Ghosts}
+use Rattle.tags.specs.declared.settled.Settled.{Settled}
+use Rattle.journal_records.specs.declared.change.Change.{Change}
+use Rattle.journal_records.specs.Effects.{after, lasting_of}
+use Rattle.journal_records.specs.Holding.{Holding, Sure, Unsure}
+use Rattle.journal_records.specs.LastingPart.{Lasting}
+use Rattle.journal_records.specs.Needs.{is_met}
+use Rattle.key_database.specs.declared.database.KeyDatabase.{KeyDatabase}
+use Rattle.key_database.specs.Stands.{Holds}
+use Rattle.key_database.specs.Store.{MayBe}
+use Rattle.rule_model.specs.declared.entry.Entry.TheVariants.{Acted, Settling}
+use Rattle.rule_model.specs.declared.event.Event.{Event}
+use Rattle.rule_model.specs.declared.reply.Reply.{Reply}
+use Rattle.rule_model.specs.Entries.{History, after_settling, after_step}
+use Rattle.rule_model.specs.Settling.{is_disk_fault}
+use Rattle.rule_model.specs.Setup.{Setup}
+use Rattle.keystore_core.specs.Engine.{MayHold, MayHoldEither}
+use Rattle.keystore_core.specs.Restarting.{is_other_store}
+use Rattle.keystore_run.specs.Kept.{AtSome, IsFront, IsUnwritten, Keeps, KeepsMore, estranged_of, failed_of}
+use Rattle.keystore_run.proofs.DrawLemmas.{counted, unchanged}
+
+-- ---- fronts
+
+front_self : (past : History) → IsFront past past
+front_self past = ([], refl)
+
+front_none : (past : History) → IsFront [] past
+front_none past = (past, sym (append_nothing past)) where
+  append_nothing : (xs : History) → xs ++ [] ≡ xs
+  append_nothing [] = refl
+  append_nothing (x ∷ xs) = ap (λ l. x ∷ l) (append_nothing xs)
+
+front_on : (front mid later : History) → IsFront front mid → IsFront mid later → IsFront front later
+front_on front mid later first second = (second.0 ++ first.0, second.1 ∙ ap (λ l. second.0 ++ l) first.1 ∙ sym (append_assoc second.0 first.0 front))
+
+front_step : (settled : Option Settled) (event : Event) (drawn : List ℕ) (reply : Reply) (past : History) → IsFront past (after_step settled event drawn reply past)
+front_step None event drawn reply past = (Acted event drawn reply ∷ [], refl)
+front_step (Some settled) event drawn reply past = (Acted event drawn reply ∷ Settling settled ∷ [], refl)
+
+some_on : (setup : Setup) (mid later : History) (c : List ℕ) → IsFront mid later → AtSome setup mid c → AtSome setup later c
+some_on setup mid later c front (at, is, held) = (at, front_on at mid later is front, held)
+
+either_some : (setup : Setup) (past later : History) (c : List ℕ) → IsFront past later → MayHoldEither setup past later c → AtSome setup later c
+either_some setup past later c front (inl held) = (past, front, held)
+either_some setup past later c front (inr held) = (later, front_self later, held)
+
+-- ---- what was counted
+
+settled_failed : (settled : Option Settled) (past : History) → failed_of (after_settling settled past) ≡ failed_of past
+settled_failed None past = refl
+settled_failed (Some settled) past = refl
+
+settled_estranged : (settled : Option Settled) (past : History) → estranged_of (after_settling settled past) ≡ estranged_of past
+settled_estranged None past = refl
+settled_estranged (Some settled) past = refl
+
+not_estranged : (other : Bool) (n m : ℕ) → n ≡ m → other ≡ false → (if other then n + 1 else n) ≡ m
+not_estranged other n m e none = rw none e
+
+left_after : (past : List Change) (change : Change) (part : Lasting) → lasting_of past ≡ Some part → is_met part change ≡ true → lasting_of (change ∷ past) ≡ Some (after part change)
+left_after past change part left met = rw (left, met) refl
+
+-- each image stands for what the database holds
+pub held_images : {D : Type 0} (d : Ghosts D) (keys : KeyDatabase) (disk : D) (held : Holding) → Holds d keys disk held → AllImages d disk (MayBe held)
+held_images d keys disk (Sure part) is c image = record { past = is.past; changes = is.settled.changes; journal = is.settled.images c image; lasting = is.left }
+held_images d keys disk (Unsure part later) is c image = ⊎_elim
+    (λ j. inl (record { past = is.past; changes = is.unsettled.changes.1; journal = j; lasting = is.left }))
+    (λ j. inr (record { past = is.change ∷ is.past; changes = is.unsettled.changes; journal = j; lasting = left_after is.past is.change part is.left is.met ∙ ap (λ p. Some p) is.after_it }))
+    (is.unsettled.images c image)
+
+module _ {D : Type 0} (d : Ghosts D) (setup : Setup) where
+  -- ---- parts of a history
+
+  -- nothing came
+  pub keeps_nothing : (disk : D) (past : History) → KeepsMore d setup disk disk past past false
+  keeps_nothing disk past = record {
+    front = front_self past;
+    passes = passes_none d disk (AtSome setup past);
+    faults = counts_none (d.fault_count disk);
+    failures = refl;
+    telling = refl;
+    same = λ told. refl;
+  }
+
+  -- one step
+  pub keeps_step : (old new : D) (past : History) (settled : Option Settled) (event : Event) (drawn : List ℕ) (reply : Reply)
+      → Passes d old new (MayHoldEither setup past (after_step settled event drawn reply past))
+      → CountsFaults (d.fault_count old) (d.fault_count new) (is_disk_fault reply) → tells d new ≡ tells d old
+      → (tells d old ≡ true → is_other_store reply ≡ false)
+      → KeepsMore d setup old new past (after_step settled event drawn reply past) (is_disk_fault reply)
+  keeps_step old new past settled event drawn reply passes faults telling same = record {
+    front = front_step settled event drawn reply past;
+    passes = passes_as d old new _ (AtSome setup (after_step settled event drawn reply past)) passes
+        (λ c held. either_some setup past (after_step settled event drawn reply past) c (front_step settled event drawn reply past) held);
+    faults = faults;
+    failures = ap (λ n. if is_disk_fault reply then n + 1 else n) (settled_failed settled past);
+    telling = telling;
+    same = λ told. not_estranged (is_other_store reply) (estranged_of (after_settling settled past)) (estranged_of past) (settled_estranged settled past) (same told);
+  }
+
+  -- two parts, of which the first had no call that failed
+  pub keeps_both : (a b c : D) (past mid later : History) (failed : Bool) → KeepsMore d setup a b past mid false → KeepsMore d setup b c mid later failed → KeepsMore d setup a c past later failed
+  keeps_both a b c past mid later failed first second = record {
+    front = front_on past mid later first.front second.front;
+    passes = passes_on d a b c (AtSome setup mid) (AtSome setup later) (AtSome setup later) first.passes second.passes (λ image. some_on setup mid later image second.front) (λ image held. held);
+    faults = counts_on _ _ _ false failed first.faults second.faults;
+    failures = second.failures ∙ ap (λ n. if failed then n + 1 else n) first.failures;
+    telling = second.telling ∙ first.telling;
+    same = λ told. second.same (first.telling ∙ told) ∙ first.same told;
+  }
+
+  -- ---- since the beginning
+
+  -- each image that came stands for what may be kept after some front, or was there at the beginning
+  abbrev Came : D → History → List ℕ → Type 0
+  Came begin past c = d.images begin c ⊎ AtSome setup past c
+
+  -- what is known of the disk since a moment
+  pub record KeptSince (begin now : D) (past : History) : Type 0 where
+    pub passes : Passes d begin now (Came begin past)
+    pub faults : d.fault_count now < 2 ^ 64 - 1 → failed_of past + d.fault_count begin ≤ d.fault_count now
+    pub none : failed_of past ≡ 0 → d.fault_count now ≡ d.fault_count begin
+    pub later : d.fault_count begin ≤ d.fault_count now
+    pub telling : tells d now ≡ tells d begin
+    pub same : tells d begin ≡ true → estranged_of past ≡ 0
+
+  pub since_none : (begin now : D) → IsUnwritten d begin now → KeptSince begin now []
+  since_none begin now is = record {
+    passes = passes_as d begin now (d.images begin) (Came begin []) is.passes (λ c image. inl image);
+    faults = λ few. omega (arith, is.count);
+    none = λ none. is.count;
+    later = omega (arith, is.count);
+    telling = is.telling;
+    same = λ told. refl;
+  }
+
+  pub since_on : (begin mid new : D) (past later : History) (failed : Bool) → KeptSince begin mid past → KeepsMore d setup mid new past later failed → KeptSince begin new later
+  since_on begin mid new past later failed since more = record {
+    passes = passes_on d begin mid new (Came begin past) (AtSome setup later) (Came begin later) since.passes more.passes
+        (λ c came. ⊎_elim (λ image. inl image) (λ held. inr (some_on setup past later c more.front held)) came) (λ c held. inr held);
+    faults = counted failed (failed_of past) (failed_of later) (d.fault_count begin) (d.fault_count mid) (d.fault_count new) since.faults more.failures more.faults.later more.faults.rises;
+    none = unchanged failed (failed_of past) (failed_of later) (d.fault_count begin) (d.fault_count mid) (d.fault_count new) since.none more.failures more.faults.same;
+    later = omega (arith, since.later, more.faults.later);
+    telling = more.telling ∙ since.telling;
+    same = λ told. more.same (since.telling ∙ told) ∙ since.same told;
+  }
+
+  -- the whole of it
+  pub keeps_all : ((disk : D) (c : List ℕ) → d.images_since disk (d.moment disk) c → d.images disk c) → (begin new : D) (past : History)
+      → KeptSince begin new past → AllImages d new (MayHold setup past) → Keeps d setup begin new past
+  keeps_all only_now begin new past since holds = record {
+    holds = holds;
+    moments = λ stood.
+        let at_start : (c : List ℕ) → d.images begin c → AtSome setup past c = λ c image. ([], front_none past, stood c image) in
+        each_moment d only_now begin new (AtSome setup past) at_start
+        (passes_as d begin new (Came begin past) (AtSome setup past) since.passes (λ c came. ⊎_elim (λ image. at_start c image) (λ held. held) came));
+    faults = since.faults;
+    none = since.none;
+    later = since.later;
+    same = since.same;
+  }

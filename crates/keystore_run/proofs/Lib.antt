@@ -1,0 +1,12 @@
+pub mod Completing
+pub mod DrawLemmas
+pub mod Going
+pub mod KeepLemmas
+pub mod LineLemmas
+pub mod Numbers
+pub mod Openings
+pub mod Tickets
+pub mod Sessions
+pub mod Soaking
+pub mod Windows
+pub mod Writing

@@ -1,0 +1,126 @@
+-- A store that was opened, and the run over it.
+use Rattle.std.proofs.Common.{◌≡◌, ℕ, ◌≤◌, Bool, true, false, List, [], Err, refl, sym, ◌∙◌, subst, arith}
+use Rattle.ks_outside.specs.Images.{AllImages, Passes, tells}
+use Rattle.ks_outside.specs.Shown.{Outside}
+use Rattle.ks_outside.specs.declared.disk.Disk.{Ghosts as DiskGhosts}
+use Rattle.ks_outside.specs.declared.entropy.Entropy.{Ghosts as EntropyGhosts}
+use Rattle.ks_outside.specs.declared.sink.Sink.{Ghosts as SinkGhosts}
+use Rattle.ks_outside.specs.declared.source.Source.{Ghosts as SourceGhosts}
+use Rattle.ks_outside.proofs.Joins.{passes_none}
+use Rattle.journal_records.specs.LastingPart.{Lasting}
+use Rattle.key_database.specs.Store.{StandsFor as IsStoreOf}
+use Rattle.rule_model.specs.Setup.{Setup}
+use Rattle.keystore_core.specs.declared.engine.Engine.{Engine}
+use Rattle.keystore_core.specs.declared.engine.OpenFault.{OpenFault}
+use Rattle.keystore_core.specs.declared.engine.OpenFault.TheVariants as faults
+use Rattle.keystore_core.specs.Engine.{OpenFaults, OpensFor, OpensStore, Stands, StoreStands}
+use Rattle.keystore_run.specs.declared.session.Session.{Session}
+use Rattle.keystore_run.specs.declared.status.Status.{Status}
+use Rattle.keystore_run.specs.declared.status.Status.TheVariants as statuses
+use Rattle.keystore_run.specs.Ends.{Ends}
+use Rattle.keystore_run.specs.Jobs.{JobsStand}
+use Rattle.keystore_run.specs.Kept.{IsUnwritten}
+use Rattle.keystore_run.specs.Runs.{Formats, Given, IsCause, IsRead, IsRefused, Opened, Refused, Runs, RunsFresh, Formatted, Unformatted, is_disk_status, refusal_of}
+use Rattle.keystore_run.specs.Session.{StandsFor, engine_of, jobs_of}
+
+-- a session over an engine that was opened
+pub session_stands : {D : Type 0} (d : DiskGhosts D) (setup : Setup) (engine : Engine) (session : Session) (disk : D) → engine_of session ≡ engine → Stands setup engine [] → StoreStands d setup engine disk [] → JobsStand setup (jobs_of session) []
+    → StandsFor d setup session disk []
+session_stands d setup engine session disk same stands store held = record {
+  stands = subst (λ e. Stands setup e []) (sym same) stands;
+  store = subst (λ e. StoreStands d setup e disk []) (sym same) store;
+  held = held;
+}
+
+module _ {D : Type 0} (d : DiskGhosts D) where
+  pub unwritten : (old new : D) → Passes d old new (d.images old) → d.fault_count new ≡ d.fault_count old → tells d new ≡ tells d old → IsUnwritten d old new
+  unwritten old new passes count telling = record { passes = passes; count = count; telling = telling }
+
+  pub unwritten_none : (disk : D) → IsUnwritten d disk disk
+  unwritten_none disk = record { passes = passes_none d disk (d.images disk); count = refl; telling = refl }
+
+  -- a run whose store was not opened, by why it was not
+  pub refused : (old new : D) (fault : OpenFault) → AllImages d new (d.images old) → Passes d old new (d.images old) → OpenFaults (d.fault_count old) (d.fault_count new) (Err fault)
+      → AllImages d new (λ image. OpensStore image (Err fault)) → ((part : Lasting) → AllImages d old (IsStoreOf part) → tells d old ≡ true → OpensFor part (Err fault))
+      → IsRefused d old new (refusal_of fault)
+  refused old new faults.Device images passes cause reads finds = record { images = images; passes = passes; later = cause.0; refuses = cause.1 }
+  refused old new (faults.Corrupted offset) images passes cause reads finds = record { images = images; passes = passes; later = omega (arith, cause); refuses = record { bad = reads; no_store = finds } }
+  refused old new faults.Memory images passes cause reads finds = record { images = images; passes = passes; later = omega (arith, cause); refuses = cause }
+
+  -- one that found no memory before it called the disk
+  pub refused_early : (disk : D) → IsRefused d disk disk statuses.Memory
+  refused_early disk = record { images = λ c image. image; passes = passes_none d disk (d.images disk); later = omega arith; refuses = refl }
+
+-- ---- the status that tells a fault of the disk
+
+pub fine : {before now : ℕ} (told : Bool) → told ≡ false → before ≤ now → IsCause before now told
+fine told e later = record { later = later; rises = λ f. absurd (let no : ◌≡◌ {A = Bool} true false = sym f ∙ e in cc) }
+
+module _ {S K D N : Type 0} (s : SourceGhosts S) (k : SinkGhosts K) (d : DiskGhosts D) (n : EntropyGhosts N) where
+  -- what the end of a run says of the disk's faults
+  ends_cause : (setup : Setup) (old new : Outside S K D N) (status : Status) → Ends s k d n setup old new status → IsCause (d.fault_count old.disk) (d.fault_count new.disk) (is_disk_status status)
+  ends_cause setup old new statuses.Ok ends = fine false refl ends.served.keeps.later
+  ends_cause setup old new statuses.Memory ends = fine false refl ends.keeps.later
+  ends_cause setup old new statuses.ReadFault ends = fine false refl ends.amid.served.keeps.later
+  ends_cause setup old new statuses.WriteFault ends = fine false refl ends.keeps.later
+  ends_cause setup old new (statuses.LineTooLong line) ends = fine false refl ends.amid.served.keeps.later
+  ends_cause setup old new statuses.ScriptTooLong ends = fine false refl ends.amid.served.keeps.later
+  ends_cause setup old new statuses.DiskFault ends = absurd ends
+  ends_cause setup old new statuses.Usage ends = absurd ends
+  ends_cause setup old new (statuses.Corrupted offset) ends = absurd ends
+  ends_cause setup old new statuses.ListenFault ends = absurd ends
+
+  refuses_cause : (old new : D) (status : Status) → IsRefused d old new status → IsCause (d.fault_count old) (d.fault_count new) (is_disk_status status)
+  refuses_cause old new statuses.DiskFault refused = record { later = refused.later; rises = λ told. refused.refuses }
+  refuses_cause old new statuses.Ok refused = fine false refl refused.later
+  refuses_cause old new statuses.Memory refused = fine false refl refused.later
+  refuses_cause old new statuses.ReadFault refused = fine false refl refused.later
+  refuses_cause old new statuses.WriteFault refused = fine false refl refused.later
+  refuses_cause old new (statuses.LineTooLong line) refused = fine false refl refused.later
+  refuses_cause old new statuses.ScriptTooLong refused = fine false refl refused.later
+  refuses_cause old new statuses.Usage refused = fine false refl refused.later
+  refuses_cause old new (statuses.Corrupted offset) refused = fine false refl refused.later
+  refuses_cause old new statuses.ListenFault refused = fine false refl refused.later
+
+  -- a cause since a moment before which no call failed
+  cause_since : (told : Bool) {before begin now : ℕ} → begin ≡ before → IsCause begin now told → IsCause before now told
+  cause_since told {now = now} same cause = subst (λ m. IsCause m now told) same cause
+
+  pub runs_cause : (g : Given) (begin : D → D) (old new : Outside S K D N) (status : Status) → ((setup : Setup) (opened : D) → IsRead d setup old.disk opened → d.fault_count (begin opened) ≡ d.fault_count old.disk)
+      → Runs s k d n g begin old new status → IsCause (d.fault_count old.disk) (d.fault_count new.disk) (is_disk_status status)
+  runs_cause g begin old new status same (Opened opened runs) =
+      cause_since (is_disk_status status) (same runs.setup opened runs.read) (ends_cause runs.setup (record old { disk = begin opened }) new status runs.ends)
+  runs_cause g begin old new status same (Refused untouched refused) = refuses_cause old.disk new.disk status refused
+
+  pub fresh_cause : (g : Given) (old new : Outside S K D N) (status : Status) → RunsFresh s k d n g old new status → IsCause (d.fault_count old.disk) (d.fault_count new.disk) (is_disk_status status)
+  fresh_cause g old new status (Formatted formatted is runs) =
+      cause_since (is_disk_status status) is.count (runs_cause g (λ opened. opened) (record old { disk = formatted }) new status (λ setup opened read. read.unwritten.count) runs)
+  fresh_cause g old new status (Unformatted untouched torn) = record { later = torn.later; rises = λ told. torn.rises }
+
+  -- a run of a form never ends with the status of words that are none
+  ends_usage : (setup : Setup) (old new : Outside S K D N) (status : Status) → Ends s k d n setup old new status → status ≡ statuses.Usage → ⊥
+  ends_usage setup old new status ends e = subst (Ends s k d n setup old new) e ends
+
+  pub runs_usage : (g : Given) (begin : D → D) (old new : Outside S K D N) (status : Status) → Runs s k d n g begin old new status → status ≡ statuses.Usage → ⊥
+  runs_usage g begin old new status (Opened opened runs) e = ends_usage runs.setup (record old { disk = begin opened }) new status runs.ends e
+  runs_usage g begin old new status (Refused untouched refused) e = subst (λ x. IsRefused d old.disk new.disk x → ⊥) (sym e) (λ (is : IsRefused d old.disk new.disk statuses.Usage). is.refuses) refused
+
+  pub fresh_usage : (g : Given) (old new : Outside S K D N) (status : Status) → RunsFresh s k d n g old new status → status ≡ statuses.Usage → ⊥
+  fresh_usage g old new status (Formatted formatted is runs) e = runs_usage g (λ opened. opened) (record old { disk = formatted }) new status runs e
+  fresh_usage g old new status (Unformatted untouched torn) e = absurd (let no = sym torn.is_fault ∙ e in cc)
+
+-- what a formatting says of the disk's faults
+pub formats_cause : {D : Type 0} (d : DiskGhosts D) (old new : D) (status : Status) → Formats d old new status → IsCause (d.fault_count old) (d.fault_count new) (is_disk_status status)
+formats_cause d old new statuses.Ok is = fine false refl (omega (arith, is.count))
+formats_cause d old new statuses.DiskFault torn = record { later = torn.later; rises = λ told. torn.rises }
+formats_cause d old new statuses.Memory none = absurd none
+formats_cause d old new statuses.Usage none = absurd none
+formats_cause d old new statuses.ReadFault none = absurd none
+formats_cause d old new statuses.WriteFault none = absurd none
+formats_cause d old new (statuses.LineTooLong line) none = absurd none
+formats_cause d old new (statuses.Corrupted offset) none = absurd none
+formats_cause d old new statuses.ScriptTooLong none = absurd none
+formats_cause d old new statuses.ListenFault none = absurd none
+
+pub formats_usage : {D : Type 0} (d : DiskGhosts D) (old new : D) (status : Status) → Formats d old new status → status ≡ statuses.Usage → ⊥
+formats_usage d old new status formats e = subst (Formats d old new) e formats

@@ -1,0 +1,146 @@
+-- What the words of a command line do: how a store is made and opened, and how the run over it ends.
+use Rattle.std.specs.Prelude.{◌≡◌, ℕ, ◌≤◌, Bool, true, false, List, length, Some, Result, Ok, Err}
+use Rattle.ks_outside.specs.Faults.{Rises}
+use Rattle.ks_outside.specs.Images.{AllImages, Passes, tells}
+use Rattle.ks_outside.specs.Shown.{Outside}
+use Rattle.ks_outside.specs.declared.disk.Disk.{Ghosts as DiskGhosts}
+use Rattle.ks_outside.specs.declared.entropy.Entropy.{Ghosts as EntropyGhosts}
+use Rattle.ks_outside.specs.declared.sink.Sink.{Ghosts as SinkGhosts}
+use Rattle.ks_outside.specs.declared.source.Source.{Ghosts as SourceGhosts}
+use Rattle.tags.specs.declared.policy.PolicyRow.{PolicyRow}
+use Rattle.tags.specs.declared.secrets.DeviceSecrets.{DeviceSecrets}
+use Rattle.journal_records.specs.LastingPart.{Lasting, empty_lasting}
+use Rattle.key_database.specs.Store.{IsBadStore, StandsFor}
+use Rattle.rule_model.specs.Setup.{Setup}
+use Rattle.keystore_core.specs.declared.engine.OpenFault.{OpenFault}
+use Rattle.keystore_core.specs.declared.engine.OpenFault.TheVariants as faults
+use Rattle.keystore_core.specs.Opening.{IsStart}
+use Rattle.keystore_run.specs.declared.status.Status.{Status}
+use Rattle.keystore_run.specs.declared.status.Status.TheVariants as statuses
+use Rattle.keystore_run.specs.declared.words.Form.{Form}
+use Rattle.keystore_run.specs.declared.words.Form.TheVariants.{Init, Run, Soak}
+use Rattle.keystore_run.specs.Ends.{Ends}
+use Rattle.keystore_run.specs.Kept.{IsUnwritten}
+use Rattle.keystore_run.specs.Soak.{Soaks}
+
+-- a count of faults never falls, and where this is told it rose
+pub record IsCause (before now : ℕ) (told : Bool) : Type 0 where
+  pub later : before ≤ now
+  pub rises : told ≡ true → Rises before now
+
+-- what a run is given beside its script: the device's secrets, the policy, and the slots
+pub record Given : Type 0 where
+  pub device : DeviceSecrets
+  pub policy : List PolicyRow
+  pub slots : ℕ
+
+abbrev pub given : DeviceSecrets → List PolicyRow → ℕ → Given
+given device policy slots = record { device = device; policy = policy; slots = slots }
+
+-- what is fixed in a run is what it was given
+pub record IsSetup (setup : Setup) (g : Given) : Type 0 where
+  pub device_is : setup.device ≡ g.device
+  pub policy_is : setup.policy ≡ g.policy
+  pub slots_are : setup.slots ≡ g.slots
+
+-- the status of a run whose store was not opened
+abbrev pub refusal_of : OpenFault → Status
+refusal_of faults.Device = statuses.DiskFault
+refusal_of (faults.Corrupted offset) = statuses.Corrupted offset
+refusal_of faults.Memory = statuses.Memory
+
+-- the status of a formatting
+abbrev pub formatted_as : {E : Type 0} → Result (Unit {0}) E → Status
+formatted_as (Ok u) = statuses.Ok
+formatted_as (Err e) = statuses.DiskFault
+
+-- whether a status tells a fault of the disk
+abbrev pub is_disk_status : Status → Bool
+is_disk_status statuses.DiskFault = true
+is_disk_status _ = false
+
+module _ {D : Type 0} (d : DiskGhosts D) where
+  -- The store was read, and nothing was written: each image is one of those before, and the store of the start. Where all images
+  -- stood for one lasting part and the disk tells its content, it is the start's.
+  pub record IsRead (setup : Setup) (old opened : D) : Type 0 where
+    pub stands : AllImages d opened (IsStart setup)
+    pub images : AllImages d opened (d.images old)
+    pub finds : (part : Lasting) → AllImages d old (StandsFor part) → tells d old ≡ true → setup.start ≡ part
+    pub unwritten : IsUnwritten d old opened
+
+  -- the disk was formatted: each image stands for the empty lasting part
+  pub record IsFormatted (old new : D) : Type 0 where
+    pub empty : AllImages d new (StandsFor empty_lasting)
+    pub later : d.moment old ≤ d.moment new
+    pub count : d.fault_count new ≡ d.fault_count old
+    pub telling : tells d new ≡ tells d old
+
+  -- why a store was not opened: want of memory; a failed device call; or what each image then has wrong, at this place, which comes
+  -- over no disk that tells its content where all images stood for one lasting part
+  pub record IsBad (old new : D) (offset : ℕ) : Type 0 where
+    pub bad : AllImages d new (λ image. IsBadStore image offset)
+    pub no_store : (part : Lasting) → AllImages d old (StandsFor part) → tells d old ≡ true → ⊥
+
+  abbrev pub Refuses : D → D → Status → Type 0
+  Refuses old new statuses.Memory = d.fault_count new ≡ d.fault_count old
+  Refuses old new statuses.DiskFault = Rises (d.fault_count old) (d.fault_count new)
+  Refuses old new (statuses.Corrupted offset) = IsBad old new offset
+  Refuses old new _ = ⊥
+
+  -- the store was not opened, and nothing was written: each image, at each moment, is one of those before
+  pub record IsRefused (old new : D) (status : Status) : Type 0 where
+    pub images : AllImages d new (d.images old)
+    pub passes : Passes d old new (d.images old)
+    pub later : d.fault_count old ≤ d.fault_count new
+    pub refuses : Refuses old new status
+
+  -- a device call failed while the disk was formatted
+  pub record IsTorn (old new : D) (status : Status) : Type 0 where
+    pub is_fault : status ≡ statuses.DiskFault
+    pub later : d.fault_count old ≤ d.fault_count new
+    pub rises : Rises (d.fault_count old) (d.fault_count new)
+
+  -- what `init` leaves: an empty store, or a fault of the disk
+  abbrev pub Formats : D → D → Status → Type 0
+  Formats old new statuses.Ok = IsFormatted old new
+  Formats old new statuses.DiskFault = IsTorn old new statuses.DiskFault
+  Formats old new _ = ⊥
+
+module _ {S K D N : Type 0} (s : SourceGhosts S) (k : SinkGhosts K) (d : DiskGhosts D) (n : EntropyGhosts N) where
+  -- nothing was read, written or drawn
+  pub record IsUntouched (old new : Outside S K D N) : Type 0 where
+    pub source : new.source ≡ old.source
+    pub sink : new.sink ≡ old.sink
+    pub entropy : new.entropy ≡ old.entropy
+
+  -- the store was opened, and the run over it ended so, where the disk's part is told from the moment `begin` on
+  pub record RunsFrom (g : Given) (old : Outside S K D N) (opened begin : D) (new : Outside S K D N) (status : Status) : Type 0 where
+    pub setup : Setup
+    pub is : IsSetup setup g
+    pub read : IsRead d setup old.disk opened
+    pub ends : Ends s k d n setup (record old { disk = begin }) new status
+
+  -- A run over the store that the disk holds: it was opened; or the run ended before that, and nothing was touched. `begin` says for
+  -- the disk after the opening from which moment on the disk's part is told.
+  pub data Runs (g : Given) (begin : D → D) (old new : Outside S K D N) (status : Status) : Type 0 where
+    Opened : (opened : D) → RunsFrom g old opened (begin opened) new status → Runs g begin old new status
+    Refused : IsUntouched old new → IsRefused d old.disk new.disk status → Runs g begin old new status
+
+  -- A run over an empty store: the disk was formatted, and the disk's part is told from the opening on, at which each image stood for
+  -- the empty lasting part; or the disk failed before.
+  pub data RunsFresh (g : Given) (old new : Outside S K D N) (status : Status) : Type 0 where
+    Formatted : (formatted : D) → IsFormatted d old.disk formatted → Runs g (λ opened. opened) (record old { disk = formatted }) new status → RunsFresh g old new status
+    Unformatted : IsUntouched old new → IsTorn d old.disk new.disk status → RunsFresh g old new status
+
+  -- nothing was read, drawn or asked of the disk
+  pub record IsApart (old new : Outside S K D N) : Type 0 where
+    pub source : new.source ≡ old.source
+    pub disk : new.disk ≡ old.disk
+    pub entropy : new.entropy ≡ old.entropy
+
+  -- what a form does; the disk's part of a run over the store that is there is told from the call on
+  abbrev pub Does : DeviceSecrets → List PolicyRow → Form → Outside S K D N → Outside S K D N → Status → Type 0
+  Does device policy Init old new status = IsUntouched old new × Formats d old.disk new.disk status
+  Does device policy (Run false slots) old new status = Runs (given device policy slots) (λ opened. old.disk) old new status
+  Does device policy (Run true slots) old new status = RunsFresh (given device policy slots) old new status
+  Does device policy (Soak seed lines) old new status = IsApart old new × Soaks k seed lines old.sink new.sink status

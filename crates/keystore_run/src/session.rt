@@ -1,0 +1,256 @@
+//! A session: an engine that takes the lines of a script.
+
+ghost use Rattle.std.specs.Prelude.{◌≡◌, ◌+◌, ◌-◌, ◌^◌, ◌<◌, ◌≤◌, [], Some, None, true, false, IfOk, OnOk};
+ghost use Rattle.ks_outside.specs.Shown.{Drew};
+ghost use Rattle.rule_model.specs.declared.event.Act.TheVariants as acts;
+ghost use Rattle.rule_model.specs.Drawn.{is_entropy_fault};
+ghost use Rattle.rule_model.specs.Acts as acts_spec;
+ghost use Rattle.rule_model.specs.Entries.{History};
+ghost use Rattle.rule_model.specs.Setup.{Setup};
+ghost use Rattle.keystore_run.specs.Answers.{IsAnswer, text_in};
+ghost use Rattle.keystore_run.specs.Follows as spec;
+ghost use Rattle.keystore_run.specs.SessionKept.{IsSession};
+
+use crate::answer::{Answer, answer_of, malformed};
+use crate::jobs::{Jobs, run_job};
+use keystore_core::Engine;
+use ks_outside::{Disk, Entropy};
+use rule_model::{Act, Event, Line, Reading, Reply, Stepped};
+use script_lines::{LineFault, event_of};
+use std::alloc::Global;
+use tags::{Bytes, NoMemory};
+
+/// An engine that takes the lines of a script, one after another, with the jobs of the works that are out.
+#[derive(Drop)]
+pub struct Session {
+    engine: Engine,
+    jobs: Jobs,
+    ghost stands: { ∥ IsSession engine jobs ∥₁ },
+}
+
+/// The ticket whose leave a line makes at once.
+fn ticket_due(hold: bool, reply: &Reply) -> Option<u64>
+    ensures { result ≡ spec.ticket_due hold reply.now }
+{
+    match reply {
+        Reply::Done(fields) => { if hold { None } else { fields.ticket } }
+        _ => None,
+    }
+}
+
+/// The ticket of a leave.
+fn left_by(act: &Act) -> Option<u64>
+    ensures { result ≡ spec.left_by act.now }
+{
+    match act {
+        Act::Leave { ticket } => Some(*ticket),
+        _ => None,
+    }
+}
+
+/// Whether an act is a restart.
+fn is_restart(act: &Act) -> bool
+    ensures { result ≡ acts_spec.is_restart act.now }
+{
+    match act {
+        Act::Restart { .. } => true,
+        _ => false,
+    }
+}
+
+/// The leave that a line makes.
+fn leave_at(reading: Reading, ticket: u64) -> Event
+    ensures { result ≡ spec.leave_at reading ticket }
+{
+    Event {
+        reading,
+        client: 0,
+        act: Act::Leave { ticket },
+    }
+}
+
+impl Session {
+    ghost use Rattle.keystore_run.specs.Jobs.{JobsStand};
+    ghost use Rattle.keystore_run.specs.Session.{HasRoom, StandsFor, Serves, ServesBy, StepsTo, devices, engine_of, entries_in, jobs_of};
+    ghost use Rattle.keystore_run.specs.SessionKept.{IsIdle};
+
+    /// A session over an engine none of whose works is out.
+    pub fn new(alloc: Global, engine: Engine) -> Session
+        requires { ∥ IsIdle engine ∥₁ }
+        ensures engine { engine_of result ≡ engine }
+        ensures jobs { (setup : Setup) → JobsStand setup (jobs_of result) [] }
+    {
+        Session {
+            engine,
+            jobs: Jobs::new(alloc),
+        }
+    }
+
+    /// Takes the room of the next ticket's job.
+    fn reserve(&mut self) -> Result<(), NoMemory>
+        requires { entries_in self.old < 2 ^ 62 }
+        ensures room { OnOk result (HasRoom self.new) }
+        ensures jobs { (setup : Setup) (past : History) → JobsStand setup (jobs_of self.old) past → JobsStand setup (jobs_of self.new) past }
+        ensures engine { engine_of self.new ≡ engine_of self.old }
+    {
+        let next = self.engine.next_ticket();
+        self.jobs.reserve(next)
+    }
+
+    /// Makes the step of a leave: the job of its ticket is run, and what it comes back with goes to the engine.
+    fn leave<D: Disk, N: Entropy>(
+        &mut self,
+        disk: &mut D,
+        entropy: &mut N,
+        event: Event,
+        ticket: u64,
+    ) -> Stepped
+        requires few { entries_in self.old < 2 ^ 62 }
+        requires act { event.act ≡ acts.Leave ticket }
+        ensures steps { (setup : Setup) (past : History) → StandsFor D.Disk setup self.old disk.old past → StepsTo D.Disk setup past self.new disk.old disk.new event result }
+        ensures entries { entries_in self.new ≡ entries_in self.old + 1 }
+        ensures drew { Drew N.Entropy entropy.old entropy.new result.drawn (is_entropy_fault result.reply) }
+    {
+        let done = run_job(self.jobs.take(ticket));
+        self.engine.step(disk, entropy, event, done)
+    }
+
+    /// Makes the step of another event, and holds the job of a work that goes out.
+    fn go<D: Disk, N: Entropy>(&mut self, disk: &mut D, entropy: &mut N, event: Event) -> Stepped
+        requires few { entries_in self.old < 2 ^ 62 }
+        requires room { HasRoom self.old }
+        requires act { spec.left_by event.act ≡ None }
+        requires goes_on { acts_spec.is_restart event.act ≡ false }
+        ensures steps { (setup : Setup) (past : History) → StandsFor D.Disk setup self.old disk.old past → StepsTo D.Disk setup past self.new disk.old disk.new event result }
+        ensures entries { entries_in self.new ≤ entries_in self.old + 2 }
+        ensures drew { Drew N.Entropy entropy.old entropy.new result.drawn (is_entropy_fault result.reply) }
+    {
+        let next = self.engine.next_ticket();
+        let Stepped {
+            settled,
+            reply,
+            job,
+            drawn,
+        } = self.engine.step(disk, entropy, event, None);
+        self.jobs.hold(next, job);
+        Stepped {
+            settled,
+            reply,
+            job: None,
+            drawn,
+        }
+    }
+
+    /// Makes the step of a restart. Where it is admitted no work is out any more.
+    fn restart<D: Disk, N: Entropy>(
+        &mut self,
+        disk: &mut D,
+        entropy: &mut N,
+        event: Event,
+    ) -> Stepped
+        requires few { entries_in self.old < 2 ^ 62 }
+        requires act { acts_spec.is_restart event.act ≡ true }
+        ensures steps { (setup : Setup) (past : History) → StandsFor D.Disk setup self.old disk.old past → StepsTo D.Disk setup past self.new disk.old disk.new event result }
+        ensures entries { entries_in self.new ≤ entries_in self.old + 2 }
+        ensures drew { Drew N.Entropy entropy.old entropy.new result.drawn (is_entropy_fault result.reply) }
+    {
+        let stepped = self.engine.step(disk, entropy, event, None);
+        self.jobs.clear_if(stepped.reply.is_done());
+        stepped
+    }
+
+    /// Makes the step of an event.
+    fn step<D: Disk, N: Entropy>(&mut self, disk: &mut D, entropy: &mut N, event: Event) -> Stepped
+        requires few { entries_in self.old < 2 ^ 62 }
+        requires room { HasRoom self.old }
+        ensures steps { (setup : Setup) (past : History) → StandsFor D.Disk setup self.old disk.old past → StepsTo D.Disk setup past self.new disk.old disk.new event result }
+        ensures entries { entries_in self.new ≤ entries_in self.old + 2 }
+        ensures drew { Drew N.Entropy entropy.old entropy.new result.drawn (is_entropy_fault result.reply) }
+    {
+        let restarts = is_restart(&event.act);
+        match left_by(&event.act) {
+            Some(ticket) => self.leave(disk, entropy, event, ticket),
+            None => {
+                if restarts {
+                    self.restart(disk, entropy, event)
+                } else {
+                    self.go(disk, entropy, event)
+                }
+            }
+        }
+    }
+
+    /// Makes the steps of what a line says, and gives their reply lines.
+    fn serve<D: Disk, N: Entropy>(
+        &mut self,
+        alloc: Global,
+        disk: &mut D,
+        entropy: &mut N,
+        line: Line,
+    ) -> Result<Answer, NoMemory>
+        requires few { entries_in self.old < 2 ^ 62 - 2 }
+        ensures serves { (setup : Setup) (past : History) → StandsFor D.Disk setup self.old disk.old past →
+            ServesBy D.Disk N.Entropy setup past self.new (Some line) (devices disk.old entropy.old) (devices disk.new entropy.new) (text_in result) }
+        ensures answer { IfOk result IsAnswer }
+        ensures entries { entries_in self.new ≤ entries_in self.old + 3 }
+    {
+        let Line { event, hold } = line;
+        let reading = event.reading;
+        self.reserve()?;
+        let stepped = self.step(disk, entropy, event);
+        let Some(ticket) = ticket_due(hold, &stepped.reply) else {
+            return answer_of(alloc, &stepped);
+        };
+        let left = self.leave(disk, entropy, leave_at(reading, ticket), ticket);
+        let both = Stepped {
+            settled: stepped.settled,
+            ..left
+        };
+        answer_of(alloc, &both)
+    }
+
+    /// Makes the steps of one line and gives their reply lines: of a line that enters without holding, the enter and its
+    /// leave, with the leave's reply. Before it stands the settled line, where the first step settled an earlier change.
+    /// After want of memory the session stands for the history with all of the line's entries, or with none of them. What the
+    /// entropy gave was drawn for these entries. One of them is the reply to a failed draw exactly where a draw failed, or to
+    /// a failed call of the disk exactly where one failed, and one at most. What they change of what lasts is on the disk
+    /// before their text is given.
+    pub fn answer<D: Disk, N: Entropy>(
+        &mut self,
+        alloc: Global,
+        disk: &mut D,
+        entropy: &mut N,
+        line: &[u8],
+    ) -> Result<Answer, NoMemory>
+        requires few { entries_in self.old < 2 ^ 62 - 2 }
+        ensures serves { (setup : Setup) (past : History) → StandsFor D.Disk setup self.old disk.old past →
+            Serves D.Disk N.Entropy setup past self.new line.now (devices disk.old entropy.old) (devices disk.new entropy.new) (text_in result) }
+        ensures answer { IfOk result IsAnswer }
+        ensures entries { entries_in self.new ≤ entries_in self.old + 3 }
+    {
+        match event_of(alloc, line) {
+            Ok(line) => self.serve(alloc, disk, entropy, line),
+            Err(LineFault::Malformed) => malformed(alloc),
+            Err(LineFault::Memory) => Err(NoMemory),
+        }
+    }
+
+    /// The same, of which the text alone is given.
+    pub fn line<D: Disk, N: Entropy>(
+        &mut self,
+        alloc: Global,
+        disk: &mut D,
+        entropy: &mut N,
+        line: &[u8],
+    ) -> Result<Bytes, NoMemory>
+        requires few { entries_in self.old < 2 ^ 62 - 2 }
+        ensures serves { (setup : Setup) (past : History) → StandsFor D.Disk setup self.old disk.old past →
+            Serves D.Disk N.Entropy setup past self.new line.now (devices disk.old entropy.old) (devices disk.new entropy.new) result }
+        ensures entries { entries_in self.new ≤ entries_in self.old + 3 }
+    {
+        match self.answer(alloc, disk, entropy, line) {
+            Ok(answer) => Ok(answer.text),
+            Err(NoMemory) => Err(NoMemory),
+        }
+    }
+}

@@ -1,0 +1,247 @@
+//! What stands outside of a run, and scripts by their lines, each with what it is to get.
+
+use disk_model::{MemoryDisk, Room};
+use keystore_run::{Status, run_words};
+use ks_outside::{Disk, MemoryEntropy, MemorySink, MemorySource, Sink, Source};
+use std::alloc::{AllocError, Global};
+use std::process::Abort;
+use std::str;
+use tags::{DeviceSecrets, Policy};
+
+/// What a disk of a test has room for.
+pub const ROOM: Room = Room {
+    calls: 256,
+    bytes: 65_536,
+    pages: 16,
+};
+
+/// An app connects, imports the key of the first case of RFC 4231, begins a mac with it, and finishes that with the case's text.
+pub const CONNECT: &str = r#"{"t":[0,1000],"do":"connect","uid":10001}"#;
+
+pub const IMPORT: &str =
+    r#"{"t":[0,1000],"c":1,"do":"importKey","key":{"domain":0,"alias":"m"},"params":[["PURPOSE",2],["PURPOSE",3],["ALGORITHM",128],["DIGEST",4],["MIN_MAC_LENGTH",64],["NO_AUTH_REQUIRED",true]],"format":3,"material":"0b0b0b0b0b0b0b0b0b0b0b0b0b0b0b0b0b0b0b0b"}"#;
+
+pub const BEGIN: &str =
+    r#"{"t":[0,1000],"c":1,"do":"createOperation","key":{"domain":0,"alias":"m"},"params":[["PURPOSE",2],["MAC_LENGTH",256]]}"#;
+
+pub const FINISH: &str = r#"{"t":[0,1000],"c":1,"do":"finish","op":1,"input":"4869205468657265"}"#;
+
+/// What these are to get.
+pub const CONNECTED: &str = r#"{"client":1,"code":0}"#;
+
+pub const IMPORTED: &str = r#"{"code":0,"key":1}"#;
+
+pub const BEGUN: &str = r#"{"code":0,"op":1}"#;
+
+pub const MAC: &str =
+    r#"{"code":0,"out":"b0344c61d8db38535ca8afceaf0bf12b881dc200c9833da726e9376c2e32cff7"}"#;
+
+/// What others are to get.
+pub const DONE: &str = r#"{"code":0}"#;
+
+pub const NOTHING_OUT: &str = r#"{"code":0,"out":""}"#;
+
+pub const NO_KEY: &str = r#"{"code":7,"rule":"B4"}"#;
+
+pub const NOT_OPEN: &str = r#"{"code":-28,"rule":"S1"}"#;
+
+/// What stands outside of a run but for its disk: its words, its script, and which reads, writes and draws fail, by
+/// their numbers from 1.
+#[derive(Clone, Copy)]
+pub struct Outside<'a> {
+    pub words: &'a str,
+    pub script: &'a str,
+    pub reads: &'a [u64],
+    pub writes: &'a [u64],
+    pub draws: &'a [u64],
+}
+
+/// A run over a fresh store in which nothing fails.
+pub const FRESH: Outside<'static> = Outside {
+    words: "run --fresh",
+    script: "",
+    reads: &[],
+    writes: &[],
+    draws: &[],
+};
+
+/// How a run ended.
+#[derive(Drop)]
+pub struct Ended<'a> {
+    pub status: Status,
+    /// what was written
+    sink: MemorySink<'a>,
+    /// how many bytes of the script were not read
+    pub left: usize,
+}
+
+impl Ended<'_> {
+    /// What was written.
+    pub fn text(&self) -> &str {
+        str::from_utf8(self.sink.written()).unwrap_or("no text")
+    }
+}
+
+/// The words of a text.
+pub fn words_of(alloc: Global, text: &str) -> Result<Vec<String>, AllocError> {
+    let mut words = Vec::new(alloc);
+    for word in text.split_whitespace() {
+        words.push(String::from_str(alloc, word)?)?;
+    }
+    Ok(words)
+}
+
+/// Runs words over the demo device.
+pub fn run_on<S: Source, K: Sink, D: Disk>(
+    alloc: Global,
+    words: &[String],
+    policy: &Policy,
+    source: &mut S,
+    sink: &mut K,
+    disk: &mut D,
+    draws: &[u64],
+) -> Status {
+    let mut entropy = MemoryEntropy::failing(draws);
+    run_words(
+        alloc,
+        words,
+        &DeviceSecrets::demo(),
+        policy,
+        source,
+        sink,
+        disk,
+        &mut entropy,
+    )
+}
+
+impl<'a> Outside<'a> {
+    /// Runs over a disk, with the demo device and policy, where there is memory for what stands outside.
+    pub fn run<D: Disk>(&self, alloc: Global, disk: &mut D) -> Option<Ended<'a>> {
+        let room = self.script.len().saturating_add(16_384);
+        let words = words_of(alloc, self.words).ok()?;
+        let policy = Policy::demo(alloc).ok()?;
+        let mut sink = MemorySink::with_room(alloc, room, room, self.writes).ok()?;
+        let mut source = MemorySource::new(self.script.as_bytes(), self.reads);
+        let status = run_on(
+            alloc,
+            words.as_slice(),
+            &policy,
+            &mut source,
+            &mut sink,
+            disk,
+            self.draws,
+        );
+        let left = source.left().len();
+        Some(Ended { status, sink, left })
+    }
+
+    /// What is written in a run over a disk that reads the script to its end.
+    pub fn text<D: Disk>(&self, alloc: Global, disk: &mut D) -> Option<String> {
+        let ended = self.run(alloc, disk)?;
+        if ended.status == Status::Ok {
+            String::from_str(alloc, ended.text()).ok()
+        } else {
+            None
+        }
+    }
+
+    /// The same over an empty disk.
+    pub fn fresh_text(&self, alloc: Global) -> Option<String> {
+        let mut disk = MemoryDisk::with_room(alloc, ROOM, &[]).ok()?;
+        self.text(alloc, &mut disk)
+    }
+}
+
+/// A line, and the line that it is to get, or two where a write settles first.
+pub type Row = (&'static str, &'static str);
+
+/// The lines of runs in turn over one disk.
+pub type Runs = &'static [&'static [Row]];
+
+/// The lines of rows, each with its LF.
+fn script_of(alloc: Global, rows: &[Row]) -> Result<String, AllocError> {
+    let mut script = String::new(alloc);
+    for (line, _) in rows {
+        script.push_str(line)?;
+        script.push('\n')?;
+    }
+    Ok(script)
+}
+
+/// What stands behind a reply and its LF.
+fn behind<'a>(text: &'a str, reply: &str) -> Option<&'a str> {
+    text.strip_prefix(reply)?.strip_prefix('\n')
+}
+
+/// The number of the first line that gets another reply; how many lines there are where more is written, or the run ends otherwise.
+fn first_other(ended: &Ended, rows: &[Row]) -> Option<usize> {
+    let mut rest = ended.text();
+    let mut other = None;
+    for (number, (_, reply)) in rows.iter().enumerate() {
+        match behind(rest, reply) {
+            Some(more) => rest = more,
+            None => other = other.or(Some(number)),
+        }
+    }
+    if rest.is_empty() && ended.status == Status::Ok {
+        other
+    } else {
+        other.or(Some(rows.len()))
+    }
+}
+
+/// The same of a run over a disk.
+fn other_on(alloc: Global, outside: Outside, rows: &[Row], disk: &mut MemoryDisk) -> Option<usize> {
+    let Ok(script) = script_of(alloc, rows) else {
+        return Some(0);
+    };
+    let script = script.as_str();
+    match (Outside { script, ..outside }).run(alloc, disk) {
+        Some(ended) => first_other(&ended, rows),
+        None => Some(0),
+    }
+}
+
+/// The same over an empty disk.
+fn other_of(alloc: Global, outside: Outside, rows: &[Row]) -> Option<usize> {
+    match MemoryDisk::with_room(alloc, ROOM, &[]) {
+        Ok(mut disk) => other_on(alloc, outside, rows, &mut disk),
+        Err(_) => Some(0),
+    }
+}
+
+/// Runs lines over an empty disk, and compares what each gets.
+pub fn check(rt: &impl Abort, alloc: Global, outside: Outside, rows: &[Row]) {
+    let other = other_of(alloc, outside, rows);
+    assert_eq!(rt; other, None, "a line gets another reply");
+}
+
+/// Runs the lines of each case over a fresh store, and compares what each gets.
+pub fn check_each(rt: &impl Abort, alloc: Global, cases: &[&[Row]]) {
+    for rows in cases {
+        check(rt, alloc, FRESH, rows);
+    }
+}
+
+/// The numbers of the first run and line in which another reply comes, of runs in turn over one disk, whose calls with these numbers fail,
+/// the first over a fresh store.
+fn other_in(alloc: Global, failing: &[u64], runs: &[&[Row]]) -> Option<(usize, usize)> {
+    let Ok(mut disk) = MemoryDisk::with_room(alloc, ROOM, failing) else {
+        return Some((0, 0));
+    };
+    let mut outside = FRESH;
+    let mut other = None;
+    for (number, rows) in runs.iter().enumerate() {
+        if let Some(row) = other_on(alloc, outside, rows, &mut disk) {
+            other = other.or(Some((number, row)));
+        }
+        outside.words = "run";
+    }
+    other
+}
+
+/// Makes such runs, and compares what each line gets.
+pub fn check_runs(rt: &impl Abort, alloc: Global, failing: &[u64], runs: &[&[Row]]) {
+    let other = other_in(alloc, failing, runs);
+    assert_eq!(rt; other, None, "a line gets another reply");
+}
