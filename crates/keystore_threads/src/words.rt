@@ -1,6 +1,6 @@
 //! The words of the command line.
 
-ghost use Rattle.std.specs.Prelude.{◌<◌, IfOk, IfSome};
+ghost use Rattle.std.specs.Prelude.{◌<◌};
 
 use crate::plan::{MACS, Plan, UPDATES, USES};
 use std::{env, io};
@@ -16,10 +16,18 @@ pub enum Kind {
 
 /// `KIND ROUNDS THREADS`
 #[derive(Clone, Copy, Debug)]
-pub struct Words {
+pub struct Load {
     pub kind: Kind,
     pub rounds: u32,
     pub threads: u32,
+    ghost some: { 0 < threads },
+}
+
+/// `check`, or a load
+#[derive(Clone, Copy, Debug)]
+pub enum Words {
+    Check,
+    Load(Load),
 }
 
 const MOST_THREADS: u32 = 64;
@@ -48,30 +56,40 @@ impl Kind {
     }
 }
 
-impl Words {
-    /// The words behind the program's name, where they are of this form.
-    pub fn read(rt: &HostRuntime) -> io::Result<Option<Words>>
-        ensures some { IfOk result (λ o. IfSome o (λ words. 0 < words.threads)) }
-    {
-        let mut args = env::args(rt)?.skip(1);
-        let (Some(kind), Some(rounds), Some(threads)) = (args.next(), args.next(), args.next())
-        else {
-            return Ok(None);
-        };
+impl Load {
+    /// The load of three words, where they are of this form.
+    fn read(kind: &str, rounds: &str, threads: &str) -> Option<Load> {
         let (Some(kind), Ok(rounds), Ok(threads)) = (
-            Kind::named(&kind),
+            Kind::named(kind),
             rounds.parse::<u32>(),
             threads.parse::<u32>(),
         ) else {
-            return Ok(None);
+            return None;
         };
         if threads == 0 || threads > MOST_THREADS {
-            return Ok(None);
+            return None;
         }
-        Ok(Some(Words {
+        Some(Load {
             kind,
             rounds,
             threads,
-        }))
+        })
+    }
+}
+
+impl Words {
+    /// The words behind the program's name, where they are of this form.
+    pub fn read(rt: &HostRuntime) -> io::Result<Option<Words>> {
+        let mut args = env::args(rt)?.skip(1);
+        let Some(kind) = args.next() else {
+            return Ok(None);
+        };
+        if kind.as_str() == "check" {
+            return Ok(Some(Words::Check));
+        }
+        let (Some(rounds), Some(threads)) = (args.next(), args.next()) else {
+            return Ok(None);
+        };
+        Ok(Load::read(&kind, &rounds, &threads).map(Words::Load))
     }
 }
