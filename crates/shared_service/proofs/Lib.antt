@@ -22,3 +22,4 @@ pub mod NewPasses
 pub mod TakenIn
 pub mod Admitting
 pub mod NewDesk
+pub mod Crossing
