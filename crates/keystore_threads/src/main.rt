@@ -24,7 +24,7 @@ mod service;
 mod words;
 
 use crate::board::Board;
-use crate::rows::{came, full, held, limited, pair, show};
+use crate::rows::{full, held, limited, pair, run_row, show};
 use crate::running::run;
 use crate::words::{Kind, Load, Words};
 use service_book::Book;
@@ -50,10 +50,10 @@ fn show_load(rt: &HostRuntime, load: Load, right: u64, book: Option<Book>) -> io
 fn main(rt: HostRuntime) -> io::Result<ExitCode> {
     match Words::read(&rt)? {
         Some(Words::Check) => {
-            show(&rt, pair(), came(&rt, rt.alloc(), pair(), 2))?;
-            show(&rt, held(), came(&rt, rt.alloc(), held(), 2))?;
-            show(&rt, limited(), came(&rt, rt.alloc(), limited(), 8))?;
-            show(&rt, full(), came(&rt, rt.alloc(), full(), 1))?;
+            show(&rt, pair(), run_row(&rt, rt.alloc(), pair(), 2))?;
+            show(&rt, held(), run_row(&rt, rt.alloc(), held(), 2))?;
+            show(&rt, limited(), run_row(&rt, rt.alloc(), limited(), 8))?;
+            show(&rt, full(), run_row(&rt, rt.alloc(), full(), 1))?;
             Ok(ExitCode::SUCCESS)
         }
         Some(Words::Load(load)) => {

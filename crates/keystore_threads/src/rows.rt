@@ -82,14 +82,14 @@ pub fn full() -> Row {
 
 /// What the calls of a row came to: the sum of the tickets with which the gate was called, and how many entries the book has.
 #[derive(Clone, Copy)]
-pub struct Came {
+pub struct Outcome {
     counts: Counts,
     tickets: u64,
     entries: usize,
 }
 
 /// Makes the calls of a row.
-pub fn came<R: Threads + Wait + Sync>(rt: &R, alloc: Global, row: Row, threads: u32) -> Came
+pub fn run_row<R: Threads + Wait + Sync>(rt: &R, alloc: Global, row: Row, threads: u32) -> Outcome
     requires some { 0 < threads }
 {
     let board = Board::new(row.plan, row.rounds);
@@ -97,7 +97,7 @@ pub fn came<R: Threads + Wait + Sync>(rt: &R, alloc: Global, row: Row, threads: 
         Some(book) => book.entries().len(),
         None => 0,
     };
-    Came {
+    Outcome {
         counts: board.counts(),
         tickets: board.tickets(),
         entries,
@@ -105,12 +105,12 @@ pub fn came<R: Threads + Wait + Sync>(rt: &R, alloc: Global, row: Row, threads: 
 }
 
 /// Says what the calls of a row came to.
-pub fn show(rt: &HostRuntime, row: Row, came: Came) -> io::Result<()> {
-    let Came {
+pub fn show(rt: &HostRuntime, row: Row, outcome: Outcome) -> io::Result<()> {
+    let Outcome {
         counts,
         tickets,
         entries,
-    } = came;
+    } = outcome;
     let admitted = counts.admitted.min(row.admitted);
     println!(rt;
         "{}: {admitted} calls admitted or more, {} right, {} full, {} missed",
