@@ -19,6 +19,8 @@ use keystore_service::{ServeStatus, serve_port, serve_words};
 use ks_outside::{MachineClock, OpenGate, ReaderSource, WriterSink, open_device, open_store};
 use outside_net::listen;
 use std::process::ExitCode;
+use std::sync::Wait;
+use std::thread::Threads;
 use std::{env, io};
 use tags::{DeviceSecrets, Policy};
 
@@ -127,8 +129,10 @@ fn refused(rt: &HostRuntime, fault: FileFault, text: &str) -> ExitCode {
     }
 }
 
-/// Serves connections to a port of this machine over the store of the current folder. It listens before the store is opened.
-fn serve_process(
+/// Serves connections to a port of this machine over the store of the current folder, in threads of this handle. It listens before the
+/// store is opened.
+fn serve_process<R: Threads + Wait + Sync>(
+    threads: &R,
     rt: &HostRuntime,
     words: &[String],
     device: &DeviceSecrets,
@@ -145,7 +149,7 @@ fn serve_process(
     let entropy = open_device(rt);
     let clock = MachineClock::new(rt);
     let end = serve_words(
-        rt,
+        threads,
         rt.alloc(),
         words,
         device,
@@ -174,7 +178,7 @@ fn main(rt: HostRuntime) -> ExitCode {
     };
     let words = words.as_slice();
     let status = if asks_to_serve(words) {
-        serve_process(&rt, words, &device, &policy)
+        serve_process(&rt, &rt, words, &device, &policy)
     } else {
         run_process(&rt, words, &device, &policy).unwrap_or(Status::Memory)
     };
