@@ -67,7 +67,7 @@ def check(name, found, wanted):
 def main():
     stream = Canned()
     one_of_each(Client(stream))
-    check("the requests", stream.sent, frames.REQUESTS)
+    check("the requests", stream.sent, [frame for frame, _ in frames.REQUESTS])
     bodies = [reply[4:] for reply in frames.REPLIES]
     check("an admitted call", read_reply(bodies[0]).fields, {})
     check("a broken rule", refusal(bodies[1]), (-28, "S1", "INVALID_OPERATION_HANDLE"))
