@@ -17,10 +17,10 @@ KEY = b"\x0b" * 32
 PATIENCE = 10.0
 
 # TPM 2.0 Library, Part 2: numbers of structures, handles, algorithms and commands.
-SESSIONS, RETRY = b"\x80\x02", bytes.fromhex("00000922")
+SESSIONS, NO_SESSIONS, RETRY = b"\x80\x02", b"\x80\x01", bytes.fromhex("00000922")
 OWNER, PASSWORD = bytes.fromhex("40000001"), bytes.fromhex("40000009")
 SHA256, HMAC, KEYED_HASH = b"\x00\x0b", b"\x00\x05", b"\x00\x08"
-CREATE_PRIMARY, TPM2_HMAC = bytes.fromhex("00000131"), bytes.fromhex("00000155")
+CREATE_PRIMARY, TPM2_HMAC, FLUSH_CONTEXT = bytes.fromhex("00000131"), bytes.fromhex("00000155"), bytes.fromhex("00000165")
 # fixedTPM, fixedParent, userWithAuth, sign
 ATTRIBUTES = bytes.fromhex("00040052")
 
@@ -81,7 +81,7 @@ class TpmServer:
 
 
 class Tpm:
-    """A connection to a swtpm, with the key loaded."""
+    """A connection to a swtpm, with the key loaded; at its end the key goes, since a swtpm has place for three."""
 
     def __init__(self, port):
         self.port = port
@@ -95,6 +95,8 @@ class Tpm:
         return self
 
     def __exit__(self, *_):
+        self.stream.sendall(NO_SESSIONS + (14).to_bytes(4, "big") + FLUSH_CONTEXT + self.key)
+        exactly(self.stream, 10)
         self.stream.close()
 
     def asked(self, command, handle, fields):

@@ -100,10 +100,9 @@ class Started:
 
 
 def measured(program, folder, rounds, seconds):
-    """Macs a second of each maker in each round, by its name."""
+    """Macs a second of each maker in each round, by its name. Each round has a service of its own, since the book of one has an end."""
     with contextlib.ExitStack() as stack:
-        port = stack.enter_context(Started(program, folder, rounds * (1 + MOST)))
-        makers = {"service": (functools.partial(Service, port), 1), f"service, {MOST} connections": (functools.partial(Service, port), MOST)}
+        makers = {}
         if TpmServer.is_there():
             tpm = stack.enter_context(TpmServer(folder, free_port()))
             makers["swtpm, TPM2_HMAC"] = (functools.partial(Tpm, tpm), 1)
@@ -111,8 +110,13 @@ def measured(program, folder, rounds, seconds):
             stack.enter_context(Token(folder))
             makers["SoftHSM, C_Sign"] = (SoftHsm, 1)
             makers[f"SoftHSM, {MOST} processes"] = (SoftHsm, MOST)
-        found = {name: [] for name in makers}
+        one, many = "service", f"service, {MOST} connections"
+        found = {name: [] for name in [one, many, *makers]}
         for _ in range(rounds):
+            with Started(program, folder, 1 + MOST) as port:
+                service = functools.partial(Service, port)
+                found[one].append(macs_a_second(service, 1, seconds))
+                found[many].append(macs_a_second(service, MOST, seconds))
             for name, (maker, count) in makers.items():
                 found[name].append(macs_a_second(maker, count, seconds))
     return found
