@@ -54,8 +54,7 @@ impl<'a, D: Disk, N: Entropy, C, G> Caller<'a, D, N, C, G> {
 /// of such values.
 fn equal_in_one_way<T>()
     ensures { IsSettled T }
-{
-}
+{}
 
 impl<'a, D: Disk, N: Entropy, C: Clock, G: Gate> Answerer for Caller<'a, D, N, C, G> {
     ghost use Rattle.std.specs.Prelude.{◌≡◌};

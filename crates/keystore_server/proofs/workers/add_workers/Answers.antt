@@ -23,8 +23,10 @@ new-caller-requires g c =
     let at = c.passes in
     let k = length at.workers.items in
     let e : drop k c.args.passes.items ≡ c.in-Some.pass ∷ into_iter_items c.next.new.self = sym at.invariant.left ∙ c.in-Some.ensures.items in
-    record { ours = subst (λ (p : Pass). IsOurs c.args.shared.now p) (next_is c.args.passes.items k c.in-Some.pass (into_iter_items c.next.new.self) e c.in-Some.pass)
-        (c.requires.ours k c.in-Some.pass (next_within c.args.passes.items k c.in-Some.pass (into_iter_items c.next.new.self) e)) }
+    record {
+      ours = subst (λ (p : Pass). IsOurs c.args.shared.now p) (next_is c.args.passes.items k c.in-Some.pass (into_iter_items c.next.new.self) e c.in-Some.pass)
+          (c.requires.ours k c.in-Some.pass (next_within c.args.passes.items k c.in-Some.pass (into_iter_items c.next.new.self) e));
+    }
 
 pub add-requires : goal.add-requires
 add-requires g c =

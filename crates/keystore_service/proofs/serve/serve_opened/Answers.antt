@@ -20,14 +20,16 @@ close-engine-requires-clause-all g c =
     (all_numbers c.in-Ok.shared c.in-Ok.passes.items c.serve_listener-passes.result.0.items c.serve_listener-passes.ensures.served c.args.form.workers c.in-Ok.ensures.all)
 
 pub returns-in-Ok : goal.returns-in-Ok
-returns-in-Ok g c = record { serves = λ setup stands.
-    let of : IsSetupOf c.in-Ok.shared setup = subst (λ (e : Engine). Stands setup e []) (sym c.in-Ok.ensures.engine) stands in
-    let served = c.serve_listener-passes.ensures.served in
-    let closed = c.close-engine.ensures in
-    attended g.B.Listener g.D.Disk g.N.Entropy setup c.args.form c.args.listener c.args.disk c.args.entropy c.serve_listener-passes.result.1 c.close-engine.result.1 c.close-engine.result.2 c.serve_listener-passes.result.2
-    c.status_after.result c.close-engine.result.3 (start_of c.in-Ok.shared) c.from-connections.result c.status_after.ensures c.from-connections.ensures c.serve_listener-passes.ensures.attended
-    (closed.legal setup of) c.in-Ok.ensures.counts closed.caused closed.counts
-    (none_connected c.in-Ok.shared c.close-engine.result.3 c.args.form.workers c.serve_listener-passes.result.0.items (all_numbers c.in-Ok.shared c.in-Ok.passes.items c.serve_listener-passes.result.0.items served c.args.form.workers c.in-Ok.ensures.all)
-    (all_ours c.in-Ok.shared c.in-Ok.passes.items c.serve_listener-passes.result.0.items served) (all_idle c.in-Ok.shared c.in-Ok.passes.items c.serve_listener-passes.result.0.items served) closed.own
-    (λ number more. closed.none number (omega (arith, more, c.in-Ok.ensures.count.0))))
-    (∥∥₁_map (closed.store setup of) (λ s. store_images g.D.Disk setup c.close-engine.result.0 c.close-engine.result.1 (history_of (log_of c.close-engine.result.3)) s)) }
+returns-in-Ok g c = record {
+  serves = λ setup stands.
+      let of : IsSetupOf c.in-Ok.shared setup = subst (λ (e : Engine). Stands setup e []) (sym c.in-Ok.ensures.engine) stands in
+      let served = c.serve_listener-passes.ensures.served in
+      let closed = c.close-engine.ensures in
+      attended g.B.Listener g.D.Disk g.N.Entropy setup c.args.form c.args.listener c.args.disk c.args.entropy c.serve_listener-passes.result.1 c.close-engine.result.1 c.close-engine.result.2 c.serve_listener-passes.result.2
+      c.status_after.result c.close-engine.result.3 (start_of c.in-Ok.shared) c.from-connections.result c.status_after.ensures c.from-connections.ensures c.serve_listener-passes.ensures.attended
+      (closed.legal setup of) c.in-Ok.ensures.counts closed.caused closed.counts
+      (none_connected c.in-Ok.shared c.close-engine.result.3 c.args.form.workers c.serve_listener-passes.result.0.items (all_numbers c.in-Ok.shared c.in-Ok.passes.items c.serve_listener-passes.result.0.items served c.args.form.workers c.in-Ok.ensures.all)
+      (all_ours c.in-Ok.shared c.in-Ok.passes.items c.serve_listener-passes.result.0.items served) (all_idle c.in-Ok.shared c.in-Ok.passes.items c.serve_listener-passes.result.0.items served) closed.own
+      (λ number more. closed.none number (omega (arith, more, c.in-Ok.ensures.count.0))))
+      (∥∥₁_map (closed.store setup of) (λ s. store_images g.D.Disk setup c.close-engine.result.0 c.close-engine.result.1 (history_of (log_of c.close-engine.result.3)) s));
+}
