@@ -1,22 +1,26 @@
 #!/usr/bin/env python3
 """Builds the program: proves each crate that it stands on and then the program, on all processors.
 
-First come the crates below the engine, side by side; the engine and those above it each stand on the one before, so they come one
-after another, with their functions side by side. On a terminal one line goes on: how many crates of how many, which one was proved
-last, and the minutes so far. At a failure it prints the last lines and where the whole log is. It tries no test and no must-fail
-edit: that is the gate."""
-import contextlib
+A check holds its crate and all below it, so each processor has a lane, a copy of the crates' sources, in which one crate after
+another is proved; what one lane has proved the others take by links. The crate goes first that has the most behind it, in lines,
+and one that nothing can go on beside has the processors that are free. On a terminal one line goes on: how many crates of how
+many, the minutes so far, and what is at work. At a failure it prints the last lines and where the logs are. It tries no test and
+no must-fail edit: that is the gate."""
+import concurrent.futures
 import glob
 import os
+import pathlib
 import shutil
 import subprocess
 import sys
 import tempfile
 import time
 
-PROGRAM, ENGINE = "keystore_program", "keystore_core"
+PROGRAM = "keystore_program"
 TOP = os.path.dirname(os.path.dirname(os.path.realpath(__file__)))
-ROOM = f"{TOP}/crates/{PROGRAM}/out/room"
+LANES = f"{TOP}/crates/{PROGRAM}/out/lanes"
+# What a lane is likely to take at most, in bytes, and the most processors that a check gains from.
+LANE_MEMORY, MOST_JOBS = 4_000_000_000, 4
 
 
 def libraries():
@@ -35,83 +39,115 @@ def needed(below, name):
     return [*found, name]
 
 
-def bring_back():
-    """What was built apart goes to the crates themselves, also after a build that was killed."""
-    for at in glob.glob(f"{ROOM}/crates/*/out"):
-        name = at.split("/")[-2]
-        if not os.path.exists(f"{TOP}/crates/{name}/out"):
-            os.rename(at, f"{TOP}/crates/{name}/out")
-    shutil.rmtree(ROOM, ignore_errors=True)
+def lines_of(name):
+    """How many lines a crate's sources, definitions and proofs have."""
+    files = [it for part in ("src", "specs", "proofs") for it in glob.glob(f"{TOP}/crates/{name}/{part}/**/*.*", recursive=True)]
+    return sum(pathlib.Path(it).read_bytes().count(b"\n") for it in files)
 
 
-@contextlib.contextmanager
-def apart(names):
-    """A copy of these crates alone in a folder that has nothing else, since `rt all` takes all that it finds, and lets no two crates
-    wait for one lock. What was built of them before goes there, and what is built there comes back."""
-    bring_back()
+def lines_behind(below, names):
+    """For each crate, which come from the bottom up, the lines of the longest chain that begins with it."""
+    behind = {}
+    for name in reversed(names):
+        behind[name] = lines_of(name) + max((behind[it] for it in names if name in below[it] and it in behind), default=0)
+    return behind
+
+
+def lane(number, names):
+    """A folder with these crates' sources as they are; what was proved there before stays."""
+    folder = f"{LANES}/{number}"
     for name in names:
-        shutil.copytree(f"{TOP}/crates/{name}", f"{ROOM}/crates/{name}", ignore=shutil.ignore_patterns("out"))
-        if os.path.isdir(f"{TOP}/crates/{name}/out"):
-            os.rename(f"{TOP}/crates/{name}/out", f"{ROOM}/crates/{name}/out")
-    with open(f"{TOP}/crates.txt", encoding="utf-8") as lines, open(f"{ROOM}/crates.txt", "w", encoding="utf-8") as kept:
+        crate = f"{folder}/crates/{name}"
+        if os.path.isdir(f"{crate}/out"):
+            os.makedirs(f"{folder}/aside", exist_ok=True)
+            os.rename(f"{crate}/out", f"{folder}/aside/{name}")
+        shutil.rmtree(crate, ignore_errors=True)
+        shutil.copytree(f"{TOP}/crates/{name}", crate, ignore=shutil.ignore_patterns("out"))
+        if os.path.isdir(f"{folder}/aside/{name}"):
+            os.rename(f"{folder}/aside/{name}", f"{crate}/out")
+    shutil.copy(f"{TOP}/HANDLES", folder)
+    with open(f"{TOP}/crates.txt", encoding="utf-8") as lines, open(f"{folder}/crates.txt", "w", encoding="utf-8") as kept:
         kept.writelines(line for line in lines if line.split("#")[0].split(":")[0].split()[:1] in [[it] for it in names])
-    try:
-        yield
-    finally:
-        bring_back()
+    return folder
+
+
+def lanes_here():
+    """How many lanes this machine has room for."""
+    processors = len(os.sched_getaffinity(0))
+    with open("/proc/meminfo", encoding="utf-8") as lines:
+        free = next(int(line.split()[1]) * 1024 for line in lines if line.startswith("MemAvailable:"))
+    return max(1, min(processors, free // LANE_MEMORY))
 
 
 class Build:
-    """A build in work: its log, how far it is, and since when."""
+    """A build in work: the folder of its logs, what is done and at work, and since when."""
 
     def __init__(self, total):
-        self.total, self.done, self.start = total, 0, time.time()
-        self.path = f"{tempfile.mkdtemp(prefix='keystore2-build-')}/log"
-        self.log = open(self.path, "wb")
-        self.tell("")
+        self.total, self.done, self.at_work, self.start = total, set(), set(), time.time()
+        self.logs = tempfile.mkdtemp(prefix="keystore2-build-")
 
-    def tell(self, what):
+    def minutes(self):
+        return (time.time() - self.start) / 60
+
+    def tell(self, what=None):
         if sys.stderr.isatty():
-            line = f"keystore2: {self.done} of {self.total} crates proved, {(time.time() - self.start) / 60:.1f} min{what}"
-            print(f"\r\033[K{line[:100]}", end="", file=sys.stderr, flush=True)
+            what = what or f"{len(self.done)} of {self.total} crates proved, {self.minutes():.1f} min: {', '.join(sorted(self.at_work))}"
+            print(f"\r\033[Kkeystore2: {what}"[:120], end="", file=sys.stderr, flush=True)
 
-    def run(self, words, folder):
-        """Runs a command; what it prints goes to the log, and each line moves the line on the terminal on."""
-        with subprocess.Popen(words, cwd=folder, stdin=subprocess.DEVNULL, stdout=subprocess.PIPE, stderr=subprocess.STDOUT) as ran:
-            for line in ran.stdout:
-                self.log.write(line)
-                self.log.flush()
-                said = line.decode(errors="replace").rstrip()
-                self.done += said.startswith("== ") and said != "== summary"
-                self.tell(f", last {said[3:]}" if said.startswith("== ") else f": {said}" if said.startswith("checked ") else "")
-        return ran.returncode
+    def run(self, name, words, folder):
+        with open(f"{self.logs}/{name}", "wb") as log:
+            return subprocess.run(words, cwd=folder, stdin=subprocess.DEVNULL, stdout=log, stderr=subprocess.STDOUT, check=False).returncode
 
-    def fail(self):
-        with open(self.path, errors="replace") as lines:
+    def fail(self, name):
+        with open(f"{self.logs}/{name}", errors="replace") as lines:
             last = "".join(lines.readlines()[-20:])
-        print(f"\nkeystore2: the program was not built; the last lines of {self.path} are\n{last}", file=sys.stderr)
+        print(f"\nkeystore2: the program was not built: {name} was not proved; the last lines of {self.logs}/{name} are\n{last}", file=sys.stderr)
         return 2
+
+
+def prove_all(build, below, names):
+    """Proves these crates, in lanes; answers the first one that was not proved, or None."""
+    behind, lanes = lines_behind(below, names), lanes_here()
+    free, left = [lane(number, names) for number in range(lanes)], sorted(names, key=lambda it: -behind[it])
+    with concurrent.futures.ThreadPoolExecutor(lanes) as pool:
+        running, failed = {}, None
+        while running or (left and not failed):
+            ready = [it for it in left if build.done.issuperset(below[it])] if not failed else []
+            spare = lanes - sum(jobs for _, _, jobs in running.values())
+            for name in ready[:spare]:
+                jobs = min(MOST_JOBS, 1 + (spare - len(ready)) // len(ready)) if spare > len(ready) else 1
+                folder = free.pop()
+                ran = pool.submit(build.run, name, ["rt", "lib", "--jobs", str(jobs)], f"{folder}/crates/{name}")
+                running[ran] = name, folder, jobs
+                build.at_work.add(name)
+                left.remove(name)
+            build.tell()
+            for ran in concurrent.futures.wait(running, 2, concurrent.futures.FIRST_COMPLETED).done:
+                name, folder, _ = running.pop(ran)
+                free.append(folder)
+                build.at_work.discard(name)
+                if ran.result():
+                    failed = failed or name
+                else:
+                    build.done.add(name)
+        return failed
 
 
 def main():
     below = libraries()
     names = needed(below, PROGRAM)
-    first = [it for it in names if ENGINE not in needed(below, it)]
     build = Build(len(names))
-    with apart(first):
-        if build.run(["rt", "all", "check", "--jobs", str(os.cpu_count() or 1)], ROOM):
-            return build.fail()
-    for name in names:
-        if name not in first and name != PROGRAM:
-            if build.run(["rt", "lib"], f"{TOP}/crates/{name}"):
-                return build.fail()
-            build.done += 1
-    # Without words the program prints its usage and ends with status 2.
-    build.run(["rt", "run"], f"{TOP}/crates/{PROGRAM}")
+    failed = prove_all(build, below, names[:-1])
+    if failed:
+        return build.fail(failed)
+    # The repository takes what the lanes have proved. Without words the program prints its usage and ends with status 2.
+    build.at_work.add(PROGRAM)
+    build.tell()
+    build.run(PROGRAM, ["rt", "run"], f"{TOP}/crates/{PROGRAM}")
     if not os.access(f"{TOP}/crates/{PROGRAM}/out/{PROGRAM}", os.X_OK):
-        return build.fail()
-    if sys.stderr.isatty():
-        print(f"\r\033[Kkeystore2: built in {(time.time() - build.start) / 60:.1f} min", file=sys.stderr)
+        return build.fail(PROGRAM)
+    shutil.rmtree(LANES, ignore_errors=True)
+    build.tell(f"built in {build.minutes():.1f} min\n")
     return 0
 
 

@@ -1,6 +1,7 @@
 #!/usr/bin/env python3
 """Runs the gate, `rt ci`, at the top of the repository, passes its output on, and writes how long each part of it took: for each
-crate the processor seconds of its bodies, of its tests' proofs, of its edits and of its runs, and their sums.
+crate the processor seconds of its bodies, of its tests' proofs, of its bodies once more for its edits, of these and of its runs,
+their sums, and what an edit took on the average.
 
     python3 tools/gate_times.py [FILE [--anew]]
 
@@ -9,9 +10,11 @@ What an earlier run on the machine kept is not done again, unless `--anew` says 
 FILE is where the table goes, as Markdown; without it, standard output has it last. The seconds are those of the processes
 that the gate starts, read from /proc twice a second, so a process that is shorter than that is missed. A process that is
 ending has no words any more, and is not looked at again. An edit is told from a crate by its folder: the gate checks it on
-a copy. To compile what a program's check proved counts with the runs. Below the table stands after how many minutes the program
-was proved with all that it stands on, which is what a first `./keystore2` waits for at most."""
+a copy, over what a check of the crate as it stands has proved there before, which is the part "again". To compile what a
+program's check proved counts with the runs. Below the table stands after how many minutes the program was proved with all
+that it stands on, which is what a first `./keystore2` waits for at most."""
 import collections
+import glob
 import os
 import subprocess
 import sys
@@ -21,7 +24,7 @@ import time
 import build
 
 TICKS = os.sysconf("SC_CLK_TCK")
-PARTS = ("bodies", "tests", "edits", "runs")
+PARTS = ("bodies", "tests", "again", "edits", "runs")
 
 
 def below(top):
@@ -60,7 +63,9 @@ def place(words, folder):
         return crate, "runs"
     if "--test" in words:
         return crate, "tests"
-    return crate, "edits" if os.path.basename(folder).startswith("rt-edit-") else "bodies"
+    if not os.path.basename(folder).startswith("rt-edit-"):
+        return crate, "bodies"
+    return crate, "again" if any(it.startswith("/") and it.endswith("/seed") for it in words) else "edits"
 
 
 def watch(process, seen, last):
@@ -78,12 +83,14 @@ def table(seen, last, minutes):
     sums = collections.defaultdict(lambda: dict.fromkeys(PARTS, 0.0))
     for (_pid, crate, part), seconds in seen.items():
         sums[crate][part] += seconds
-    rows = ["| Crate | " + " | ".join(PARTS) + " | all |", "|---|" + "---|" * (len(PARTS) + 1)]
+    edits = {crate: len(glob.glob(f"crates/{crate}/must-fail/*.edit")) for crate in sums}
+    rows = ["| Crate | " + " | ".join(PARTS) + " | all | an edit |", "|---|" + "---|" * (len(PARTS) + 2)]
+
+    def add_row(name, parts, count):
+        rows.append(f"| {name} | " + " | ".join(f"{it:.0f}" for it in [*parts, sum(parts), parts[PARTS.index("edits")] / max(count, 1)]) + " |")
     for crate in sorted(sums, key=lambda it: -sum(sums[it].values())):
-        parts = [sums[crate][it] for it in PARTS]
-        rows.append(f"| {crate} | " + " | ".join(f"{it:.0f}" for it in [*parts, sum(parts)]) + " |")
-    totals = [sum(it[part] for it in sums.values()) for part in PARTS]
-    rows.append("| all | " + " | ".join(f"{it:.0f}" for it in [*totals, sum(totals)]) + " |")
+        add_row(crate, [sums[crate][it] for it in PARTS], edits[crate])
+    add_row("all", [sum(it[part] for it in sums.values()) for part in PARTS], sum(edits.values()))
     proved = max(last.get((it, "bodies"), 0) for it in build.needed(build.libraries(), build.PROGRAM))
     rows.append(f"\nSeconds of processor; {minutes:.1f} minutes by the clock on {os.cpu_count()} processors; the program was proved after {proved:.1f}.")
     return "\n".join(rows) + "\n"
