@@ -101,8 +101,11 @@ def main():
     process = subprocess.Popen(["rt", "ci", *sys.argv[2:]], stdout=subprocess.PIPE, stderr=subprocess.STDOUT, text=True, errors="replace")
     watcher = threading.Thread(target=watch, args=(process, seen, last), daemon=True)
     watcher.start()
-    for line in process.stdout:
-        print(line, end="", flush=True)
+    try:
+        for line in process.stdout:
+            print(line, end="", flush=True)
+    except KeyboardInterrupt:
+        print("the gate was stopped; the table has what it did by then")
     status = process.wait()
     text = table(seen, last, (time.time() - start) / 60)
     if len(sys.argv) > 1:

@@ -1,13 +1,12 @@
 -- The look-ups of the tower, and that they give the S-box, by computing.
-use Rattle.std.proofs.Common.{◌≡◌, ℕ, suc, ◌+◌, ◌*◌, ◌/◌, ◌%◌, ◌<◌, ◌≤◌, ◌==◌, Bool, true, cond, nat_le, nat_lt, ◌||◌, List, [], ◌∷◌, length, map, replicate, refl, sym, ◌∙◌, ap, arith, Fits, w8}
+use Rattle.std.proofs.Common.{◌≡◌, ℕ, suc, ◌+◌, ◌*◌, ◌/◌, ◌<◌, ◌≤◌, ◌==◌, Bool, true, nat_le, nat_lt, ◌||◌, List, [], ◌∷◌, length, map, refl, ◌∙◌, arith, Fits, w8}
 use lib.Dec.{T}
 use Rattle.std.specs.Int.Bits.{bit_xor}
-use Rattle.std.specs.Int.RustNames.{bit_and}
 use Rattle.std.specs.Simd.Lanes.{Each1, zip2}
 use Rattle.std.proofs.lemmas.Bool.{agree_below, agree_below_at, and_parts}
-use Rattle.std.proofs.lemmas.Simd.{SwzOk, swz_l, SwzOk-from_Each1, zip2_splat, zip2_of_maps, map-map}
+use Rattle.std.proofs.lemmas.Simd.{SwzOk, swz_l, SwzOk-from_Each1, zip2_of_maps, map-map}
 use Rattle.aes_core.specs.Field.{x_times, times_bits, times, inverse_up_to, inverse, affine, sub_byte}
-use Rattle.aes_core.specs.Tower.{is_place, are_places, look, low, high, inverses, ratios, to_tower, over_high, over_both, first, second, out}
+use Rattle.aes_core.specs.Tower.{is_place, are_places, look, low, high, to_tower, over_high, over_both, first, second, out}
 use Rattle.aes_core.specs.Laws.FieldLaws.{same_at}
 
 -- ---- a look-up

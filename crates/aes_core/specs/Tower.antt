@@ -1,5 +1,5 @@
 -- The S-box by tables of sixteen entries, in a field of pairs of half bytes (Hamburg, CHES 2009).
-use Rattle.std.specs.Prelude.{ℕ, ◌/◌, Bool, true, ◌||◌, if◌then◌else◌, nat_le, nat_lt, List, [], ◌∷◌, slice_index, bit_xor}
+use Rattle.std.specs.Prelude.{ℕ, ◌/◌, Bool, ◌||◌, if◌then◌else◌, nat_le, nat_lt, List, [], ◌∷◌, slice_index, bit_xor}
 use Rattle.std.specs.Int.RustNames.{bit_and}
 use Rattle.std.specs.List.{list_all}
 

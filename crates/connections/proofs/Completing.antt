@@ -10,7 +10,7 @@ use Rattle.rule_model.specs.declared.reply.Reply.{Reply}
 use Rattle.wire_frames.specs.Spelling.{frame_of, IsRequest}
 use Rattle.wire_frames.specs.Streams.{stream_of, IsPart, IsBad, IsBehind}
 use Rattle.connections.specs.Talks.{asked, has_joined, size_of}
-use Rattle.connections.specs.Ends.{AnsweredOf, EndsWhole, IsUndue, Serves, StopsAt, Talked}
+use Rattle.connections.specs.Ends.{AnsweredOf, EndsWhole, IsUndue, StopsAt, Talked}
 use Rattle.connections.specs.declared.end.End.{End}
 use Rattle.connections.specs.declared.end.End.TheVariants.{EndOfInput, Truncated, BadFrame, LinkFault, RunFull, Memory}
 

@@ -1,12 +1,12 @@
 -- A blob that was made opens again.
-use Rattle.std.proofs.Common.{◌≡◌, ℕ, ◌+◌, ◌-◌, ◌≤◌, true, false, ltb, List, [], ◌∷◌, ◌++◌, length, take, drop, Option, Some, Result, Ok, refl, sym, ap, ◌∙◌, arith}
+use Rattle.std.proofs.Common.{◌≡◌, ℕ, ◌+◌, ◌-◌, ◌≤◌, false, ltb, List, [], ◌++◌, length, take, drop, Some, Ok, refl, ap, arith}
 use Rattle.std.proofs.lemmas.Bool.{le-ltb}
 use Rattle.std.proofs.lemmas.List.{take_at, drop_at, length-append}
 use Rattle.aes_core.specs.Cipher.{cipher}
-use Rattle.gcm_mode.specs.Gcm.{gcm_seal, gcm_open, open_given, raw}
+use Rattle.gcm_mode.specs.Gcm.{gcm_open, open_given, raw}
 use Rattle.key_blobs.specs.declared.sealed.Sealed.{Sealed}
-use Rattle.key_blobs.specs.Text.{text_of, sealed_in}
-use Rattle.key_blobs.specs.Blobs.{START, blob_of, opened}
+use Rattle.key_blobs.specs.Text.{sealed_in}
+use Rattle.key_blobs.specs.Blobs.{START, opened}
 
 -- what was written before the sealed text stays
 pub head_kept : (nonce rest : List ℕ) → length nonce ≡ 12 → take 16 (START ++ (nonce ++ rest)) ≡ START ++ nonce

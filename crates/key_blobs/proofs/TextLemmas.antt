@@ -1,5 +1,5 @@
 -- A text that was spelled is read again.
-use Rattle.std.proofs.Common.{◌≡◌, ℕ, ◌+◌, ◌^◌, ◌<◌, ◌≤◌, true, false, ltb, List, [], ◌∷◌, ◌++◌, length, take, drop, Option, Some, None, Result, Ok, refl, sym, ap, ◌∙◌, append_assoc, arith}
+use Rattle.std.proofs.Common.{◌≡◌, ℕ, ◌+◌, ◌^◌, ◌<◌, true, false, ltb, List, [], ◌++◌, length, Option, Some, None, Ok, refl, sym, ap, ◌∙◌, append_assoc, arith}
 use Rattle.std.specs.Option.{option_and_then}
 use Rattle.std.specs.Str.{bytes_eq}
 use Rattle.std.proofs.lemmas.Bool.{le-ltb}
@@ -8,11 +8,10 @@ use Rattle.std.proofs.lemmas.Slice.Eq.{bytes_eq-Decides}
 use Rattle.byteorder.specs.Endian.{big_number, big_bytes}
 use Rattle.byteorder.specs.Numbers.{big_number-reads_back, length-bytes_high_first}
 use Rattle.tags.specs.declared.param.Param.{Param}
-use Rattle.tag_lists.specs.declared.fault.ListFault.{ListFault}
 use Rattle.tag_lists.specs.Spelling.{spelling}
 use Rattle.tag_lists.specs.Reading.{listed}
 use Rattle.key_blobs.specs.declared.sealed.Sealed.{Sealed}
-use Rattle.key_blobs.specs.Text.{counted, id_size, optional, text_of, text_size, IsShort, IsSealable, front_at, counted_at, optional_at, ended, parts_in, canonical_in, sealed_in}
+use Rattle.key_blobs.specs.Text.{counted, id_size, optional, text_of, text_size, IsShort, IsSealable, front_at, counted_at, optional_at, parts_in, canonical_in, sealed_in}
 
 front_again : (n : ℕ) (front rest : List ℕ) → length front ≡ n → front_at n (front ++ rest) ≡ Some (front, rest)
 front_again n front rest len =

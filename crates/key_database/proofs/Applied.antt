@@ -12,11 +12,8 @@ use Rattle.journal_records.specs.Holding.{Holding, Sure, Unsure, changed_in, tor
 use Rattle.use_journal.specs.Journal.{IsJournal, IsBeforeOrAfter, AreChanges}
 use Rattle.use_journal.specs.Holding.{IsSettledOn, IsUnsettledOn}
 use Rattle.key_database.specs.Store.{StandsFor, MayBe, Between}
-use Rattle.key_database.specs.Stands.{IsSure, Holds, lasting, is_unsettled}
+use Rattle.key_database.specs.Stands.{IsSure, Holds, lasting, is_unsettled, left_after}
 use Rattle.key_database.specs.declared.database.KeyDatabase.{KeyDatabase}
-
-pub left_after : (past : List Change) (change : Change) (part : Lasting) → lasting_of past ≡ Some part → is_met part change ≡ true → lasting_of (change ∷ past) ≡ Some (after part change)
-left_after past change part left met = rw (left, met) refl
 
 pub before_stands : (past : List Change) (part : Lasting) (c : List ℕ) → AreChanges past → lasting_of past ≡ Some part → IsJournal past c → StandsFor part c
 before_stands past part c changes left j = record { past = past; changes = changes; journal = j; lasting = left }

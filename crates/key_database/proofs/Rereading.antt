@@ -1,5 +1,5 @@
 -- What is held while nothing changes: with other room, and after the store is read again.
-use Rattle.std.proofs.Common.{◌≡◌, ◌⊎◌, ⊎_elim, inl, inr, ℕ, List, true, false, Err, length, refl, sym, ap, ◌∙◌, subst}
+use Rattle.std.proofs.Common.{◌≡◌, ℕ, List, false, Err, length, refl, sym, ap, ◌∙◌, subst}
 use Rattle.ks_outside.specs.declared.disk.Disk.{Ghosts}
 use Rattle.ks_outside.specs.Images.{AllImages, Passes}
 use Rattle.ks_outside.proofs.Joins.{passes_as}
@@ -11,7 +11,7 @@ use Rattle.journal_records.specs.Holding.{Holding, Sure, Unsure}
 use Rattle.use_journal.specs.Holding.{IsSettledOn, IsUnsettledOn, end_of, is_waiting}
 use Rattle.use_journal.specs.Journal.{written, IsJournal, AreChanges}
 use Rattle.key_database.specs.Store.{StandsFor, MayBe}
-use Rattle.key_database.specs.Stands.{FindsStore, Holds, IsReadAgain, IsSure, SameStore, is_unsettled, lasting, store_bytes}
+use Rattle.key_database.specs.Stands.{FindsStore, Holds, IsReadAgain, SameStore, is_unsettled, lasting, store_bytes}
 use Rattle.key_database.specs.declared.database.KeyDatabase.{KeyDatabase}
 use Rattle.key_database.proofs.Applied.{before_stands}
 

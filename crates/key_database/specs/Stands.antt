@@ -1,5 +1,7 @@
 -- When a database and a disk hold something.
 use Rattle.std.specs.Prelude.{◌≡◌, ◌≤◌, ℕ, List, ◌∷◌, ◌++◌, ◌+◌, ◌-◌, Bool, true, false, Option, Some, None, Result, Ok, Err, length, ⊤}
+use Rattle.std.proofs.Common.{inl, inr, ⊎_elim, refl, ap, ◌∙◌}
+use Rattle.ks_outside.specs.Images.{AllImages}
 use Rattle.ks_outside.specs.declared.disk.Disk.{Ghosts}
 use Rattle.ks_outside.specs.Faults.{Rises}
 use Rattle.tags.specs.declared.settled.Settled.{Settled}
@@ -16,7 +18,7 @@ use Rattle.use_journal.specs.Journal.{past_of}
 use Rattle.use_journal.specs.Holding.{is_waiting, end_after, end_of, IsSettledOn, IsUnsettledOn}
 use Rattle.key_database.specs.declared.database.KeyDatabase.{KeyDatabase}
 use Rattle.key_database.specs.Held.{Held, lasting_in}
-use Rattle.key_database.specs.Store.{StandsFor, IsBadStore}
+use Rattle.key_database.specs.Store.{StandsFor, IsBadStore, MayBe}
 
 -- the lasting part that its look-ups tell
 abbrev pub lasting : KeyDatabase → Lasting
@@ -85,6 +87,18 @@ pub record IsUnsure {D : Type 0} (g : Ghosts D) (database : KeyDatabase) (disk :
 abbrev pub Holds : {D : Type 0} → Ghosts D → KeyDatabase → D → Holding → Type 0
 Holds g database disk (Sure part) = IsSure g database disk part
 Holds g database disk (Unsure part later) = IsUnsure g database disk part later
+
+-- what a change leaves whose need is met
+pub left_after : (past : List Change) (change : Change) (part : Lasting) → lasting_of past ≡ Some part → is_met part change ≡ true → lasting_of (change ∷ past) ≡ Some (after part change)
+left_after past change part left met = rw (left, met) refl
+
+-- each image stands for what is held
+pub held_images : {D : Type 0} (g : Ghosts D) (database : KeyDatabase) (disk : D) (held : Holding) → Holds g database disk held → AllImages g disk (MayBe held)
+held_images g database disk (Sure part) is c image = record { past = is.past; changes = is.settled.changes; journal = is.settled.images c image; lasting = is.left }
+held_images g database disk (Unsure part later) is c image = ⊎_elim
+    (λ j. inl (record { past = is.past; changes = is.unsettled.changes.1; journal = j; lasting = is.left }))
+    (λ j. inr (record { past = is.change ∷ is.past; changes = is.unsettled.changes; journal = j; lasting = left_after is.past is.change part is.left is.met ∙ ap (λ p. Some p) is.after_it }))
+    (is.unsettled.images c image)
 
 -- what an opening read of these bytes, by its answer
 abbrev pub ReadsStore : List ℕ → Result KeyDatabase StoreFault → Type 0

@@ -41,7 +41,7 @@ use Rattle.rule_model.specs.Entries.{History, count_of}
 use Rattle.rule_model.specs.Access.{access_by, id_of, key_in, owner_of}
 use Rattle.rule_model.specs.Kept.{access_at, begin_key_at, facts_of_begin, kept, key_found, open_of, operation_at, operation_change}
 use Rattle.rule_model.specs.Legal.{MayFollow, is_ready, Answered, WithoutMemory, WithoutEntropy}
-use Rattle.rule_model.specs.Operations.{Open, OperationChange, Opens, SameOperations, as_begun, challenge_of, has_number, is_busy, nonce_of, nonce_size, open_after, operation_on, opens, step_of, without, without_pruned}
+use Rattle.rule_model.specs.Operations.{Open, Opens, SameOperations, as_begun, challenge_of, has_number, is_busy, nonce_of, nonce_size, operation_on, opens, step_of, without_pruned}
 use Rattle.rule_model.proofs.Kept.{quiet_stored}
 use Rattle.rule_model.specs.Setup.{Setup}
 use Rattle.rule_model.specs.Slots.{begin_facts, conditions_on, facts_of_open, has_free, has_room, pruned_for}

@@ -32,7 +32,7 @@ use Rattle.rule_model.specs.declared.reply.Reply.{Reply}
 use Rattle.rule_model.specs.declared.reply.Reply.TheVariants.{Done, Stopped}
 use Rattle.rule_model.specs.Acts.{is_begin, is_connect, is_enter, is_restart}
 use Rattle.rule_model.specs.Answer as model
-use Rattle.rule_model.specs.Answer.{answer, answer_by_rules}
+use Rattle.rule_model.specs.Answer.{answer}
 use Rattle.rule_model.specs.Blobs.{root_given}
 use Rattle.rule_model.specs.Clients.{caller_of}
 use Rattle.rule_model.specs.Drawn.{is_entropy_fault, size_of, wanted}

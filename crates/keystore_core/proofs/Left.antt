@@ -13,7 +13,7 @@ use Rattle.cipher_ops.specs.declared.room.Work.TheVariants.{Aad, Text, Last}
 use Rattle.cipher_ops.specs.declared.state.CipherState.{CipherState}
 use Rattle.operation_slots.specs.declared.operation.Operation.{Operation as Slot}
 use Rattle.operation_slots.specs.Table as table
-use Rattle.operation_slots.specs.Table.{AllDiffer, FindsChanged, Gives, IsLater, KeepsLaterThan, SlotTable, given_back, held, numbers_of, operations_of}
+use Rattle.operation_slots.specs.Table.{AllDiffer, IsLater, given_back, held, numbers_of, operations_of}
 use Rattle.rule_model.specs.Kept.{has_busy, open_of, operation_at, operation_change}
 use Rattle.rule_model.specs.declared.entry.Entry.TheVariants.{Acted}
 use Rattle.rule_model.specs.declared.event.Act.TheVariants.{Disconnect, Leave}
@@ -46,7 +46,7 @@ use Rattle.keystore_core.specs.declared.tables.Tables.{Tables}
 use Rattle.keystore_core.specs.declared.tickets.Out.{Out}
 use Rattle.keystore_core.specs.Alike.{Alike, BothFound}
 use Rattle.keystore_core.specs.Leaving.{EndsClient}
-use Rattle.keystore_core.specs.Operations.{ChangesRow, IsRow, changed, grown, has_busy_row, has_row, is_row_of, rows_in}
+use Rattle.keystore_core.specs.Operations.{IsRow, changed, grown, has_busy_row, has_row, is_row_of, rows_in}
 use Rattle.keystore_core.specs.Slots.{IsKept, IsSlot, IsStateOf}
 use Rattle.keystore_core.specs.Stepping.{TakesBack, added_by, reply_of}
 use Rattle.keystore_core.specs.Tables.{AnswersAfter, IsCaller, TablesStand, event_by}

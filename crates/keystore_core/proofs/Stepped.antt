@@ -20,7 +20,7 @@ use Rattle.cipher_ops.specs.Jobs.{JobFor}
 use Rattle.cipher_ops.specs.Running.{GoesOn, IsRoom, MayCome}
 use Rattle.operation_slots.specs.declared.operation.Operation.{Operation as Slot}
 use Rattle.operation_slots.specs.Table as table
-use Rattle.operation_slots.specs.Table.{FindsWithout, IsLater, SlotTable, held, idle_value, made_busy, number_of, operations_of}
+use Rattle.operation_slots.specs.Table.{FindsWithout, SlotTable, held, idle_value, operations_of}
 use Rattle.journal_records.specs.declared.change.Change.TheVariants as changes
 use Rattle.key_database.specs.declared.database.KeyDatabase.{KeyDatabase}
 use Rattle.rule_model.specs.declared.entry.Entry.TheVariants.{Acted}

@@ -1,15 +1,17 @@
 -- What a store that was opened holds, and what is fixed in a run over it.
-use Rattle.std.proofs.Common.{◌≡◌, ℕ, List, [], length, Some, refl, ◌∙◌}
-use Rattle.ks_outside.specs.Images.{AllImages}
+use Rattle.std.proofs.Common.{◌≡◌, ℕ, List, [], length, true, Some, refl, ◌∙◌}
+use Rattle.ks_outside.specs.Images.{AllImages, Passes, tells}
 use Rattle.ks_outside.specs.declared.disk.Disk.{Ghosts as DiskGhosts}
 use Rattle.tags.specs.declared.policy.PolicyRow.{PolicyRow}
 use Rattle.tags.specs.declared.secrets.DeviceSecrets.{DeviceSecrets}
 use Rattle.journal_records.specs.declared.change.Change.{Change}
 use Rattle.journal_records.specs.Effects.{lasting_of as lasting_after}
 use Rattle.journal_records.specs.Holding.{Sure}
+use Rattle.journal_records.specs.LastingPart.{Lasting}
 use Rattle.use_journal.specs.Journal.{AreChanges, IsJournal, written}
 use Rattle.key_database.specs.declared.database.KeyDatabase.{KeyDatabase}
 use Rattle.key_database.specs.Stands.{Holds, store_bytes}
+use Rattle.key_database.specs.Store.{StandsFor}
 use Rattle.rule_model.specs.Setup.{Setup}
 use Rattle.keystore_core.specs.declared.engine.Engine.{Engine}
 use Rattle.keystore_core.specs.Engine.{IsOpened, StoreStands, bytes_of, lasting_of}
@@ -21,6 +23,26 @@ pub record IsStart (setup : Setup) (image : List ℕ) : Type 0 where
   pub journal : IsJournal past image
   pub lasting : lasting_after past ≡ Some setup.start
   pub bytes : setup.bytes ≡ length (written past)
+
+-- no image came but those that were there, no call failed, and the disk tells as much as before
+pub record IsUnwritten {D : Type 0} (d : DiskGhosts D) (old new : D) : Type 0 where
+  pub passes : Passes d old new (d.images old)
+  pub count : d.fault_count new ≡ d.fault_count old
+  pub telling : tells d new ≡ tells d old
+
+-- The store was read, and nothing was written: each image is one of those before, and the store of the start. Where all images stood
+-- for one lasting part and the disk tells its content, it is the start's.
+pub record IsRead {D : Type 0} (d : DiskGhosts D) (setup : Setup) (old opened : D) : Type 0 where
+  pub stands : AllImages d opened (IsStart setup)
+  pub images : AllImages d opened (d.images old)
+  pub finds : (part : Lasting) → AllImages d old (StandsFor part) → tells d old ≡ true → setup.start ≡ part
+  pub unwritten : IsUnwritten d old opened
+
+-- what is fixed in a run is what it was given
+pub record IsSetup (setup : Setup) (device : DeviceSecrets) (policy : List PolicyRow) (slots : ℕ) : Type 0 where
+  pub device_is : setup.device ≡ device
+  pub policy_is : setup.policy ≡ policy
+  pub slots_are : setup.slots ≡ slots
 
 -- what is fixed over an engine that was opened
 abbrev pub setup_of : DeviceSecrets → List PolicyRow → ℕ → Engine → Setup

@@ -24,6 +24,7 @@ use Rattle.rule_model.specs.Legal.{Legal, LegalBefore}
 use Rattle.rule_model.specs.Settling.{is_disk_fault, is_faulted, is_unsettled}
 use Rattle.rule_model.specs.Setup.{Setup}
 use Rattle.keystore_core.specs.Complete.{HasNoFault}
+use Rattle.keystore_core.specs.Opening.{IsSetup}
 use Rattle.keystore_core.proofs.Completing.{none_rose}
 use Rattle.keystore_run.specs.declared.status.Status.{Status}
 use Rattle.keystore_run.specs.declared.status.Status.TheVariants as statuses
@@ -34,7 +35,7 @@ use Rattle.keystore_run.specs.Ends.{Ends, EndsOk}
 use Rattle.keystore_run.specs.Follows.{Follows}
 use Rattle.keystore_run.specs.Kept.{Keeps, failed_of}
 use Rattle.keystore_run.specs.Lines.{AreLines, IsFree, begun_with, ended, lines_of}
-use Rattle.keystore_run.specs.Runs.{Does, Formatted, Given, IsRefused, IsSetup, Opened, Refused, Runs, RunsFresh, Unformatted, given}
+use Rattle.keystore_run.specs.Runs.{Does, Formatted, Given, IsRefused, Opened, Refused, Runs, RunsFresh, Unformatted, given}
 use Rattle.keystore_run.proofs.LineLemmas.{lines_of-ended}
 
 -- ---- a history without a failed device call settles nothing
@@ -151,7 +152,7 @@ module _ {S K D N : Type 0} (s : SourceGhosts S) (k : SinkGhosts K) (d : DiskGho
         }
 
     -- a run whose store was opened, by its status
-    opened_completes : (setup : Setup) (begin : D) (status : Status) → IsSetup setup g → IsOpenedOn d fresh setup old.disk → setup.start ≡ start → tells d begin ≡ true → d.fault_count begin ≡ d.fault_count old.disk
+    opened_completes : (setup : Setup) (begin : D) (status : Status) → IsSetup setup g.device g.policy g.slots → IsOpenedOn d fresh setup old.disk → setup.start ≡ start → tells d begin ≡ true → d.fault_count begin ≡ d.fault_count old.disk
         → Ends s k d n setup (record old { disk = begin }) new status → Completes s k d n g fresh start bytes old new status
     opened_completes setup begin statuses.Ok is opens starts tells_begin same ends = Whole setup is opens starts (whole setup begin tells_begin (no_fault_since same fine.disk) ends) refl
     opened_completes setup begin statuses.Memory is opens starts tells_begin same ends = Wanting refl

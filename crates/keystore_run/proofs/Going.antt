@@ -9,8 +9,10 @@ use Rattle.ks_outside.specs.declared.entropy.Entropy.{Ghosts as EntropyGhosts}
 use Rattle.ks_outside.specs.declared.sink.Sink.{Ghosts as SinkGhosts}
 use Rattle.ks_outside.specs.declared.source.Source.{Ghosts as SourceGhosts}
 use Rattle.ks_outside.proofs.Shown.{put_none, put_on, took_none, took_on}
+use Rattle.key_database.specs.Stands.{held_images}
 use Rattle.rule_model.specs.Entries.{History}
 use Rattle.rule_model.specs.Setup.{Setup}
+use Rattle.keystore_core.specs.Opening.{IsUnwritten}
 use Rattle.keystore_run.specs.declared.session.Session.{Session}
 use Rattle.keystore_run.specs.declared.serve.Halt.{Halt}
 use Rattle.keystore_run.specs.declared.serve.Halt.TheVariants as halts
@@ -21,11 +23,11 @@ use Rattle.keystore_run.specs.Follows.{Follows}
 use Rattle.keystore_run.specs.Halts.{status_of}
 use Rattle.keystore_run.specs.Lines.{AreLines, IsFree, ended, lines_of}
 use Rattle.keystore_run.specs.Serving.{IsServed, IsServedInPart, IsUnserved, ServesLine}
-use Rattle.keystore_run.specs.Kept.{IsUnwritten, Keeps}
+use Rattle.keystore_run.specs.Kept.{Keeps}
 use Rattle.keystore_run.specs.Session.{GoesOn, StandsFor, devices}
 use Rattle.keystore_run.specs.Window.{HasNoFeedBelow, IsFirstFeed}
 use Rattle.keystore_run.proofs.DrawLemmas.{drew_none, drew_nothing, drew_on}
-use Rattle.keystore_run.proofs.KeepLemmas.{KeptSince, held_images, keeps_all, since_none, since_on}
+use Rattle.keystore_run.proofs.KeepLemmas.{KeptSince, keeps_all, since_none, since_on}
 use Rattle.keystore_run.proofs.LineLemmas.{are_more, ended-more, follows_more, free_take, free_whole, lines_of-ended, lines_of-last, split_feed}
 
 -- the held bytes around their first LF

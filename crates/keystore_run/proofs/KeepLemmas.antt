@@ -6,14 +6,7 @@ use Rattle.ks_outside.specs.Faults.{CountsFaults}
 use Rattle.ks_outside.specs.Images.{AllImages, Passes, tells}
 use Rattle.ks_outside.specs.declared.disk.Disk.{Ghosts}
 use Rattle.tags.specs.declared.settled.Settled.{Settled}
-use Rattle.journal_records.specs.declared.change.Change.{Change}
-use Rattle.journal_records.specs.Effects.{after, lasting_of}
-use Rattle.journal_records.specs.Holding.{Holding, Sure, Unsure}
-use Rattle.journal_records.specs.LastingPart.{Lasting}
-use Rattle.journal_records.specs.Needs.{is_met}
-use Rattle.key_database.specs.declared.database.KeyDatabase.{KeyDatabase}
-use Rattle.key_database.specs.Stands.{Holds}
-use Rattle.key_database.specs.Store.{MayBe}
+use Rattle.journal_records.specs.Effects.{after}
 use Rattle.rule_model.specs.declared.entry.Entry.TheVariants.{Acted, Settling}
 use Rattle.rule_model.specs.declared.event.Event.{Event}
 use Rattle.rule_model.specs.declared.reply.Reply.{Reply}
@@ -21,8 +14,9 @@ use Rattle.rule_model.specs.Entries.{History, after_settling, after_step}
 use Rattle.rule_model.specs.Settling.{is_disk_fault}
 use Rattle.rule_model.specs.Setup.{Setup}
 use Rattle.keystore_core.specs.Engine.{MayHold, MayHoldEither}
+use Rattle.keystore_core.specs.Opening.{IsUnwritten}
 use Rattle.keystore_core.specs.Restarting.{is_other_store}
-use Rattle.keystore_run.specs.Kept.{AtSome, IsFront, IsUnwritten, Keeps, KeepsMore, estranged_of, failed_of}
+use Rattle.keystore_run.specs.Kept.{AtSome, IsFront, Keeps, KeepsMore, estranged_of, failed_of}
 use Rattle.keystore_run.proofs.DrawLemmas.{counted, unchanged}
 
 -- ---- fronts
@@ -62,17 +56,6 @@ settled_estranged (Some settled) past = refl
 
 not_estranged : (other : Bool) (n m : ℕ) → n ≡ m → other ≡ false → (if other then n + 1 else n) ≡ m
 not_estranged other n m e none = rw none e
-
-left_after : (past : List Change) (change : Change) (part : Lasting) → lasting_of past ≡ Some part → is_met part change ≡ true → lasting_of (change ∷ past) ≡ Some (after part change)
-left_after past change part left met = rw (left, met) refl
-
--- each image stands for what the database holds
-pub held_images : {D : Type 0} (d : Ghosts D) (keys : KeyDatabase) (disk : D) (held : Holding) → Holds d keys disk held → AllImages d disk (MayBe held)
-held_images d keys disk (Sure part) is c image = record { past = is.past; changes = is.settled.changes; journal = is.settled.images c image; lasting = is.left }
-held_images d keys disk (Unsure part later) is c image = ⊎_elim
-    (λ j. inl (record { past = is.past; changes = is.unsettled.changes.1; journal = j; lasting = is.left }))
-    (λ j. inr (record { past = is.change ∷ is.past; changes = is.unsettled.changes; journal = j; lasting = left_after is.past is.change part is.left is.met ∙ ap (λ p. Some p) is.after_it }))
-    (is.unsettled.images c image)
 
 module _ {D : Type 0} (d : Ghosts D) (setup : Setup) where
   -- ---- parts of a history

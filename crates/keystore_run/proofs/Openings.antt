@@ -1,5 +1,5 @@
 -- A store that was opened, and the run over it.
-use Rattle.std.proofs.Common.{◌≡◌, ℕ, ◌≤◌, Bool, true, false, List, [], Err, refl, sym, ◌∙◌, subst, arith}
+use Rattle.std.proofs.Common.{◌≡◌, ℕ, ◌≤◌, Bool, true, false, [], Err, refl, sym, ◌∙◌, subst, arith}
 use Rattle.ks_outside.specs.Images.{AllImages, Passes, tells}
 use Rattle.ks_outside.specs.Shown.{Outside}
 use Rattle.ks_outside.specs.declared.disk.Disk.{Ghosts as DiskGhosts}
@@ -14,13 +14,13 @@ use Rattle.keystore_core.specs.declared.engine.Engine.{Engine}
 use Rattle.keystore_core.specs.declared.engine.OpenFault.{OpenFault}
 use Rattle.keystore_core.specs.declared.engine.OpenFault.TheVariants as faults
 use Rattle.keystore_core.specs.Engine.{OpenFaults, OpensFor, OpensStore, Stands, StoreStands}
+use Rattle.keystore_core.specs.Opening.{IsRead, IsUnwritten}
 use Rattle.keystore_run.specs.declared.session.Session.{Session}
 use Rattle.keystore_run.specs.declared.status.Status.{Status}
 use Rattle.keystore_run.specs.declared.status.Status.TheVariants as statuses
 use Rattle.keystore_run.specs.Ends.{Ends}
 use Rattle.keystore_run.specs.Jobs.{JobsStand}
-use Rattle.keystore_run.specs.Kept.{IsUnwritten}
-use Rattle.keystore_run.specs.Runs.{Formats, Given, IsCause, IsRead, IsRefused, Opened, Refused, Runs, RunsFresh, Formatted, Unformatted, is_disk_status, refusal_of}
+use Rattle.keystore_run.specs.Runs.{Formats, Given, IsCause, IsRefused, Opened, Refused, Runs, RunsFresh, Formatted, Unformatted, is_disk_status, refusal_of}
 use Rattle.keystore_run.specs.Session.{StandsFor, engine_of, jobs_of}
 
 -- a session over an engine that was opened

@@ -16,13 +16,14 @@ use Rattle.rule_model.specs.Legal.{Legal}
 use Rattle.rule_model.specs.Setup.{Setup}
 use Rattle.keystore_core.specs.Complete.{HasNoFault}
 use Rattle.keystore_core.specs.Engine.{MayHold}
+use Rattle.keystore_core.specs.Opening.{IsRead, IsSetup}
 use Rattle.keystore_run.specs.declared.status.Status.{Status}
 use Rattle.keystore_run.specs.declared.status.Status.TheVariants as statuses
 use Rattle.keystore_run.specs.Drawn.{DrewAll}
 use Rattle.keystore_run.specs.Follows.{Follows}
 use Rattle.keystore_run.specs.Kept.{estranged_of, failed_of}
 use Rattle.keystore_run.specs.Lines.{AreLines, SCRIPT_BYTES, lines_of}
-use Rattle.keystore_run.specs.Runs.{Given, IsFormatted, IsRead, IsSetup}
+use Rattle.keystore_run.specs.Runs.{Given, IsFormatted}
 
 -- how many entries settle an earlier change
 abbrev pub settlings_of : History → ℕ
@@ -78,6 +79,6 @@ module _ {S K D N : Type 0} (s : SourceGhosts S) (k : SinkGhosts K) (d : DiskGho
 
   -- the run ended with status 0 and all of it, over the lasting part that its store stood for; or memory was wanting
   pub data Completes (g : Given) (fresh : Bool) (start : Lasting) (bytes : List ℕ) (old new : Outside S K D N) (status : Status) : Type 0 where
-    Whole : (setup : Setup) → IsSetup setup g → IsOpenedOn d fresh setup old.disk → setup.start ≡ start → GivesAll setup bytes old new → status ≡ statuses.Ok
+    Whole : (setup : Setup) → IsSetup setup g.device g.policy g.slots → IsOpenedOn d fresh setup old.disk → setup.start ≡ start → GivesAll setup bytes old new → status ≡ statuses.Ok
         → Completes g fresh start bytes old new status
     Wanting : status ≡ statuses.Memory → Completes g fresh start bytes old new status

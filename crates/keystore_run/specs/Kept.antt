@@ -62,9 +62,3 @@ pub record Keeps {D : Type 0} (d : Ghosts D) (setup : Setup) (begin new : D) (hi
   pub none : failed_of history ≡ 0 → d.fault_count new ≡ d.fault_count begin
   pub later : d.fault_count begin ≤ d.fault_count new
   pub same : tells d begin ≡ true → estranged_of history ≡ 0
-
--- no image came but those that were there, no call failed, and the disk tells as much as before
-pub record IsUnwritten {D : Type 0} (d : Ghosts D) (old new : D) : Type 0 where
-  pub passes : Passes d old new (d.images old)
-  pub count : d.fault_count new ≡ d.fault_count old
-  pub telling : tells d new ≡ tells d old

@@ -1,5 +1,5 @@
 -- What the words of a command line do: how a store is made and opened, and how the run over it ends.
-use Rattle.std.specs.Prelude.{◌≡◌, ℕ, ◌≤◌, Bool, true, false, List, length, Some, Result, Ok, Err}
+use Rattle.std.specs.Prelude.{◌≡◌, ℕ, ◌≤◌, Bool, true, false, List, Result, Ok, Err}
 use Rattle.ks_outside.specs.Faults.{Rises}
 use Rattle.ks_outside.specs.Images.{AllImages, Passes, tells}
 use Rattle.ks_outside.specs.Shown.{Outside}
@@ -14,13 +14,12 @@ use Rattle.key_database.specs.Store.{IsBadStore, StandsFor}
 use Rattle.rule_model.specs.Setup.{Setup}
 use Rattle.keystore_core.specs.declared.engine.OpenFault.{OpenFault}
 use Rattle.keystore_core.specs.declared.engine.OpenFault.TheVariants as faults
-use Rattle.keystore_core.specs.Opening.{IsStart}
+use Rattle.keystore_core.specs.Opening.{IsRead, IsSetup}
 use Rattle.keystore_run.specs.declared.status.Status.{Status}
 use Rattle.keystore_run.specs.declared.status.Status.TheVariants as statuses
 use Rattle.keystore_run.specs.declared.words.Form.{Form}
 use Rattle.keystore_run.specs.declared.words.Form.TheVariants.{Init, Run, Soak}
 use Rattle.keystore_run.specs.Ends.{Ends}
-use Rattle.keystore_run.specs.Kept.{IsUnwritten}
 use Rattle.keystore_run.specs.Soak.{Soaks}
 
 -- a count of faults never falls, and where this is told it rose
@@ -36,12 +35,6 @@ pub record Given : Type 0 where
 
 abbrev pub given : DeviceSecrets → List PolicyRow → ℕ → Given
 given device policy slots = record { device = device; policy = policy; slots = slots }
-
--- what is fixed in a run is what it was given
-pub record IsSetup (setup : Setup) (g : Given) : Type 0 where
-  pub device_is : setup.device ≡ g.device
-  pub policy_is : setup.policy ≡ g.policy
-  pub slots_are : setup.slots ≡ g.slots
 
 -- the status of a run whose store was not opened
 abbrev pub refusal_of : OpenFault → Status
@@ -60,14 +53,6 @@ is_disk_status statuses.DiskFault = true
 is_disk_status _ = false
 
 module _ {D : Type 0} (d : DiskGhosts D) where
-  -- The store was read, and nothing was written: each image is one of those before, and the store of the start. Where all images
-  -- stood for one lasting part and the disk tells its content, it is the start's.
-  pub record IsRead (setup : Setup) (old opened : D) : Type 0 where
-    pub stands : AllImages d opened (IsStart setup)
-    pub images : AllImages d opened (d.images old)
-    pub finds : (part : Lasting) → AllImages d old (StandsFor part) → tells d old ≡ true → setup.start ≡ part
-    pub unwritten : IsUnwritten d old opened
-
   -- the disk was formatted: each image stands for the empty lasting part
   pub record IsFormatted (old new : D) : Type 0 where
     pub empty : AllImages d new (StandsFor empty_lasting)
@@ -116,7 +101,7 @@ module _ {S K D N : Type 0} (s : SourceGhosts S) (k : SinkGhosts K) (d : DiskGho
   -- the store was opened, and the run over it ended so, where the disk's part is told from the moment `begin` on
   pub record RunsFrom (g : Given) (old : Outside S K D N) (opened begin : D) (new : Outside S K D N) (status : Status) : Type 0 where
     pub setup : Setup
-    pub is : IsSetup setup g
+    pub is : IsSetup setup g.device g.policy g.slots
     pub read : IsRead d setup old.disk opened
     pub ends : Ends s k d n setup (record old { disk = begin }) new status
 

@@ -6,7 +6,7 @@ ghost use Rattle.journal_records.specs.LastingPart.{Lasting};
 ghost use Rattle.rule_model.specs.Setup.{Setup};
 ghost use Rattle.keystore_run.specs.Complete.{AreFaultless, Completes, IsReady};
 ghost use Rattle.keystore_run.specs.Ends.{Ends, is_read_fault, is_write_fault, outside};
-ghost use Rattle.keystore_run.specs.Kept.{IsUnwritten};
+ghost use Rattle.keystore_core.specs.Opening.{IsUnwritten};
 ghost use Rattle.keystore_run.specs.Runs.{Does, Formats, IsCause, Runs, RunsFresh, formatted_as, given, is_disk_status, refusal_of};
 ghost use Rattle.keystore_run.specs.Session.{StandsFor, entries_in};
 ghost use Rattle.keystore_run.specs.Words.{form_of as form_said};

@@ -23,7 +23,7 @@ use Rattle.shared_service.specs.declared.pass.Pass.{Pass}
 use Rattle.shared_service.specs.declared.shared.Shared.{Shared}
 use Rattle.shared_service.specs.Kinds.{connected_after}
 use Rattle.shared_service.specs.Passes.{HoldsMaker, IsOurs, RestsAt}
-use Rattle.keystore_server.specs.Settled.{IsSettled}
+use Rattle.keystore_server.specs.Equality.{IsEqualInOneWay}
 
 -- ---- clients
 
@@ -84,16 +84,16 @@ goes_away act reply before e admitted = (
 
 -- ---- passes
 
-named_prop : {E K : Type 0} → IsSettled K → (name : K) (hands : List (Hand E K)) → IsProp (AllNamed name hands)
+named_prop : {E K : Type 0} → IsEqualInOneWay K → (name : K) (hands : List (Hand E K)) → IsProp (AllNamed name hands)
 named_prop set name [] = Unit-prop
 named_prop set name (h ∷ hs) = ×_prop (set h.name name) (named_prop set name hs)
 
-rests_prop : IsSettled Name → (lock : TableId) (name : Name) (pass : Pass) → IsProp (RestsAt lock name pass)
+rests_prop : IsEqualInOneWay Name → (lock : TableId) (name : Name) (pass : Pass) → IsProp (RestsAt lock name pass)
 rests_prop set lock name pass = hlevel (props, Coded-set table_id_coded, named_prop {E = BookEntry} {K = Name} set)
 
-holds_prop : IsSettled Name → (lock : TableId) (name : Name) (count number : ℕ) (maker : Option (RestingMaker BookEntry Name)) → IsProp (HoldsMaker lock name count number maker)
+holds_prop : IsEqualInOneWay Name → (lock : TableId) (name : Name) (count number : ℕ) (maker : Option (RestingMaker BookEntry Name)) → IsProp (HoldsMaker lock name count number maker)
 holds_prop set lock name count number None = hlevel props
 holds_prop set lock name count number (Some maker) = hlevel (props, Coded-set table_id_coded, named_prop {E = BookEntry} {K = Name} set)
 
-pub ours_prop : {D N : Type 0} {d : DiskGhosts D} {n : EntropyGhosts N} → IsSettled Name → (shared : Shared D N d n) (pass : Pass) → IsProp (IsOurs shared pass)
+pub ours_prop : {D N : Type 0} {d : DiskGhosts D} {n : EntropyGhosts N} → IsEqualInOneWay Name → (shared : Shared D N d n) (pass : Pass) → IsProp (IsOurs shared pass)
 ours_prop set shared pass = hlevel (rests_prop set, holds_prop set)

@@ -1,3 +1,3 @@
 pub mod Calling
-pub mod Settled
+pub mod Equality
 pub mod Listening

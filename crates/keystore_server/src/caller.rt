@@ -2,7 +2,7 @@
 
 ghost use Rattle.std.specs.Prelude.{◌≡◌};
 ghost use Rattle.shared_service.specs.Passes.{IsOurs};
-ghost use Rattle.keystore_server.specs.Settled.{IsSettled};
+ghost use Rattle.keystore_server.specs.Equality.{IsEqualInOneWay};
 
 use connections::Answerer;
 use ks_outside::{Clock, Disk, Entropy, Gate};
@@ -53,7 +53,7 @@ impl<'a, D: Disk, N: Entropy, C, G> Caller<'a, D, N, C, G> {
 /// Two values of a type are equal in one way alone, so a fact that is known to hold may be taken for granted where it is an equation
 /// of such values.
 fn equal_in_one_way<T>()
-    ensures { IsSettled T }
+    ensures { IsEqualInOneWay T }
 {}
 
 impl<'a, D: Disk, N: Entropy, C: Clock, G: Gate> Answerer for Caller<'a, D, N, C, G> {

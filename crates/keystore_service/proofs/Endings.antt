@@ -1,19 +1,14 @@
 -- What a service came to.
-use Rattle.std.proofs.Common.{◌≡◌, ℕ, ◌⊎◌, inl, inr, ⊎_elim, Bool, true, false, List, ◌∷◌, Some, refl, sym, ap, subst, ◌∙◌}
+use Rattle.std.proofs.Common.{◌≡◌, ℕ, Bool, true, false, List, Some, refl, sym, ap, subst, ◌∙◌}
 use Rattle.ks_outside.proofs.Shown.{counts_none}
 use Rattle.ks_outside.specs.Faults.{CountsFaults, Rises}
 use Rattle.ks_outside.specs.Images.{AllImages, tells}
 use Rattle.ks_outside.specs.declared.disk.Disk.{Ghosts as DiskGhosts}
 use Rattle.ks_outside.specs.declared.entropy.Entropy.{Ghosts as EntropyGhosts}
 use Rattle.ks_outside.specs.declared.listener.Listener.{Ghosts as ListenerGhosts}
-use Rattle.journal_records.specs.declared.change.Change.{Change}
-use Rattle.journal_records.specs.Effects.{after, lasting_of as part_of}
-use Rattle.journal_records.specs.Holding.{Holding, Sure, Unsure}
 use Rattle.journal_records.specs.LastingPart.{Lasting}
-use Rattle.journal_records.specs.Needs.{is_met}
-use Rattle.key_database.specs.declared.database.KeyDatabase.{KeyDatabase}
-use Rattle.key_database.specs.Stands.{Holds}
-use Rattle.key_database.specs.Store.{MayBe, StandsFor}
+use Rattle.key_database.specs.Stands.{held_images}
+use Rattle.key_database.specs.Store.{StandsFor}
 use Rattle.rule_model.specs.Legal.{Legal}
 use Rattle.rule_model.specs.Setup.{Setup}
 use Rattle.keystore_core.specs.declared.engine.Engine.{Engine}
@@ -34,16 +29,6 @@ use Rattle.keystore_service.specs.declared.words.ServeForm.{ServeForm}
 use Rattle.keystore_service.specs.Ends.{Attended, IsCompleted, IsRefused, ServesOn, Wanting, counts_of, is_listen_fault, refusal_of, status_of}
 
 -- ---- what is on the disk
-
-left_after : (past : List Change) (change : Change) (part : Lasting) → part_of past ≡ Some part → is_met part change ≡ true → part_of (change ∷ past) ≡ Some (after part change)
-left_after past change part left met = rw (left, met) refl
-
-held_images : {D : Type 0} (d : DiskGhosts D) (keys : KeyDatabase) (disk : D) (held : Holding) → Holds d keys disk held → AllImages d disk (MayBe held)
-held_images d keys disk (Sure part) is c image = record { past = is.past; changes = is.settled.changes; journal = is.settled.images c image; lasting = is.left }
-held_images d keys disk (Unsure part later) is c image = ⊎_elim
-    (λ j. inl (record { past = is.past; changes = is.unsettled.changes.1; journal = j; lasting = is.left }))
-    (λ j. inr (record { past = is.change ∷ is.past; changes = is.unsettled.changes; journal = j; lasting = left_after is.past is.change part is.left is.met ∙ ap (λ p. Some p) is.after_it }))
-    (is.unsettled.images c image)
 
 pub store_images : {D : Type 0} (d : DiskGhosts D) (setup : Setup) (engine : Engine) (disk : D) (past : History) → StoreStands d setup engine disk past → AllImages d disk (MayHold setup past)
 store_images d setup engine disk past store = held_images d _ disk _ store

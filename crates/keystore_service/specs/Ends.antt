@@ -12,8 +12,8 @@ use Rattle.rule_model.specs.Legal.{Legal}
 use Rattle.rule_model.specs.Setup.{Setup}
 use Rattle.keystore_core.specs.declared.engine.OpenFault.{OpenFault}
 use Rattle.keystore_core.specs.declared.engine.OpenFault.TheVariants as faults
-use Rattle.keystore_core.specs.Opening.{IsStart}
 use Rattle.keystore_core.specs.Engine.{MayHold, OpenFaults, OpensFor, OpensStore}
+use Rattle.keystore_core.specs.Opening.{IsRead, IsSetup}
 use Rattle.service_book.specs.declared.entry.BookEntry.{BookEntry}
 use Rattle.service_book.specs.Book.{AreLater, Counts, IsCaused, counts_after, history_of, log_of}
 use Rattle.connection_workers.specs.declared.serving.Attendance.{Attendance}
@@ -51,22 +51,7 @@ IsCompleted _ = Unit {0}
 
 -- ---- a store that is opened
 
--- what is fixed in a run is what it was given; a service has 16 slots
-pub record IsSetup (setup : Setup) (device : DeviceSecrets) (policy : List PolicyRow) : Type 0 where
-  pub device_is : setup.device ≡ device
-  pub policy_is : setup.policy ≡ policy
-  pub slots_are : setup.slots ≡ 16
-
 module _ {D : Type 0} (d : DiskGhosts D) where
-  -- The store was read, and nothing was written: each image is one of those before, and the store of the start. Where all images stood
-  -- for one lasting part and the disk tells its content, it is the start's.
-  pub record IsRead (setup : Setup) (old opened : D) : Type 0 where
-    pub stands : AllImages d opened (IsStart setup)
-    pub images : AllImages d opened (d.images old)
-    pub passes : Passes d old opened (d.images old)
-    pub finds : (part : Lasting) → AllImages d old (StandsFor part) → tells d old ≡ true → setup.start ≡ part
-    pub count : d.fault_count opened ≡ d.fault_count old
-
   -- The store was not opened, and nothing was written: each image, at each moment, is one of those before, and has wrong what the fault
   -- says; over a disk that tells its content where all images stood for one lasting part nothing is wrong.
   pub record IsRefused (old new : D) (fault : OpenFault) : Type 0 where
@@ -113,7 +98,7 @@ module _ {B L D N : Type 0} (b : ListenerGhosts B L) (d : DiskGhosts D) (n : Ent
     pub entropy_is : end.entropy ≡ entropy
     pub book_is : end.book ≡ None
 
-  -- What the service came to: the store was opened and served over; or it was not opened, and nothing else was touched.
+  -- What the service came to: the store was opened, with 16 slots, and served over; or it was not opened, and nothing else was touched.
   pub data Serves (device : DeviceSecrets) (policy : List PolicyRow) (form : ServeForm) (listener : B) (disk : D) (entropy : N) (end : ServeEnd B D N) : Type 0 where
-    Opened : (opened : D) (setup : Setup) → IsSetup setup device policy → IsRead d setup disk opened → ServesOn setup form listener opened entropy end → Serves device policy form listener disk entropy end
+    Opened : (opened : D) (setup : Setup) → IsSetup setup device policy 16 → IsRead d setup disk opened → ServesOn setup form listener opened entropy end → Serves device policy form listener disk entropy end
     Refused : (fault : OpenFault) → IsRefused d disk end.disk fault → end.status ≡ refusal_of fault → IsApart listener entropy end → Serves device policy form listener disk entropy end

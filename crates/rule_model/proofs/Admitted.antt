@@ -18,7 +18,7 @@ use Rattle.rule_model.specs.declared.reply.Fields.{Fields}
 use Rattle.rule_model.specs.declared.reply.Reply.{Reply}
 use Rattle.rule_model.specs.declared.reply.Reply.TheVariants.{Done, Broken, Stopped}
 use Rattle.rule_model.specs.Acts.{is_enter}
-use Rattle.rule_model.specs.Answer.{answer, answer_by_rules, answer_stored}
+use Rattle.rule_model.specs.Answer.{answer, answer_by_rules}
 use Rattle.rule_model.specs.Clients.{caller_of}
 use Rattle.rule_model.specs.Entries.{History, is_done}
 use Rattle.rule_model.specs.Kept.{is_live, operation_at}

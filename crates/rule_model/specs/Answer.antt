@@ -1,8 +1,7 @@
 -- The answer to an event over a history.
 use Rattle.std.specs.Prelude.{ℕ, ◌+◌, ◌==◌, List, Option, Some, None, Result, Ok, Err, if◌then◌else◌, take}
 use Rattle.tags.specs.declared.code.Code.{Code}
-use Rattle.tags.specs.declared.code.Code.TheVariants.{InvalidArgument, NoTicket, StoreFull}
-use Rattle.tags.specs.declared.rule.RuleTable.TheVariants.{L}
+use Rattle.tags.specs.declared.code.Code.TheVariants.{NoTicket, StoreFull}
 use Rattle.tags.specs.declared.descriptor.Descriptor.{Descriptor}
 use Rattle.key_domains.specs.Domains.{domain_blob}
 use Rattle.journal_records.specs.LastingPart.{Lasting}
@@ -17,7 +16,7 @@ use Rattle.rule_model.specs.declared.event.Act.{Act}
 use Rattle.rule_model.specs.declared.event.Act.TheVariants.{Connect, Disconnect, GenerateKey, ImportKey, CreateOperation, EnterAad, EnterUpdate, EnterFinish, Abort, GetKeyEntry, DeleteKey, Grant, Ungrant, GetNumberOfEntries, ListEntriesBatched, AddAuthToken, DeviceLocked, DeviceUnlocked, EarlyBootEnded, ClearNamespace, UserRemoved, Leave, Restart}
 use Rattle.rule_model.specs.declared.facts.Caller.{Caller}
 use Rattle.rule_model.specs.declared.reply.Reply.{Reply}
-use Rattle.rule_model.specs.declared.reply.Reply.TheVariants.{Done, Broken, Stopped}
+use Rattle.rule_model.specs.declared.reply.Reply.TheVariants.{Done, Stopped}
 use Rattle.rule_model.specs.Acts.{is_begin, is_connect}
 use Rattle.rule_model.specs.Boot.{has_early_ended, last_tokens}
 use Rattle.rule_model.specs.Calls.{accepted_in, add_auth_token_ruling, clear_namespace_ruling, counted_in, delete_key_ruling, disconnect_ruling, early_boot_ended_ruling, get_key_entry_ruling, grant_ruling, granted_in, key_entry, listed_in, listing_ruling, ungrant_ruling, user_call_ruling}

@@ -1,5 +1,5 @@
 -- What a request stands on.
-use Rattle.std.proofs.Common.{◌≡◌, ℕ, ◌+◌, ◌≤◌, ◌&&◌, Bool, true, false, List, Option, None, refl, sym, ap, ◌∙◌, subst}
+use Rattle.std.proofs.Common.{◌≡◌, ℕ, ◌+◌, ◌≤◌, ◌&&◌, Bool, true, false, List, refl, sym, ap, ◌∙◌, subst}
 use Rattle.ks_outside.specs.declared.clock.Reading.{Reading}
 use Rattle.rule_model.specs.declared.event.Act.{Act}
 use Rattle.rule_model.specs.declared.event.Act.TheVariants.{Disconnect}
@@ -9,7 +9,7 @@ use Rattle.service_book.specs.Limits.{is_disconnect, need_of, passes_limit}
 use Rattle.wire_frames.specs.Spelling.{is_asked}
 use Rattle.shared_service.specs.Desks.{weight}
 use Rattle.shared_service.specs.Going.{MayAsk, MayGo}
-use Rattle.shared_service.specs.Owning.{client_for, event_for, is_connected, is_parting}
+use Rattle.shared_service.specs.Owning.{client_for, event_for, is_parting}
 use Rattle.shared_service.specs.Requests.{IsCaller}
 
 pub may_go : (pass client : ℕ) (reading : Reading) (act : Act) (event : Event) (log : List BookEntry) (places : ℕ) → MayAsk pass client act log → event ≡ event_for reading act pass log → is_asked event.act ≡ true → weight log + need_of event.act ≤ places

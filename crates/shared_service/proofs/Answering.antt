@@ -1,5 +1,5 @@
 -- Where no device failed in a step, its reply is by the rules or for want of memory.
-use Rattle.std.proofs.Common.{◌≡◌, ◌⊎◌, ℕ, ◌<◌, ◌-◌, ◌^◌, Bool, true, false, List, [], ◌∷◌, Option, Some, None, refl, sym, ap, ◌∙◌, inl, inr, arith, ⊎_elim}
+use Rattle.std.proofs.Common.{◌≡◌, ◌⊎◌, ℕ, ◌<◌, ◌-◌, ◌^◌, false, List, [], ◌∷◌, Option, Some, None, ap, inl, inr, arith}
 use Rattle.ks_outside.specs.Faults.{Rises}
 use Rattle.tags.specs.declared.code.Code.TheVariants.{MemoryAllocationFailed}
 use Rattle.rule_model.specs.declared.entry.Entry.{Entry}

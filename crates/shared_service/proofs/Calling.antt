@@ -1,18 +1,16 @@
 -- What a call came to.
-use Rattle.std.proofs.Common.{◌≡◌, ◌≢◌, ℕ, ◌+◌, Bool, true, false, List, [], ◌∷◌, ◌++◌, length, Option, Some, None, refl, sym, ap, ◌∙◌, subst, inl, inr}
+use Rattle.std.proofs.Common.{◌≡◌, ℕ, ◌+◌, List, ◌++◌, Option, None, refl}
 use Rattle.ks_outside.specs.declared.clock.Reading.{Reading}
 use Rattle.turn_lock.specs.Fronts.{Extends, IsFrontOf}
 use Rattle.cipher_ops.specs.declared.job.Job.{Job}
 use Rattle.rule_model.specs.declared.event.Act.{Act}
-use Rattle.rule_model.specs.declared.event.Event.{Event}
 use Rattle.rule_model.specs.declared.field_sizes.FieldSizes.{FieldSizes}
 use Rattle.service_book.specs.declared.entry.BookEntry.{BookEntry}
 use Rattle.service_book.specs.Book.{log_of, ticket_in}
-use Rattle.service_book.specs.Limits.{passes_limit}
 use Rattle.shared_service.specs.declared.name.Name.{Name}
 use Rattle.shared_service.specs.declared.served.Served.{Served}
-use Rattle.shared_service.specs.Calls.{Adds, Once, Full, IsCall, IsFull, IsPoor, IsRecorded, OneStep, Poor, Recorded, entries_of}
-use Rattle.shared_service.specs.Owning.{by, event_for, is_parting}
+use Rattle.shared_service.specs.Calls.{Once, IsCall, OneStep, Recorded, entries_of}
+use Rattle.shared_service.specs.Owning.{by, event_for}
 use Rattle.shared_service.specs.Requests.{AreNumbers, IsRequested}
 
 -- a call of one step

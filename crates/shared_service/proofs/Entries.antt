@@ -1,33 +1,26 @@
 -- What one entry makes of the tickets and the clients.
-use Rattle.std.proofs.Common.{◌≡◌, ℕ, ◌+◌, ◌≤◌, ◌<◌, ◌==◌, ◌&&◌, Bool, true, false, not, if◌then◌else◌, List, [], ◌∷◌, length, Option, Some, None, is_some, Result, Ok, Err, unwrap_or, refl, sym, ap, ◌∙◌, subst, inl, inr, arith, ⊎_elim}
-use Rattle.std.proofs.lemmas.Bool.{cases_Bool, eqb-true, eqb-false, eq-eqb, ne_eqb}
-use Rattle.tags.specs.declared.code.Code.{Code}
+use Rattle.std.proofs.Common.{◌≡◌, ℕ, ◌+◌, ◌==◌, ◌&&◌, Bool, true, false, if◌then◌else◌, List, ◌∷◌, Option, Some, None, is_some, refl, ap, ◌∙◌, subst, inl, inr}
+use Rattle.std.proofs.lemmas.Bool.{cases_Bool}
 use Rattle.cipher_ops.specs.declared.room.Work.{Work}
 use Rattle.cipher_ops.specs.declared.room.Work.TheVariants.{Aad, Text, Last}
-use Rattle.rule_model.specs.declared.entry.Entry.{Entry}
-use Rattle.rule_model.specs.declared.entry.Entry.TheVariants.{Acted, Settling}
+use Rattle.rule_model.specs.declared.entry.Entry.TheVariants.{Acted}
 use Rattle.rule_model.specs.declared.event.Act.{Act}
 use Rattle.rule_model.specs.declared.event.Act.TheVariants.{Connect, Disconnect, EnterAad, EnterUpdate, EnterFinish, Leave, Restart}
 use Rattle.rule_model.specs.declared.event.Event.{Event}
 use Rattle.rule_model.specs.declared.reply.Fields.{Fields}
 use Rattle.rule_model.specs.declared.reply.Reply.{Reply}
 use Rattle.rule_model.specs.declared.reply.Reply.TheVariants.{Done, Broken, Stopped}
-use Rattle.rule_model.specs.Acts.{fixed_for, is_connect, is_enter, is_restart}
-use Rattle.rule_model.specs.Answer.{answer, given_or, leaving}
+use Rattle.rule_model.specs.Acts.{is_connect, is_enter, is_restart}
 use Rattle.rule_model.specs.Clients.{ClientChange, SameClients, Comes, Goes, admitted_client, client_change, comes, uid_after, uid_of}
-use Rattle.rule_model.specs.Drawn.{size_of, wanted}
-use Rattle.rule_model.specs.Entries.{History, admits, count_of, gives, is_done}
-use Rattle.rule_model.specs.Legal.{MayFollow, Answered, WithoutMemory, WithoutEntropy, Faulted, NotSettled, NotRestarted}
-use Rattle.rule_model.specs.Setup.{Setup}
-use Rattle.rule_model.specs.Stored.{change_by}
-use Rattle.rule_model.specs.Tickets.{TicketChange, SameTickets, GoesOut, ComesBack, AllGone, Entered, admitted_ticket, goes_out, stopped_ticket, ticket_after, ticket_at, ticket_change, next_ticket}
+use Rattle.rule_model.specs.Entries.{admits, count_of, gives, is_done}
+use Rattle.rule_model.specs.Tickets.{TicketChange, SameTickets, GoesOut, ComesBack, Entered, admitted_ticket, goes_out, stopped_ticket, ticket_after, ticket_at, ticket_change, next_ticket}
 use Rattle.wire_frames.specs.Spelling.{is_asked}
 use Rattle.service_book.specs.declared.entry.BookEntry.{BookEntry}
-use Rattle.service_book.specs.Book.{Counts, client_given, client_in, client_of, gives_ticket, history_of, later_client, pass_of_ticket, ticket_in}
+use Rattle.service_book.specs.Book.{Counts, client_given, client_of, gives_ticket, history_of, later_client, pass_of_ticket, ticket_in}
 use Rattle.service_book.specs.Limits.{count, is_disconnect, is_leave, is_of}
 use Rattle.shared_service.specs.Calls.{entry_by}
 use Rattle.shared_service.specs.Desks.{ComesInTurn}
-use Rattle.shared_service.specs.Facts.{ClientFacts, TicketFacts, is_given, is_out, is_there, pass_of_client}
+use Rattle.shared_service.specs.Facts.{ClientFacts, TicketFacts, is_given, pass_of_client}
 use Rattle.shared_service.specs.Owning.{is_connected, later_ticket, out_of, ticket_given}
 use Rattle.shared_service.proofs.Fitting.{clients_come, clients_go, clients_same, else_is, same_if, then_is, tickets_back, tickets_out, tickets_same}
 

@@ -1,5 +1,5 @@
 -- What the first turn of a call comes to.
-use Rattle.std.proofs.Common.{◌≡◌, ◌≢◌, ℕ, ◌+◌, ◌<◌, ◌^◌, ◌&&◌, Bool, true, false, if◌then◌else◌, List, [], ◌∷◌, ◌++◌, length, Option, Some, None, unwrap_or, refl, sym, ap, ◌∙◌, subst, inl, inr, arith, ⊎_elim}
+use Rattle.std.proofs.Common.{◌≡◌, ℕ, ◌+◌, ◌<◌, ◌^◌, ◌&&◌, Bool, true, false, List, ◌++◌, length, Option, Some, None, unwrap_or, refl, sym, ap, ◌∙◌, subst, arith, ⊎_elim}
 use Rattle.std.proofs.Math.Logic.{∥∥₁_elim, ∥∥₁_map, ∥∥₁_map₂}
 use Rattle.ks_outside.specs.declared.clock.Reading.{Reading}
 use Rattle.ks_outside.specs.declared.disk.Disk.{Ghosts as DiskGhosts}
@@ -14,28 +14,25 @@ use Rattle.rule_model.specs.declared.event.Act.{Act}
 use Rattle.rule_model.specs.declared.event.Act.TheVariants.{Connect, Disconnect, EnterAad, EnterUpdate, EnterFinish, Leave}
 use Rattle.rule_model.specs.declared.event.Event.{Event}
 use Rattle.rule_model.specs.declared.field_sizes.FieldSizes.{FieldSizes}
-use Rattle.rule_model.specs.declared.reply.Fields.{Fields}
 use Rattle.rule_model.specs.declared.reply.Reply.{Reply}
 use Rattle.rule_model.specs.declared.reply.Reply.TheVariants.{Done, Broken, Stopped}
-use Rattle.rule_model.specs.Acts.{is_connect, is_enter}
+use Rattle.rule_model.specs.Acts.{is_enter}
 use Rattle.rule_model.specs.Entries.{History, is_done}
 use Rattle.rule_model.specs.Jobs.{GoesWith, HasJob, IsJobOut}
-use Rattle.rule_model.specs.ReplyRooms.{no_sizes}
 use Rattle.rule_model.specs.Setup.{Setup}
 use Rattle.rule_model.specs.Tickets.{ticket_at}
 use Rattle.service_book.specs.declared.entry.BookEntry.{BookEntry}
 use Rattle.service_book.specs.Book.{client_of, history_of, log_of, ticket_in}
-use Rattle.service_book.specs.Limits.{is_disconnect, is_leave, passes_limit}
+use Rattle.service_book.specs.Limits.{is_disconnect, passes_limit}
 use Rattle.wire_frames.specs.Replies.{reply_body}
 use Rattle.shared_service.specs.declared.name.Name.{Name}
 use Rattle.shared_service.specs.declared.served.Served.{Served}
 use Rattle.shared_service.specs.declared.shared.away.Sent.{Sent}
 use Rattle.shared_service.specs.Away.{IsEntered, IsJobAway}
-use Rattle.shared_service.specs.Calls.{Full, IsCall, IsFull, IsPoor, OneStep, Poor, entries_of}
+use Rattle.shared_service.specs.Calls.{Full, IsCall, OneStep, Poor, entries_of}
 use Rattle.shared_service.specs.Desks.{HasMade, HasSeen, IsDesk}
 use Rattle.shared_service.specs.Kinds.{client_after, connected_after, kind_of}
-use Rattle.shared_service.specs.Names.{IsSetupOf}
-use Rattle.shared_service.specs.Owning.{by, client_for, event_for, is_connected, is_parting, out_of}
+use Rattle.shared_service.specs.Owning.{by, client_for, event_for, is_connected, is_parting}
 use Rattle.shared_service.specs.Requests.{AreNumbers, GoesOut, IsCaller, IsLeaveRoom, IsRequested}
 use Rattle.shared_service.specs.Sending.{sent}
 use Rattle.shared_service.proofs.Entries.{enter_asked, enter_no_leave}

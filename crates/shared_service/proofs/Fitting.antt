@@ -1,8 +1,8 @@
 -- What a step makes of the tickets and the clients of all passes.
-use Rattle.std.proofs.Common.{◌≡◌, ℕ, ◌+◌, ◌≤◌, ◌<◌, ◌==◌, Bool, true, false, not, if◌then◌else◌, List, [], ◌∷◌, length, Option, Some, None, is_some, filter, refl, sym, ap, ◌∙◌, subst, inl, inr, arith, ⊎_elim}
+use Rattle.std.proofs.Common.{◌≡◌, ℕ, ◌+◌, ◌==◌, Bool, true, false, not, if◌then◌else◌, ◌∷◌, Option, Some, None, is_some, filter, refl, sym, ap, ◌∙◌, arith, ⊎_elim}
 use Rattle.std.proofs.lemmas.Bool.{cases_Bool, eqb-true, eqb-false, eq-eqb, ne_eqb}
 use Rattle.rule_model.proofs.Outputs.{any_ticket_left, less_length}
-use Rattle.shared_service.specs.Facts.{ClientsFit, CoversClients, CoversTickets, TicketsFit, has}
+use Rattle.shared_service.specs.Facts.{ClientsFit, TicketsFit, has}
 
 pub then_is : {A : Type 0} (b : Bool) (x y : A) → b ≡ true → (if b then x else y) ≡ x
 then_is true x y e = refl

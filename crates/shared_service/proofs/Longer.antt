@@ -1,5 +1,5 @@
 -- How a step makes the book longer.
-use Rattle.std.proofs.Common.{◌≡◌, ℕ, ◌+◌, ◌-◌, ◌<◌, ◌≤◌, List, [], ◌∷◌, ◌++◌, length, Option, Some, None, refl, sym, ap, ◌∙◌, subst, arith, length-append}
+use Rattle.std.proofs.Common.{◌≡◌, ℕ, ◌+◌, ◌-◌, ◌<◌, List, [], ◌∷◌, ◌++◌, length, Option, Some, None, refl, sym, ap, ◌∙◌, arith, length-append}
 use Rattle.tags.specs.declared.settled.Settled.{Settled}
 use Rattle.turn_lock.specs.Fronts.{AllMade, Appends}
 use Rattle.service_book.specs.declared.entry.BookEntry.{BookEntry}

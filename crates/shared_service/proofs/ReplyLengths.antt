@@ -1,5 +1,5 @@
 -- How long the frames of replies are.
-use Rattle.std.proofs.Common.{◌≡◌, ℕ, suc, ◌+◌, ◌*◌, ◌≤◌, ◌<◌, ◌^◌, List, [], ◌∷◌, ◌++◌, length, flat_map, Option, Some, None, get_or, refl, sym, ap, ◌∙◌, subst, arith, length-append, zero}
+use Rattle.std.proofs.Common.{◌≡◌, ℕ, suc, ◌+◌, ◌*◌, ◌≤◌, ◌<◌, List, [], ◌∷◌, ◌++◌, length, flat_map, Option, Some, None, refl, arith, length-append, zero}
 use Rattle.std.proofs.Math.Bridge.{le_prop}
 use Rattle.std.proofs.Props.{props}
 use Rattle.std.specs.Prelude.{All}
@@ -13,8 +13,8 @@ use Rattle.rule_model.specs.declared.field_sizes.FieldSizes.{FieldSizes}
 use Rattle.rule_model.specs.declared.reply.Fields.{Fields}
 use Rattle.rule_model.specs.declared.reply.Reply.{Reply}
 use Rattle.rule_model.specs.declared.reply.Reply.TheVariants.{Done, Broken, Stopped}
-use Rattle.rule_model.specs.ReplyRooms.{AreWithin, FieldsFit, Fits, IsListingWithin, IsWithin, sizes_of}
-use Rattle.wire_frames.specs.Replies.{begins_of, bytes_field, calls_of, code_bytes, entries_field, entries_of, entry_of, facts_of, long_field, numbers_of, reply_body, rule_bytes, short_field, texts_of}
+use Rattle.rule_model.specs.ReplyRooms.{FieldsFit, Fits, IsListingWithin, IsWithin, sizes_of}
+use Rattle.wire_frames.specs.Replies.{begins_of, bytes_field, calls_of, code_bytes, entries_field, entry_of, facts_of, long_field, numbers_of, reply_body, rule_bytes, short_field, texts_of}
 use Rattle.wire_frames.specs.Spelling.{counted}
 use Rattle.tags.specs.Code.{code_number}
 

@@ -1,13 +1,12 @@
 -- What the rules answer to the acts that take and give numbers.
-use Rattle.std.proofs.Common.{◌≡◌, ◌≢◌, ℕ, ◌+◌, ◌≤◌, ◌<◌, ◌==◌, ◌&&◌, Bool, true, false, not, if◌then◌else◌, List, [], ◌∷◌, length, Option, Some, None, is_some, is_ok, Result, Ok, Err, refl, sym, ap, ◌∙◌, subst, inl, inr, arith, ⊎_elim}
-use Rattle.std.proofs.lemmas.Bool.{cases_Bool}
+use Rattle.std.proofs.Common.{◌≡◌, ◌≢◌, ℕ, ◌+◌, Bool, true, false, if◌then◌else◌, List, Option, Some, None, is_some, is_ok, Result, Ok, Err, refl, sym, ap, ◌∙◌, subst, arith}
 use Rattle.std.specs.Prelude.{IfErr, IsTrue}
 use Rattle.tags.specs.declared.code.Code.{Code}
 use Rattle.tags.specs.declared.code.Code.TheVariants.{MemoryAllocationFailed, NoTicket, StoreFull, JournalFull, TokensFull, EntropyFault, SystemError, ValueCorrupted, VerificationFailed, InvalidKeyArgument}
 use Rattle.tags.specs.declared.rule.Rule.{Rule}
 use Rattle.tags.specs.declared.rule.RuleTable.TheVariants.{A}
 use Rattle.tags.specs.declared.settled.Settled.{Settled}
-use Rattle.tags.specs.Table.{Ruling, first_broken}
+use Rattle.tags.specs.Table.{first_broken}
 use Rattle.call_rules.specs.Table.{disconnect_rules}
 use Rattle.journal_records.specs.declared.change.Change.{Change}
 use Rattle.cipher_ops.specs.declared.job.Done.{Done as JobDone}
@@ -25,7 +24,7 @@ use Rattle.rule_model.specs.declared.reply.Reply.{Reply}
 use Rattle.rule_model.specs.declared.reply.Reply.TheVariants.{Done, Broken, Stopped}
 use Rattle.rule_model.specs.Access.{id_by}
 use Rattle.rule_model.specs.Acts.{fixed_for, is_connect, is_enter, is_restart}
-use Rattle.rule_model.specs.Answer.{answer, answer_by_rules, answer_stored, given_or, leaving, out_of}
+use Rattle.rule_model.specs.Answer.{answer, answer_by_rules, given_or, leaving, out_of}
 use Rattle.rule_model.specs.Calls.{disconnect_ruling, grant_ruling, granted_in, key_entry}
 use Rattle.rule_model.specs.Clients.{caller_of, uid_of}
 use Rattle.rule_model.specs.Drawn.{size_of, wanted}

@@ -1,7 +1,6 @@
 -- What a request and a leave came to.
-use Rattle.std.proofs.Common.{◌≡◌, ◌≢◌, ℕ, ◌+◌, ◌≤◌, ◌==◌, ◌&&◌, Bool, true, false, not, if◌then◌else◌, List, [], ◌∷◌, ◌++◌, length, Option, Some, None, is_some, unwrap_or, Result, Ok, Err, refl, sym, ap, ◌∙◌, subst, inl, inr, arith, ⊎_elim}
+use Rattle.std.proofs.Common.{◌≡◌, ◌≢◌, ℕ, ◌+◌, Bool, true, false, if◌then◌else◌, List, ◌++◌, Option, Some, None, is_some, Result, Ok, Err, refl, sym, ap, ◌∙◌, subst, inl, inr}
 use Rattle.std.specs.Prelude.{IfSome}
-use Rattle.std.proofs.lemmas.Bool.{cases_Bool}
 use Rattle.cipher_ops.specs.declared.job.Done.{Done as JobDone}
 use Rattle.cipher_ops.specs.declared.job.Job.{Job}
 use Rattle.ks_outside.specs.declared.clock.Reading.{Reading}
@@ -25,9 +24,9 @@ use Rattle.rule_model.specs.Answer.{answer_by_rules, leaving}
 use Rattle.rule_model.specs.Calls.{disconnect_ruling, grant_ruling, granted_in, key_entry}
 use Rattle.rule_model.specs.Clients.{caller_of}
 use Rattle.rule_model.specs.Entries.{History, after_settling, after_step, count_of, is_done}
-use Rattle.rule_model.specs.Jobs.{HasJob, GoesWith, IsJobOut}
+use Rattle.rule_model.specs.Jobs.{HasJob, GoesWith}
 use Rattle.rule_model.specs.Kept.{has_busy, kept}
-use Rattle.rule_model.specs.Legal.{Legal, LegalBefore, MayFollow, MaySettleFirst, MayStep}
+use Rattle.rule_model.specs.Legal.{Legal, MayFollow, MayStep}
 use Rattle.rule_model.specs.Replies.{broken_or, no_fields}
 use Rattle.rule_model.specs.Setup.{Setup}
 use Rattle.rule_model.specs.Tickets.{ticket_at}
@@ -36,7 +35,7 @@ use Rattle.keystore_core.specs.declared.engine.Engine.{Engine}
 use Rattle.keystore_core.specs.Engine.{Stands}
 use Rattle.service_book.specs.declared.entry.BookEntry.{BookEntry}
 use Rattle.service_book.specs.Book.{history_of, log_of, ticket_in}
-use Rattle.service_book.specs.Limits.{is_leave, passes_limit}
+use Rattle.service_book.specs.Limits.{is_leave}
 use Rattle.shared_service.specs.declared.desk.rooms.Rooms.{Rooms}
 use Rattle.shared_service.specs.declared.name.Name.{Name}
 use Rattle.shared_service.specs.Calls.{OneStep, entries_of}
@@ -45,10 +44,10 @@ use Rattle.shared_service.specs.Facts.{AllFacts}
 use Rattle.shared_service.specs.Going.{AreRooms, MayGo}
 use Rattle.shared_service.specs.Names.{IsSetupOf}
 use Rattle.shared_service.specs.Owning.{is_parting}
-use Rattle.shared_service.specs.Requests.{GoesOut, IsLeaveRoom, IsRequested}
+use Rattle.shared_service.specs.Requests.{GoesOut, IsRequested}
 use Rattle.shared_service.specs.Rooms.{IsOutput}
 use Rattle.shared_service.specs.Turns.{HasLeft, MayLeave, leave_by}
-use Rattle.shared_service.proofs.Logs.{history_step, log_step, step_log}
+use Rattle.shared_service.proofs.Logs.{history_step, log_step}
 use Rattle.shared_service.proofs.Replying.{by_rules, leave_settles_none, leaving_answer, leaving_not, never_no_ticket, parting_answer}
 use Rattle.rule_model.proofs.Admitted.{broken_fields}
 use Rattle.shared_service.proofs.StepNumbers.{newest}

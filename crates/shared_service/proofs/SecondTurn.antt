@@ -1,5 +1,5 @@
 -- What the second turn of a call comes to.
-use Rattle.std.proofs.Common.{◌≡◌, ◌≢◌, ℕ, ◌+◌, ◌<◌, ◌^◌, ◌&&◌, Bool, true, false, List, [], ◌∷◌, ◌++◌, length, Option, Some, None, is_some, unwrap_or, IfErr, refl, sym, ap, ◌∙◌, subst, inl, inr, arith, append_assoc, length-append}
+use Rattle.std.proofs.Common.{◌≡◌, ℕ, ◌+◌, ◌&&◌, Bool, true, false, List, [], ◌∷◌, ◌++◌, length, Option, Some, None, is_some, unwrap_or, IfErr, refl, sym, ap, ◌∙◌, subst, inr, append_assoc, length-append}
 use mathlib.Core.List.{IsPrefix}
 use Rattle.ks_outside.specs.declared.clock.Reading.{Reading}
 use Rattle.tags.specs.declared.plan.Plan.{Plan}
@@ -15,7 +15,7 @@ use Rattle.rule_model.specs.declared.event.Event.{Event}
 use Rattle.rule_model.specs.declared.field_sizes.FieldSizes.{FieldSizes}
 use Rattle.rule_model.specs.declared.reply.Reply.{Reply}
 use Rattle.rule_model.specs.Acts.{is_enter}
-use Rattle.rule_model.specs.Entries.{History, is_done}
+use Rattle.rule_model.specs.Entries.{is_done}
 use Rattle.rule_model.specs.Jobs.{IsDoneOn, IsDoneOut, IsJobOn, IsJobOut}
 use Rattle.rule_model.specs.Kept.{operation_at}
 use Rattle.rule_model.specs.Operations.{Open}
@@ -23,16 +23,15 @@ use Rattle.rule_model.specs.Setup.{Setup}
 use Rattle.rule_model.specs.Tickets.{Entered, ticket_at}
 use Rattle.keystore_core.specs.Outputs.{PutsOut}
 use Rattle.service_book.specs.declared.entry.BookEntry.{BookEntry}
-use Rattle.service_book.specs.Book.{client_of, history_of, log_of}
+use Rattle.service_book.specs.Book.{history_of, log_of}
 use Rattle.service_book.specs.Limits.{is_disconnect, is_leave}
 use Rattle.shared_service.specs.declared.name.Name.{Name}
-use Rattle.shared_service.specs.declared.served.Served.{Served}
 use Rattle.shared_service.specs.Away.{IsBack, IsEntered, IsJobAway}
-use Rattle.shared_service.specs.Calls.{IsCall, OneStep, Recorded, Twice, entries_of}
+use Rattle.shared_service.specs.Calls.{IsCall, Recorded, Twice, entries_of}
 use Rattle.shared_service.specs.Facts.{AllFacts}
 use Rattle.shared_service.specs.Kinds.{client_after, kind_of}
 use Rattle.shared_service.specs.Names.{IsSetupOf}
-use Rattle.shared_service.specs.Owning.{by, event_for, is_connected, is_parting, out_of}
+use Rattle.shared_service.specs.Owning.{by, is_connected, is_parting, out_of}
 use Rattle.shared_service.specs.Requests.{AreNumbers, IsCaller, IsLeaveRoom}
 use Rattle.shared_service.specs.Turns.{HasLeft, MayLeave, leave_by}
 use Rattle.shared_service.proofs.Entries.{enter_asked}
@@ -40,7 +39,7 @@ use Rattle.shared_service.proofs.FirstTurn.{leave_after}
 use Rattle.shared_service.proofs.Logs.{same_client, same_connected, same_out}
 use Rattle.shared_service.proofs.Seeing.{caller_after, idle_left}
 use Rattle.shared_service.proofs.StepNumbers.{newest}
-use Rattle.shared_service.proofs.Walking.{Waited, done_later, log_later, puts_later, waited_on}
+use Rattle.shared_service.proofs.Walking.{done_later, log_later, puts_later, waited_on}
 
 -- ---- a job that ran
 

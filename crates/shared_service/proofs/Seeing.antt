@@ -1,14 +1,13 @@
 -- What a pass has seen after a turn.
-use Rattle.std.proofs.Common.{◌≡◌, ℕ, ◌+◌, ◌==◌, ◌&&◌, Bool, true, false, if◌then◌else◌, List, [], ◌∷◌, ◌++◌, Option, Some, None, unwrap_or, refl, sym, ap, ◌∙◌, subst}
+use Rattle.std.proofs.Common.{◌≡◌, ℕ, ◌+◌, ◌==◌, ◌&&◌, Bool, true, false, if◌then◌else◌, List, ◌++◌, Option, Some, None, unwrap_or, refl, sym, ap, ◌∙◌}
 use Rattle.std.proofs.lemmas.Bool.{eq-eqb}
 use Rattle.ks_outside.specs.declared.disk.Disk.{Ghosts as DiskGhosts}
 use Rattle.ks_outside.specs.declared.entropy.Entropy.{Ghosts as EntropyGhosts}
 use Rattle.tags.specs.declared.settled.Settled.{Settled}
 use Rattle.turn_lock.specs.Rule.{own}
-use Rattle.rule_model.specs.declared.entry.Entry.TheVariants.{Acted, Settling}
+use Rattle.rule_model.specs.declared.entry.Entry.TheVariants.{Acted}
 use Rattle.rule_model.specs.declared.event.Act.{Act}
 use Rattle.rule_model.specs.declared.event.Act.TheVariants.{Connect, Disconnect}
-use Rattle.rule_model.specs.declared.reply.Fields.{Fields}
 use Rattle.rule_model.specs.declared.reply.Reply.{Reply}
 use Rattle.rule_model.specs.declared.reply.Reply.TheVariants.{Done, Broken, Stopped}
 use Rattle.rule_model.specs.Acts.{is_connect, is_enter}
@@ -16,7 +15,7 @@ use Rattle.rule_model.specs.Entries.{admits, is_done}
 use Rattle.keystore_core.specs.declared.engine.Engine.{Engine}
 use Rattle.service_book.specs.declared.entry.BookEntry.{BookEntry}
 use Rattle.service_book.specs.Book.{client_given, client_of, later_client, log_of, ticket_in}
-use Rattle.service_book.specs.Limits.{is_disconnect, is_leave, is_of}
+use Rattle.service_book.specs.Limits.{is_disconnect, is_leave}
 use Rattle.shared_service.specs.declared.name.Name.{Name}
 use Rattle.shared_service.specs.Calls.{OneStep, entries_of}
 use Rattle.shared_service.specs.Desks.{HasSeen, IsDesk}
@@ -24,7 +23,7 @@ use Rattle.shared_service.specs.Kinds.{client_after, kind_of}
 use Rattle.shared_service.specs.Owning.{by, is_connected, later_ticket, out_of, ticket_given}
 use Rattle.shared_service.specs.Requests.{IsCaller}
 use Rattle.shared_service.proofs.Fitting.{else_is, same_if, then_is}
-use Rattle.shared_service.proofs.Logs.{acted_of, log_step, same_client, same_connected, same_out, settled_log, step_log}
+use Rattle.shared_service.proofs.Logs.{log_step, same_client, same_connected, same_out, settled_log, step_log}
 
 -- all of a book is seen
 pub seen_of : {D N : Type 0} (d : DiskGhosts D) (n : EntropyGhosts N) (name : Name) (engine : Engine) (disk : D) (entropy : N) (book : List BookEntry) (pass client : ℕ) (connected : Bool) → IsDesk d n name engine disk entropy book

@@ -1,30 +1,30 @@
 -- What holds of a log still holds after a step.
-use Rattle.std.proofs.Common.{◌≡◌, ℕ, ◌+◌, ◌≤◌, ◌==◌, ◌&&◌, Bool, true, false, not, if◌then◌else◌, List, [], ◌∷◌, ◌++◌, length, map, filter, Option, Some, None, is_some, unwrap_or, refl, sym, ap, ◌∙◌, subst, inl, inr, arith, ⊎_elim}
-use Rattle.std.proofs.lemmas.Bool.{cases_Bool, eqb-true, ne_eqb}
+use Rattle.std.proofs.Common.{◌≡◌, ℕ, ◌+◌, ◌==◌, ◌&&◌, Bool, true, false, List, [], ◌∷◌, Option, Some, None, is_some, unwrap_or, refl, sym, ap, ◌∙◌, subst, ⊎_elim}
+use Rattle.std.proofs.lemmas.Bool.{cases_Bool}
 use Rattle.tags.specs.declared.settled.Settled.{Settled}
-use Rattle.rule_model.specs.declared.entry.Entry.TheVariants.{Acted, Settling}
+use Rattle.rule_model.specs.declared.entry.Entry.TheVariants.{Acted}
 use Rattle.rule_model.specs.declared.event.Act.{Act}
 use Rattle.rule_model.specs.declared.event.Act.TheVariants.{Connect, Disconnect, Leave}
 use Rattle.rule_model.specs.declared.event.Event.{Event}
 use Rattle.rule_model.specs.declared.reply.Fields.{Fields}
 use Rattle.rule_model.specs.declared.reply.Reply.{Reply}
 use Rattle.rule_model.specs.declared.reply.Reply.TheVariants.{Done, Broken, Stopped}
-use Rattle.rule_model.specs.Acts.{is_connect, is_enter, is_restart}
+use Rattle.rule_model.specs.Acts.{is_connect, is_enter}
 use Rattle.rule_model.specs.Clients.{uid_of}
-use Rattle.rule_model.specs.Entries.{History, admits, after_settling, after_step, count_of, is_done}
+use Rattle.rule_model.specs.Entries.{admits, after_settling, after_step, count_of, is_done}
 use Rattle.rule_model.specs.Jobs.{Stays}
 use Rattle.rule_model.specs.Kept.{open_of}
 use Rattle.rule_model.specs.Legal.{Legal, LegalBefore, MayFollow, MaySettleFirst, MayStep}
 use Rattle.rule_model.specs.Setup.{Setup}
 use Rattle.rule_model.specs.Tickets.{next_ticket}
 use Rattle.service_book.specs.declared.entry.BookEntry.{BookEntry}
-use Rattle.service_book.specs.Book.{IsOwnAct, client_of, history_of, pass_of_ticket}
-use Rattle.service_book.specs.Limits.{count, is_disconnect, is_leave, is_of}
+use Rattle.service_book.specs.Book.{IsOwnAct, client_of, history_of}
+use Rattle.service_book.specs.Limits.{is_disconnect, is_leave}
 use Rattle.shared_service.specs.Calls.{OneStep}
 use Rattle.shared_service.specs.Desks.{ComesInTurn}
-use Rattle.shared_service.specs.Facts.{AllFacts, AllWaitedFor, ClientFacts, Facts, IsStill, TicketFacts}
+use Rattle.shared_service.specs.Facts.{AllFacts, ClientFacts, Facts, TicketFacts}
 use Rattle.shared_service.specs.Owning.{is_connected, out_of}
-use Rattle.shared_service.proofs.Entries.{clients_connected, clients_parted, clients_quiet, enter_asked, idle_in_turn, in_turn_goes_on, leave_in_turn, leave_is, tickets_entered, tickets_left, tickets_quiet}
+use Rattle.shared_service.proofs.Entries.{clients_connected, clients_parted, clients_quiet, idle_in_turn, in_turn_goes_on, leave_in_turn, leave_is, tickets_entered, tickets_left, tickets_quiet}
 use Rattle.shared_service.proofs.Fitting.{clients_same, same_if, tickets_same}
 use Rattle.shared_service.proofs.Logs.{acted_of, settled_log, settling_of, step_log}
 use Rattle.shared_service.proofs.Replying.{connected_client, entered_ticket, left_change, parted_client}

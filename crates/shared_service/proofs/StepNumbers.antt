@@ -1,19 +1,16 @@
 -- The numbers of a step: its places, and what it leaves of them.
-use Rattle.std.proofs.Common.{◌≡◌, ℕ, ◌+◌, ◌-◌, ◌*◌, ◌≤◌, ◌<◌, ◌^◌, ◌==◌, ◌&&◌, ◌||◌, Bool, true, false, not, if◌then◌else◌, List, [], ◌∷◌, ◌++◌, length, Option, Some, None, is_some, unwrap_or, refl, sym, ap, ◌∙◌, subst, inl, inr, arith, ⊎_elim, ◌⊎◌}
+use Rattle.std.proofs.Common.{◌≡◌, ℕ, ◌+◌, ◌-◌, ◌≤◌, ◌&&◌, ◌||◌, Bool, true, false, List, [], ◌∷◌, length, Option, Some, None, is_some, unwrap_or, refl, sym, ap, ◌∙◌, subst, inl, inr, arith, ⊎_elim, ◌⊎◌}
 use Rattle.std.proofs.lemmas.Bool.{cases_Bool}
 use Rattle.std.proofs.lemmas.List.{length-reverse}
-use Rattle.std.specs.Prelude.{IsSome}
 use Rattle.std.specs.List.{list_any}
 use Rattle.cipher_ops.specs.declared.job.Done.{Done as JobDone}
 use Rattle.ks_outside.specs.declared.disk.Disk.{Ghosts as DiskGhosts}
 use Rattle.ks_outside.specs.declared.entropy.Entropy.{Ghosts as EntropyGhosts}
 use Rattle.tags.specs.declared.settled.Settled.{Settled}
-use Rattle.rule_model.specs.declared.entry.Entry.TheVariants.{Acted, Settling}
+use Rattle.rule_model.specs.declared.entry.Entry.TheVariants.{Acted}
 use Rattle.rule_model.specs.declared.event.Act.{Act}
 use Rattle.rule_model.specs.declared.event.Act.TheVariants.{Disconnect, Leave}
-use Rattle.rule_model.specs.declared.event.Event.{Event}
 use Rattle.rule_model.specs.declared.field_sizes.FieldSizes.{FieldSizes}
-use Rattle.rule_model.specs.declared.reply.Reply.{Reply}
 use Rattle.rule_model.specs.Acts.{fixed_for, is_connect, is_enter}
 use Rattle.rule_model.specs.Clients.{uid_of}
 use Rattle.rule_model.specs.Entries.{History, admits, is_done}
@@ -26,18 +23,17 @@ use Rattle.keystore_core.specs.declared.engine.Engine.{Engine}
 use Rattle.keystore_core.specs.Engine.{Stands}
 use Rattle.service_book.specs.declared.entry.BookEntry.{BookEntry}
 use Rattle.service_book.specs.Book.{IsOwnAct, client_of, history_of, log_of, pass_of_ticket}
-use Rattle.service_book.specs.Limits.{MOST_ENTRIES, clients_in, count, is_disconnect, is_leave, need_of, tickets_in}
+use Rattle.service_book.specs.Limits.{MOST_ENTRIES, count, is_disconnect, is_leave, need_of}
 use Rattle.service_book.specs.Limits as limits
 use Rattle.shared_service.specs.declared.name.Name.{Name}
 use Rattle.shared_service.specs.Calls.{OneStep}
-use Rattle.shared_service.specs.Desks.{ComesInTurn, HasPlaces, IsDesk, MayMake, is_set_aside, weight}
+use Rattle.shared_service.specs.Desks.{HasPlaces, IsDesk, MayMake, is_set_aside, weight}
 use Rattle.shared_service.specs.Facts.{AllFacts, AllWaitedFor, Facts, IsWaitedFor, pass_of_client}
 use Rattle.shared_service.specs.Owning.{is_connected, is_parting, out_of}
 use Rattle.shared_service.proofs.Entries.{leave_in_turn, leave_is}
-use Rattle.shared_service.proofs.Fitting.{then_is}
 use Rattle.shared_service.proofs.Logs.{acted_of, settled_log, step_log}
 use Rattle.shared_service.proofs.Replying.{leave_settles_none, parting_done}
-use Rattle.shared_service.proofs.Weights.{need_some, one_if, length_settled, some_length, weight_left, weight_parted, weight_step}
+use Rattle.shared_service.proofs.Weights.{need_some, one_if, some_length, weight_left, weight_parted, weight_step}
 
 pub and_left : (a b : Bool) → a && b ≡ true → a ≡ true
 and_left true b e = refl

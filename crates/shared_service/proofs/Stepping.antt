@@ -1,9 +1,9 @@
 -- A desk after a step.
-use Rattle.std.proofs.Common.{◌≡◌, ℕ, ◌+◌, ◌*◌, ◌^◌, ◌≤◌, ◌<◌, ◌==◌, ◌&&◌, Bool, true, false, not, if◌then◌else◌, List, [], ◌∷◌, ◌++◌, length, Option, Some, None, is_some, unwrap_or, append_assoc, length-append, refl, sym, ap, ◌∙◌, subst, inl, inr, arith, ⊎_elim}
+use Rattle.std.proofs.Common.{◌≡◌, ℕ, ◌+◌, ◌*◌, ◌^◌, ◌≤◌, ◌<◌, ◌==◌, List, [], ◌∷◌, ◌++◌, length, Option, Some, None, unwrap_or, append_assoc, length-append, refl, sym, ap, ◌∙◌, subst, arith}
 use Rattle.cipher_ops.specs.declared.job.Done.{Done as JobDone}
 use Rattle.ks_outside.specs.declared.disk.Disk.{Ghosts as DiskGhosts}
 use Rattle.ks_outside.specs.declared.entropy.Entropy.{Ghosts as EntropyGhosts}
-use Rattle.ks_outside.specs.Faults.{CountsFaults, Rises}
+use Rattle.ks_outside.specs.Faults.{CountsFaults}
 use Rattle.tags.specs.declared.settled.Settled.{Settled}
 use Rattle.rule_model.specs.declared.entry.Entry.{Entry}
 use Rattle.rule_model.specs.declared.entry.Entry.TheVariants.{Acted, Settling}
@@ -21,16 +21,15 @@ use Rattle.rule_model.specs.Setup.{Setup}
 use Rattle.keystore_core.specs.declared.engine.Engine.{Engine}
 use Rattle.keystore_core.specs.Engine.{Stands, StoreStands}
 use Rattle.service_book.specs.declared.entry.BookEntry.{BookEntry}
-use Rattle.service_book.specs.Book.{AreLater, Counts, Follows, IsCaused, IsCausedLog, IsOwnAct, behind, client_of, counts_after, history_of, log_of}
+use Rattle.service_book.specs.Book.{AreLater, Counts, Follows, IsCausedLog, IsOwnAct, behind, client_of, counts_after, history_of, log_of}
 use Rattle.shared_service.specs.declared.name.Name.{Name}
 use Rattle.service_book.specs.Limits.{acted_bytes, recorded}
-use Rattle.std.proofs.lemmas.List.{length-reverse}
 use Rattle.shared_service.specs.Calls.{OneStep, entries_of, entry_by, settling_by}
-use Rattle.shared_service.specs.Desks.{ComesInTurn, IsDesk, MayMake, counts_of}
+use Rattle.shared_service.specs.Desks.{IsDesk, MayMake, counts_of}
 use Rattle.shared_service.specs.Facts.{AllFacts}
-use Rattle.shared_service.specs.Names.{IsSetupOf, counts_before}
+use Rattle.shared_service.specs.Names.{counts_before}
 use Rattle.shared_service.proofs.Fitting.{same_if}
-use Rattle.shared_service.proofs.Logs.{acted_of, history_settled, history_step, log_step, settled_log, settling_of, step_log}
+use Rattle.shared_service.proofs.Logs.{acted_of, history_step, log_step, settled_log, settling_of, step_log}
 use Rattle.shared_service.proofs.StepFacts.{facts_step}
 
 -- ---- the log is caused

@@ -1,5 +1,5 @@
 -- The operations on which works are out wait for the tickets of their clients' passes.
-use Rattle.std.proofs.Common.{◌≡◌, ℕ, ◌+◌, ◌≤◌, ◌==◌, ◌&&◌, Bool, true, false, not, if◌then◌else◌, List, [], ◌∷◌, ◌++◌, length, map, filter, find, Option, Some, None, is_some, is_ok, unwrap_or, Result, Ok, Err, refl, sym, ap, ◌∙◌, subst, inl, inr, arith, ⊎_elim, ◌⊎◌}
+use Rattle.std.proofs.Common.{◌≡◌, ℕ, ◌+◌, ◌==◌, ◌&&◌, Bool, true, false, not, if◌then◌else◌, List, [], ◌∷◌, ◌++◌, map, filter, find, Option, Some, None, is_some, is_ok, unwrap_or, Result, Ok, Err, refl, sym, ap, ◌∙◌, subst, inl, inr, arith, ⊎_elim, ◌⊎◌}
 use Rattle.std.proofs.lemmas.Bool.{cases_Bool, eqb-true, eqb-false, eq-eqb, ne_eqb}
 use Rattle.tags.specs.declared.code.Code.{Code}
 use Rattle.tags.specs.declared.rule.Rule.{Rule}
@@ -11,28 +11,27 @@ use Rattle.cipher_ops.specs.declared.room.Work.TheVariants.{Aad, Text, Last}
 use Rattle.step_rules.specs.declared.facts.StepFacts.{StepFacts}
 use Rattle.step_rules.specs.Rules.{is_enter as enters_kind}
 use Rattle.step_rules.specs.Table.{answer as answer_of_step, call_rules, ends_operation, enter_rules}
-use Rattle.rule_model.specs.declared.entry.Entry.TheVariants.{Acted, Settling}
+use Rattle.rule_model.specs.declared.entry.Entry.TheVariants.{Acted}
 use Rattle.rule_model.specs.declared.event.Act.{Act}
-use Rattle.rule_model.specs.declared.event.Act.TheVariants.{AddAuthToken, Connect, CreateOperation, Disconnect, EnterAad, EnterUpdate, EnterFinish, Abort, Leave, Restart}
+use Rattle.rule_model.specs.declared.event.Act.TheVariants.{AddAuthToken, CreateOperation, Disconnect, EnterAad, EnterUpdate, EnterFinish, Abort, Leave, Restart}
 use Rattle.rule_model.specs.declared.event.Event.{Event}
 use Rattle.rule_model.specs.declared.facts.Brought.{Brought}
 use Rattle.rule_model.specs.declared.facts.Caller.{Caller}
 use Rattle.rule_model.specs.declared.reply.Fields.{Fields}
 use Rattle.rule_model.specs.declared.reply.Reply.{Reply}
 use Rattle.rule_model.specs.declared.reply.Reply.TheVariants.{Done, Broken, Stopped}
-use Rattle.rule_model.specs.Acts.{is_connect, is_enter, is_restart}
+use Rattle.rule_model.specs.Acts.{is_connect, is_enter}
 use Rattle.rule_model.specs.Answer.{answer_by_rules, given_or, leaving}
 use Rattle.rule_model.specs.Clients.{caller_of}
 use Rattle.rule_model.specs.Entries.{History, admits, count_of, gives, is_done}
 use Rattle.rule_model.specs.Kept.{is_live, kept, open_of, operation_at}
 use Rattle.rule_model.specs.Legal.{LegalBefore, MayFollow}
-use Rattle.rule_model.specs.Operations.{Open, OperationChange, SameOperations, Opens, Enters, Returns, Shows, Closes, ClosesOf, ClosesAll, admitted_operation, as_entered, as_returned, as_shown, begin_facts_in, begin_key_in, closes, enters, has_number, is_for, is_of, open_after, opens, operation_change_in, operation_of, returns, step_of, stopped_operation, with_change, without, without_pruned}
+use Rattle.rule_model.specs.Operations.{Open, OperationChange, SameOperations, Opens, Enters, Returns, Shows, Closes, ClosesOf, ClosesAll, admitted_operation, as_entered, as_returned, as_shown, begin_facts_in, begin_key_in, closes, enters, has_number, is_for, open_after, opens, operation_change_in, operation_of, returns, step_of, stopped_operation, with_change, without}
 use Rattle.rule_model.specs.Blobs.{device_at}
-use Rattle.rule_model.specs.Replies.{broken_or}
 use Rattle.rule_model.specs.Settling.{is_faulted, is_unsettled}
 use Rattle.rule_model.specs.Setup.{Setup}
 use Rattle.rule_model.specs.StepFacts.{brought_by, facts_of, step_facts}
-use Rattle.rule_model.specs.Tickets.{ComesBack, Entered, GoesOut, SameTickets, TicketChange, admitted_ticket, next_ticket, ticket_after, ticket_at, ticket_change}
+use Rattle.rule_model.specs.Tickets.{ComesBack, Entered, GoesOut, TicketChange, admitted_ticket, next_ticket, ticket_after, ticket_at, ticket_change}
 use Rattle.rule_model.proofs.Admitted.{broken_done}
 use Rattle.rule_model.proofs.Bounds.{Each, each_in}
 use Rattle.rule_model.proofs.Outputs.{Apart, Differs}
@@ -42,8 +41,8 @@ use Rattle.service_book.specs.Book.{IsOwnAct, client_given, client_in, client_of
 use Rattle.service_book.specs.Limits.{is_leave}
 use Rattle.shared_service.specs.Calls.{OneStep}
 use Rattle.shared_service.specs.Desks.{ComesInTurn}
-use Rattle.shared_service.specs.Facts.{AllWaitedFor, ClientFacts, Facts, IsWaitedFor, TicketFacts, is_given, pass_of_client}
-use Rattle.shared_service.proofs.Entries.{enter_asked, in_turn_goes_on, leave_in_turn, leave_is, quiet_change}
+use Rattle.shared_service.specs.Facts.{AllWaitedFor, Facts, IsWaitedFor, is_given, pass_of_client}
+use Rattle.shared_service.proofs.Entries.{in_turn_goes_on, leave_in_turn, leave_is, quiet_change}
 use Rattle.shared_service.proofs.Fitting.{else_is, then_is}
 use Rattle.shared_service.proofs.Logs.{acted_of, settling_of}
 use Rattle.shared_service.proofs.Replying.{by_rules, connected_client, entered_ticket, left_change, leaving_answer}

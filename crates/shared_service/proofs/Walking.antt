@@ -1,7 +1,7 @@
 -- A ticket that is out with a pass stays as it is, whatever other passes do.
-use Rattle.std.proofs.Common.{◌≡◌, ℕ, ◌+◌, ◌≤◌, ◌==◌, ◌&&◌, Bool, true, false, if◌then◌else◌, List, [], ◌∷◌, ◌++◌, length, reverse, Option, Some, None, is_some, Result, Ok, Err, IfOk, refl, sym, ap, ◌∙◌, subst, arith, ⊎_elim, length-append}
-use Rattle.std.proofs.lemmas.Bool.{cases_Bool, eqb-true}
-use Rattle.std.proofs.lemmas.List.{append-nil, reverse-append}
+use Rattle.std.proofs.Common.{◌≡◌, ℕ, ◌+◌, ◌≤◌, ◌==◌, ◌&&◌, Bool, true, false, if◌then◌else◌, List, [], ◌∷◌, ◌++◌, length, reverse, Option, Some, None, is_some, Result, IfOk, refl, sym, ap, ◌∙◌, subst, arith, ⊎_elim, length-append}
+use Rattle.std.proofs.lemmas.Bool.{cases_Bool}
+use Rattle.std.proofs.lemmas.List.{reverse-append}
 use Rattle.std.proofs.lemmas.List.Elements.{filter-append}
 use mathlib.Core.List.{IsPrefix}
 use Rattle.tags.specs.declared.code.Code.{Code}
@@ -26,7 +26,7 @@ use Rattle.rule_model.specs.Tickets.{Entered, admitted_ticket, goes_out, stopped
 use Rattle.keystore_core.specs.Outputs.{PutsOut, output_out}
 use Rattle.service_book.specs.declared.entry.BookEntry.{BookEntry}
 use Rattle.service_book.specs.Book.{gives_ticket, history_of, log_of, pass_of_ticket}
-use Rattle.shared_service.specs.Facts.{AllFacts, Facts, is_out}
+use Rattle.shared_service.specs.Facts.{AllFacts, Facts}
 use Rattle.shared_service.specs.Owning.{by, out_of}
 use Rattle.shared_service.proofs.Fitting.{else_is, then_is}
 use Rattle.shared_service.proofs.Logs.{reverse_own}

@@ -1,25 +1,21 @@
 -- The places of a book after a step.
-use Rattle.std.proofs.Common.{◌≡◌, ℕ, ◌+◌, ◌-◌, ◌*◌, ◌≤◌, ◌<◌, ◌^◌, ◌==◌, ◌&&◌, Bool, true, false, not, if◌then◌else◌, List, [], ◌∷◌, ◌++◌, length, Option, Some, None, is_some, length-append, refl, sym, ap, ◌∙◌, subst, inl, inr, arith, ⊎_elim}
-use Rattle.std.proofs.lemmas.Bool.{cases_Bool}
+use Rattle.std.proofs.Common.{◌≡◌, ℕ, ◌+◌, ◌-◌, ◌≤◌, ◌&&◌, Bool, true, false, if◌then◌else◌, List, [], ◌∷◌, ◌++◌, length, Option, Some, None, is_some, length-append, refl, ap, ◌∙◌, arith}
 use Rattle.std.specs.Prelude.{IsSome}
 use Rattle.tags.specs.declared.settled.Settled.{Settled}
 use Rattle.rule_model.specs.declared.entry.Entry.{Entry}
 use Rattle.rule_model.specs.declared.entry.Entry.TheVariants.{Acted, Settling}
 use Rattle.rule_model.specs.declared.event.Act.{Act}
-use Rattle.rule_model.specs.declared.event.Act.TheVariants.{Connect, Disconnect, EnterAad, EnterUpdate, EnterFinish, Leave}
-use Rattle.rule_model.specs.declared.event.Event.{Event}
-use Rattle.rule_model.specs.declared.reply.Reply.{Reply}
+use Rattle.rule_model.specs.declared.event.Act.TheVariants.{Connect, Disconnect, EnterAad, EnterUpdate, EnterFinish}
 use Rattle.rule_model.specs.Acts.{is_connect, is_enter}
 use Rattle.rule_model.specs.Entries.{admits, is_done}
 use Rattle.service_book.specs.declared.entry.BookEntry.{BookEntry}
 use Rattle.service_book.specs.Book.{Counts}
-use Rattle.service_book.specs.Limits.{MOST_ENTRIES, clients_in, count, is_disconnect, is_leave, is_of, need_of, tickets_in}
+use Rattle.service_book.specs.Limits.{count, is_disconnect, is_leave, is_of, need_of}
 use Rattle.shared_service.specs.Calls.{OneStep, entry_by, settling_by}
-use Rattle.shared_service.specs.Desks.{HasPlaces, is_set_aside, weight}
+use Rattle.shared_service.specs.Desks.{weight}
 use Rattle.shared_service.specs.Facts.{has}
-use Rattle.shared_service.proofs.Entries.{enter_asked, enter_no_leave}
-use Rattle.shared_service.proofs.Fitting.{else_is, then_is}
-use Rattle.shared_service.proofs.Logs.{acted_of, settled_log, settling_of, step_log}
+use Rattle.shared_service.proofs.Fitting.{then_is}
+use Rattle.shared_service.proofs.Logs.{acted_of, settled_log, step_log}
 
 -- what one entry adds to a count
 abbrev pub one_if : Bool → ℕ

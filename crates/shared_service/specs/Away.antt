@@ -1,5 +1,5 @@
 -- A call between its two turns.
-use Rattle.std.specs.Prelude.{◌≡◌, ◌⊎◌, ◌+◌, ℕ, Bool, true, false, List, ◌++◌, length, Option, Some, unwrap_or}
+use Rattle.std.specs.Prelude.{◌≡◌, ◌+◌, ℕ, Bool, true, false, List, ◌++◌, length, Some, unwrap_or}
 use Rattle.cipher_ops.specs.declared.job.Done.{Done as JobDone}
 use Rattle.cipher_ops.specs.declared.job.Job.{Job}
 use Rattle.ks_outside.specs.declared.clock.Reading.{Reading}

@@ -1,5 +1,5 @@
 -- What a call adds to the book, and what its pass has seen by then.
-use Rattle.std.specs.Prelude.{◌≡◌, ◌≢◌, ◌⊎◌, ◌+◌, ℕ, Bool, true, false, List, [], ◌∷◌, ◌++◌, length, Option, Some, None}
+use Rattle.std.specs.Prelude.{◌≡◌, ◌≢◌, ◌⊎◌, ◌+◌, ℕ, true, false, List, [], ◌∷◌, ◌++◌, length, Option, Some, None}
 use Rattle.ks_outside.specs.declared.clock.Reading.{Reading}
 use Rattle.tags.specs.declared.code.Code.TheVariants.{MemoryAllocationFailed, NoTicket, RunFull}
 use Rattle.tags.specs.declared.settled.Settled.{Settled}

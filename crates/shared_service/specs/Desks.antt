@@ -1,5 +1,5 @@
 -- When a desk stands for its book, and what a pass has seen of it.
-use Rattle.std.specs.Prelude.{◌≡◌, ◌⊎◌, ℕ, ◌+◌, ◌*◌, ◌^◌, ◌≤◌, Bool, true, ◌||◌, List, [], ◌++◌, length, Option, Some, None, unwrap_or, vec_capacity}
+use Rattle.std.specs.Prelude.{◌≡◌, ◌⊎◌, ℕ, ◌+◌, ◌≤◌, Bool, true, ◌||◌, List, ◌++◌, length, Option, Some, None, unwrap_or}
 use Rattle.cipher_ops.specs.declared.job.Done.{Done as JobDone}
 use Rattle.cipher_ops.specs.declared.job.Job.{Job}
 use Rattle.ks_outside.specs.declared.disk.Disk.{Ghosts as DiskGhosts}

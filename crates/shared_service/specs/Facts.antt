@@ -1,8 +1,6 @@
 -- What holds of every log of a service, whose passes make one call after another: the newest entry stands first.
 use Rattle.std.specs.Prelude.{◌≡◌, ◌⊎◌, ℕ, ◌+◌, ◌≤◌, ◌==◌, Bool, true, false, List, [], ◌∷◌, length, Option, Some, None, is_some, if◌then◌else◌}
 use Rattle.std.specs.List.{list_any}
-use Rattle.rule_model.specs.declared.entry.Entry.{Entry}
-use Rattle.rule_model.specs.declared.entry.Entry.TheVariants.{Acted, Settling}
 use Rattle.rule_model.specs.Acts.{is_connect, is_enter}
 use Rattle.rule_model.specs.Clients.{uid_of}
 use Rattle.rule_model.specs.Entries.{admits, count_of}

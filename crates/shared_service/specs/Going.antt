@@ -1,5 +1,5 @@
 -- What a step of a request stands on.
-use Rattle.std.specs.Prelude.{◌≡◌, ◌≤◌, ◌+◌, ℕ, true, false, List, Option, None, IfSome, is_some, unwrap_or}
+use Rattle.std.specs.Prelude.{◌≡◌, ◌≤◌, ◌+◌, ℕ, true, false, List, None, IfSome, is_some, unwrap_or}
 use Rattle.ks_outside.specs.declared.clock.Reading.{Reading}
 use Rattle.rule_model.specs.declared.event.Act.{Act}
 use Rattle.rule_model.specs.declared.event.Act.TheVariants.{Disconnect}

@@ -6,7 +6,7 @@ use Rattle.rule_model.specs.declared.event.Act.{Act}
 use Rattle.rule_model.specs.declared.event.Act.TheVariants.{Connect}
 use Rattle.rule_model.specs.declared.event.Event.{Event}
 use Rattle.rule_model.specs.Acts.{is_connect, is_enter}
-use Rattle.rule_model.specs.Entries.{admits, is_done}
+use Rattle.rule_model.specs.Entries.{admits}
 use Rattle.ks_outside.specs.declared.clock.Reading.{Reading}
 use Rattle.service_book.specs.declared.entry.BookEntry.{BookEntry}
 use Rattle.service_book.specs.Book.{client_of, ticket_in}

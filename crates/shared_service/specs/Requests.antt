@@ -1,24 +1,19 @@
 -- What a turn under the lock tells of a request and of a leave.
-use Rattle.std.specs.Prelude.{◌≡◌, ◌≢◌, ◌≤◌, ◌<◌, ◌⊎◌, ◌+◌, ◌++◌, ℕ, Bool, true, false, List, length, Option, Some, None, IfSome, unwrap_or}
+use Rattle.std.specs.Prelude.{◌≡◌, ◌≢◌, ◌≤◌, ◌<◌, ◌⊎◌, ◌+◌, ◌++◌, ℕ, Bool, true, false, List, length, Option, Some, None, unwrap_or}
 use Rattle.cipher_ops.specs.declared.job.Job.{Job}
 use Rattle.tags.specs.declared.code.Code.TheVariants.{NoTicket}
-use Rattle.rule_model.specs.declared.event.Act.{Act}
-use Rattle.rule_model.specs.declared.event.Act.TheVariants.{Leave}
 use Rattle.rule_model.specs.declared.event.Event.{Event}
 use Rattle.rule_model.specs.declared.field_sizes.FieldSizes.{FieldSizes}
 use Rattle.rule_model.specs.declared.reply.Reply.{Reply}
 use Rattle.rule_model.specs.declared.reply.Reply.TheVariants.{Stopped}
 use Rattle.rule_model.specs.Acts.{is_enter}
 use Rattle.rule_model.specs.Entries.{is_done}
-use Rattle.rule_model.specs.ReplyRooms.{no_sizes, sizes_of}
+use Rattle.rule_model.specs.ReplyRooms.{no_sizes}
 use Rattle.rule_model.specs.Setup.{Setup}
 use Rattle.keystore_core.specs.Outputs.{PutsOut}
 use Rattle.service_book.specs.declared.entry.BookEntry.{BookEntry}
 use Rattle.service_book.specs.Book.{client_of, history_of, log_of, ticket_in}
 use Rattle.service_book.specs.Limits.{passes_limit}
-use Rattle.shared_service.specs.declared.made.Made.{Made as MadeOf}
-use Rattle.shared_service.specs.declared.made.Requested.{Requested}
-use Rattle.shared_service.specs.declared.made.Requested.TheVariants.{Made, Full, Poor}
 use Rattle.shared_service.specs.declared.name.Name.{Name}
 use Rattle.shared_service.specs.Desks.{HasMade}
 use Rattle.shared_service.specs.Names.{IsSetupOf}

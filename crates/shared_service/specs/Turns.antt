@@ -1,5 +1,5 @@
 -- What the two turns of a call tell.
-use Rattle.std.specs.Prelude.{◌≡◌, ◌≢◌, ◌≤◌, ◌<◌, ◌^◌, ℕ, true, false, List, ◌∷◌, ◌++◌, [], length, Option, Some, None}
+use Rattle.std.specs.Prelude.{◌≡◌, ◌≢◌, ◌<◌, ◌^◌, ℕ, true, false, List, ◌++◌, length, Some, None}
 use Rattle.cipher_ops.specs.declared.job.Done.{Done as JobDone}
 use Rattle.ks_outside.specs.declared.clock.Reading.{Reading}
 use Rattle.tags.specs.declared.code.Code.TheVariants.{MemoryAllocationFailed, NoTicket}
@@ -18,7 +18,6 @@ use Rattle.shared_service.specs.declared.made.Requested.{Requested}
 use Rattle.shared_service.specs.declared.made.Requested.TheVariants.{Made, Full, Poor}
 use Rattle.shared_service.specs.declared.name.Name.{Name}
 use Rattle.shared_service.specs.Calls.{OneStep, entries_of}
-use Rattle.shared_service.specs.Desks.{HasMade}
 use Rattle.shared_service.specs.Names.{IsSetupOf}
 use Rattle.shared_service.specs.Owning.{is_parting, out_of}
 use Rattle.shared_service.specs.Requests.{AreNumbers, GrowsBy, IsLeaveRoom, IsRequested}

@@ -1,6 +1,6 @@
 use Rattle.std.proofs.Common.{◌≡◌, map, ◌∙◌, ap}
 use Rattle.std.specs.Int.Bits.{bit_xor}
-use Rattle.std.proofs.lemmas.Simd.{zip2_of_maps, map-map}
+use Rattle.std.proofs.lemmas.Simd.{zip2_of_maps}
 use Rattle.aes_core.specs.Tower.{look, low, high, inverses, ratios, over_high, over_both, first, second}
 use Rattle.aes_core.proofs.TowerLemmas.{places_ok, low_places, high_places, both_places, over_high_places, over_both_places, sum_of_looks, sum_of_look}
 use Rattle.aes_core.proofs.tower.places.Goals as goal

@@ -1,7 +1,7 @@
 -- What the calls say one after another is what is said of the whole.
-use Rattle.std.proofs.Common.{◌≡◌, ◌≤◌, ◌-◌, ℕ, List, [], ◌++◌, Some, take, drop, length, ap, sym, ◌∙◌, arith, rules, length-drop}
+use Rattle.std.proofs.Common.{◌≡◌, ◌-◌, ℕ, List, [], Some, drop, ap, sym, ◌∙◌, arith}
 use Rattle.aes_core.specs.Cipher.{cipher}
-use Rattle.gcm_mode.specs.Gcm.{gcm_open, open_given}
+use Rattle.gcm_mode.specs.Gcm.{gcm_open}
 use Rattle.key_blobs.specs.Blobs.{START, text_in}
 use Rattle.key_blobs.proofs.opening.open_text.Goals as goal
 

@@ -1,4 +1,4 @@
-use Rattle.std.proofs.Common.{◌≡◌, ◌≤◌, ◌+◌, ◌++◌, ◌∷◌, [], length, drop, ap, sym, ◌∙◌, arith, rules}
+use Rattle.std.proofs.Common.{◌≡◌, ◌≤◌, ◌+◌, ◌++◌, [], length, drop, ap, ◌∙◌, arith, rules}
 use Rattle.std.proofs.lemmas.List.{drop_all, append-nil}
 use Rattle.key_blobs.specs.Blobs.{START, opened}
 use Rattle.key_blobs.proofs.BlobLemmas.{opened_again}

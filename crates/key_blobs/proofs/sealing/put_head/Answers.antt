@@ -1,4 +1,4 @@
-use Rattle.std.proofs.Common.{◌≡◌, ◌+◌, ℕ, ap, drop, ◌++◌, refl, ◌∙◌, rules}
+use Rattle.std.proofs.Common.{◌+◌, ap, drop, ◌++◌}
 use Rattle.std.proofs.lemmas.List.{drop-drop}
 use Rattle.key_blobs.specs.Blobs.{START}
 use Rattle.key_blobs.proofs.sealing.put_head.Goals as goal

@@ -1,5 +1,5 @@
 -- What the calls say one after another is what is said of the whole.
-use Rattle.std.proofs.Common.{◌≡◌, ◌≤◌, ℕ, ◌+◌, List, [], ◌∷◌, ◌++◌, length, take, ap, sym, ◌∙◌, arith, rules}
+use Rattle.std.proofs.Common.{◌≡◌, ◌≤◌, ℕ, ◌+◌, List, [], ◌++◌, length, take, ap, sym, ◌∙◌, arith}
 use Rattle.std.proofs.lemmas.List.{take_all}
 use Rattle.aes_core.specs.Cipher.{cipher}
 use Rattle.gcm_mode.specs.Gcm.{gcm_seal, gcm_open, seal_given}

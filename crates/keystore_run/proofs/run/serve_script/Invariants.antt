@@ -2,7 +2,7 @@ use Rattle.std.proofs.Common.{◌+◌, ◌-◌, ◌^◌, ◌≤◌, false, [], l
 use Rattle.ks_outside.specs.Faults.{CountsFaults}
 use Rattle.rule_model.specs.Setup.{Setup}
 use Rattle.keystore_run.specs.Ends.{outside}
-use Rattle.keystore_run.specs.Kept.{IsUnwritten}
+use Rattle.keystore_core.specs.Opening.{IsUnwritten}
 use Rattle.keystore_run.specs.Session.{StandsFor, entries_in}
 use Rattle.keystore_run.proofs.Going.{Going}
 use Rattle.keystore_run.proofs.run.serve_script.Given as goal

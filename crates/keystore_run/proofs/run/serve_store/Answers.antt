@@ -1,8 +1,7 @@
 use Rattle.std.proofs.Common.{[], refl}
 use Rattle.rule_model.specs.Setup.{Setup}
-use Rattle.keystore_run.specs.Kept.{IsUnwritten}
 use Rattle.keystore_run.specs.Runs.{Opened, Refused}
-use Rattle.keystore_core.specs.Opening.{is_opened, opened_images, setup_of}
+use Rattle.keystore_core.specs.Opening.{IsUnwritten, is_opened, opened_images, setup_of}
 use Rattle.keystore_run.proofs.Openings.{refused, session_stands, unwritten_none}
 use Rattle.keystore_run.proofs.run.serve_store.Goals as goal
 

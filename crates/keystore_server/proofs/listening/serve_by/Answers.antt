@@ -1,4 +1,4 @@
-use Rattle.std.proofs.Common.{List, length, sym, subst, arith}
+use Rattle.std.proofs.Common.{List, sym, subst, arith}
 use Rattle.std.proofs.lemmas.List.{take_at}
 use Rattle.connection_workers.specs.declared.worker.Worker.{Worker}
 use Rattle.connection_workers.specs.Workers.{AllFree, AllServed}

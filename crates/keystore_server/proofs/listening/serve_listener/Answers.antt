@@ -4,7 +4,7 @@ use denote.Exit.{no}
 use denote.Param.{param}
 use denote.Param.Send.{Quiet-if}
 use Rattle.keystore_server.proofs.Sending.{caller_send}
-use Rattle.keystore_server.proofs.Pairing.{all_answered, all_free, passes_same, passes_served}
+use Rattle.keystore_server.proofs.Pairing.{all_answered, all_free, passes_served}
 use Rattle.keystore_server.proofs.listening.serve_listener.Goals as goal
 
 pub serve_by-listener-requires-clause-some : goal.serve_by-listener-requires-clause-some

@@ -1,11 +1,9 @@
 use Rattle.std.proofs.Common.{ℕ, [], sym, subst, arith}
 use Rattle.std.proofs.Math.Logic.{∥∥₁_map}
-use Rattle.std.specs.Prelude.{All}
-use Rattle.rule_model.specs.Setup.{Setup}
 use Rattle.keystore_core.specs.declared.engine.Engine.{Engine}
 use Rattle.keystore_core.specs.Engine.{Stands}
 use Rattle.service_book.specs.Book.{history_of, log_of}
-use Rattle.shared_service.specs.Passes.{HasAll, IsOurs, IsSetupOf, passes_of, start_of}
+use Rattle.shared_service.specs.Passes.{HasAll, IsSetupOf, start_of}
 use Rattle.keystore_service.proofs.Endings.{attended, store_images}
 use Rattle.keystore_service.proofs.Numbering.{all_idle, all_numbers, all_ours}
 use Rattle.keystore_service.proofs.Parting.{none_connected}

@@ -2,8 +2,7 @@ use Rattle.std.proofs.Common.{◌≡◌, ◌∙◌, Bool, refl, sym, ap, subst}
 use Rattle.ks_outside.specs.Faults.{CountsFaults}
 use Rattle.ks_outside.proofs.Shown.{counts_none}
 use Rattle.keystore_service.specs.declared.words.ServeForm.{ServeForm}
-use Rattle.keystore_service.specs.declared.end.ServeStatus.{ServeStatus}
-use Rattle.keystore_service.specs.Ends.{IsCompleted, IsRefused, Opened, Refused, Serves, is_listen_fault}
+use Rattle.keystore_service.specs.Ends.{IsCompleted, Opened, Refused, Serves, is_listen_fault}
 use Rattle.keystore_service.proofs.Endings.{refused_completed, refused_disk, refused_listens, refused_usage, serves_completed, serves_disk, serves_listened, serves_usage}
 use Rattle.keystore_core.specs.Opening.{is_opened, opened_images, setup_of}
 use Rattle.keystore_service.proofs.serve.serve_words.Goals as goal
@@ -14,7 +13,7 @@ returns-in-Ok-clause-serves g c = λ form said.
     let setup = setup_of c.args.device.now c.args.policy.now 16 c.in-Ok.engine in
     subst (λ (f : ServeForm). Serves g.B.Listener g.D.Disk g.N.Entropy c.args.device.now c.args.policy.now f c.args.listener c.args.disk c.args.entropy c.serve_opened.result) same
     (Opened c.open.new.disk setup (record { device_is = refl; policy_is = refl; slots_are = refl })
-    (record { stands = opened_images g.D.Disk c.args.device.now c.args.policy.now 16 c.in-Ok.engine c.open.new.disk (c.in-Ok.ensures.holds setup (is_opened c.args.device.now c.args.policy.now 16 c.in-Ok.engine)); images = c.in-Ok.ensures.images; passes = c.in-Ok.ensures.passes; finds = c.in-Ok.ensures.finds; count = c.in-Ok.ensures.cause })
+    (record { stands = opened_images g.D.Disk c.args.device.now c.args.policy.now 16 c.in-Ok.engine c.open.new.disk (c.in-Ok.ensures.holds setup (is_opened c.args.device.now c.args.policy.now 16 c.in-Ok.engine)); images = c.in-Ok.ensures.images; finds = c.in-Ok.ensures.finds; unwritten = record { passes = c.in-Ok.ensures.passes; count = c.in-Ok.ensures.cause; telling = c.in-Ok.ensures.telling } })
     (c.serve_opened.ensures.serves setup (c.in-Ok.ensures.stands setup (is_opened c.args.device.now c.args.policy.now 16 c.in-Ok.engine))))
 
 pub returns-in-Ok-clause-listen_faults : goal.returns-in-Ok-clause-listen_faults

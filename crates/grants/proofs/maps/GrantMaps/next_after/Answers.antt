@@ -1,7 +1,4 @@
-use Rattle.std.proofs.Common.{◌≡◌, [], ◌∷◌, sym, ◌∙◌, ap}
-use Rattle.std.specs.Ordering.{nat_cmp}
-use Rattle.std.specs.declared.ops.Bound.TheVariants.{Unbounded}
-use Rattle.std.specs.BTreeMap.Range.{entries_between}
+use Rattle.std.proofs.Common.{sym, ◌∙◌}
 use Rattle.grants.specs.Maps.{start_of}
 use Rattle.grants.proofs.Nexts.{first_behind, none_behind}
 use Rattle.grants.proofs.maps.GrantMaps.next_after.Goals as goal

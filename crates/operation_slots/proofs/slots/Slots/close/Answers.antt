@@ -1,7 +1,7 @@
 use Rattle.std.proofs.Common.{◌≡◌, ◌≤◌, ℕ, true, List, Option, Some, None, OnSome, IfNone, All, ◌<◌, find, length, ◌==◌, if◌then◌else◌, nat_lt, subst, sym, arith}
 use Rattle.std.proofs.lemmas.Bool.{lt-ltb}
 use Rattle.operation_slots.specs.declared.operation.Operation.{Operation}
-use Rattle.operation_slots.specs.Table.{IsSound, capacity_of, has_number, idle_value, open_count, without}
+use Rattle.operation_slots.specs.Table.{IsSound, has_number, idle_value, without}
 use Rattle.operation_slots.specs.Kept.{IsKept}
 use Rattle.operation_slots.proofs.Keeping.{kept_without, later_without, one_fewer}
 use Rattle.operation_slots.proofs.Lists.{found_without}

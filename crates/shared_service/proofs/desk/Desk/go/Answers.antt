@@ -2,9 +2,6 @@ use Rattle.std.proofs.Common.{sym, subst}
 use Rattle.shared_service.specs.Names.{IsSetupOf}
 use Rattle.shared_service.specs.DeskWords.{desk_book, desk_places}
 use Rattle.shared_service.proofs.Requesting.{requested_made}
-use Rattle.shared_service.proofs.Answering.{answers}
-use Rattle.shared_service.proofs.Calling.{recorded_once}
-use Rattle.shared_service.proofs.Seeing.{seen_of}
 use Rattle.shared_service.proofs.Truncating.{three}
 use Rattle.shared_service.proofs.desk.Desk.go.Goals as goal
 

@@ -1,11 +1,10 @@
-use Rattle.std.proofs.Common.{◌≡◌, ◌&&◌, true, refl, sym, ap, subst, ◌∙◌}
+use Rattle.std.proofs.Common.{◌≡◌, true, sym, ap, subst, ◌∙◌}
 use Rattle.service_book.specs.Book.{log_of}
-use Rattle.service_book.specs.declared.entry.BookEntry.{BookEntry}
 use Rattle.rule_model.specs.declared.event.Act.TheVariants.{Disconnect}
 use Rattle.rule_model.specs.declared.event.Event.{Event}
 use Rattle.shared_service.specs.DeskWords.{desk_book}
 use Rattle.shared_service.specs.Names.{IsSetupOf}
-use Rattle.shared_service.specs.Owning.{event_for, is_connected, is_parting}
+use Rattle.shared_service.specs.Owning.{event_for, is_parting}
 use Rattle.shared_service.specs.Requests.{IsRequested}
 use Rattle.shared_service.specs.Going.{parting}
 use Rattle.shared_service.proofs.Requesting.{parting_made}

@@ -1,8 +1,7 @@
-use Rattle.std.proofs.Common.{rules, ◌≡◌, ℕ, ◌+◌, ◌*◌, ◌<◌, ◌≤◌, ◌^◌, List, [], ◌∷◌, ◌++◌, length, Option, Some, None, is_some, refl, sym, ap, ◌∙◌, subst, arith, append_assoc, length-append}
-use Rattle.std.proofs.Math.Logic.{∥∥₁_elim, ∥∥₁_map, ∥∥₁_map₂, ∥∥₁_prop}
+use Rattle.std.proofs.Common.{◌≡◌, ◌+◌, ◌*◌, ◌≤◌, ◌^◌, List, ◌++◌, length, is_some, refl, sym, ap, ◌∙◌, subst, arith}
+use Rattle.std.proofs.Math.Logic.{∥∥₁_elim, ∥∥₁_map₂}
 use Rattle.std.proofs.Math.Bool.{Bool-set}
 use Rattle.std.proofs.Math.Bridge.{le_prop}
-use Rattle.std.proofs.lemmas.List.{length-reverse}
 use Rattle.rule_model.specs.ReplyRooms.{Fits, sizes_of}
 use Rattle.rule_model.specs.declared.event.Event.{Event}
 use Rattle.rule_model.specs.Entries.{History}
@@ -11,10 +10,9 @@ use Rattle.service_book.specs.Book.{history_of, log_of}
 use Rattle.service_book.specs.Limits.{MOST_ENTRIES, acted_bytes, recorded}
 use Rattle.shared_service.specs.Records.{book_in}
 use Rattle.service_book.specs.declared.entry.BookEntry.{BookEntry}
-use Rattle.wire_frames.specs.Replies.{reply_body}
-use Rattle.shared_service.specs.Calls.{OneStep, entries_of}
-use Rattle.shared_service.specs.Desks.{HasMade, IsDesk, MayMake, weight}
-use Rattle.shared_service.specs.DeskWords.{desk_book, desk_name, desk_places}
+use Rattle.shared_service.specs.Calls.{entries_of}
+use Rattle.shared_service.specs.Desks.{IsDesk, weight}
+use Rattle.shared_service.specs.DeskWords.{desk_book, desk_places}
 use Rattle.shared_service.proofs.Logs.{history_length, log_step, history_step, step_log}
 use Rattle.shared_service.proofs.ReplyLengths.{body_few, fits_prop, small_sizes}
 use Rattle.shared_service.proofs.Stepping.{Step, desk_step, step_grown, step_small}

@@ -1,8 +1,7 @@
-use Rattle.std.proofs.Common.{◌≡◌, ℕ, ◌+◌, ◌<◌, ◌≤◌, Bool, true, List, Option, None, Some, refl, sym, ap, ◌∙◌, subst, arith, length}
+use Rattle.std.proofs.Common.{◌≡◌, ℕ, Bool, true, List, None, refl, sym, ap, ◌∙◌, subst}
 use Rattle.std.proofs.Math.Logic.{∥∥₁_elim, ∥∥₁_map}
 use Rattle.std.proofs.Math.Bool.{Bool-set}
 use Rattle.tags.specs.declared.code.Code.TheVariants.{MemoryAllocationFailed, RunFull}
-use Rattle.turn_lock.specs.Fronts.{Appends}
 use Rattle.turn_lock.specs.Passes.{seen, turn_number}
 use Rattle.turn_lock.specs.Resting.{resting_front, resting_number}
 use Rattle.service_book.specs.declared.entry.BookEntry.{BookEntry}
@@ -11,7 +10,7 @@ use Rattle.shared_service.specs.Away.{IsEntered, IsJobAway}
 use Rattle.shared_service.specs.Calls.{IsCall}
 use Rattle.shared_service.specs.DeskWords.{desk_book, desk_name}
 use Rattle.shared_service.specs.Kinds.{client_after, kind_of}
-use Rattle.shared_service.specs.Owning.{by, event_for}
+use Rattle.shared_service.specs.Owning.{event_for}
 use Rattle.shared_service.specs.Passes.{front_of, number_of, service_lock, service_name}
 use Rattle.shared_service.specs.Requests.{IsCaller, IsRequested}
 use Rattle.shared_service.specs.declared.shared.turns.Kind.{Kind}

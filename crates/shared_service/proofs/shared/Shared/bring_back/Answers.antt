@@ -1,19 +1,16 @@
-use Rattle.std.proofs.Common.{◌≡◌, ℕ, ◌+◌, ◌<◌, ◌≤◌, Bool, List, refl, sym, ap, ◌∙◌, subst, arith, length}
+use Rattle.std.proofs.Common.{◌≡◌, ℕ, ◌+◌, ◌≤◌, List, refl, sym, ◌∙◌, subst, arith, length}
 use Rattle.std.proofs.Math.Logic.{∥∥₁_elim, ∥∥₁_map₂}
 use Rattle.std.proofs.Math.Bridge.{le_prop}
 use Rattle.ks_outside.specs.declared.clock.Reading.{Reading}
 use Rattle.turn_lock.specs.Fronts.{Appends}
 use Rattle.turn_lock.specs.Passes.{seen, turn_number}
 use Rattle.turn_lock.specs.Resting.{resting_front, resting_number}
-use Rattle.rule_model.specs.declared.event.Act.{Act}
 use Rattle.service_book.specs.declared.entry.BookEntry.{BookEntry}
-use Rattle.service_book.specs.Book.{log_of}
 use Rattle.shared_service.specs.declared.name.Name.{Name}
-use Rattle.shared_service.specs.declared.pass.Pass.{Pass}
 use Rattle.shared_service.specs.Away.{IsBack, IsEntered}
 use Rattle.shared_service.specs.Calls.{IsCall}
 use Rattle.shared_service.specs.DeskWords.{desk_book, desk_name}
-use Rattle.shared_service.specs.Desks.{HasSeen, IsDesk}
+use Rattle.shared_service.specs.Desks.{HasSeen}
 use Rattle.shared_service.specs.Owning.{by}
 use Rattle.shared_service.specs.Passes.{connected_of, front_of, number_of, service_name}
 use Rattle.shared_service.specs.Turns.{HasLeft}

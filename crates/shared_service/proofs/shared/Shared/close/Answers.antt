@@ -1,4 +1,4 @@
-use Rattle.std.proofs.Common.{◌≡◌, ℕ, ◌+◌, ◌<◌, ◌≤◌, ◌==◌, List, ◌∷◌, Option, Some, None, get_or, length, refl, sym, ap, ◌∙◌, subst, arith}
+use Rattle.std.proofs.Common.{◌≡◌, ◌+◌, ◌<◌, ◌==◌, List, ◌∷◌, Option, Some, get_or, sym, ap, ◌∙◌, subst, arith}
 use Rattle.std.proofs.Math.Logic.{∥∥₁_elim, ∥∥₁_map}
 use Rattle.std.proofs.Math.Bridge.{le_prop}
 use Rattle.std.proofs.lemmas.Bool.{eqb-true}
@@ -8,9 +8,7 @@ use Rattle.std.specs.Prelude.{All}
 use Rattle.std.specs.List.{position}
 use Rattle.std.specs.List.Sorted.{IsPermutation}
 use Rattle.turn_lock.specs.Fronts.{IsFrontOf}
-use Rattle.turn_lock.specs.declared.lock.RestingMaker.{RestingMaker}
 use Rattle.rule_model.specs.Legal.{Legal}
-use Rattle.rule_model.specs.Setup.{Setup}
 use Rattle.keystore_core.specs.declared.engine.Engine.{Engine}
 use Rattle.keystore_core.specs.Engine.{Stands, StoreStands}
 use Rattle.service_book.specs.declared.entry.BookEntry.{BookEntry}

@@ -1,4 +1,4 @@
-use Rattle.shared_service.specs.Passes.{front_of, number_of, service_lock, service_name}
+use Rattle.shared_service.specs.Passes.{service_lock, service_name}
 use Rattle.shared_service.proofs.Naming.{seen_named}
 use Rattle.shared_service.proofs.shared.Shared.seated.Goals as goal
 

@@ -1,7 +1,6 @@
-use Rattle.std.proofs.Common.{◌≡◌, ℕ, ◌+◌, ◌<◌, ◌≤◌, List, length, refl, sym, ap, ◌∙◌, subst, arith, length-append}
+use Rattle.std.proofs.Common.{◌≡◌, ℕ, length, ◌∙◌, subst, arith}
 use Rattle.turn_lock.specs.Passes.{lock_id, made_of, name_of}
 use Rattle.turn_lock.specs.Resting.{resting_number}
-use Rattle.shared_service.specs.declared.pass.Pass.{Pass}
 use Rattle.shared_service.specs.Passes.{IsNewPass}
 use Rattle.shared_service.proofs.NewPasses.{each_more, longer_one}
 use Rattle.shared_service.proofs.shared.making.add_passes.Goals as goal

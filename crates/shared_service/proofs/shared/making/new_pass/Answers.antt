@@ -1,4 +1,3 @@
-use Rattle.std.proofs.Common.{refl}
 use Rattle.shared_service.proofs.NewPasses.{seen_nothing}
 use Rattle.shared_service.proofs.shared.making.new_pass.Goals as goal
 
