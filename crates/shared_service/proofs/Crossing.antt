@@ -237,7 +237,7 @@ module _ (D N : RattleType) (d : DiskGhosts D.Denot) (n : EntropyGhosts N.Denot)
   shared_sync disk entropy =
       let slot : IsSend (option_type.the_row (desk_type.the_row D N d n)) = slot_send (desk_type.the_row D N d n) (desk_item disk entropy) in
       struct_sync (shape (shared_type.the_type D N d n))
-      (lock_sync (option_type.the_row (desk_type.the_row D N d n)) (view_type.the_row book_entry_type.the_row name_type.the_row) name_type.the_row turns_type.the_row (record { holds = _; first = first_view {E = BookEntry} {K = Name} }) slot name_shown, (search sendable, tt))
+      (search sendable depth 20, (lock_sync (option_type.the_row (desk_type.the_row D N d n)) (view_type.the_row book_entry_type.the_row name_type.the_row) name_type.the_row turns_type.the_row (record { holds = _; first = first_view {E = BookEntry} {K = Name} }) slot name_shown, (search sendable, tt)))
 
   pub shared_shown : IsSend D → IsSend N → IsSync (shared_type.the_row D N d n)
   shared_shown disk entropy = as_row_sync (shared_type.the_field D N d n) (shared_sync disk entropy)

@@ -20,6 +20,6 @@ pub mod Walking
 pub mod SecondTurn
 pub mod NewPasses
 pub mod TakenIn
-pub mod Admitting
+pub mod Preparing
 pub mod NewDesk
 pub mod Crossing

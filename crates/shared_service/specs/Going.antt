@@ -5,20 +5,20 @@ use Rattle.rule_model.specs.declared.event.Act.{Act}
 use Rattle.rule_model.specs.declared.event.Act.TheVariants.{Disconnect}
 use Rattle.rule_model.specs.declared.event.Event.{Event}
 use Rattle.rule_model.specs.Acts.{is_enter}
-use Rattle.rule_model.specs.ReplyRooms.{sizes_of}
 use Rattle.wire_frames.specs.Spelling.{is_asked}
 use Rattle.keystore_core.specs.declared.engine.Engine.{Engine}
 use Rattle.service_book.specs.declared.entry.BookEntry.{BookEntry}
 use Rattle.service_book.specs.Book.{client_of}
 use Rattle.service_book.specs.Limits.{need_of, passes_limit}
 use Rattle.shared_service.specs.declared.desk.rooms.Rooms.{Rooms}
+use Rattle.shared_service.specs.Comings.{AreCopies}
 use Rattle.shared_service.specs.Desks.{weight}
 use Rattle.shared_service.specs.Owning.{client_for, is_parting, out_of}
 use Rattle.shared_service.specs.Rooms.{IsOutput}
 
 -- the disconnect of a client
-abbrev pub parting : Reading → ℕ → Event
-parting reading client = record { reading = reading; client = client; act = Disconnect }
+abbrev pub disconnect_by : Reading → ℕ → Event
+disconnect_by reading client = record { reading = reading; client = client; act = Disconnect }
 
 -- the event of a request that passes no limit, and whose places are taken
 pub record MayGo (pass : ℕ) (event : Event) (log : List BookEntry) (places : ℕ) : Type 0 where
@@ -38,7 +38,6 @@ pub record MayAsk (pass client : ℕ) (act : Act) (log : List BookEntry) : Type 
 
 -- its memory
 pub record AreRooms (engine : Engine) (event : Event) (rooms : Rooms) : Type 0 where
-  pub copy_is : rooms.copy ≡ event
-  pub reply_is : rooms.reply ≡ sizes_of event.act 0
+  pub copies_are : AreCopies event rooms.copies
   pub has_leave : is_some rooms.leave ≡ is_enter event.act
   pub leave_is : IfSome rooms.leave (IsOutput engine event.act)

@@ -37,14 +37,22 @@ abbrev pub out_of : ℕ → List BookEntry → Option ℕ
 out_of pass [] = None
 out_of pass (e ∷ log) = if e.pass == pass then (if is_of is_leave e.entry then None else later_ticket (ticket_given e.entry) (out_of pass log)) else out_of pass log
 
+-- the client of an act that a client makes: 0 for a connect
+abbrev pub client_by : ℕ → Act → ℕ
+client_by client (Connect uid) = 0
+client_by client _ = client
+
+-- the event of it
+abbrev pub event_by : Reading → ℕ → Act → Event
+event_by reading client act = record { reading = reading; client = client_by client act; act = act }
+
 -- the client of a pass's act: its own, and 0 for a connect and where it has none
 abbrev pub client_for : Act → ℕ → List BookEntry → ℕ
-client_for (Connect uid) pass log = 0
-client_for _ pass log = unwrap_or (client_of pass log) 0
+client_for act pass log = client_by (unwrap_or (client_of pass log) 0) act
 
 -- the event that a pass makes of an act
 abbrev pub event_for : Reading → Act → ℕ → List BookEntry → Event
-event_for reading act pass log = record { reading = reading; client = client_for act pass log; act = act }
+event_for reading act pass log = event_by reading (unwrap_or (client_of pass log) 0) act
 
 -- the disconnect of a connected client, which no limit and no want of memory stops
 abbrev pub is_parting : Act → ℕ → List BookEntry → Bool

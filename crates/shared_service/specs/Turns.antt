@@ -27,7 +27,7 @@ abbrev pub Requests : Name → ℕ → Event → List BookEntry → List BookEnt
 Requests name pass event old new (Made made) =
     ∥ IsRequested name pass event old new made.reply made.job made.leave ∥₁ × AreNumbers old new made.first made.last × GrowsBy pass old new × (length (reply_body made.reply) < 2 ^ 32)
 Requests name pass event old new Full = (new ≡ old) × (passes_limit event.act (log_of old) ≡ true) × (is_parting event.act pass (log_of old) ≡ false)
-Requests name pass event old new Poor = (new ≡ old) × (is_parting event.act pass (log_of old) ≡ false)
+Requests name pass event old new Poor = (new ≡ old) × (passes_limit event.act (log_of old) ≡ false) × (is_parting event.act pass (log_of old) ≡ false)
 
 -- a pass may bring its ticket back with what its job came to, and there is room for the reply
 pub record MayLeave (name : Name) (log : List BookEntry) (pass ticket : ℕ) (back : JobDone) (room : FieldSizes) : Type 0 where

@@ -6,6 +6,7 @@
 //! call, while the lock is free.
 #![tactic(auto)]
 
+mod coming;
 mod desk;
 mod made;
 mod name;

@@ -4,6 +4,7 @@ use crate::desk::Desk;
 use crate::name::Name;
 use ks_outside::{Disk, Entropy};
 use service_book::BookEntry;
+use std::alloc::Global;
 use turn_lock::TurnLock;
 
 mod away;
@@ -15,6 +16,7 @@ mod turns;
 /// An engine with its disk and entropy, which threads share.
 #[derive(Drop)]
 pub struct Shared<D: Disk, N: Entropy> {
+    alloc: Global,
     lock: TurnLock<Desk<D, N>, BookEntry, Name>,
     passes: u32,
 }

@@ -1,24 +1,28 @@
 //! A request of a caller, and the leave of its ticket.
 
-ghost use Rattle.std.specs.Prelude.{◌≡◌, ◌+◌, ◌≤◌, ◌<◌, ◌^◌, ◌&&◌, ℕ, List, true, length, IfOk, unwrap_or};
+ghost use Rattle.std.specs.Prelude.{◌≡◌, ◌+◌, ◌≤◌, ◌<◌, ◌^◌, ℕ, None, true, false, length, is_some, IfOk, IfSome, unwrap_or};
+ghost use Rattle.ks_outside.specs.declared.clock.Reading.{Reading};
+ghost use Rattle.rule_model.specs.Acts as acts_spec;
 ghost use Rattle.rule_model.specs.declared.event.Act.TheVariants.{Disconnect};
-ghost use Rattle.service_book.specs.declared.entry.BookEntry.{BookEntry};
 ghost use Rattle.service_book.specs.Book.{client_of, log_of};
-ghost use Rattle.service_book.specs.Limits.{is_disconnect, need_of, passes_limit};
+ghost use Rattle.service_book.specs.Limits.{need_of, passes_limit};
 ghost use Rattle.wire_frames.specs.Replies.{reply_body};
 ghost use Rattle.wire_frames.specs.Sizes as sizes;
-ghost use Rattle.wire_frames.specs.Spelling.{body_of, is_asked};
+ghost use Rattle.wire_frames.specs.Spelling.{body_of};
+ghost use Rattle.shared_service.specs.declared.name.Name.{Name};
+ghost use Rattle.shared_service.specs.Comings.{AreCopies, Comes, act_in};
 ghost use Rattle.shared_service.specs.DeskWords.{desk_book, desk_engine, desk_name, desk_places};
 ghost use Rattle.shared_service.specs.Desks.{weight};
-ghost use Rattle.shared_service.specs.Going.{AreRooms, MayAsk, MayGo, parting};
+ghost use Rattle.shared_service.specs.Going.{AreRooms, MayAsk, MayGo, disconnect_by};
 ghost use Rattle.shared_service.specs.Owning as owning;
-ghost use Rattle.shared_service.specs.Owning.{event_for};
+ghost use Rattle.shared_service.specs.Owning.{event_by, event_for, out_of};
 ghost use Rattle.shared_service.specs.Requests.{AreNumbers, GrowsBy, IsCaller, IsRequested};
+ghost use Rattle.shared_service.specs.Rooms.{IsOutput};
 ghost use Rattle.shared_service.specs.Turns.{HasLeft, MayLeave, Requests, leave_by};
 
 use super::Desk;
 use super::rooms::Rooms;
-use super::steps::is_disconnect;
+use crate::coming::{Coming, Copies, event_of};
 use crate::made::{Made, Requested};
 use cipher_ops::Done;
 use ks_outside::{Disk, Entropy};
@@ -26,26 +30,9 @@ use rule_model::{Act, Event, Reading, ReplyRoom};
 use tags::NoMemory;
 use wire_frames::Request;
 
-/// The client of an act: 0 for a connect.
-fn client_for(act: &Act, client: u64) -> u64
-    ensures { (pass : ℕ) (log : List BookEntry) → client ≡ unwrap_or (client_of pass log) 0 → result ≡ owning.client_for act.now pass log }
-{
-    match act {
-        Act::Connect { .. } => 0,
-        _ => client,
-    }
-}
-
-/// Whether it is the disconnect of a connected client.
-fn is_parting(connected: bool, act: &Act) -> bool
-    ensures { result ≡ (is_disconnect act.now && connected) }
-{
-    if connected { is_disconnect(act) } else { false }
-}
-
 /// The disconnect of a client.
 fn disconnect_of(reading: Reading, client: u64) -> Event
-    ensures { result ≡ parting reading client }
+    ensures { result ≡ disconnect_by reading client }
 {
     Event {
         reading,
@@ -62,19 +49,6 @@ fn leave_at(reading: Reading, client: u64, ticket: u64) -> Event
         reading,
         client,
         act: Act::Leave { ticket },
-    }
-}
-
-/// The event of a request.
-fn event_of(reading: Reading, client: u64, request: Request) -> Event
-    ensures asked { is_asked result.act ≡ true }
-    ensures event { (pass : ℕ) (log : List BookEntry) → client ≡ unwrap_or (client_of pass log) 0 → result ≡ event_for reading request pass log }
-{
-    let act = request.into_act();
-    Event {
-        reading,
-        client: client_for(&act, client),
-        act,
     }
 }
 
@@ -105,33 +79,45 @@ impl<D: Disk, N: Entropy> Desk<D, N> {
         ensures grown { GrowsBy pass (desk_book self.old) (desk_book self.new) }
         ensures told { length (reply_body result.reply) < 2 ^ 32 }
     {
-        let Rooms { copy, reply, leave } = rooms;
+        let Rooms { copies, leave } = rooms;
+        let Copies { event: copy, reply } = copies;
         let made = self.step(pass, event, copy, frame, reply, None);
         Made { leave, ..made }
     }
 
-    /// Takes the places and the memory of an event.
-    fn make_ready(&mut self, event: &Event) -> Result<Rooms, NoMemory>
+    /// Takes the places of an act in the book, and for an enter the room for the reply to its leave.
+    fn make_ready(&mut self, act: &Act) -> Result<Option<ReplyRoom>, NoMemory>
         ensures name { desk_name self.new ≡ desk_name self.old }
         ensures book { desk_book self.new ≡ desk_book self.old }
-        ensures places { IfOk result (λ rooms. weight (log_of (desk_book self.old)) + need_of event.now.act ≤ desk_places self.new) }
-        ensures rooms { IfOk result (λ rooms. AreRooms (desk_engine self.new) event.now rooms) }
+        ensures places { IfOk result (λ o. weight (log_of (desk_book self.old)) + need_of act.now ≤ desk_places self.new) }
+        ensures some { IfOk result (λ o. is_some o ≡ acts_spec.is_enter act.now) }
+        ensures room { IfOk result (λ o. IfSome o (λ room. IsOutput (desk_engine self.new) act.now room)) }
     {
-        self.reserve(&event.act)?;
-        self.rooms(event)
+        self.reserve(act)?;
+        self.leave_room(act)
     }
 
-    /// Makes the step of a request that passes no limit, where there is memory for it.
-    fn admit(&mut self, pass: u64, client: u64, reading: Reading, request: Request) -> Requested
+    /// Makes the step of a request that passes no limit, where there is memory for what the desk alone can take.
+    fn admit(
+        &mut self,
+        pass: u64,
+        client: u64,
+        reading: Reading,
+        request: Request,
+        copies: Copies,
+    ) -> Requested
         requires short { length (body_of request) < 2 ^ 32 }
         requires may { MayAsk pass client request (log_of (desk_book self.old)) }
+        requires copies { AreCopies (event_by reading client request) copies }
         ensures name { desk_name self.new ≡ desk_name self.old }
         ensures requests { Requests (desk_name self.old) pass (event_for reading request pass (log_of (desk_book self.old))) (desk_book self.old) (desk_book self.new) result }
     {
         let frame = request.frame_length();
         let event = event_of(reading, client, request);
-        match self.make_ready(&event) {
-            Ok(rooms) => Requested::Made(self.go(pass, event, frame, rooms)),
+        match self.make_ready(&event.act) {
+            Ok(leave) => {
+                Requested::Made(self.go(pass, event, frame, Rooms { copies, leave }))
+            }
             Err(NoMemory) => {
                 drop(event);
                 Requested::Poor
@@ -147,29 +133,61 @@ impl<D: Disk, N: Entropy> Desk<D, N> {
         self.book.is_full(request)
     }
 
-    /// Takes a request of a pass that has this client.
-    pub(crate) fn request(
+    /// Takes a request with its copies.
+    fn take(
         &mut self,
         pass: u64,
         client: u64,
-        connected: bool,
         reading: Reading,
         request: Request,
+        copies: Copies,
     ) -> Requested
         requires short { length (body_of request) < 2 ^ 32 }
-        requires caller { IsCaller pass client connected (log_of (desk_book self.old)) }
+        requires client { client ≡ unwrap_or (client_of pass (log_of (desk_book self.old))) 0 }
+        requires idle { out_of pass (log_of (desk_book self.old)) ≡ None }
+        requires stays { owning.is_parting request pass (log_of (desk_book self.old)) ≡ false }
+        requires copies { AreCopies (event_by reading client request) copies }
         ensures name { desk_name self.new ≡ desk_name self.old }
         ensures requests { Requests (desk_name self.old) pass (event_for reading request pass (log_of (desk_book self.old))) (desk_book self.old) (desk_book self.new) result }
     {
-        if is_parting(connected, request.act()) {
-            drop(request);
-            return Requested::Made(self.part(pass, client, reading));
-        }
         if self.is_full(&request) {
             drop(request);
             return Requested::Full;
         }
-        self.admit(pass, client, reading, request)
+        self.admit(pass, client, reading, request, copies)
+    }
+
+    /// Refuses a request for whose copies memory was wanting: a limit that it passes is told first.
+    fn refuse(&self, request: Request) -> Requested
+        requires short { length (body_of request) < 2 ^ 32 }
+        ensures { (name : Name) (pass : ℕ) (reading : Reading) → owning.is_parting request pass (log_of (desk_book self.now)) ≡ false
+            → Requests name pass (event_for reading request pass (log_of (desk_book self.now))) (desk_book self.now) (desk_book self.now) result }
+    {
+        if self.is_full(&request) {
+            Requested::Full
+        } else {
+            Requested::Poor
+        }
+    }
+
+    /// Takes what comes of a pass that has this client.
+    pub(crate) fn request(
+        &mut self,
+        pass: u64,
+        client: u64,
+        reading: Reading,
+        coming: Coming,
+    ) -> Requested
+        requires short { length (body_of (act_in coming)) < 2 ^ 32 }
+        requires comes { Comes pass client reading (log_of (desk_book self.old)) coming }
+        ensures name { desk_name self.new ≡ desk_name self.old }
+        ensures requests { Requests (desk_name self.old) pass (event_for reading (act_in coming) pass (log_of (desk_book self.old))) (desk_book self.old) (desk_book self.new) result }
+    {
+        match coming {
+            Coming::Parting => Requested::Made(self.part(pass, client, reading)),
+            Coming::Ready(request, copies) => self.take(pass, client, reading, request, copies),
+            Coming::Poor(request) => self.refuse(request),
+        }
     }
 
     /// Takes the leave of the ticket that is out with a pass. It takes no memory.

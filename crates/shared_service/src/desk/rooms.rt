@@ -1,9 +1,9 @@
-//! The memory of a request, which is taken before its step.
+//! The memory of a request that can be taken at the desk alone, before its step.
 
 ghost use Rattle.std.specs.Prelude.{◌≡◌, ◌+◌, ◌≤◌, ◌<◌, ◌^◌, ℕ, List, Some, length, IfOk, IfSome, OnOk, is_some};
 ghost use Rattle.std.specs.Option.{option_copied};
 ghost use Rattle.rule_model.specs.Acts as acts_spec;
-ghost use Rattle.rule_model.specs.ReplyRooms.{no_sizes, sizes_of};
+ghost use Rattle.rule_model.specs.ReplyRooms.{no_sizes};
 ghost use Rattle.service_book.specs.Book.{log_of};
 ghost use Rattle.service_book.specs.Limits.{need_of};
 ghost use Rattle.shared_service.specs.Desks.{weight};
@@ -11,16 +11,16 @@ ghost use Rattle.shared_service.specs.DeskWords.{desk_book, desk_engine, desk_na
 ghost use Rattle.shared_service.specs.Rooms.{IsOutput};
 
 use super::Desk;
+use crate::coming::Copies;
 use ks_outside::{Disk, Entropy};
-use rule_model::{Act, Event, ReplyRoom};
+use rule_model::{Act, ReplyRoom};
 use service_book::need_of;
 use tags::NoMemory;
 
-/// A copy of an event, room for that of its reply, and for an enter room for the reply to its leave.
+/// The copies of a request, and for an enter room for the reply to its leave.
 #[derive(Drop)]
 pub(super) struct Rooms {
-    pub(super) copy: Event,
-    pub(super) reply: ReplyRoom,
+    pub(super) copies: Copies,
     pub(super) leave: Option<ReplyRoom>,
 }
 
@@ -45,8 +45,8 @@ impl<D: Disk, N: Entropy> Desk<D, N> {
         self.book.reserve(need_of(act))
     }
 
-    /// Room for the reply to the leave of an enter.
-    fn leave_room(&self, act: &Act) -> Result<Option<ReplyRoom>, NoMemory>
+    /// Room for the reply to the leave of an enter, which the engine alone can tell.
+    pub(super) fn leave_room(&self, act: &Act) -> Result<Option<ReplyRoom>, NoMemory>
         ensures some { IfOk result (λ o. is_some o ≡ acts_spec.is_enter act.now) }
         ensures room { IfOk result (λ o. IfSome o (λ room. IsOutput (desk_engine self.now) act.now room)) }
     {
@@ -56,18 +56,5 @@ impl<D: Disk, N: Entropy> Desk<D, N> {
         let most = self.engine.most_out(act);
         let room = ReplyRoom::of(self.alloc, &Act::Leave { ticket: 0 }, most)?;
         Ok(Some(room))
-    }
-
-    /// Takes the memory of a request.
-    pub(super) fn rooms(&self, event: &Event) -> Result<Rooms, NoMemory>
-        ensures copy { IfOk result (λ rooms. rooms.copy ≡ event.now) }
-        ensures reply { IfOk result (λ rooms. rooms.reply ≡ sizes_of event.now.act 0) }
-        ensures some { IfOk result (λ rooms. is_some rooms.leave ≡ acts_spec.is_enter event.now.act) }
-        ensures leave { IfOk result (λ rooms. IfSome rooms.leave (λ room. IsOutput (desk_engine self.now) event.now.act room)) }
-    {
-        let leave = self.leave_room(&event.act)?;
-        let reply = ReplyRoom::of(self.alloc, &event.act, 0)?;
-        let copy = event.copy(self.alloc)?;
-        Ok(Rooms { copy, reply, leave })
     }
 }

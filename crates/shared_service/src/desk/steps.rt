@@ -3,7 +3,7 @@
 ghost use Rattle.std.specs.Prelude.{◌≡◌, ◌+◌, ◌<◌, ◌^◌, length, true};
 ghost use Rattle.rule_model.specs.Acts as acts_spec;
 ghost use Rattle.service_book.specs.Book.{log_of};
-ghost use Rattle.service_book.specs.Limits.{acted_bytes, is_disconnect};
+ghost use Rattle.service_book.specs.Limits.{acted_bytes};
 ghost use Rattle.wire_frames.specs.Replies.{reply_body};
 ghost use Rattle.wire_frames.specs.Sizes as sizes;
 ghost use Rattle.wire_frames.specs.Spelling.{body_of};
@@ -14,22 +14,13 @@ ghost use Rattle.shared_service.specs.Requests.{GrowsBy};
 ghost use Rattle.shared_service.specs.DeskWords.{desk_book, desk_name, desk_places};
 
 use super::Desk;
+use crate::coming::is_disconnect;
 use crate::made::Made;
 use crate::stamp::Stamp;
 use cipher_ops::Done;
 use ks_outside::{Disk, Entropy};
 use rule_model::{Act, Entry, Event, Reply, ReplyRoom, Stepped};
 use wire_frames::reply_length;
-
-/// Whether the act is a disconnect.
-pub(super) fn is_disconnect(act: &Act) -> bool
-    ensures { result ≡ is_disconnect act.now }
-{
-    match act {
-        Act::Disconnect => true,
-        _ => false,
-    }
-}
 
 /// How many bytes an event and its reply record, by the length of its request's frame.
 fn recorded_bytes(act: &Act, frame: u64, reply: &Reply) -> u64

@@ -75,6 +75,7 @@ impl<D: Disk, N: Entropy> Shared<D, N> {
         let Shared {
             lock,
             passes: count,
+            ..
         } = self;
         let mut passes = passes;
         let Some(place) = place_of(&passes, u64::from(count - 1)) else {

@@ -106,7 +106,12 @@ impl<D: Disk, N: Entropy> Shared<D, N> {
         match TurnLock::open(alloc, desk, name) {
             Ok((lock, maker)) => {
                 add_passes(&lock, maker, &mut made, passes);
-                Ok((Shared { lock, passes }, made))
+                let shared = Shared {
+                    alloc,
+                    lock,
+                    passes,
+                };
+                Ok((shared, made))
             }
             Err(desk) => {
                 let (engine, disk, entropy, _book) = desk.into_parts();

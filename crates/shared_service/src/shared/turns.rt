@@ -15,6 +15,7 @@ ghost use Rattle.shared_service.specs.Passes.{HoldsMaker, IsOurs, connected_of, 
 
 use super::Shared;
 use super::away::{Asked, Away, Kept, Sent, sent_with};
+use crate::coming::Coming;
 use crate::made::{Made, Requested};
 use crate::name::Name;
 use crate::pass::Pass;
@@ -95,7 +96,7 @@ impl<D: Disk, N: Entropy> Shared<D, N> {
         }
     }
 
-    /// The first turn of a call: its step, or its enter.
+    /// The first turn of a call: its step, or its enter. What memory the desk need not take is taken before.
     pub(super) fn ask<R: Wait>(
         &self,
         rt: &R,
@@ -115,8 +116,9 @@ impl<D: Disk, N: Entropy> Shared<D, N> {
         } = pass;
         let kind = kind_of(request.act());
         let number = pass.number();
+        let coming = Coming::of(self.alloc, reading, client, connected, request);
         let (turn, mut desk) = self.lock.enter(rt, self.lock.wake(pass));
-        match desk.request(number, client, connected, reading, request) {
+        match desk.request(number, client, reading, coming) {
             Requested::Full => {
                 let pass = self.lock.rest(self.lock.leave_seeing(turn, desk));
                 let kept = Kept {

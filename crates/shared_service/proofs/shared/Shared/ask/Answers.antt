@@ -8,26 +8,31 @@ use Rattle.service_book.specs.declared.entry.BookEntry.{BookEntry}
 use Rattle.service_book.specs.Book.{log_of, ticket_in}
 use Rattle.shared_service.specs.Away.{IsEntered, IsJobAway}
 use Rattle.shared_service.specs.Calls.{IsCall}
+use Rattle.shared_service.specs.Comings.{act_in}
 use Rattle.shared_service.specs.DeskWords.{desk_book, desk_name}
 use Rattle.shared_service.specs.Kinds.{client_after, kind_of}
 use Rattle.shared_service.specs.Owning.{event_for}
 use Rattle.shared_service.specs.Passes.{front_of, number_of, service_lock, service_name}
 use Rattle.shared_service.specs.Requests.{IsCaller, IsRequested}
+use Rattle.shared_service.specs.declared.made.Requested.TheVariants.{Full, Made, Poor}
 use Rattle.shared_service.specs.declared.shared.turns.Kind.{Kind}
 use Rattle.shared_service.specs.declared.shared.away.Sent.{Sent}
 use Rattle.shared_service.proofs.Calling.{recorded_once}
 use Rattle.shared_service.proofs.FirstTurn.{after_connected, call_at, call_full, call_poor, enter_after, entered_at, entered_made, extends_at, first_caller, front_at, job_at, job_away, refused_connected, refused_parts, refused_told, requested_parts, seen_after, seen_made, seen_same, sent_none, sent_some}
+use Rattle.shared_service.proofs.Preparing.{comes_of, told_of}
 use Rattle.shared_service.proofs.Longer.{added_some, appends_none, longer_by}
 use Rattle.shared_service.proofs.shared.Shared.ask.Goals as goal
 
-pub request-requires-clause-caller : goal.request-requires-clause-caller
-request-requires-clause-caller g c =
+pub request-requires-clause-comes : goal.request-requires-clause-comes
+request-requires-clause-comes g c =
     let self = c.args.self.now in
     let mine = c.args.pass in
     let number : resting_number mine.pass ≡ c.number-number.result = sym c.number-number.ensures in
     let begins = front_at _ c.number-number.result _ (resting_front mine.pass) (desk_book c.enter-turn.result.1) (c.wake.ensures.same.0 ∙ number) c.wake.ensures.same.1 c.enter-turn.ensures.later in
-    first_caller (service_name self) (resting_number mine.pass) c.number-number.result mine.client mine.connected (resting_front mine.pass) (desk_book c.enter-turn.result.1) number
-    (mine.seen (service_lock self) (service_name self) c.requires.ours.resting) begins.owned
+    comes_of c.number-number.result mine.client mine.connected c.args.reading (log_of (desk_book c.enter-turn.result.1)) c.of-coming.result
+    (first_caller (service_name self) (resting_number mine.pass) c.number-number.result mine.client mine.connected (resting_front mine.pass) (desk_book c.enter-turn.result.1) number
+    (mine.seen (service_lock self) (service_name self) c.requires.ours.resting) begins.owned)
+    c.of-coming.ensures.coming
 
 pub seated-requires-clause-seen : goal.seated-requires-clause-seen
 seated-requires-clause-seen g c =
@@ -59,7 +64,7 @@ returns-in-Full g c =
     let begins = front_at _ n _ (resting_front mine.pass) before (c.wake.ensures.same.0 ∙ number) c.wake.ensures.same.1 c.enter-turn.ensures.later in
     let caller : IsCaller n mine.client mine.connected (log_of before) =
     first_caller (service_name self) (resting_number mine.pass) n mine.client mine.connected (resting_front mine.pass) before number (mine.seen (service_lock self) (service_name self) c.requires.ours.resting) begins.owned in
-    let requests = c.in-Full.ensures.requests in
+    let requests = told_of (desk_name old) n c.args.reading (act_in c.of-coming.result) c.args.request before (desk_book new) Full c.of-coming.ensures.act c.in-Full.ensures.requests in
     let rested : resting_number c.rest-pass.result ≡ n = c.rest-pass.ensures.same.0 ∙ (c.leave_seeing.ensures.number ∙ (c.enter-turn.ensures.number ∙ (c.wake.ensures.same.0 ∙ number))) in
     let fronted : front_of c.seated.result ≡ before = c.seated.ensures.front ∙ (c.rest-pass.ensures.same.1 ∙ (c.leave_seeing.ensures.front ∙ c.enter-turn.ensures.value)) in
     record {
@@ -98,7 +103,7 @@ returns-in-Poor g c =
     let begins = front_at _ n _ (resting_front mine.pass) before (c.wake.ensures.same.0 ∙ number) c.wake.ensures.same.1 c.enter-turn.ensures.later in
     let caller : IsCaller n mine.client mine.connected (log_of before) =
     first_caller (service_name self) (resting_number mine.pass) n mine.client mine.connected (resting_front mine.pass) before number (mine.seen (service_lock self) (service_name self) c.requires.ours.resting) begins.owned in
-    let requests = c.in-Poor.ensures.requests in
+    let requests = told_of (desk_name old) n c.args.reading (act_in c.of-coming.result) c.args.request before (desk_book new) Poor c.of-coming.ensures.act c.in-Poor.ensures.requests in
     let rested : resting_number c.rest-pass-in-Poor.result ≡ resting_number mine.pass = c.rest-pass-in-Poor.ensures.same.0 ∙ (c.leave.ensures.number ∙ (c.enter-turn.ensures.number ∙ c.wake.ensures.same.0)) in
     let fronted : front_of c.seated-in-Poor.result ≡ front_of mine =
     c.seated-in-Poor.ensures.front ∙ (c.rest-pass-in-Poor.ensures.same.1 ∙ (c.leave.ensures.same refl ∙ (c.enter-turn.ensures.front ∙ c.wake.ensures.same.1))) in
@@ -107,9 +112,9 @@ returns-in-Poor g c =
         ours = c.seated-in-Poor.ensures.ours;
         number_is = c.seated-in-Poor.ensures.number ∙ rested;
         calls = ∣ call_at (number_of mine) n c.args.reading c.args.request (front_of mine) (front_of mine) (front_of c.seated-in-Poor.result) c.refused-in-Poor.result (sym number) fronted
-            (call_poor n c.args.reading c.args.request (front_of mine) before (front_of mine) c.refused-in-Poor.result begins refl requests.1 c.refused-in-Poor.ensures) ∣₁;
+            (call_poor n c.args.reading c.args.request (front_of mine) before (front_of mine) c.refused-in-Poor.result begins refl requests.2 c.refused-in-Poor.ensures) ∣₁;
         connected_is = c.seated-in-Poor.ensures.connected ∙ refused_connected c.args.request MemoryAllocationFailed c.refused-in-Poor.result mine.connected c.refused-in-Poor.ensures;
-        parts = refused_parts c.args.request n (log_of before) mine.connected c.refused-in-Poor.result.reply caller.connected_is requests.1;
+        parts = refused_parts c.args.request n (log_of before) mine.connected c.refused-in-Poor.result.reply caller.connected_is requests.2;
         told = refused_told MemoryAllocationFailed c.refused-in-Poor.result c.refused-in-Poor.ensures;
       };
     }
@@ -127,7 +132,7 @@ seated-requires-in-None-clause-seen g c =
     let caller : IsCaller n mine.client mine.connected (log_of before) =
     first_caller (service_name self) (resting_number mine.pass) n mine.client mine.connected (resting_front mine.pass) before number (mine.seen (service_lock self) (service_name self) c.requires.ours.resting) begins.owned in
     let made = c.in-Made.made in
-    let told = c.in-Made.ensures.requests in
+    let told = told_of (desk_name old) n c.args.reading (act_in c.of-coming.result) c.args.request before (desk_book new) (Made made) c.of-coming.ensures.act c.in-Made.ensures.requests in
     let next : ℕ × Bool = (c.client_after-client.result.0, c.client_after-client.result.1) in
     let is : next ≡ client_after (kind_of c.args.request) made.reply (mine.client, mine.connected) =
     c.client_after-client.ensures ∙ ap (λ (k : Kind). client_after k made.reply (mine.client, mine.connected)) (c.kind_of-kind.ensures ∙ ap kind_of c.act.ensures.act) in
@@ -152,7 +157,7 @@ returns-in-None g c =
     let caller : IsCaller n mine.client mine.connected (log_of before) =
     first_caller (service_name self) (resting_number mine.pass) n mine.client mine.connected (resting_front mine.pass) before number (mine.seen (service_lock self) (service_name self) c.requires.ours.resting) begins.owned in
     let made = c.in-Made.made in
-    let told = c.in-Made.ensures.requests in
+    let told = told_of (desk_name old) n c.args.reading (act_in c.of-coming.result) c.args.request before (desk_book new) (Made made) c.of-coming.ensures.act c.in-Made.ensures.requests in
     let next : ℕ × Bool = (c.client_after-client.result.0, c.client_after-client.result.1) in
     let is : next ≡ client_after (kind_of c.args.request) made.reply (mine.client, mine.connected) =
     c.client_after-client.ensures ∙ ap (λ (k : Kind). client_after k made.reply (mine.client, mine.connected)) (c.kind_of-kind.ensures ∙ ap kind_of c.act.ensures.act) in
@@ -191,7 +196,7 @@ returns-in-Some g c =
     let caller : IsCaller n mine.client mine.connected (log_of before) =
     first_caller (service_name self) (resting_number mine.pass) n mine.client mine.connected (resting_front mine.pass) before number (mine.seen (service_lock self) (service_name self) c.requires.ours.resting) begins.owned in
     let made = c.in-Made.made in
-    let told = c.in-Made.ensures.requests in
+    let told = told_of (desk_name old) n c.args.reading (act_in c.of-coming.result) c.args.request before (desk_book new) (Made made) c.of-coming.ensures.act c.in-Made.ensures.requests in
     let next : ℕ × Bool = (c.client_after-client.result.0, c.client_after-client.result.1) in
     let is : next ≡ client_after (kind_of c.args.request) made.reply (mine.client, mine.connected) =
     c.client_after-client.ensures ∙ ap (λ (k : Kind). client_after k made.reply (mine.client, mine.connected)) (c.kind_of-kind.ensures ∙ ap kind_of c.act.ensures.act) in
