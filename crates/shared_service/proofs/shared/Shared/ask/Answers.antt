@@ -19,8 +19,8 @@ use Rattle.shared_service.specs.declared.shared.turns.Kind.{Kind}
 use Rattle.shared_service.specs.declared.shared.away.Sent.{Sent}
 use Rattle.shared_service.proofs.Calling.{recorded_once}
 use Rattle.shared_service.proofs.FirstTurn.{after_connected, call_at, call_full, call_poor, enter_after, entered_at, entered_made, extends_at, first_caller, front_at, job_at, job_away, refused_connected, refused_parts, refused_told, requested_parts, seen_after, seen_made, seen_same, sent_none, sent_some}
-use Rattle.shared_service.proofs.Preparing.{comes_of, told_of}
 use Rattle.shared_service.proofs.Longer.{added_some, appends_none, longer_by}
+use Rattle.shared_service.proofs.Preparing.{comes_of, told_of}
 use Rattle.shared_service.proofs.shared.Shared.ask.Goals as goal
 
 pub request-requires-clause-comes : goal.request-requires-clause-comes
