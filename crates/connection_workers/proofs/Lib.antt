@@ -1,3 +1,3 @@
 pub mod Intaking
-pub mod Reaching
 pub mod Rounds
+pub mod Visiting

@@ -1,10 +1,12 @@
 -- What workers did, as far as clauses can tell.
-use Rattle.std.specs.Prelude.{◌≡◌, ◌⊎◌, ◌<◌, ℕ, Bool, true, false, List, length, slice_index_or, Option, Some}
+use Rattle.std.specs.Prelude.{◌≡◌, ◌⊎◌, ◌<◌, ◌≤◌, ℕ, Bool, true, false, List, [], ◌∷◌, length, slice_index_or, Option, Some}
 use Rattle.ks_outside.specs.Carried.{Listened}
+use Rattle.ks_outside.specs.declared.link.Link.{Ghosts as LinkGhosts}
 use Rattle.ks_outside.specs.declared.listener.Listener.{Ghosts as ListenerGhosts}
 use Rattle.rule_model.specs.declared.event.Act.{Act}
 use Rattle.rule_model.specs.declared.reply.Reply.{Reply}
-use Rattle.connections.specs.Talks.{Exchange, Talks}
+use Rattle.connections.specs.Ends.{Serves}
+use Rattle.connections.specs.declared.end.End.{End}
 use Rattle.turn_lock.specs.declared.lock.Pass.{Pass}
 use Rattle.turn_lock.specs.declared.lock.Locked.{Locked}
 use Rattle.turn_lock.specs.declared.view.View.{View}
@@ -16,9 +18,22 @@ use Rattle.connection_workers.specs.declared.serving.Attendance.{Attendance}
 use Rattle.connection_workers.specs.declared.serving.Attendance.TheVariants.{Served, ListenFault, Memory}
 use Rattle.connection_workers.specs.declared.worker.Worker.{Worker}
 
--- one answerer became the other by some calls
-abbrev pub Reaches : {A : Type 0} → (A → Act → Reply → A → Type 0) → A → A → Type 0
-Reaches answers before now = (talk : List Exchange) × Talks answers before talk now
+-- a connection that was served: its link before and after, and how it ended
+pub record Visit (L : Type 0) : Type 0 where
+  pub link : L
+  pub after : L
+  pub end : End
+
+-- One answerer became the other by these connections, one behind another: the requests of each were answered, each when it was due, and
+-- whatever its end was, a client that had come by them was then disconnected.
+abbrev pub Visits : {L A : Type 0} → LinkGhosts L → (A → Act → Reply → A → Type 0) → A → List (Visit L) → A → Type 0
+Visits g answers before [] now = now ≡ before
+Visits {L} {A} g answers before (visit ∷ visits) now =
+    (next : A) × Serves g answers visit.link visit.after before next visit.end × Visits g answers next visits now
+
+-- it did by some connections, and by nothing else
+abbrev pub ByVisits : {L A : Type 0} → LinkGhosts L → (A → Act → Reply → A → Type 0) → A → A → Type 0
+ByVisits {L} g answers before now = (visits : List (Visit L)) × Visits g answers before visits now
 
 -- a pass to an intake
 abbrev pub IntakePass : Type 0 → Type 0
@@ -40,10 +55,10 @@ module _ {B A : Type 0} where
   abbrev pub IsFree : (A → Bool) → Worker B A → Type 0
   IsFree connected worker = (answerer : A) × (answerer_of worker ≡ Some answerer) × (connected answerer ≡ false)
 
-  -- a worker's answerer has gone on by calls, and no client of it is left connected
-  abbrev pub HasServed : (A → Act → Reply → A → Type 0) → (A → Bool) → Worker B A → Worker B A → Type 0
-  HasServed answers connected old new = (before : A) → answerer_of old ≡ Some before
-      → (now : A) × (answerer_of new ≡ Some now) × Reaches answers before now × (connected now ≡ false)
+  -- a worker's answerer has gone on by connections alone, and no client of it is left connected
+  abbrev pub HasServed : {L : Type 0} → LinkGhosts L → (A → Act → Reply → A → Type 0) → (A → Bool) → Worker B A → Worker B A → Type 0
+  HasServed g answers connected old new = (before : A) → answerer_of old ≡ Some before
+      → (now : A) × (answerer_of new ≡ Some now) × ByVisits g answers before now × (connected now ≡ false)
 
   -- its pass is one of this lock
   abbrev pub IsLetIn : IntakeLock B → Worker B A → Type 0
@@ -60,9 +75,9 @@ module _ {B A : Type 0} where
     pub count : length new ≡ length old
     pub same : (k : ℕ) (d : Worker B A) → k < length old → answerer_of (slice_index_or new k d) ≡ answerer_of (slice_index_or old k d)
 
-  abbrev pub AllServed : (A → Act → Reply → A → Type 0) → (A → Bool) → List (Worker B A) → List (Worker B A) → Type 0
-  AllServed answers connected old new =
-      (k : ℕ) (d : Worker B A) → k < length old → HasServed answers connected (slice_index_or old k d) (slice_index_or new k d)
+  abbrev pub AllServed : {L : Type 0} → LinkGhosts L → (A → Act → Reply → A → Type 0) → (A → Bool) → List (Worker B A) → List (Worker B A) → Type 0
+  AllServed g answers connected old new =
+      (k : ℕ) (d : Worker B A) → k < length old → HasServed g answers connected (slice_index_or old k d) (slice_index_or new k d)
 
 -- what the end says of how many links were given, and how often it was said that no more come
 abbrev pub Attends : ℕ → Attendance → ℕ → ℕ → Type 0
@@ -74,6 +89,11 @@ abbrev pub is_fault : Attendance → Bool
 is_fault ListenFault = true
 is_fault attendance = false
 
+-- there was memory to serve
+abbrev pub HadMemory : Attendance → Type 0
+HadMemory Memory = ⊥
+HadMemory attendance = Unit {0}
+
 -- the connections of a listener were attended, so many of them at most: it gave so many links, said so often that no more come, and a
 -- call of it failed exactly where the end says so
 pub record IsAttended {B L : Type 0} (g : ListenerGhosts B L) (connections : ℕ) (old new : B) (attendance : Attendance) : Type 0 where
@@ -81,3 +101,4 @@ pub record IsAttended {B L : Type 0} (g : ListenerGhosts B L) (connections : ℕ
   pub ends : ℕ
   pub listened : Listened g old new links ends (is_fault attendance)
   pub attends : Attends connections attendance links ends
+  pub most : links ≤ connections

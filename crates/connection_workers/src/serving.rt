@@ -3,7 +3,8 @@
 ghost use Rattle.std.specs.Prelude.{◌≡◌, ◌<◌, ◌^◌, ◌+◌, ℕ, true, Some, List, length, slice_index_or};
 ghost use Rattle.turn_lock.specs.Passes.{made_of, IsClosingOf, IsMakerOf, IsPassOf, name_of};
 ghost use Rattle.connection_workers.specs.Intakes.{IsIntake, is_shut};
-ghost use Rattle.connection_workers.specs.Workers.{AllFree, AllLetIn, AllServed, IntakePass, IsAttended, IsLetIn, HasServed, IsFree, SameAnswerers};
+ghost use Rattle.connection_workers.specs.Workers.{AllFree, AllLetIn, AllServed, HadMemory, HasServed, IntakePass, IsAttended, IsFree, IsLetIn, SameAnswerers};
+ghost use Rattle.connection_workers.specs.declared.serving.Attendance.TheVariants.{Memory};
 
 use crate::intake::{Intake, IntakeLock, Start};
 use crate::worker::Worker;
@@ -63,7 +64,7 @@ where
     requires passes { AllLetIn lock.now workers.old }
     requires free { AllFree A.connected workers.old }
     ensures count { length workers.new ≡ length workers.old }
-    ensures served { AllServed A.answers A.connected workers.old workers.new }
+    ensures served { AllServed B.L.Link A.answers A.connected workers.old workers.new }
 {
     let count = workers.len();
     thread::for_each_mut(
@@ -72,7 +73,7 @@ where
         count,
         &|_place: usize, worker: &mut Worker<B, A>|
             requires { IsLetIn lock.now worker.now × IsFree A.connected worker.now }
-            ensures { HasServed A.answers A.connected worker.entry.now worker.exit.now }
+            ensures { HasServed B.L.Link A.answers A.connected worker.entry.now worker.exit.now }
         { worker.work(rt, alloc, lock) },
     );
 }
@@ -96,7 +97,7 @@ fn finish<R: Wait, B: HangsUp, A: Answerer + Drop>(
 )
     requires some { 0 < length workers.old }
     requires free { AllFree A.connected workers.old }
-    ensures served { AllServed A.answers A.connected workers.old workers.new }
+    ensures served { AllServed B.L.Link A.answers A.connected workers.old workers.new }
     ensures goes_on { (start : Start B) → IsIntake B.Listener start intake.old → IsIntake B.Listener start intake.new }
     ensures shut { is_shut intake.new ≡ true }
 {
@@ -108,6 +109,7 @@ fn ended<B: HangsUp>(intake: Intake<B>) -> (B, Attendance)
     requires shut { is_shut intake ≡ true }
     ensures attended { (start : Start B) → IsIntake B.Listener start intake
         → IsAttended B.Listener start.connections start.begin.value result.0 result.1 }
+    ensures memory { HadMemory result.1 }
 {
     let Intake {
         listener,
@@ -122,7 +124,8 @@ fn ended<B: HangsUp>(intake: Intake<B>) -> (B, Attendance)
 }
 
 /// Serves so many connections of a listener, or as many as come, by workers to whose answerers no client has come. Where no thread can be
-/// made they work one after another; what they leave the first of them serves in the end. It takes memory for a lock alone.
+/// made they work one after another; what they leave the first of them serves in the end. It takes memory for a lock alone, and where
+/// that is wanting the workers stay as they are.
 pub fn serve_all<R: Threads + Wait + Sync, B: HangsUp + Send + Drop, A: Answerer + Send + Drop>(
     rt: &R,
     alloc: Global,
@@ -135,7 +138,8 @@ where
     requires some { 0 < length workers.old }
     requires free { AllFree A.connected workers.old }
     ensures attended { IsAttended B.Listener connections listener result.0 result.1 }
-    ensures served { AllServed A.answers A.connected workers.old workers.new }
+    ensures served { AllServed B.L.Link A.answers A.connected workers.old workers.new }
+    ensures unserved { result.1 ≡ Memory → workers.new ≡ workers.old }
 {
     let start = Start {
         begin: Snapshot::of(&listener),

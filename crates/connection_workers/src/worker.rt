@@ -4,7 +4,7 @@ ghost use Rattle.std.specs.Prelude.{◌≡◌, true, false, Some};
 ghost use Rattle.turn_lock.specs.Passes.{IsPassOf};
 ghost use Rattle.connection_workers.specs.Intakes.{IsIntake, is_shut};
 ghost use Rattle.connection_workers.specs.declared.intake.Start.{Start};
-ghost use Rattle.connection_workers.specs.Workers.{HasServed, IntakePass, IsFree, Reaches, answerer_of, pass_of};
+ghost use Rattle.connection_workers.specs.Workers.{ByVisits, HasServed, IntakePass, IsFree, answerer_of, pass_of};
 
 use crate::intake::{Intake, IntakeLock, IntakePass};
 use connections::{Answerer, serve_link};
@@ -77,7 +77,7 @@ fn serve_one<R: Wait, B: HangsUp, A: Answerer>(
     answerer: A,
 ) -> (B::L, A)
     requires client { A.connected answerer ≡ false }
-    ensures reaches { Reaches A.answers answerer result.1 }
+    ensures visits { ByVisits B.L.Link A.answers answerer result.1 }
     ensures client { A.connected result.1 ≡ false }
 {
     let mut link = link;
@@ -95,7 +95,7 @@ fn serve_until_shut<R: Wait, B: HangsUp, A: Answerer>(
 ) -> A
     requires ours { IsPassOf lock.now pass }
     requires client { A.connected answerer ≡ false }
-    ensures reaches { Reaches A.answers answerer result }
+    ensures visits { ByVisits B.L.Link A.answers answerer result }
     ensures client { A.connected result ≡ false }
 {
     'connections: for _ in rt.forever() {
@@ -118,7 +118,7 @@ fn finish_all<R: Wait, B: HangsUp, A: Answerer>(
     mut answerer: A,
 ) -> A
     requires client { A.connected answerer ≡ false }
-    ensures reaches { Reaches A.answers answerer result }
+    ensures visits { ByVisits B.L.Link A.answers answerer result }
     ensures client { A.connected result ≡ false }
     ensures goes_on { (start : Start B) → IsIntake B.Listener start intake.old → IsIntake B.Listener start intake.new }
     ensures shut { is_shut intake.new ≡ true }
@@ -147,7 +147,7 @@ impl<B: HangsUp, A: Answerer + Drop> Worker<B, A> {
     pub(crate) fn work<R: Wait>(&mut self, rt: &R, alloc: Global, lock: &IntakeLock<B>)
         requires ours { (pass : IntakePass B) → pass_of self.old ≡ Some pass → IsPassOf lock.now pass }
         requires free { IsFree A.connected self.old }
-        ensures served { HasServed A.answers A.connected self.old self.new }
+        ensures served { HasServed B.L.Link A.answers A.connected self.old self.new }
     {
         let Some(pass) = self.pass.take() else {
             return;
@@ -161,7 +161,7 @@ impl<B: HangsUp, A: Answerer + Drop> Worker<B, A> {
     /// Serves connections of an intake that no other worker has, until there is none to be taken.
     pub(crate) fn finish<R: Wait>(&mut self, rt: &R, alloc: Global, intake: &mut Intake<B>)
         requires free { IsFree A.connected self.old }
-        ensures served { HasServed A.answers A.connected self.old self.new }
+        ensures served { HasServed B.L.Link A.answers A.connected self.old self.new }
         ensures goes_on { (start : Start B) → IsIntake B.Listener start intake.old → IsIntake B.Listener start intake.new }
         ensures shut { is_shut intake.new ≡ true }
     {

@@ -1,4 +1,4 @@
-use Rattle.connection_workers.proofs.Reaching.{reach_on}
+use Rattle.connection_workers.proofs.Visiting.{visits_on}
 use Rattle.connection_workers.proofs.worker.serve_until_shut.Goals as goal
 
 pub connections-preserved : goal.connections-preserved
@@ -7,6 +7,6 @@ connections-preserved g c =
     let one = c.serve_one-link.ensures in
     record {
       ours = c.hand_back-pass.ensures.ours;
-      reaches = reach_on g.A.Answerer.answers c.args.answerer at.answerer _ at.invariant.reaches one.reaches;
+      visits = visits_on g.B.L.Link g.A.Answerer.answers c.args.answerer at.answerer _ at.invariant.visits one.visits;
       client = one.client;
     }
