@@ -10,7 +10,7 @@ use Rattle.connections.specs.Talks.{Exchange, Talks, Closes}
 use Rattle.connections.specs.Ends.{AnsweredOf, EndsWhole, Serves}
 use Rattle.connections.specs.declared.end.End.{End}
 use Rattle.connections.specs.declared.end.End.TheVariants.{EndOfInput, Truncated, BadFrame, LinkFault, RunFull, Memory}
-use Rattle.connection_workers.specs.Workers.{Reaches}
+use Rattle.connection_workers.specs.Workers.{ByVisits, Visit, Visits}
 use Rattle.shared_service.specs.declared.pass.Pass.{Pass}
 use Rattle.shared_service.specs.declared.shared.Shared.{Shared}
 use Rattle.shared_service.specs.Passes.{IsOurs, number_of}
@@ -30,11 +30,6 @@ module _ {A P : Type 0} (seen : A → P) (R : A → Act → Reply → A → Type
   closes_seen true a b start closed =
       let one = step a Disconnect closed.0 b start closed.1 in
       ((closed.0, one.0, closed.2), one.1)
-
-  reaches_seen : (a b : A) → keeps a → Reaches R a b → Reaches S (seen a) (seen b) × keeps b
-  reaches_seen a b start reached =
-      let all = talks_seen a b reached.0 start reached.1 in
-      ((reached.0, all.0), all.1)
 
   serves_seen : {L : Type 0} (g : LinkGhosts L) (link after : L) (a b : A) (end : End) → keeps a → Serves g R link after a b end → Serves g S link after (seen a) (seen b) end × keeps b
   serves_seen g link after a b end start served =
@@ -63,6 +58,18 @@ module _ {A P : Type 0} (seen : A → P) (R : A → Act → Reply → A → Type
         },
         closes.1,
       )
+
+  visits_seen : {L : Type 0} (g : LinkGhosts L) (a b : A) (visits : List (Visit L)) → keeps a → Visits g R a visits b → Visits g S (seen a) visits (seen b) × keeps b
+  visits_seen g a b [] start same = (ap seen same, subst keeps (sym same) start)
+  visits_seen g a b (visit ∷ visits) start then =
+      let one = serves_seen g visit.link visit.after a then.0 visit.end start then.1 in
+      let rest = visits_seen g then.0 b visits one.1 then.2 in
+      ((seen then.0, one.0, rest.0), rest.1)
+
+  pub visited_seen : {L : Type 0} (g : LinkGhosts L) (a b : A) → keeps a → ByVisits g R a b → ByVisits g S (seen a) (seen b) × keeps b
+  visited_seen g a b start visited =
+      let all = visits_seen g a b visited.0 start visited.1 in
+      ((visited.0, all.0), all.1)
 
   answered_seen : (a : A) (acts more : List Act) → keeps a → AnsweredOf R a acts more → AnsweredOf S (seen a) acts more
   answered_seen a acts more start of = record { talk = of.talk; last = seen of.last; talks = (talks_seen a of.last of.talk start of.talks).0; acts_are = of.acts_are }
@@ -104,10 +111,10 @@ module _ {A D N : Type 0} {d : DiskGhosts D} {n : EntropyGhosts N} (a b : A) (sh
   serves_by g link after end same ours served =
       serves_seen pass_of (Asks shared_of pass_of) (IsAnswered shared) (IsCallerOf shared_of pass_of shared (number_of (pass_of a))) (asks_once shared_of pass_of shared (number_of (pass_of a))) g link after a b end (caller_of shared_of pass_of shared a same ours) served
 
-  pub reaches_by : shared_of a ≡ shared → IsOurs shared (pass_of a) → Reaches (Asks shared_of pass_of) a b
-      → Reaches (IsAnswered shared) (pass_of a) (pass_of b) × IsCallerOf shared_of pass_of shared (number_of (pass_of a)) b
-  reaches_by same ours reached =
-      reaches_seen pass_of (Asks shared_of pass_of) (IsAnswered shared) (IsCallerOf shared_of pass_of shared (number_of (pass_of a))) (asks_once shared_of pass_of shared (number_of (pass_of a))) a b (caller_of shared_of pass_of shared a same ours) reached
+  pub visited_by : {L : Type 0} (g : LinkGhosts L) → shared_of a ≡ shared → IsOurs shared (pass_of a) → ByVisits g (Asks shared_of pass_of) a b
+      → ByVisits g (IsAnswered shared) (pass_of a) (pass_of b) × IsCallerOf shared_of pass_of shared (number_of (pass_of a)) b
+  visited_by g same ours visited =
+      visited_seen pass_of (Asks shared_of pass_of) (IsAnswered shared) (IsCallerOf shared_of pass_of shared (number_of (pass_of a))) (asks_once shared_of pass_of shared (number_of (pass_of a))) g a b (caller_of shared_of pass_of shared a same ours) visited
 
   pub ends_by : (acts : List Act) (end : End) → shared_of a ≡ shared → IsOurs shared (pass_of a) → EndsWhole (Asks shared_of pass_of) a acts end → EndsWhole (IsAnswered shared) (pass_of a) acts end
   ends_by acts end same ours ends =

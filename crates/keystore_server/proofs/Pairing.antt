@@ -1,21 +1,22 @@
 -- Passes become workers and come back, in their order.
 use Rattle.std.proofs.Common.{◌≡◌, ℕ, ◌+◌, ◌-◌, ◌<◌, ◌≤◌, Bool, true, false, List, [], ◌∷◌, ◌++◌, length, length-drop, get_or, drop, suc, Option, Some, None, inl, inr, refl, sym, ap, subst, ◌∙◌, arith}
-use Rattle.std.proofs.lemmas.List.{drop_more, get_or_default}
+use Rattle.std.proofs.lemmas.List.{drop_more, get_or_default, same_lists}
 use Rattle.std.proofs.lemmas.Bool.{cases_lt}
 use Rattle.std.specs.Option.{IsSome}
 use Rattle.std.specs.Prelude.{All}
 use Rattle.ks_outside.specs.declared.disk.Disk.{Ghosts as DiskGhosts}
 use Rattle.ks_outside.specs.declared.entropy.Entropy.{Ghosts as EntropyGhosts}
+use Rattle.ks_outside.specs.declared.link.Link.{Ghosts as LinkGhosts}
 use Rattle.connection_workers.specs.Workers.{AllFree, AllServed, answerer_of}
 use Rattle.connection_workers.specs.declared.worker.Worker.{Worker}
-use Rattle.connection_workers.proofs.Reaching.{reach_none}
+use Rattle.connection_workers.proofs.Visiting.{no_visit}
 use Rattle.shared_service.specs.declared.pass.Pass.{Pass}
 use Rattle.shared_service.specs.declared.shared.Shared.{Shared}
 use Rattle.shared_service.specs.Passes.{IsOurs, connected_of}
 use Rattle.shared_service.proofs.NewPasses.{each_more}
 use Rattle.keystore_server.specs.Calling.{IsAnswered}
 use Rattle.keystore_server.specs.Listening.{AllAnswered, ArePaired, IsIdle, PassServed, PassesServed}
-use Rattle.keystore_server.proofs.Chains.{Asks, reaches_by}
+use Rattle.keystore_server.proofs.Chains.{Asks, visited_by}
 
 -- ---- what is left of a list, from a place on
 
@@ -99,20 +100,21 @@ module _ {B A D N : Type 0} {d : DiskGhosts D} {n : EntropyGhosts N} (workers : 
       let a = paired.each k p w within in
       (a.0, a.1, ap (λ (q : Pass). connected_of q) a.2.1 ∙ idle k p within)
 
-  pub all_answered : (after : List (Worker B A)) → length after ≡ length workers → AllFree (connected pass_of) workers → AllServed (Asks shared_of pass_of) (connected pass_of) workers after → AllAnswered after
-  all_answered after long free served = λ k w less.
+  pub all_answered : {L : Type 0} (g : LinkGhosts L) (after : List (Worker B A)) → length after ≡ length workers → AllFree (connected pass_of) workers
+      → AllServed g (Asks shared_of pass_of) (connected pass_of) workers after → AllAnswered after
+  all_answered g after long free served = λ k w less.
       let within : k < length workers = omega (arith, less, long) in
       let a = free k w within in
       let s = served k w within a.0 a.1 in
       (s.0, s.1)
 
-  pub passes_served : (passes back : List Pass) (after : List (Worker B A)) → All (IsOurs shared) passes → ArePaired passes workers (CallsBy shared_of pass_of shared) → length after ≡ length workers
-      → AllServed (Asks shared_of pass_of) (connected pass_of) workers after → ArePaired back after (HasPass pass_of) → PassesServed shared passes back
-  passes_served passes back after ours paired long served came =
+  pub passes_served : {L : Type 0} (g : LinkGhosts L) (passes back : List Pass) (after : List (Worker B A)) → All (IsOurs shared) passes → ArePaired passes workers (CallsBy shared_of pass_of shared) → length after ≡ length workers
+      → AllServed g (Asks shared_of pass_of) (connected pass_of) workers after → ArePaired back after (HasPass pass_of) → PassesServed g shared passes back
+  passes_served g passes back after ours paired long served came =
       let count = paired.count in
       let again = came.count in
       record { count = omega (arith, count, again, long); each = each } where
-        each : (k : ℕ) (p q : Pass) → k < length passes → PassServed shared (get_or passes k p) (get_or back k q)
+        each : (k : ℕ) (p q : Pass) → k < length passes → PassServed g shared (get_or passes k p) (get_or back k q)
         each k p q less =
             let count = paired.count in
             let again = came.count in
@@ -124,15 +126,34 @@ module _ {B A D N : Type 0} {d : DiskGhosts D} {n : EntropyGhosts N} (workers : 
             let b = came.each k q w there in
             let same : s.0 ≡ b.0 = some_is (answerer_of (get_or after k w)) s.0 b.0 s.1 b.1 in
             let mine : IsOurs shared (pass_of a.0) = subst (λ (o : Pass). IsOurs shared o) (sym a.2.1) (ours k p less) in
-            let reached = reaches_by a.0 s.0 shared_of pass_of shared a.2.0 mine s.2 in
-            let is : PassServed shared (pass_of a.0) (pass_of s.0) = record { ours = reached.1.ours; number = reached.1.number_is; calls = reached.0; idle = s.3 } in
-            subst (λ (z : Pass × Pass). PassServed shared z.0 z.1) (λ i. (a.2.1 i, (ap pass_of same ∙ b.2) i)) is
+            let visited = visited_by a.0 s.0 shared_of pass_of shared g a.2.0 mine s.2 in
+            let is : PassServed g shared (pass_of a.0) (pass_of s.0) = record { ours = visited.1.ours; number = visited.1.number_is; visits = visited.0; idle = s.3 } in
+            subst (λ (z : Pass × Pass). PassServed g shared z.0 z.1) (λ i. (a.2.1 i, (ap pass_of same ∙ b.2) i)) is
+
+  -- where the workers stayed as they were, the passes come back as they went
+  pub passes_unserved : (passes back : List Pass) (after : List (Worker B A)) → ArePaired passes workers (CallsBy shared_of pass_of shared) → after ≡ workers → ArePaired back after (HasPass pass_of) → back ≡ passes
+  passes_unserved passes back after paired same came =
+      let count = paired.count in
+      let again = came.count in
+      let long : length after ≡ length workers = ap (λ (ws : List (Worker B A)). length ws) same in
+      same_lists back passes (omega (arith, count, again, long)) each where
+        each : (k : ℕ) (q : Pass) → k < length back → get_or back k q ≡ get_or passes k q
+        each k q less =
+            let count = paired.count in
+            let again = came.count in
+            let long : length after ≡ length workers = ap (λ (ws : List (Worker B A)). length ws) same in
+            let w : Worker B A = some_of workers k (omega (arith, less, again, long)) in
+            let a = paired.each k q w (omega (arith, less, count, again, long)) in
+            let b = came.each k q w less in
+            let here : answerer_of (get_or workers k w) ≡ Some b.0 = ap (λ (ws : List (Worker B A)). answerer_of (get_or ws k w)) (sym same) ∙ b.1 in
+            let one : b.0 ≡ a.0 = some_is (answerer_of (get_or workers k w)) b.0 a.0 here a.1 in
+            sym b.2 ∙ ap pass_of one ∙ a.2.1
 
 -- nothing was served
-pub passes_same : {D N : Type 0} {d : DiskGhosts D} {n : EntropyGhosts N} (shared : Shared D N d n) (passes : List Pass) → All (IsOurs shared) passes → All IsIdle passes → PassesServed shared passes passes
-passes_same shared passes ours idle = record {
+pub passes_same : {L D N : Type 0} {d : DiskGhosts D} {n : EntropyGhosts N} (g : LinkGhosts L) (shared : Shared D N d n) (passes : List Pass) → All (IsOurs shared) passes → All IsIdle passes → PassesServed g shared passes passes
+passes_same g shared passes ours idle = record {
   count = refl;
   each = λ k p q less.
-      subst (λ (o : Pass). PassServed shared (get_or passes k p) o) (get_or_default passes k p q less)
-      (record { ours = ours k p less; number = refl; calls = reach_none (IsAnswered shared) (get_or passes k p); idle = idle k p less });
+      subst (λ (o : Pass). PassServed g shared (get_or passes k p) o) (get_or_default passes k p q less)
+      (record { ours = ours k p less; number = refl; visits = no_visit g (IsAnswered shared) (get_or passes k p); idle = idle k p less });
 }

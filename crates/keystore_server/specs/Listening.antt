@@ -2,7 +2,8 @@
 use Rattle.std.specs.Prelude.{◌≡◌, ◌<◌, ℕ, false, List, length, slice_index_or, Some}
 use Rattle.ks_outside.specs.declared.disk.Disk.{Ghosts as DiskGhosts}
 use Rattle.ks_outside.specs.declared.entropy.Entropy.{Ghosts as EntropyGhosts}
-use Rattle.connection_workers.specs.Workers.{Reaches, answerer_of}
+use Rattle.ks_outside.specs.declared.link.Link.{Ghosts as LinkGhosts}
+use Rattle.connection_workers.specs.Workers.{ByVisits, answerer_of}
 use Rattle.connection_workers.specs.declared.worker.Worker.{Worker}
 use Rattle.shared_service.specs.declared.pass.Pass.{Pass}
 use Rattle.shared_service.specs.declared.shared.Shared.{Shared}
@@ -24,12 +25,12 @@ module _ {B A : Type 0} where
     pub each : (k : ℕ) (p : Pass) (w : Worker B A) → k < length passes
         → (caller : A) × (answerer_of (slice_index_or workers k w) ≡ Some caller) × Suits (slice_index_or passes k p) caller
 
-module _ {D N : Type 0} {d : DiskGhosts D} {n : EntropyGhosts N} where
-  -- a pass of the service went on by calls alone, and has no client now
+module _ {L D N : Type 0} {d : DiskGhosts D} {n : EntropyGhosts N} (g : LinkGhosts L) where
+  -- a pass of the service went on by connections alone, one behind another, and has no client now
   pub record PassServed (shared : Shared D N d n) (old new : Pass) : Type 0 where
     pub ours : IsOurs shared new
     pub number : number_of new ≡ number_of old
-    pub calls : Reaches (IsAnswered shared) old new
+    pub visits : ByVisits g (IsAnswered shared) old new
     pub idle : IsIdle new
 
   -- each pass did, in their order

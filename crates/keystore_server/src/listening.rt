@@ -2,6 +2,7 @@
 
 ghost use Rattle.std.specs.Prelude.{◌≡◌, ◌<◌, All, length};
 ghost use Rattle.connection_workers.specs.Workers.{AllFree, AllServed, IsAttended};
+ghost use Rattle.connection_workers.specs.declared.serving.Attendance.TheVariants.{Memory};
 ghost use Rattle.shared_service.specs.Passes.{IsOurs};
 ghost use Rattle.keystore_server.specs.Listening.{PassesServed, IsIdle};
 
@@ -29,14 +30,15 @@ where
     requires free { AllFree A.connected workers.old.items }
     ensures attended { IsAttended B.Listener connections listener result.0 result.1 }
     ensures count { length workers.new.items ≡ length workers.old.items }
-    ensures served { AllServed A.answers A.connected workers.old.items workers.new.items }
+    ensures served { AllServed B.L.Link A.answers A.connected workers.old.items workers.new.items }
+    ensures unserved { result.1 ≡ Memory → workers.new.items ≡ workers.old.items }
 {
     serve_all(rt, alloc, listener, connections, workers.as_mut_slice())
 }
 
 /// Serves so many connections of a listener, or as many as come, by passes of the service that have no client, each in a worker of its
 /// own: at once where threads can be made, else one after another. The passes come back in their order. Where memory for the workers is
-/// wanting, nothing is served.
+/// wanting, nothing is served, and they come back as they were.
 pub fn serve_listener<
     R: Threads + Wait + Sync,
     B: HangsUp + Send + Drop,
@@ -60,7 +62,8 @@ where
     requires ours { All (IsOurs shared.now) passes.items }
     requires idle { All IsIdle passes.items }
     ensures attended { IsAttended B.Listener connections listener result.1 result.2 }
-    ensures served { PassesServed shared.now passes.items result.0.items }
+    ensures served { PassesServed B.L.Link shared.now passes.items result.0.items }
+    ensures unserved { result.2 ≡ Memory → result.0.items ≡ passes.items }
 {
     let Ok(mut workers) = Vec::with_capacity(alloc, passes.len()) else {
         return (passes, listener, Attendance::Memory);

@@ -1,10 +1,12 @@
 -- What a service came to.
-use Rattle.std.proofs.Common.{◌≡◌, ℕ, Bool, true, false, List, Some, refl, sym, ap, subst, ◌∙◌}
+use Rattle.std.proofs.Common.{◌≡◌, ◌<◌, ℕ, Bool, true, false, List, [], Some, refl, sym, ap, subst, ◌∙◌}
+use Rattle.std.specs.Prelude.{All}
 use Rattle.ks_outside.proofs.Shown.{counts_none}
 use Rattle.ks_outside.specs.Faults.{CountsFaults, Rises}
 use Rattle.ks_outside.specs.Images.{AllImages, tells}
 use Rattle.ks_outside.specs.declared.disk.Disk.{Ghosts as DiskGhosts}
 use Rattle.ks_outside.specs.declared.entropy.Entropy.{Ghosts as EntropyGhosts}
+use Rattle.ks_outside.specs.declared.link.Link.{Ghosts as LinkGhosts}
 use Rattle.ks_outside.specs.declared.listener.Listener.{Ghosts as ListenerGhosts}
 use Rattle.journal_records.specs.LastingPart.{Lasting}
 use Rattle.key_database.specs.Stands.{held_images}
@@ -21,12 +23,12 @@ use Rattle.service_book.specs.Book.{AreLater, Counts, IsCaused, counts_after, hi
 use Rattle.connection_workers.specs.declared.serving.Attendance.{Attendance}
 use Rattle.connection_workers.specs.declared.serving.Attendance.TheVariants as attendances
 use Rattle.connection_workers.specs.Workers.{IsAttended, is_fault}
-use Rattle.shared_service.specs.Owning.{is_connected}
+use Rattle.shared_service.specs.Owning.{by, is_connected}
 use Rattle.keystore_service.specs.declared.end.ServeEnd.{ServeEnd}
 use Rattle.keystore_service.specs.declared.end.ServeStatus.{ServeStatus}
 use Rattle.keystore_service.specs.declared.end.ServeStatus.TheVariants as statuses
 use Rattle.keystore_service.specs.declared.words.ServeForm.{ServeForm}
-use Rattle.keystore_service.specs.Ends.{Attended, IsCompleted, IsRefused, ServesOn, Wanting, counts_of, is_listen_fault, refusal_of, status_of}
+use Rattle.keystore_service.specs.Ends.{Attended, HasWorked, IsCompleted, IsRefused, ServesOn, Wanting, counts_of, is_listen_fault, refusal_of, status_of}
 
 -- ---- what is on the disk
 
@@ -55,12 +57,13 @@ completed attendances.Served = tt
 completed attendances.ListenFault = tt
 completed attendances.Memory = tt
 
-module _ {B L D N : Type 0} (b : ListenerGhosts B L) (d : DiskGhosts D) (n : EntropyGhosts N) (setup : Setup) (form : ServeForm) (listener : B) (disk : D) (entropy : N) where
+module _ {B L D N : Type 0} (b : ListenerGhosts B L) (l : LinkGhosts L) (d : DiskGhosts D) (n : EntropyGhosts N) (setup : Setup) (form : ServeForm) (listener : B) (disk : D) (entropy : N) where
   pub attended : (last : B) (later : D) (drawn : N) (attendance : Attendance) (status : ServeStatus) (book : List BookEntry) (start : Counts) (connections : ℕ) → status ≡ status_of attendance
       → connections ≡ form.connections → IsAttended b connections listener last attendance → ∥ Legal setup (history_of (log_of book)) ∥₁ → start ≡ counts_of d n disk entropy → ∥ IsCaused start book ∥₁
-      → AreLater (counts_after start (log_of book)) (counts_of d n later drawn) → ((pass : ℕ) → is_connected pass (log_of book) ≡ false) → ∥ AllImages d later (MayHold setup (history_of (log_of book))) ∥₁
-      → ServesOn b d n setup form listener disk entropy (record { status = status; listener = last; disk = later; entropy = drawn; book = Some book })
-  attended last later drawn attendance status book start connections status_is wanted came legal start_is caused counts parted holds = Attended (record {
+      → AreLater (counts_after start (log_of book)) (counts_of d n later drawn) → All (λ (e : BookEntry). by e < form.workers) book → ((pass : ℕ) → pass < form.workers → HasWorked l pass book)
+      → (attendance ≡ attendances.Memory → book ≡ []) → ((pass : ℕ) → is_connected pass (log_of book) ≡ false) → ∥ AllImages d later (MayHold setup (history_of (log_of book))) ∥₁
+      → ServesOn b l d n setup form listener disk entropy (record { status = status; listener = last; disk = later; entropy = drawn; book = Some book })
+  attended last later drawn attendance status book start connections status_is wanted came legal start_is caused counts few worked unserved parted holds = Attended (record {
     book = book;
     book_is = refl;
     attendance = attendance;
@@ -69,25 +72,28 @@ module _ {B L D N : Type 0} (b : ListenerGhosts B L) (d : DiskGhosts D) (n : Ent
     legal = legal;
     caused = subst (λ (s : Counts). ∥ IsCaused s book ∥₁) start_is caused;
     counts = subst (λ (s : Counts). AreLater (counts_after s (log_of book)) (counts_of d n later drawn)) start_is counts;
+    few = few;
+    worked = worked;
+    unserved = unserved;
     parted = parted;
     holds = holds;
   })
 
-  pub serves_listened : (end : ServeEnd B D N) → ServesOn b d n setup form listener disk entropy end → CountsFaults (b.fault_count listener) (b.fault_count end.listener) (is_listen_fault end.status)
+  pub serves_listened : (end : ServeEnd B D N) → ServesOn b l d n setup form listener disk entropy end → CountsFaults (b.fault_count listener) (b.fault_count end.listener) (is_listen_fault end.status)
   serves_listened end (Attended is) =
       subst (λ (t : Bool). CountsFaults (b.fault_count listener) (b.fault_count end.listener) t) (sym (ap is_listen_fault is.status_is ∙ fault_is is.attendance)) is.attended.listened.faults
   serves_listened end (Wanting e) =
       subst (λ (x : ServeEnd B D N). CountsFaults (b.fault_count listener) (b.fault_count x.listener) (is_listen_fault x.status)) (sym e) (counts_none (b.fault_count listener))
 
-  pub serves_disk : (end : ServeEnd B D N) → ServesOn b d n setup form listener disk entropy end → end.status ≡ statuses.DiskFault → ⊥
+  pub serves_disk : (end : ServeEnd B D N) → ServesOn b l d n setup form listener disk entropy end → end.status ≡ statuses.DiskFault → ⊥
   serves_disk end (Attended is) e = no_disk_fault is.attendance (sym is.status_is ∙ e)
   serves_disk end (Wanting same) e = let no : ◌≡◌ {A = ServeStatus} statuses.Memory statuses.DiskFault = sym (ap (λ (x : ServeEnd B D N). x.status) same) ∙ e in cc
 
-  pub serves_usage : (end : ServeEnd B D N) → ServesOn b d n setup form listener disk entropy end → end.status ≡ statuses.Usage → ⊥
+  pub serves_usage : (end : ServeEnd B D N) → ServesOn b l d n setup form listener disk entropy end → end.status ≡ statuses.Usage → ⊥
   serves_usage end (Attended is) e = no_usage is.attendance (sym is.status_is ∙ e)
   serves_usage end (Wanting same) e = let no : ◌≡◌ {A = ServeStatus} statuses.Memory statuses.Usage = sym (ap (λ (x : ServeEnd B D N). x.status) same) ∙ e in cc
 
-  pub serves_completed : (end : ServeEnd B D N) → ServesOn b d n setup form listener disk entropy end → IsCompleted end.status
+  pub serves_completed : (end : ServeEnd B D N) → ServesOn b l d n setup form listener disk entropy end → IsCompleted end.status
   serves_completed end (Attended is) = subst IsCompleted (sym is.status_is) (completed is.attendance)
   serves_completed end (Wanting same) = subst (λ (x : ServeEnd B D N). IsCompleted x.status) (sym same) tt
 

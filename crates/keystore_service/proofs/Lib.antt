@@ -1,3 +1,4 @@
 pub mod Endings
 pub mod Numbering
 pub mod Parting
+pub mod Working

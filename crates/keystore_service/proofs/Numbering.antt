@@ -4,6 +4,7 @@ use Rattle.std.specs.List.{list_any}
 use Rattle.std.specs.Prelude.{All}
 use Rattle.ks_outside.specs.declared.disk.Disk.{Ghosts as DiskGhosts}
 use Rattle.ks_outside.specs.declared.entropy.Entropy.{Ghosts as EntropyGhosts}
+use Rattle.ks_outside.specs.declared.link.Link.{Ghosts as LinkGhosts}
 use Rattle.shared_service.specs.declared.pass.Pass.{Pass}
 use Rattle.shared_service.specs.declared.shared.Shared.{Shared}
 use Rattle.shared_service.specs.Passes.{HasAll, IsOurs, number_of}
@@ -19,7 +20,7 @@ any_same test (x ∷ xs) (y ∷ ys) long each =
     let rest : list_any test ys ≡ list_any test xs = any_same test xs ys (omega (arith, long)) (λ k d e less. each (suc k) d e (omega (arith, less))) in
     λ i. first i || rest i
 
-module _ {D N : Type 0} {d : DiskGhosts D} {n : EntropyGhosts N} (shared : Shared D N d n) (old new : List Pass) (served : PassesServed shared old new) where
+module _ {L D N : Type 0} {d : DiskGhosts D} {n : EntropyGhosts N} (g : LinkGhosts L) (shared : Shared D N d n) (old new : List Pass) (served : PassesServed g shared old new) where
   pub all_ours : All (IsOurs shared) new
   all_ours = λ k p less. let count = served.count in (served.each k p p (omega (arith, less, count))).ours
 

@@ -1,13 +1,17 @@
 -- How a service over a listener ends: what was opened, what was served, what its book says, and what is on the disk.
-use Rattle.std.specs.Prelude.{◌≡◌, ℕ, Bool, true, false, List, Some, None, Err}
+use Rattle.std.specs.Prelude.{◌≡◌, ◌<◌, ℕ, All, Bool, true, false, List, [], Some, None, Err}
 use Rattle.ks_outside.specs.Images.{AllImages, Passes, tells}
+use Rattle.ks_outside.specs.declared.clock.Reading.{Reading}
 use Rattle.ks_outside.specs.declared.disk.Disk.{Ghosts as DiskGhosts}
 use Rattle.ks_outside.specs.declared.entropy.Entropy.{Ghosts as EntropyGhosts}
+use Rattle.ks_outside.specs.declared.link.Link.{Ghosts as LinkGhosts}
 use Rattle.ks_outside.specs.declared.listener.Listener.{Ghosts as ListenerGhosts}
 use Rattle.tags.specs.declared.policy.PolicyRow.{PolicyRow}
 use Rattle.tags.specs.declared.secrets.DeviceSecrets.{DeviceSecrets}
 use Rattle.journal_records.specs.LastingPart.{Lasting}
 use Rattle.key_database.specs.Store.{StandsFor}
+use Rattle.rule_model.specs.declared.event.Act.{Act}
+use Rattle.rule_model.specs.declared.reply.Reply.{Reply}
 use Rattle.rule_model.specs.Legal.{Legal}
 use Rattle.rule_model.specs.Setup.{Setup}
 use Rattle.keystore_core.specs.declared.engine.OpenFault.{OpenFault}
@@ -18,8 +22,11 @@ use Rattle.service_book.specs.declared.entry.BookEntry.{BookEntry}
 use Rattle.service_book.specs.Book.{AreLater, Counts, IsCaused, counts_after, history_of, log_of}
 use Rattle.connection_workers.specs.declared.serving.Attendance.{Attendance}
 use Rattle.connection_workers.specs.declared.serving.Attendance.TheVariants as attendances
-use Rattle.connection_workers.specs.Workers.{IsAttended}
-use Rattle.shared_service.specs.Owning.{is_connected}
+use Rattle.connection_workers.specs.Workers.{ByVisits, IsAttended}
+use Rattle.turn_lock.specs.Fronts.{IsFrontOf}
+use Rattle.shared_service.specs.declared.served.Served.{Served}
+use Rattle.shared_service.specs.Calls.{IsCall}
+use Rattle.shared_service.specs.Owning.{by, is_connected}
 use Rattle.keystore_service.specs.declared.end.ServeEnd.{ServeEnd}
 use Rattle.keystore_service.specs.declared.end.ServeStatus.{ServeStatus}
 use Rattle.keystore_service.specs.declared.end.ServeStatus.TheVariants as statuses
@@ -61,6 +68,20 @@ module _ {D : Type 0} (d : DiskGhosts D) where
     pub finds : (part : Lasting) → AllImages d old (StandsFor part) → tells d old ≡ true → OpensFor part (Err fault)
     pub cause : OpenFaults (d.fault_count old) (d.fault_count new) (Err fault)
 
+-- ---- a worker
+
+-- The pass of this number had seen the one front of the book; it made a call for an act, at some reading, that was answered with this
+-- reply, and has seen the other by then.
+abbrev pub IsCalled : ℕ → List BookEntry → Act → Reply → List BookEntry → Type 0
+IsCalled pass before act reply now = (reading : Reading) × (served : Served) × (served.reply ≡ reply) × ∥ IsCall pass reading act before now served ∥₁
+
+-- What a pass made in the book is what connections had it do, one behind another, from when it had seen nothing: each of their requests
+-- when it was due, and the disconnect of each client that had come.
+pub record HasWorked {L : Type 0} (g : LinkGhosts L) (pass : ℕ) (book : List BookEntry) : Type 0 where
+  pub front : List BookEntry
+  pub visits : ByVisits g (IsCalled pass) [] front
+  pub begins : IsFrontOf by pass front book
+
 -- ---- a service
 
 -- the counts of faults of a disk and an entropy
@@ -71,10 +92,11 @@ counts_of d n disk entropy = record { disk = d.fault_count disk; entropy = n.fau
 abbrev pub unserved : {B D N : Type 0} → B → D → N → ServeEnd B D N
 unserved listener disk entropy = record { status = statuses.Memory; listener = listener; disk = disk; entropy = entropy; book = None }
 
-module _ {B L D N : Type 0} (b : ListenerGhosts B L) (d : DiskGhosts D) (n : EntropyGhosts N) where
+module _ {B L D N : Type 0} (b : ListenerGhosts B L) (l : LinkGhosts L) (d : DiskGhosts D) (n : EntropyGhosts N) where
   -- Connections were attended by one service, which was closed. Its book is legal over the lasting part at the start, and caused since
-  -- the counts of the devices that it began with; the last counts in it are no greater than those of the devices at the end. No pass
-  -- left a client connected. Each image of the disk stands for what may be kept after it.
+  -- the counts of the devices that it began with; the last counts in it are no greater than those of the devices at the end. Each entry
+  -- is of one of the workers that were asked for, each of which made what its connections had it do, and nothing else; where memory for
+  -- them was wanting there is none. No pass left a client connected. Each image of the disk stands for what may be kept after it.
   pub record IsServed (setup : Setup) (form : ServeForm) (listener : B) (disk : D) (entropy : N) (end : ServeEnd B D N) : Type 0 where
     pub book : List BookEntry
     pub book_is : end.book ≡ Some book
@@ -84,6 +106,9 @@ module _ {B L D N : Type 0} (b : ListenerGhosts B L) (d : DiskGhosts D) (n : Ent
     pub legal : ∥ Legal setup (history_of (log_of book)) ∥₁
     pub caused : ∥ IsCaused (counts_of d n disk entropy) book ∥₁
     pub counts : AreLater (counts_after (counts_of d n disk entropy) (log_of book)) (counts_of d n end.disk end.entropy)
+    pub few : All (λ (e : BookEntry). by e < form.workers) book
+    pub worked : (pass : ℕ) → pass < form.workers → HasWorked l pass book
+    pub unserved : attendance ≡ attendances.Memory → book ≡ []
     pub parted : (pass : ℕ) → is_connected pass (log_of book) ≡ false
     pub holds : ∥ AllImages d end.disk (MayHold setup (history_of (log_of book))) ∥₁
 

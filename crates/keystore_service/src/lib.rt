@@ -2,8 +2,9 @@
 //! closed.
 //!
 //! Its one contract is that of `serve_words`: what it came to over the lasting part that the store stood for (`specs/Ends.antt`). With
-//! status `Ok` the listener gave as many links as were wanted, or said that no more come; a status that tells a fault comes where the
-//! device's count rose; and the book that is handed back is legal and caused, and what it keeps is on the disk.
+//! status `Ok` the listener gave as many links as were wanted, or said that no more come, and it never gave more; a status that tells a
+//! fault comes where the device's count rose; and the book that is handed back is legal and caused, what it keeps is on the disk, and
+//! its entries are those of the workers' connections.
 #![tactic(auto)]
 
 mod end;
