@@ -28,8 +28,7 @@ pub record Visit (L : Type 0) : Type 0 where
 -- whatever its end was, a client that had come by them was then disconnected.
 abbrev pub Visits : {L A : Type 0} → LinkGhosts L → (A → Act → Reply → A → Type 0) → A → List (Visit L) → A → Type 0
 Visits g answers before [] now = now ≡ before
-Visits {L} {A} g answers before (visit ∷ visits) now =
-    (next : A) × Serves g answers visit.link visit.after before next visit.end × Visits g answers next visits now
+Visits {L} {A} g answers before (v ∷ visits) now = (next : A) × Serves g answers v.link v.after before next v.end × Visits g answers next visits now
 
 -- it did by some connections, and by nothing else
 abbrev pub ByVisits : {L A : Type 0} → LinkGhosts L → (A → Act → Reply → A → Type 0) → A → A → Type 0

@@ -61,8 +61,8 @@ module _ {A P : Type 0} (seen : A → P) (R : A → Act → Reply → A → Type
 
   visits_seen : {L : Type 0} (g : LinkGhosts L) (a b : A) (visits : List (Visit L)) → keeps a → Visits g R a visits b → Visits g S (seen a) visits (seen b) × keeps b
   visits_seen g a b [] start same = (ap seen same, subst keeps (sym same) start)
-  visits_seen g a b (visit ∷ visits) start then =
-      let one = serves_seen g visit.link visit.after a then.0 visit.end start then.1 in
+  visits_seen g a b (v ∷ visits) start then =
+      let one = serves_seen g v.link v.after a then.0 v.end start then.1 in
       let rest = visits_seen g then.0 b visits one.1 then.2 in
       ((seen then.0, one.0, rest.0), rest.1)
 

@@ -89,8 +89,8 @@ abbrev pub counts_of : {D N : Type 0} → DiskGhosts D → EntropyGhosts N → D
 counts_of d n disk entropy = record { disk = d.fault_count disk; entropy = n.fault_count entropy }
 
 -- the end of a service for which there was no memory
-abbrev pub unserved : {B D N : Type 0} → B → D → N → ServeEnd B D N
-unserved listener disk entropy = record { status = statuses.Memory; listener = listener; disk = disk; entropy = entropy; book = None }
+abbrev pub without_memory : {B D N : Type 0} → B → D → N → ServeEnd B D N
+without_memory listener disk entropy = record { status = statuses.Memory; listener = listener; disk = disk; entropy = entropy; book = None }
 
 module _ {B L D N : Type 0} (b : ListenerGhosts B L) (l : LinkGhosts L) (d : DiskGhosts D) (n : EntropyGhosts N) where
   -- Connections were attended by one service, which was closed. Its book is legal over the lasting part at the start, and caused since
@@ -115,7 +115,7 @@ module _ {B L D N : Type 0} (b : ListenerGhosts B L) (l : LinkGhosts L) (d : Dis
   -- over a store that was opened connections were attended; or there was no memory for the service
   pub data ServesOn (setup : Setup) (form : ServeForm) (listener : B) (disk : D) (entropy : N) (end : ServeEnd B D N) : Type 0 where
     Attended : IsServed setup form listener disk entropy end → ServesOn setup form listener disk entropy end
-    Wanting : end ≡ unserved listener disk entropy → ServesOn setup form listener disk entropy end
+    Wanting : end ≡ without_memory listener disk entropy → ServesOn setup form listener disk entropy end
 
   -- nothing was taken from the listener and nothing drawn, and there is no book
   pub record IsApart (listener : B) (entropy : N) (end : ServeEnd B D N) : Type 0 where

@@ -8,7 +8,7 @@ ghost use Rattle.key_database.specs.Store.{StandsFor};
 ghost use Rattle.rule_model.specs.Setup.{Setup};
 ghost use Rattle.keystore_core.specs.Engine.{Stands, StandsAtFirst, StoreStands};
 ghost use Rattle.keystore_service.specs.declared.end.ServeStatus.TheVariants as statuses;
-ghost use Rattle.keystore_service.specs.Ends.{IsCompleted, Serves, ServesOn, is_listen_fault, refusal_of, status_of, unserved};
+ghost use Rattle.keystore_service.specs.Ends.{IsCompleted, Serves, ServesOn, is_listen_fault, refusal_of, status_of, without_memory};
 ghost use Rattle.keystore_service.specs.Words.{IsWithin, form_of};
 
 use crate::end::{ServeEnd, ServeStatus};
@@ -50,8 +50,8 @@ fn status_after(attendance: Attendance) -> ServeStatus
 }
 
 /// The end of a service for which there was no memory.
-fn ended_unserved<B, D, N>(listener: B, back: (NoMemory, Engine, D, N)) -> ServeEnd<B, D, N>
-    ensures { result ≡ unserved listener back.2 back.3 }
+fn ended_without_memory<B, D, N>(listener: B, back: (NoMemory, Engine, D, N)) -> ServeEnd<B, D, N>
+    ensures { result ≡ without_memory listener back.2 back.3 }
 {
     let (NoMemory, _engine, disk, entropy) = back;
     ServeEnd {
@@ -111,7 +111,7 @@ where
                 book: Some(book),
             }
         }
-        Err(back) => ended_unserved(listener, back),
+        Err(back) => ended_without_memory(listener, back),
     }
 }
 
