@@ -1,6 +1,6 @@
 //! What the book of a service has of a connection.
 
-use crate::service::{Disks, Outcome, Told, listener_of, outcome_of};
+use crate::service::{FORMATTED, Links, Outcome, Told, outcome_of};
 use crate::sessions::{ROWS, Row, replies};
 use keystore_service::ServeStatus;
 use ks_outside::OpenGate;
@@ -10,28 +10,18 @@ use std::thread::Threads;
 
 /// What comes of a service of the row's connection alone.
 fn outcome_of_row<R: Threads + Wait + Sync>(rt: &R, alloc: Global, row: Row) -> Option<Outcome> {
-    let Row {
-        sent,
-        failing,
-        written,
-        ..
-    } = row;
-    let texts = [sent];
-    let wanted = [replies(written)];
+    let texts = [row.sent];
+    let wanted = [replies(row.written)];
+    let sent = Links {
+        texts: &texts,
+        cut: row.failing,
+        failing: &[],
+    };
     let told = Told {
         front: 0,
         texts: &wanted,
     };
-    let listener = listener_of(alloc, &texts, failing, &[])?;
-    outcome_of(
-        rt,
-        alloc,
-        "serve 0 1 1",
-        Disks::Formatted,
-        listener,
-        &OpenGate,
-        told,
-    )
+    outcome_of(rt, alloc, "serve 0 1 1", FORMATTED, sent, &OpenGate, told)
 }
 
 // Whatever the end is, a client that has come is disconnected.

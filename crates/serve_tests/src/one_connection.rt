@@ -3,8 +3,8 @@
 ghost use Rattle.std.specs.Prelude.{◌≡◌, ◌≤◌, None, false, length, IfOk, IfSome};
 ghost use Rattle.shared_service.specs.Passes.{IsOurs, connected_of};
 
-use crate::service::{Disks, NOW, disk_of, link_of};
-use crate::sessions::{ROWS, Row, SESSION, cut_end, replies};
+use crate::service::{FORMATTED, NOW, disk_of, link_of};
+use crate::sessions::{ROWS, SESSION, cut_end, replies};
 use connections::End;
 use disk_model::MemoryDisk;
 use keystore_core::Engine;
@@ -23,17 +23,23 @@ fn opened(alloc: Global) -> Option<(Service, Pass)>
     ensures free { IfSome result (λ r. connected_of r.1 ≡ false) }
 {
     let policy = Policy::demo(alloc).ok()?;
-    let mut disk = disk_of(alloc, Disks::Formatted)?;
+    let mut disk = disk_of(alloc, FORMATTED)?;
     let device = DeviceSecrets::demo();
-    let Ok(engine) = Engine::open(alloc, &device, &policy, 16, &mut disk) else {
-        return None;
+    let engine = match Engine::open(alloc, &device, &policy, 16, &mut disk) {
+        Ok(engine) => engine,
+        Err(_) => return None,
     };
-    let entropy = SteadyEntropy::counting();
-    let Ok((shared, mut passes)) = Shared::new(alloc, engine, disk, entropy, 1) else {
-        return None;
-    };
-    let pass = passes.swap_remove(0);
-    Some((shared, pass))
+    drop(policy);
+    match Shared::new(alloc, engine, disk, SteadyEntropy::counting(), 1) {
+        Ok((shared, mut passes)) => {
+            let pass = passes.swap_remove(0);
+            Some((shared, pass))
+        }
+        Err(back) => {
+            drop(back);
+            None
+        }
+    }
 }
 
 /// How a connection ends.
@@ -63,14 +69,7 @@ fn ends<R: Wait>(
 #[test]
 fn each_connection_ends_as_it_should(rt: HostRuntime) {
     for row in &ROWS {
-        let Row {
-            sent,
-            failing,
-            end,
-            written,
-            ..
-        } = *row;
-        let as_wanted = ends(&rt, rt.alloc(), sent, failing, end, written);
+        let as_wanted = ends(&rt, rt.alloc(), row.sent, row.failing, row.end, row.written);
         assert!(&rt; as_wanted);
     }
 }

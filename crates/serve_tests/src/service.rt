@@ -1,9 +1,8 @@
 //! A service over connections and a store in memory.
 
 use disk_model::{MemoryDisk, Room};
-use keystore_core::Engine;
 use keystore_service::{ServeStatus, serve_words};
-use ks_outside::{FixedClock, Gate, MemoryLink, MemoryListener, Reading, SteadyEntropy};
+use ks_outside::{Disk, FixedClock, Gate, MemoryLink, MemoryListener, Reading, SteadyEntropy};
 use rule_model::{Act, Entry};
 use service_book::{Book, BookEntry};
 use std::alloc::Global;
@@ -29,15 +28,25 @@ pub(crate) const NOW: Reading = Reading {
     wall: 1000,
 };
 
-/// What a disk holds.
+/// What a disk holds, which takes its first call, and which of its calls fail, counted from 1.
 #[derive(Clone, Copy)]
-pub(crate) enum Disks {
-    /// an empty store
-    Formatted,
-    /// nothing
-    Empty,
-    /// nothing, and its first call fails
-    Failing,
+pub(crate) struct Held {
+    pub(crate) bytes: &'static [u8],
+    pub(crate) failing: &'static [u64],
+}
+
+/// The journal of an empty store.
+pub(crate) const FORMATTED: Held = Held {
+    bytes: b"KSJRNL01\0",
+    failing: &[],
+};
+
+/// What each link sends, which calls of each fail, and which of the listener, counted from 1.
+#[derive(Clone, Copy)]
+pub(crate) struct Links<'a> {
+    pub(crate) texts: &'a [&'a [u8]],
+    pub(crate) cut: &'a [u64],
+    pub(crate) failing: &'a [u64],
 }
 
 /// What links wrote: so many bytes, and behind them one of these texts.
@@ -48,7 +57,7 @@ pub(crate) struct Told<'a> {
 }
 
 /// What came of a service.
-#[derive(Clone, Copy, Debug, PartialEq, Eq)]
+#[derive(Clone, Copy, PartialEq)]
 pub(crate) struct Outcome {
     pub(crate) status: ServeStatus,
     /// how many links the listener gave
@@ -61,20 +70,11 @@ pub(crate) struct Outcome {
     pub(crate) gone: usize,
 }
 
-/// A disk in memory.
-pub(crate) fn disk_of(alloc: Global, disk: Disks) -> Option<MemoryDisk<'static>> {
-    let failing: &[u64] = match disk {
-        Disks::Failing => &[1],
-        _ => &[],
-    };
-    let mut memory = MemoryDisk::with_room(alloc, ROOM, failing).ok()?;
-    match disk {
-        Disks::Formatted => match Engine::format(&mut memory) {
-            Ok(()) => Some(memory),
-            Err(_) => None,
-        },
-        _ => Some(memory),
-    }
+/// A disk in memory. A write for which memory is wanting shows in what comes of the disk.
+pub(crate) fn disk_of(alloc: Global, held: Held) -> Option<MemoryDisk<'static>> {
+    let mut disk = MemoryDisk::with_room(alloc, ROOM, held.failing).ok()?;
+    let _ = disk.write_at(0, held.bytes);
+    Some(disk)
 }
 
 /// A link that gives these bytes; its calls with these numbers fail.
@@ -86,42 +86,45 @@ pub(crate) fn link_of<'a>(
     MemoryLink::with_room(alloc, bytes, WRITTEN, WRITES, failing).ok()
 }
 
-/// A listener with a link for each of these texts; their calls with the numbers `cut` fail, and its own with the numbers `failing`.
-pub(crate) fn listener_of<'a>(
-    alloc: Global,
-    texts: &'a [&'a [u8]],
-    cut: &'a [u64],
-    failing: &'a [u64],
-) -> Option<MemoryListener<'a>> {
+/// A listener of such links.
+fn listener_of<'a>(alloc: Global, sent: Links<'a>) -> Option<MemoryListener<'a>> {
     let mut links = Vec::new(alloc);
-    for text in texts {
-        links.push(link_of(alloc, *text, cut)?).ok()?;
+    for text in sent.texts {
+        links.push(link_of(alloc, *text, sent.cut)?).ok()?;
     }
-    MemoryListener::with_links(alloc, links, failing).ok()
+    MemoryListener::with_links(alloc, links, sent.failing).ok()
 }
 
-fn words_of(alloc: Global, text: &str) -> Option<Vec<String>> {
+/// The words of a text, but those for which memory is wanting, which shows in the status.
+fn words_of(alloc: Global, text: &str) -> Vec<String> {
     let mut words = Vec::new(alloc);
     for word in text.split_whitespace() {
-        words.push(String::from_str(alloc, word).ok()?).ok()?;
+        if let Ok(word) = String::from_str(alloc, word) {
+            let _ = words.push(word);
+        }
     }
-    Some(words)
+    words
 }
 
 /// Whether this is what was wanted.
 fn is_told(written: &[u8], told: Told<'_>) -> bool {
-    let Some(rest) = written.get(told.front..) else {
-        return false;
-    };
-    told.texts.iter().any(|text| rest == *text)
+    let rest = written.get(told.front..);
+    let mut same = false;
+    for text in told.texts {
+        same |= rest == Some(*text);
+    }
+    same
 }
 
 /// How many links wrote what was wanted.
 fn links_that_told(links: &[MemoryLink<'_>], told: Told<'_>) -> usize {
-    links
-        .iter()
-        .filter(|link| is_told(link.written(), told))
-        .count()
+    let mut count = 0usize;
+    for link in links {
+        if is_told(link.written(), told) {
+            count = count.saturating_add(1);
+        }
+    }
+    count
 }
 
 /// Whether an entry is the disconnect of a client.
@@ -135,13 +138,23 @@ fn is_disconnect(entry: &BookEntry) -> bool {
     }
 }
 
+/// How many entries are the disconnect of a client.
+fn disconnects(entries: &[BookEntry]) -> usize {
+    let mut count = 0usize;
+    for entry in entries {
+        if is_disconnect(entry) {
+            count = count.saturating_add(1);
+        }
+    }
+    count
+}
+
 /// How many entries a book has, and how many of them are the disconnect of a client.
 fn counts_of(book: &Option<Book>) -> (Option<usize>, usize) {
     match book {
         Some(book) => {
             let entries = book.entries();
-            let gone = entries.iter().filter(|entry| is_disconnect(*entry)).count();
-            (Some(entries.len()), gone)
+            (Some(entries.len()), disconnects(entries))
         }
         None => (None, 0),
     }
@@ -180,27 +193,22 @@ fn outcome_over<R: Threads + Wait + Sync, G: Gate + Sync>(
     }
 }
 
-/// What comes of the words over such a disk and a listener; `None` where memory is wanting before.
+/// What comes of the words over such a disk and such links; `None` where memory is wanting before.
 pub(crate) fn outcome_of<R: Threads + Wait + Sync, G: Gate + Sync>(
     rt: &R,
     alloc: Global,
     words: &str,
-    disk: Disks,
-    listener: MemoryListener<'_>,
+    held: Held,
+    sent: Links<'_>,
     gate: &G,
     told: Told<'_>,
 ) -> Option<Outcome> {
-    let words = words_of(alloc, words)?;
     let policy = Policy::demo(alloc).ok()?;
-    let disk = disk_of(alloc, disk)?;
+    let disk = disk_of(alloc, held)?;
+    let listener = listener_of(alloc, sent)?;
+    let words = words_of(alloc, words);
+    let words = words.as_slice();
     Some(outcome_over(
-        rt,
-        alloc,
-        words.as_slice(),
-        &policy,
-        listener,
-        disk,
-        gate,
-        told,
+        rt, alloc, words, &policy, listener, disk, gate, told,
     ))
 }

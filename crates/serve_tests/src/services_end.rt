@@ -1,6 +1,6 @@
 //! How services end.
 
-use crate::service::{Disks, Outcome, Told, listener_of, outcome_of};
+use crate::service::{FORMATTED, Held, Links, Outcome, Told, outcome_of};
 use crate::sessions::CONNECT;
 use keystore_service::ServeStatus;
 use ks_outside::OpenGate;
@@ -12,7 +12,7 @@ use std::thread::Threads;
 #[derive(Clone, Copy)]
 struct Row {
     words: &'static str,
-    disk: Disks,
+    disk: Held,
     /// which calls of the listener fail, counted from 1
     failing: &'static [u64],
     status: ServeStatus,
@@ -22,10 +22,21 @@ struct Row {
     has_book: bool,
 }
 
+/// A disk that holds nothing, and one whose second call fails, the first of an opening.
+const EMPTY: Held = Held {
+    bytes: b"",
+    failing: &[],
+};
+
+const FAILING: Held = Held {
+    bytes: b"",
+    failing: &[2],
+};
+
 /// A service that was not there.
 const REFUSED: Row = Row {
     words: "run",
-    disk: Disks::Formatted,
+    disk: FORMATTED,
     failing: &[],
     status: ServeStatus::Usage,
     served: 0,
@@ -35,7 +46,7 @@ const REFUSED: Row = Row {
 /// A service that served both.
 const SERVED: Row = Row {
     words: "serve 0 2 2",
-    disk: Disks::Formatted,
+    disk: FORMATTED,
     failing: &[],
     status: ServeStatus::Ok,
     served: 2,
@@ -82,13 +93,13 @@ static ROWS: [Row; 11] = [
     },
     Row {
         words: "serve 0 1 1",
-        disk: Disks::Empty,
+        disk: EMPTY,
         status: ServeStatus::Corrupted { offset: 0 },
         ..REFUSED
     },
     Row {
         words: "serve 0 1 1",
-        disk: Disks::Failing,
+        disk: FAILING,
         status: ServeStatus::DiskFault,
         ..REFUSED
     },
@@ -99,39 +110,28 @@ static CLIENTS: [&[u8]; 2] = [&[1], &[2]];
 
 /// What comes of the row's service.
 fn outcome_of_row<R: Threads + Wait + Sync>(rt: &R, alloc: Global, row: Row) -> Option<Outcome> {
-    let Row {
-        words,
-        disk,
-        failing,
-        ..
-    } = row;
     let texts: [&[u8]; 2] = [&CONNECT, &CONNECT];
+    let sent = Links {
+        texts: &texts,
+        cut: &[],
+        failing: row.failing,
+    };
     let told = Told {
         front: 18,
         texts: &CLIENTS,
     };
-    let listener = listener_of(alloc, &texts, &[], failing)?;
-    outcome_of(rt, alloc, words, disk, listener, &OpenGate, told)
+    outcome_of(rt, alloc, row.words, row.disk, sent, &OpenGate, told)
 }
 
 /// What is wanted of it.
 fn wanted_of(row: Row) -> Outcome {
-    let Row {
-        status,
-        served,
-        has_book,
-        ..
-    } = row;
+    let entries = row.served.saturating_mul(2);
     Outcome {
-        status,
-        given: served as u64,
-        told: served,
-        entries: if has_book {
-            Some(served.saturating_mul(2))
-        } else {
-            None
-        },
-        gone: served,
+        status: row.status,
+        given: row.served as u64,
+        told: row.served,
+        entries: if row.has_book { Some(entries) } else { None },
+        gone: row.served,
     }
 }
 

@@ -1,7 +1,7 @@
 //! Two connections at once: a work of the one goes on while the gate holds one of the other. A service that served one connection behind
 //! the other, or that did its works under the lock, would never end the gate's wait.
 
-use crate::service::{Disks, Outcome, Told, listener_of, outcome_of};
+use crate::service::{FORMATTED, Links, Outcome, Told, outcome_of};
 use keystore_service::ServeStatus;
 use ks_outside::Gate;
 use std::alloc::Global;
@@ -13,7 +13,7 @@ use std::thread::Threads;
 const LOOKS: u64 = 1_000_000_000;
 
 /// Holds ticket 1 until it is called with ticket 2, and counts where it gave up.
-#[derive(Clone, Copy)]
+#[derive(Drop)]
 struct Holding<'a> {
     second: &'a AtomicU64,
     missed: &'a AtomicU64,
@@ -42,7 +42,7 @@ fn is_raised(flag: &AtomicU64) -> bool {
 
 /// A connect with uid 10001, an import of the HMAC key m of twenty bytes 0b, a begin of a mac with it, and an update of operation 1 and
 /// one of operation 2, of a byte each.
-const ONE: [u8; 195] = [
+static ONE: [u8; 195] = [
     0, 0, 0, 5, 1, 0, 0, 0x27, 0x11, 0, 0, 0, 0x63, 4, 0, 0, 0, 0, 0, 0, 0, 0, 0, 0, 0, 0, 1, 0, 0,
     0, 1, 0x6d, 0, 0, 0, 0, 0x2f, 0, 6, 0x20, 0, 0, 1, 0, 0, 0, 2, 0x20, 0, 0, 1, 0, 0, 0, 3, 0x10,
     0, 0, 2, 0, 0, 0, 0x80, 0x20, 0, 0, 5, 0, 0, 0, 4, 0x30, 0, 0, 8, 0, 0, 0, 0x40, 0x70, 0, 1,
@@ -52,21 +52,6 @@ const ONE: [u8; 195] = [
     14, 7, 0, 0, 0, 0, 0, 0, 0, 1, 0, 0, 0, 1, 0x61, 0, 0, 0, 14, 7, 0, 0, 0, 0, 0, 0, 0, 2, 0, 0,
     0, 1, 0x61,
 ];
-
-/// The same with uid 10002.
-const OTHER: [u8; 195] = [
-    0, 0, 0, 5, 1, 0, 0, 0x27, 0x12, 0, 0, 0, 0x63, 4, 0, 0, 0, 0, 0, 0, 0, 0, 0, 0, 0, 0, 1, 0, 0,
-    0, 1, 0x6d, 0, 0, 0, 0, 0x2f, 0, 6, 0x20, 0, 0, 1, 0, 0, 0, 2, 0x20, 0, 0, 1, 0, 0, 0, 3, 0x10,
-    0, 0, 2, 0, 0, 0, 0x80, 0x20, 0, 0, 5, 0, 0, 0, 4, 0x30, 0, 0, 8, 0, 0, 0, 0x40, 0x70, 0, 1,
-    0xf7, 1, 0, 0, 0, 3, 0, 0, 0, 0x14, 11, 11, 11, 11, 11, 11, 11, 11, 11, 11, 11, 11, 11, 11, 11,
-    11, 11, 11, 11, 11, 0, 0, 0, 0x2b, 5, 0, 0, 0, 0, 0, 0, 0, 0, 0, 0, 0, 0, 1, 0, 0, 0, 1, 0x6d,
-    0, 0, 0, 0, 0x12, 0, 2, 0x20, 0, 0, 1, 0, 0, 0, 2, 0x30, 0, 3, 0xeb, 0, 0, 1, 0, 0, 0, 0, 0,
-    14, 7, 0, 0, 0, 0, 0, 0, 0, 1, 0, 0, 0, 1, 0x61, 0, 0, 0, 14, 7, 0, 0, 0, 0, 0, 0, 0, 2, 0, 0,
-    0, 1, 0x61,
-];
-
-/// What both send.
-static SENT: [&[u8]; 2] = [&ONE, &OTHER];
 
 /// The replies to the updates, behind three of 19 bytes: that of an operation of one's own puts nothing out, that of another's has code -28
 /// by S1; in this order or the other.
@@ -79,19 +64,25 @@ static UPDATES: [&[u8]; 2] = [
     ],
 ];
 
-/// What comes of a service of both under a gate.
+/// What comes of a service of both under a gate; the other one's uid is 10002.
 fn outcome_under<R: Threads + Wait + Sync>(
     rt: &R,
     alloc: Global,
     gate: &Holding<'_>,
 ) -> Option<Outcome> {
+    let mut other = ONE;
+    other[8] = 0x12;
+    let texts: [&[u8]; 2] = [&ONE, &other];
+    let sent = Links {
+        texts: &texts,
+        cut: &[],
+        failing: &[],
+    };
     let told = Told {
         front: 57,
         texts: &UPDATES,
     };
-    let listener = listener_of(alloc, &SENT, &[], &[])?;
-    let words = "serve 0 2 2";
-    outcome_of(rt, alloc, words, Disks::Formatted, listener, gate, told)
+    outcome_of(rt, alloc, "serve 0 2 2", FORMATTED, sent, gate, told)
 }
 
 /// Serves both under the gate: what came of it, and whether the gate gave up.
