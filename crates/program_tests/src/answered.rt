@@ -80,17 +80,22 @@ impl Sink for Answering<'_> {
     ghost fault_count = { λ _. 0 };
 
     fn write(&mut self, piece: &[u8]) -> Result<usize, Failed> {
-        let ends = piece.iter().filter(|byte| **byte == b'\n').count();
-        self.answered.set(self.answered.get().saturating_add(ends));
+        let mut ends = self.answered.get();
+        for byte in piece {
+            if *byte == b'\n' {
+                ends = ends.saturating_add(1);
+            }
+        }
+        self.answered.set(ends);
         Ok(piece.len())
     }
 }
 
 /// How a run ends whose client waits for each answer, and how many lines were answered.
 fn answered(alloc: Global) -> Option<(Status, usize)> {
-    let words = words_of(alloc, "run --fresh").ok()?;
     let policy = Policy::demo(alloc).ok()?;
     let mut disk = MemoryDisk::with_room(alloc, ROOM, &[]).ok()?;
+    let words = words_of(alloc, "run --fresh");
     let answered = Cell::new(0usize);
     let mut source = Asking {
         lines: &LINES,

@@ -3,7 +3,7 @@
 use disk_model::{MemoryDisk, Room};
 use keystore_run::{Status, run_words};
 use ks_outside::{Disk, MemoryEntropy, MemorySink, MemorySource, Sink, Source};
-use std::alloc::{AllocError, Global};
+use std::alloc::Global;
 use std::process::Abort;
 use std::str;
 use tags::{DeviceSecrets, Policy};
@@ -82,13 +82,15 @@ impl Ended<'_> {
     }
 }
 
-/// The words of a text.
-pub fn words_of(alloc: Global, text: &str) -> Result<Vec<String>, AllocError> {
+/// The words of a text, but those for which memory is wanting, which shows in the status.
+pub fn words_of(alloc: Global, text: &str) -> Vec<String> {
     let mut words = Vec::new(alloc);
     for word in text.split_whitespace() {
-        words.push(String::from_str(alloc, word)?)?;
+        if let Ok(word) = String::from_str(alloc, word) {
+            let _ = words.push(word);
+        }
     }
-    Ok(words)
+    words
 }
 
 /// Runs words over the demo device.
@@ -118,9 +120,9 @@ impl<'a> Outside<'a> {
     /// Runs over a disk, with the demo device and policy, where there is memory for what stands outside.
     pub fn run<D: Disk>(&self, alloc: Global, disk: &mut D) -> Option<Ended<'a>> {
         let room = self.script.len().saturating_add(16_384);
-        let words = words_of(alloc, self.words).ok()?;
         let policy = Policy::demo(alloc).ok()?;
         let mut sink = MemorySink::with_room(alloc, room, room, self.writes).ok()?;
+        let words = words_of(alloc, self.words);
         let mut source = MemorySource::new(self.script.as_bytes(), self.reads);
         let status = run_on(
             alloc,
@@ -158,14 +160,14 @@ pub type Row = (&'static str, &'static str);
 /// The lines of runs in turn over one disk.
 pub type Runs = &'static [&'static [Row]];
 
-/// The lines of rows, each with its LF.
-fn script_of(alloc: Global, rows: &[Row]) -> Result<String, AllocError> {
+/// The lines of rows, each with its LF. Where memory is wanting a line is cut, and gets another reply.
+fn script_of(alloc: Global, rows: &[Row]) -> String {
     let mut script = String::new(alloc);
     for (line, _) in rows {
-        script.push_str(line)?;
-        script.push('\n')?;
+        let _ = script.push_str(line);
+        let _ = script.push('\n');
     }
-    Ok(script)
+    script
 }
 
 /// What stands behind a reply and its LF.
@@ -192,9 +194,7 @@ fn first_other(ended: &Ended, rows: &[Row]) -> Option<usize> {
 
 /// The same of a run over a disk.
 fn other_on(alloc: Global, outside: Outside, rows: &[Row], disk: &mut MemoryDisk) -> Option<usize> {
-    let Ok(script) = script_of(alloc, rows) else {
-        return Some(0);
-    };
+    let script = script_of(alloc, rows);
     let script = script.as_str();
     match (Outside { script, ..outside }).run(alloc, disk) {
         Some(ended) => first_other(&ended, rows),
