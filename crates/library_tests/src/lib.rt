@@ -11,6 +11,8 @@ mod blobs;
 #[cfg(test)]
 mod blocks;
 #[cfg(test)]
+mod broken;
+#[cfg(test)]
 mod descriptors;
 #[cfg(test)]
 mod foreign_blobs;

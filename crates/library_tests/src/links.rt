@@ -1,11 +1,12 @@
 //! What links, listeners, clocks and a gate answer to the calls of a table.
 
+use crate::broken::Broken;
 use ks_outside::{
     Clock, Failed, FixedClock, Gate, Link, Listener, MachineClock, MemoryLink, MemoryListener,
     OpenGate, Reading, StreamLink,
 };
 use std::alloc::{AllocError, Global};
-use std::io::{Error, ErrorKind, Read, Write};
+use std::io::{Error, ErrorKind};
 use std::test::Fail;
 use std::time::Duration;
 use std::{io, time};
@@ -68,32 +69,6 @@ fn links_in_memory(rt: HostRuntime) -> Result<(), Fail> {
     let told = answers_in_memory(MemoryLink::with_room(rt.alloc(), b"abcde", 3, 1, &[2, 5])?);
     assert_eq!(rt; told, (true, true, 2));
     Ok(())
-}
-
-/// A stream that fails at each call, or takes nothing.
-#[derive(Drop)]
-struct Broken {
-    fails: bool,
-}
-
-impl Read for Broken {
-    fn read(&mut self, _buf: &mut [u8]) -> io::Result<usize> {
-        Err(Error::from(ErrorKind::Other))
-    }
-}
-
-impl Write for Broken {
-    fn write(&mut self, _buf: &[u8]) -> io::Result<usize> {
-        if self.fails {
-            Err(Error::from(ErrorKind::Other))
-        } else {
-            Ok(0)
-        }
-    }
-
-    fn flush(&mut self) -> io::Result<()> {
-        Ok(())
-    }
 }
 
 static FAILING: [Call; 2] = [Call::Read(3, None), Call::Write(b"a", None)];

@@ -96,7 +96,10 @@ fn gives(keyed: &Hmac, digest: u8, size: usize, text: &[u8], mac: &[u8]) -> bool
     }
     let mut out = [0x55u8; 64];
     let end = cut.finish(&mut out);
-    let rest = out[end..].iter().all(|byte| *byte == 0x55);
+    let mut rest = true;
+    for byte in &out[end..] {
+        rest &= *byte == 0x55;
+    }
     end == digest_size(digest) && &out[..end] == mac && rest
 }
 

@@ -1,5 +1,6 @@
 //! What sources, sinks, entropies, a cursor and files answer to the calls of a table.
 
+use crate::broken::Broken;
 use ks_outside::{
     Cursor, DeviceEntropy, Disk, EmptyDisk, Entropy, Failed, MemoryEntropy, MemorySink,
     MemorySource, ReaderSource, SeededEntropy, Sink, Source, SteadyEntropy, SteadySource,
@@ -9,32 +10,6 @@ use std::io::{Error, ErrorKind, Read, Write};
 use std::os::unix::fs::PermissionsExt;
 use std::test::Fail;
 use std::{fs, io};
-
-/// A reader and writer that fails at each call, or takes nothing.
-#[derive(Drop)]
-struct Broken {
-    fails: bool,
-}
-
-impl Read for Broken {
-    fn read(&mut self, _buf: &mut [u8]) -> io::Result<usize> {
-        Err(Error::from(ErrorKind::Other))
-    }
-}
-
-impl Write for Broken {
-    fn write(&mut self, _buf: &[u8]) -> io::Result<usize> {
-        if self.fails {
-            Err(Error::from(ErrorKind::Other))
-        } else {
-            Ok(0)
-        }
-    }
-
-    fn flush(&mut self) -> io::Result<()> {
-        Ok(())
-    }
-}
 
 /// A reader that fails once, and then gives the byte 7 for each place of the buffer.
 #[derive(Drop)]
@@ -60,8 +35,11 @@ type Fill = (usize, Option<&'static [u8]>);
 
 /// Whether the front of the buffer has these bytes, and the rest is as it was.
 fn begins_with(out: &[u8; 8], bytes: &[u8]) -> bool {
-    let count = bytes.len();
-    count <= 8 && &out[..count] == bytes && out[count..].iter().all(|byte| *byte == 9)
+    let mut same = true;
+    for (place, byte) in out.iter().enumerate() {
+        same &= *byte == *bytes.get(place).unwrap_or(&9);
+    }
+    same && bytes.len() <= 8
 }
 
 /// Whether each read gives the bytes of its row, and leaves the rest of the buffer as it was.

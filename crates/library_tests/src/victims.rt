@@ -335,7 +335,13 @@ struct Row {
 }
 
 fn open_of(rows: &[Row], uid: u32) -> usize {
-    rows.iter().filter(|row| row.uid == uid).count()
+    let mut count = 0usize;
+    for row in rows {
+        if row.uid == uid {
+            count = count.saturating_add(1);
+        }
+    }
+    count
 }
 
 /// How often a number is halved before nothing is left.
@@ -371,7 +377,11 @@ fn by_definition(rows: &[Row], uid: u32, forced: bool, now: u64) -> Option<OpId>
     let mut first: Option<Row> = None;
     for row in rows {
         let worst = !row.busy && malus(rows, row, now) == greatest;
-        if worst && first.is_none_or(|other| row.stamp < other.stamp) {
+        let later = match first {
+            Some(other) => other.stamp <= row.stamp,
+            None => false,
+        };
+        if worst && !later {
             first = Some(*row);
         }
     }
@@ -400,6 +410,30 @@ impl Draws {
     }
 }
 
+fn has(rows: &[Row], op: OpId) -> bool {
+    let mut found = false;
+    for row in rows {
+        found |= row.op == op;
+    }
+    found
+}
+
+fn touch(rows: &mut [Row], op: OpId, stamp: u64) {
+    for row in rows {
+        if row.op == op {
+            row.stamp = stamp;
+        }
+    }
+}
+
+fn hold(rows: &mut [Row], op: OpId) {
+    for row in rows {
+        if row.op == op {
+            row.busy = true;
+        }
+    }
+}
+
 /// One event on the slots and on the plain list, and whether there was memory for it.
 fn act(desk: &mut Desk, rows: &mut Vec<Row>, draws: &mut Draws, uids: u32) -> bool {
     let pause = draws.below(3).wrapping_mul(draws.below(40)) as u64;
@@ -409,8 +443,7 @@ fn act(desk: &mut Desk, rows: &mut Vec<Row>, draws: &mut Draws, uids: u32) -> bo
     match draws.below(8) {
         0..=3 => {
             let uid = draws.below(uids);
-            let fresh = rows.iter().all(|row| row.op != op);
-            if fresh && desk.begin(op, uid) {
+            if !has(rows, op) && desk.begin(op, uid) {
                 let row = Row {
                     op,
                     uid,
@@ -422,12 +455,12 @@ fn act(desk: &mut Desk, rows: &mut Vec<Row>, draws: &mut Draws, uids: u32) -> bo
         }
         4 | 5 => {
             if desk.touch(op) {
-                change(rows, op, |row| Row { stamp, ..*row });
+                touch(rows, op, stamp);
             }
         }
         6 => {
             if desk.hold(op) {
-                change(rows, op, |row| Row { busy: true, ..*row });
+                hold(rows, op);
             }
         }
         _ => {
@@ -437,16 +470,6 @@ fn act(desk: &mut Desk, rows: &mut Vec<Row>, draws: &mut Draws, uids: u32) -> bo
         }
     }
     true
-}
-
-fn change<F: Fn(&Row) -> Row>(rows: &mut [Row], op: OpId, to: F)
-    requires { F.IsAlwaysCallable to }
-{
-    for row in rows {
-        if row.op == op {
-            *row = to(row);
-        }
-    }
 }
 
 /// The slots answer as the definition does, for a caller of each uid and one that has none.
