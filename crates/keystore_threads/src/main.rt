@@ -1,0 +1,71 @@
+//! `keystore_threads`: threads that call one service at once, over an empty store in memory.
+//!
+//! Its one contract is that of the service: each thread's calls are made by a pass of its own, and the passes end the service
+//! together (`src/running.rt`). It is the service's benchmark, and writes the book that a model can replay:
+//!
+//!     keystore_threads check
+//!     keystore_threads macs ROUNDS THREADS
+//!     keystore_threads updates ROUNDS THREADS
+//!     keystore_threads book ROUNDS THREADS
+//!
+//! In a round a thread begins and ends a mac of eight bytes, or one of 16 texts of 16 KiB, or one with a key of its own and one
+//! with a key that all threads use and that five uses end; `book` writes the book, an entry a line. The last line counts the macs
+//! of the known text and the book's entries. `check` makes the calls of the rows of `src/rows.rt` and says what they came to.
+#![tactic(auto)]
+
+mod board;
+mod caller;
+mod counts;
+mod plan;
+mod requests;
+mod rows;
+mod running;
+mod service;
+mod words;
+
+use crate::board::Board;
+use crate::rows::{full, held, limited, pair, run_row, show};
+use crate::running::run;
+use crate::words::{Kind, Load, Words};
+use service_book::Book;
+use std::io;
+use std::process::ExitCode;
+
+/// Says what the calls of a load came to.
+fn show_load(rt: &HostRuntime, load: Load, right: u64, book: Option<Book>) -> io::Result<ExitCode> {
+    let Some(book) = book else {
+        println!(rt; "keystore_threads: want of memory")?;
+        return Ok(ExitCode::from(1));
+    };
+    if load.kind == Kind::Book {
+        for entry in book.entries() {
+            println!(rt; "{entry:?}")?;
+        }
+    }
+    let entries = book.entries().len();
+    println!(rt; "{} threads: {right} macs, {entries} entries", load.threads)?;
+    Ok(ExitCode::SUCCESS)
+}
+
+fn main(rt: HostRuntime) -> io::Result<ExitCode> {
+    match Words::read(&rt)? {
+        Some(Words::Check) => {
+            show(&rt, pair(), run_row(&rt, rt.alloc(), pair(), 2))?;
+            show(&rt, held(), run_row(&rt, rt.alloc(), held(), 2))?;
+            show(&rt, limited(), run_row(&rt, rt.alloc(), limited(), 8))?;
+            show(&rt, full(), run_row(&rt, rt.alloc(), full(), 1))?;
+            Ok(ExitCode::SUCCESS)
+        }
+        Some(Words::Load(load)) => {
+            let board = Board::new(load.kind.plan(), load.rounds);
+            let book = run(&rt, rt.alloc(), &board, load.threads);
+            show_load(&rt, load, board.counts().right, book)
+        }
+        None => {
+            println!(rt;
+                "keystore_threads: check; or macs, updates or book, ROUNDS, and THREADS from 1 to 64"
+            )?;
+            Ok(ExitCode::from(2))
+        }
+    }
+}

@@ -1,0 +1,89 @@
+//! What the threads of a load do.
+
+/// A call of a thread. The key of its own is named by the number of its pass: m for the first, n for the second, and so on.
+#[derive(Clone, Copy, Debug, PartialEq, Eq)]
+pub enum Call {
+    /// A client comes.
+    Connect,
+    /// A key of its own is imported.
+    Import,
+    /// The key that all threads use is imported, which five uses end.
+    ImportShared,
+    /// A mac is begun with its own key.
+    Begin,
+    /// A mac is begun with the key that all use.
+    BeginShared,
+    /// 16 KiB come for the operation that was begun last.
+    Update,
+    /// "Hi There" comes for it, and ends it.
+    Finish,
+    /// Its keys are counted.
+    Count,
+    /// The client goes.
+    Disconnect,
+}
+
+/// The calls of the first thread and those of each other one, which begins when the first has made them or is held; then those of
+/// a round, which each thread makes so often as the load says; then the last ones.
+#[derive(Clone, Copy, Debug)]
+pub struct Plan {
+    pub first: &'static [Call],
+    pub others: &'static [Call],
+    pub round: &'static [Call],
+    pub last: &'static [Call],
+    /// whether the gate holds each work until another thread has made its first calls
+    pub holds: bool,
+}
+
+/// Each thread makes short macs with a key of its own.
+pub static MACS: Plan = Plan {
+    first: &[Call::Connect, Call::Import],
+    others: &[Call::Connect, Call::Import],
+    round: &[Call::Begin, Call::Finish],
+    last: &[],
+    holds: false,
+};
+
+/// Each thread makes macs of long texts.
+pub static UPDATES: Plan = Plan {
+    first: &[Call::Connect, Call::Import],
+    others: &[Call::Connect, Call::Import],
+    round: &[
+        Call::Begin,
+        Call::Update,
+        Call::Update,
+        Call::Update,
+        Call::Update,
+        Call::Update,
+        Call::Update,
+        Call::Update,
+        Call::Update,
+        Call::Update,
+        Call::Update,
+        Call::Update,
+        Call::Update,
+        Call::Update,
+        Call::Update,
+        Call::Update,
+        Call::Update,
+        Call::Finish,
+    ],
+    last: &[],
+    holds: false,
+};
+
+/// Each thread makes macs with a key of its own, and tries as many with one that all use.
+pub static USES: Plan = Plan {
+    first: &[Call::Connect, Call::ImportShared, Call::Import],
+    others: &[Call::Connect, Call::Import],
+    round: &[Call::Begin, Call::Finish, Call::BeginShared, Call::Finish],
+    last: &[],
+    holds: false,
+};
+
+impl Plan {
+    /// The first calls of the thread with this number.
+    pub fn beginning(&self, number: u64) -> &'static [Call] {
+        if number == 0 { self.first } else { self.others }
+    }
+}
