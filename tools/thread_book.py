@@ -1,13 +1,15 @@
 #!/usr/bin/env python3
 """Lets threads call one service, and replays its book by the second model of the rules.
 
-    python3 tools/thread_book.py [RUNS] [--rounds N] [--threads N]
+    python3 tools/thread_book.py [RUNS] [--rounds N] [--threads N] [--book FILE]
 
 The program of `crates/keystore_threads`, which `rt run` leaves there, has N threads (8 without the word) make macs with a key of their
 own and with one that all use and that five uses end, and writes its book as it stands in memory. The events of that book, in its order,
-go to second_model.py, which has to give the same replies and to draw the same bytes. Counted are the macs of the key that all use, of
-which there may be no more than its limit, and all macs, which have to be those that the threads were given. It says nothing where all is
-well, and ends with status 1 where a book differs. Where the Python package `cryptography` is not there, it replays none and says so."""
+go to second_model.py, which has to give the same replies and to draw the same bytes. Counted are the macs of the key that all use, which
+have to be as many as its limit, or as the tries where these are fewer, and all macs, which have to be those that the threads were given.
+Then each reply of the first book is changed, one at a time, and no such book may pass. It says nothing where all is well, and ends with
+status 1 where a book differs or a changed one does not. With --book it looks at the book that a file has, as the program wrote it, in
+place of runs. Where the Python package `cryptography` is not there, it replays none and says so."""
 import argparse
 import pathlib
 import re
@@ -24,9 +26,12 @@ except ImportError:
 PROGRAM = pathlib.Path(__file__).resolve().parent.parent / "crates" / "keystore_threads" / "out" / "keystore_threads"
 SLOTS = 64
 LIMIT = 5
+SECONDS = 60
 ALL_USE = b"l"
 MAC = "b0344c61d8db38535ca8afceaf0bf12b881dc200c9833da726e9376c2e32cff7"
 TOKEN = re.compile(r"\s*([A-Za-z_]\w*|\d+|[{}()\[\],:])")
+# What is changed in a reply: a number of a field, the first byte of a field, or the number of a rule.
+CHANGED = re.compile(r"(?<=Some\()\d+|(?<=bytes: \[)\d+|(?<=number: )\d+|\[(?=\])")
 # The names of acts that differ from those of a script's lines.
 ACTS = {"EnterAad": "updateAad", "EnterUpdate": "update", "EnterFinish": "finish"}
 
@@ -149,15 +154,41 @@ def macs_of(lines):
     return len(macs), macs.count(ALL_USE)
 
 
-def check_run(rounds, threads):
-    """Looks at the book of one run."""
-    said = subprocess.run([PROGRAM, "book", str(rounds), str(threads)], capture_output=True, text=True, check=True).stdout.splitlines()
-    book, last = said[:-1], said[-1]
+def check_book(lines, rounds, threads):
+    """Looks at a book, and at the line behind it."""
+    book, last = lines[:-1], lines[-1]
     macs, shared = macs_of(book)
-    if shared > LIMIT or macs != threads * rounds + shared:
+    if shared != min(LIMIT, threads * rounds) or macs != threads * rounds + shared:
         raise Differs(f"{macs} macs, {shared} of them of the key that all use")
     if last != f"{threads} threads: {macs} macs, {len(book)} entries":
         raise Differs(f"the threads were told otherwise: {last}")
+
+
+def with_another_reply(line):
+    """The line of an entry whose reply is another one."""
+    front, reply = line.split(", reply: ")
+    another = CHANGED.sub(lambda found: "[7" if found[0] == "[" else str((int(found[0]) + 1) % 256), reply, count=1)
+    if another == reply:
+        raise Differs(f"no reply is changed in {line}")
+    return f"{front}, reply: {another}"
+
+
+def check_changed(book):
+    """No book passes in which one reply is changed."""
+    for place, line in enumerate(book):
+        try:
+            macs_of([*book[:place], with_another_reply(line)])
+        except Differs as differs:
+            if not str(differs).startswith(f"entry {place + 1} is answered"):
+                raise
+        else:
+            raise Differs(f"the model takes another reply to entry {place + 1}")
+
+
+def lines_of_run(rounds, threads):
+    """What a run of the program writes."""
+    words = [PROGRAM, "book", str(rounds), str(threads)]
+    return subprocess.run(words, capture_output=True, text=True, check=True, timeout=SECONDS).stdout.splitlines()
 
 
 def main():
@@ -165,15 +196,19 @@ def main():
     parser.add_argument("runs", nargs="?", type=int, default=1, metavar="RUNS")
     parser.add_argument("--rounds", type=int, default=3, metavar="N")
     parser.add_argument("--threads", type=int, default=8, metavar="N")
+    parser.add_argument("--book", type=pathlib.Path, metavar="FILE")
     words = parser.parse_args()
-    if not PROGRAM.exists():
+    if words.book is None and not PROGRAM.exists():
         sys.exit("tools/thread_book.py: there is no program yet: run `rt run` in crates/keystore_threads")
     if Service is None:
         print("tools/thread_book.py: without the package `cryptography` no book is replayed")
         return
     try:
-        for _run in range(words.runs):
-            check_run(words.rounds, words.threads)
+        for run in range(words.runs):
+            lines = words.book.read_text().splitlines() if words.book else lines_of_run(words.rounds, words.threads)
+            check_book(lines, words.rounds, words.threads)
+            if run == 0:
+                check_changed(lines[:-1])
     except Differs as differs:
         sys.exit(f"tools/thread_book.py: {differs}")
 

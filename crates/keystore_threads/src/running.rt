@@ -1,7 +1,8 @@
 //! All threads of a load.
 
-ghost use Rattle.std.specs.Prelude.{◌≡◌, ◌<◌, All, length, IfOk};
+ghost use Rattle.std.specs.Prelude.{◌≡◌, ◌<◌, All, length, IfOk, IfSome};
 ghost use Rattle.shared_service.specs.Passes.{AreNumbered, number_of};
+ghost use Rattle.keystore_threads.specs.Services.{IsBookBy};
 
 use crate::board::Board;
 use crate::caller::work;
@@ -66,7 +67,8 @@ fn perform_all<R: Threads + Wait + Sync, T: Task + Sync>(
     )
 }
 
-/// The book of a service that so many threads called, where there is memory for it.
+/// The book of a service over an empty store that so many threads called, where there is memory for it: one legal history of all their
+/// calls.
 pub fn run<R: Threads + Wait + Sync>(
     rt: &R,
     alloc: Global,
@@ -74,6 +76,7 @@ pub fn run<R: Threads + Wait + Sync>(
     threads: u32,
 ) -> Option<Book>
     requires some { 0 < threads }
+    ensures book { IfSome result (IsBookBy threads) }
 {
     let (service, passes) = Service::open(alloc, threads)?;
     let calls = Calls {

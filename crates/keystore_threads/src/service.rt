@@ -1,14 +1,18 @@
 //! A service over an empty store in memory.
 
-ghost use Rattle.std.specs.Prelude.{◌≡◌, ◌<◌, ◌^◌, All, length, IfSome};
+ghost use Rattle.std.specs.Prelude.{◌≡◌, ◌<◌, ◌^◌, [], true, All, length, IfSome};
+ghost use Rattle.ks_outside.specs.Images.{tells};
+ghost use Rattle.rule_model.specs.Setup.{Setup};
 ghost use Rattle.wire_frames.specs.Spelling.{body_of};
-ghost use Rattle.shared_service.specs.Passes.{AreNumbered, number_of};
-ghost use Rattle.keystore_threads.specs.Services.{IsPassOf, count_of};
+ghost use Rattle.keystore_core.specs.Engine.{Stands, StoreStands};
+ghost use Rattle.service_book.specs.Book.{own};
+ghost use Rattle.shared_service.specs.Passes.{AreNumbered, front_of, number_of};
+ghost use Rattle.keystore_threads.specs.Services.{BeganNew, IsBookOf, IsNewEngine, IsPassOf, count_of};
 
 use crate::board::Board;
 use disk_model::{MemoryDisk, Room};
 use keystore_core::Engine;
-use ks_outside::{MemoryEntropy, Reading};
+use ks_outside::{Disk, MemoryEntropy, Reading};
 use service_book::Book;
 use shared_service::{Pass, Served, Shared};
 use std::alloc::Global;
@@ -37,13 +41,21 @@ const ROOM: Room = Room {
 
 const SLOTS: usize = 64;
 
-/// A disk with an empty store, where there is memory for it.
-fn formatted(alloc: Global) -> Option<MemoryDisk<'static>> {
-    let Ok(mut disk) = MemoryDisk::with_room(alloc, ROOM, &[]) else {
+/// An engine over an empty store, which is made on a disk, where there is memory for it.
+fn engine_over<D: Disk>(alloc: Global, disk: &mut D) -> Option<Engine>
+    requires telling { tells D.Disk disk.old ≡ true }
+    ensures new { IfSome result IsNewEngine }
+    ensures store { IfSome result (λ engine. (setup : Setup) → Stands setup engine [] → StoreStands D.Disk setup engine disk.new []) }
+{
+    let device = DeviceSecrets::demo();
+    let Ok(policy) = Policy::demo(alloc) else {
         return None;
     };
-    match Engine::format(&mut disk) {
-        Ok(()) => Some(disk),
+    let Ok(()) = Engine::format(disk) else {
+        return None;
+    };
+    match Engine::open(alloc, &device, &policy, SLOTS, disk) {
+        Ok(engine) => Some(engine),
         Err(_) => None,
     }
 }
@@ -55,15 +67,12 @@ impl Service {
         ensures ours { IfSome result (λ r. All (IsPassOf r.0) r.1.items) }
         ensures numbers { IfSome result (λ r. AreNumbered r.1.items) }
         ensures count { IfSome result (λ r. (count_of r.0 ≡ passes) × (length r.1.items ≡ passes)) }
+        ensures new { IfSome result (λ r. BeganNew r.0) }
     {
-        let Ok(policy) = Policy::demo(alloc) else {
+        let Ok(mut disk) = MemoryDisk::with_room(alloc, ROOM, &[]) else {
             return None;
         };
-        let device = DeviceSecrets::demo();
-        let mut disk = formatted(alloc)?;
-        let Ok(engine) = Engine::open(alloc, &device, &policy, SLOTS, &mut disk) else {
-            return None;
-        };
+        let engine = engine_over(alloc, &mut disk)?;
         match Shared::new(alloc, engine, disk, MemoryEntropy::counting(), passes) {
             Ok((shared, made)) => Some((Service { shared }, made)),
             Err(_) => None,
@@ -86,12 +95,14 @@ impl Service {
         self.shared.call(rt, pass, NOW, request, board)
     }
 
-    /// The book of a service that ends with all its passes, in their order.
+    /// The book of a service that ends with all its passes, in their order. It has all that they made.
     pub fn close<R: Wait>(self, rt: &R, passes: Vec<Pass>) -> Book
         requires some { 0 < count_of self }
         requires ours { All (IsPassOf self) passes.items }
         requires numbers { AreNumbered passes.items }
         requires count { length passes.items ≡ count_of self }
+        ensures book { IsBookOf self result }
+        ensures own { All (λ p. own (number_of p) result ≡ own (number_of p) (front_of p)) passes.items }
     {
         let (_engine, _disk, _entropy, book) = self.shared.close(rt, passes);
         book
