@@ -29,6 +29,7 @@ trait Task {
 }
 
 /// The calls of a load, to this service.
+#[derive(Clone, Copy)]
 struct Calls<'a> {
     service: &'a Service,
     board: &'a Board,
