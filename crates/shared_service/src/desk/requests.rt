@@ -115,9 +115,7 @@ impl<D: Disk, N: Entropy> Desk<D, N> {
         let frame = request.frame_length();
         let event = event_of(reading, client, request);
         match self.make_ready(&event.act) {
-            Ok(leave) => {
-                Requested::Made(self.go(pass, event, frame, Rooms { copies, leave }))
-            }
+            Ok(leave) => Requested::Made(self.go(pass, event, frame, Rooms { copies, leave })),
             Err(NoMemory) => {
                 drop(event);
                 Requested::Poor
