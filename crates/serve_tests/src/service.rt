@@ -208,7 +208,5 @@ pub(crate) fn outcome_of<R: Threads + Wait + Sync, G: Gate + Sync>(
     let listener = listener_of(alloc, sent)?;
     let words = words_of(alloc, words);
     let words = words.as_slice();
-    Some(outcome_over(
-        rt, alloc, words, &policy, listener, disk, gate, told,
-    ))
+    Some(outcome_over(rt, alloc, words, &policy, listener, disk, gate, told))
 }
