@@ -64,7 +64,7 @@ pub(crate) struct Outcome {
     pub(crate) given: u64,
     /// how many of them wrote what was wanted
     pub(crate) told: usize,
-    /// how many entries the book has, where there is one
+    /// how many entries the book has at what the clocks said, where there is one
     pub(crate) entries: Option<usize>,
     /// how many of them are the disconnect of a client
     pub(crate) gone: usize,
@@ -138,6 +138,25 @@ fn is_disconnect(entry: &BookEntry) -> bool {
     }
 }
 
+/// Whether an entry is at what the clocks said, or at no reading.
+fn is_timed(entry: &BookEntry) -> bool {
+    match &entry.entry {
+        Entry::Acted { event, .. } => event.reading == NOW,
+        Entry::Settling { .. } => true,
+    }
+}
+
+/// How many entries are at what the clocks said.
+fn timed(entries: &[BookEntry]) -> usize {
+    let mut count = 0usize;
+    for entry in entries {
+        if is_timed(entry) {
+            count = count.saturating_add(1);
+        }
+    }
+    count
+}
+
 /// How many entries are the disconnect of a client.
 fn disconnects(entries: &[BookEntry]) -> usize {
     let mut count = 0usize;
@@ -149,12 +168,12 @@ fn disconnects(entries: &[BookEntry]) -> usize {
     count
 }
 
-/// How many entries a book has, and how many of them are the disconnect of a client.
+/// How many entries a book has at what the clocks said, and how many are the disconnect of a client.
 fn counts_of(book: &Option<Book>) -> (Option<usize>, usize) {
     match book {
         Some(book) => {
             let entries = book.entries();
-            (Some(entries.len()), disconnects(entries))
+            (Some(timed(entries)), disconnects(entries))
         }
         None => (None, 0),
     }
