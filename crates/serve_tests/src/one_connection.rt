@@ -25,21 +25,16 @@ fn opened(alloc: Global) -> Option<(Service, Pass)>
     let policy = Policy::demo(alloc).ok()?;
     let mut disk = disk_of(alloc, FORMATTED)?;
     let device = DeviceSecrets::demo();
-    let engine = match Engine::open(alloc, &device, &policy, 16, &mut disk) {
-        Ok(engine) => engine,
-        Err(_) => return None,
+    let Ok(engine) = Engine::open(alloc, &device, &policy, 16, &mut disk) else {
+        return None;
     };
     drop(policy);
-    match Shared::new(alloc, engine, disk, SteadyEntropy::counting(), 1) {
-        Ok((shared, mut passes)) => {
-            let pass = passes.swap_remove(0);
-            Some((shared, pass))
-        }
-        Err(back) => {
-            drop(back);
-            None
-        }
-    }
+    let entropy = SteadyEntropy::counting();
+    let Ok((shared, mut passes)) = Shared::new(alloc, engine, disk, entropy, 1) else {
+        return None;
+    };
+    let pass = passes.swap_remove(0);
+    Some((shared, pass))
 }
 
 /// How a connection ends.
