@@ -36,7 +36,7 @@ pub board_shown : IsSync board_type.the_row
 board_shown = as_row_sync board_type.the_field board_sync
 
 pub calls_sync : (l : NamedLft) → IsSync (calls_type.the_field l).row
-calls_sync l = search (service_shown, service_sync, board_shown, board_sync, sendable) depth 60 fits 20000
+calls_sync l = search (service_shown, board_shown, sendable) depth 60 fits 20000
 
 pub calls_shown : (l : NamedLft) → IsSync (calls_type.the_row l)
 calls_shown l = as_row_sync (calls_type.the_field l) (calls_sync l)

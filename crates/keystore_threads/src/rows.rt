@@ -107,7 +107,12 @@ pub fn show(rt: &HostRuntime, row: Row, outcome: Outcome) -> io::Result<()> {
     } = outcome;
     println!(rt;
         "{}: {} calls served, {} right, {} uses refused, {} full, {} missed",
-        row.name, counts.served(), counts.right, counts.refused(), counts.full, counts.missed
+        row.name,
+        counts.served(),
+        counts.right,
+        counts.refused(),
+        counts.full,
+        counts.missed
     )?;
     println!(rt; "  tickets that add up to {tickets}, {entries} entries")
 }
