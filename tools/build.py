@@ -2,10 +2,10 @@
 """Builds the program: proves each crate that it stands on and then the program, on all processors.
 
 A check holds its crate and all below it, so each processor has a lane, a copy of the crates' sources, in which one crate after
-another is proved; what one lane has proved the others take by links. The crate goes first that has the most behind it, in lines.
-One that nothing new can go on beside begins with a process for each processor, since those at work elsewhere will be free. On a
-terminal one line goes on: how many crates of how many, the minutes so far, and what is at work. At a failure it prints the last
-lines and where the logs are. It tries no test and no must-fail edit: that is the gate."""
+another is proved; what one lane has proved the others take by links. The crate goes first that has the most behind it, in lines,
+and one that nothing can go on beside has the processors that are free. On a terminal one line goes on: how many crates of how
+many, the minutes so far, and what is at work. At a failure it prints the last lines and where the logs are. It tries no test and
+no must-fail edit: that is the gate."""
 import concurrent.futures
 import glob
 import os
@@ -113,13 +113,12 @@ def prove_all(build, below, names):
         running, failed = {}, None
         while running or (left and not failed):
             ready = [it for it in left if build.done.issuperset(below[it])] if not failed else []
-            spare = lanes - sum(share for _, _, share in running.values())
+            spare = lanes - sum(jobs for _, _, jobs in running.values())
             for name in ready[:spare]:
-                share = 1 + max(0, spare - len(ready)) // len(ready)
-                jobs = min(MOST_JOBS, lanes) if share > 1 else 1
+                jobs = min(MOST_JOBS, 1 + (spare - len(ready)) // len(ready)) if spare > len(ready) else 1
                 folder = free.pop()
                 ran = pool.submit(build.run, name, ["rt", "lib", "--jobs", str(jobs)], f"{folder}/crates/{name}")
-                running[ran] = name, folder, share
+                running[ran] = name, folder, jobs
                 build.at_work.add(name)
                 left.remove(name)
             build.tell()
