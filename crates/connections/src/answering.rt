@@ -4,7 +4,6 @@ ghost use Rattle.std.specs.Prelude.{◌≡◌, ◌+◌, ◌^◌, ◌<◌, ◌||�
 ghost use Rattle.std.specs.List.{AllByRecursion};
 ghost use Rattle.wire_frames.specs.Spelling.{frame_of, IsRequest};
 ghost use Rattle.wire_frames.specs.Replies.{reply_body};
-ghost use Rattle.rule_model.specs.Acts as acts;
 ghost use Rattle.connections.specs.Talks as spec;
 ghost use Rattle.connections.specs.Steps.{Goes, StopsAmong, Tells, TellsLast};
 
@@ -39,21 +38,11 @@ fn says_full(reply: &Reply) -> bool
     }
 }
 
-/// Whether an act is a connect.
-pub(crate) fn is_connect(act: &Act) -> bool
-    ensures { result ≡ acts.is_connect act.now }
-{
-    match act {
-        Act::Connect { .. } => true,
-        _ => false,
-    }
-}
-
 /// Whether the act comes when it is due.
 fn is_due(joined: bool, act: &Act) -> bool
     ensures { result ≡ spec.is_due joined act.now }
 {
-    if is_connect(act) { !joined } else { joined }
+    if act.is_connect() { !joined } else { joined }
 }
 
 /// Has one request answered, and says whether a client came by it.
@@ -64,7 +53,7 @@ fn answer_one<R: Wait, A: Answerer>(rt: &R, answerer: A, request: Request) -> (A
     ensures client { A.connected result.0 ≡ (A.connected answerer || result.2) }
     ensures told { length (reply_body result.1) < 2 ^ 32 }
 {
-    let connects = is_connect(request.act());
+    let connects = request.act().is_connect();
     let (answerer, reply) = answerer.answer(rt, request);
     let joins = reply.is_done() && connects;
     (answerer, reply, joins)

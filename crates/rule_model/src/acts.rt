@@ -1,7 +1,7 @@
 //! The kind of an act, and what is fixed for it.
 
 ghost use Rattle.std.specs.Prelude.{◌≡◌};
-ghost use Rattle.rule_model.specs.Acts.{fixed_for, kind_of};
+ghost use Rattle.rule_model.specs.Acts.{fixed_for, is_connect, is_enter, kind_of};
 
 use crate::{Act, ActKind};
 
@@ -34,6 +34,28 @@ impl Act {
             Act::UserRemoved { .. } => ActKind::UserRemoved,
             Act::Leave { .. } => ActKind::Leave,
             Act::Restart { .. } => ActKind::Restart,
+        }
+    }
+
+    /// Whether a client comes by the act.
+    pub fn is_connect(&self) -> bool
+        ensures { result ≡ is_connect self.now }
+    {
+        match self {
+            Act::Connect { .. } => true,
+            _ => false,
+        }
+    }
+
+    /// Whether the act enters an operation.
+    pub fn is_enter(&self) -> bool
+        ensures { result ≡ is_enter self.now }
+    {
+        match self {
+            Act::EnterAad { .. } => true,
+            Act::EnterUpdate { .. } => true,
+            Act::EnterFinish { .. } => true,
+            _ => false,
         }
     }
 

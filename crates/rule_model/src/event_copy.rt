@@ -1,4 +1,4 @@
-//! A copy of an event, in new memory.
+//! Copies of an act and of an event, in new memory.
 
 ghost use Rattle.std.specs.Prelude.{◌≡◌, true, IfOk};
 ghost use Rattle.rule_model.specs.Copies.{has_numbers};
@@ -192,6 +192,15 @@ fn numbers_of(source: &Act) -> Act
     }
 }
 
+impl Act {
+    /// An equal act, in new memory.
+    pub fn copy(&self, alloc: Global) -> Result<Act, NoMemory>
+        ensures { IfOk result (λ copy. copy ≡ self.now) }
+    {
+        act_of(alloc, self)
+    }
+}
+
 impl Event {
     /// An equal event, in new memory.
     pub fn copy(&self, alloc: Global) -> Result<Event, NoMemory>
@@ -200,7 +209,7 @@ impl Event {
         Ok(Event {
             reading: self.reading,
             client: self.client,
-            act: act_of(alloc, &self.act)?,
+            act: self.act.copy(alloc)?,
         })
     }
 }

@@ -1,12 +1,12 @@
 //! What the limits of a run ask of a book, counted entry by entry.
 
 ghost use Rattle.std.specs.Prelude.{◌≡◌, ◌+◌, ◌<◌, ◌≤◌, ◌^◌, [], ◌∷◌, List, length};
-ghost use Rattle.rule_model.specs.Acts.{is_connect, is_enter};
 ghost use Rattle.wire_frames.specs.Spelling.{body_of};
 ghost use Rattle.service_book.specs.declared.entry.BookEntry.{BookEntry};
-ghost use Rattle.service_book.specs.Limits.{bytes_of, clients_in, is_disconnect, is_leave, need_of, passes_limit, tickets_in, MOST_ENTRIES, MOST_BYTES, CALL_BYTES};
+ghost use Rattle.service_book.specs.Limits.{bytes_of, clients_in, need_of, passes_limit, tickets_in, MOST_ENTRIES, MOST_BYTES, CALL_BYTES};
 
-use rule_model::{Act, Entry, Reply};
+use crate::acts::{is_disconnect, is_leave};
+use rule_model::{Act, Entry};
 use wire_frames::Request;
 
 /// The most entries of a book.
@@ -32,44 +32,6 @@ pub struct Tally {
     ghost few_disconnects: { disconnects ≤ entries },
     ghost few_enters: { enters ≤ entries },
     ghost few_leaves: { leaves ≤ entries },
-}
-
-fn is_connect(act: &Act) -> bool
-    ensures { result ≡ is_connect act.now }
-{
-    match act {
-        Act::Connect { .. } => true,
-        _ => false,
-    }
-}
-
-fn is_disconnect(act: &Act) -> bool
-    ensures { result ≡ is_disconnect act.now }
-{
-    match act {
-        Act::Disconnect => true,
-        _ => false,
-    }
-}
-
-fn is_enter(act: &Act) -> bool
-    ensures { result ≡ is_enter act.now }
-{
-    match act {
-        Act::EnterAad { .. } => true,
-        Act::EnterUpdate { .. } => true,
-        Act::EnterFinish { .. } => true,
-        _ => false,
-    }
-}
-
-fn is_leave(act: &Act) -> bool
-    ensures { result ≡ is_leave act.now }
-{
-    match act {
-        Act::Leave { .. } => true,
-        _ => false,
-    }
 }
 
 /// The most entries of a call.
@@ -119,13 +81,13 @@ impl Tally {
             return;
         };
         let admitted = reply.is_done();
-        if admitted && is_connect(&event.act) {
+        if admitted && event.act.is_connect() {
             self.connects += 1;
         }
         if admitted && is_disconnect(&event.act) {
             self.disconnects += 1;
         }
-        if admitted && is_enter(&event.act) {
+        if admitted && event.act.is_enter() {
             self.enters += 1;
         }
         if is_leave(&event.act) {

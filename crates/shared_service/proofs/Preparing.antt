@@ -1,28 +1,16 @@
 -- What comes of a request before the turn, and what it is at the desk.
-use Rattle.std.proofs.Common.{◌≡◌, ℕ, ◌&&◌, Bool, false, List, ap, ◌∙◌, subst, sym}
+use Rattle.std.proofs.Common.{◌≡◌, ℕ, Bool, List, subst}
 use Rattle.ks_outside.specs.declared.clock.Reading.{Reading}
 use Rattle.rule_model.specs.declared.event.Act.{Act}
-use Rattle.rule_model.specs.declared.event.Event.{Event}
 use Rattle.service_book.specs.declared.entry.BookEntry.{BookEntry}
 use Rattle.service_book.specs.Book.{log_of}
-use Rattle.service_book.specs.Limits.{is_disconnect}
 use Rattle.shared_service.specs.declared.coming.Coming.{Coming}
-use Rattle.shared_service.specs.declared.coming.Copies.{Copies}
 use Rattle.shared_service.specs.declared.made.Requested.{Requested}
 use Rattle.shared_service.specs.declared.name.Name.{Name}
-use Rattle.shared_service.specs.Comings.{AreCopies, Comes, IsComing}
-use Rattle.shared_service.specs.Owning.{event_by, event_for}
+use Rattle.shared_service.specs.Comings.{Comes, IsComing}
+use Rattle.shared_service.specs.Owning.{event_for}
 use Rattle.shared_service.specs.Requests.{IsCaller}
 use Rattle.shared_service.specs.Turns.{Requests}
-
--- the copies of an event are those of the request that its act is given back as
-pub ready_by : (reading : Reading) (client : ℕ) (connected : Bool) (act given : Act) (event : Event) (copies : Copies) → event ≡ event_by reading client act → given ≡ event.act → AreCopies event copies → is_disconnect act && connected ≡ false
-    → (is_disconnect given && connected ≡ false) × AreCopies (event_by reading client given) copies
-ready_by reading client connected act given event copies is same are apart =
-    let back : act ≡ given = sym (same ∙ ap (λ (e : Event). e.act) is) in (
-      subst (λ (a : Act). is_disconnect a && connected ≡ false) back apart,
-      subst (λ (a : Act). AreCopies (event_by reading client a) copies) back (subst (λ (e : Event). AreCopies e copies) is are),
-    )
 
 -- what comes of a pass, over the book of its turn
 pub comes_of : (pass client : ℕ) (connected : Bool) (reading : Reading) (log : List BookEntry) (coming : Coming) → IsCaller pass client connected log → IsComing reading client connected coming → Comes pass client reading log coming

@@ -8,6 +8,7 @@ ghost use Rattle.shared_service.specs.Owning as owning;
 ghost use Rattle.shared_service.specs.Owning.{event_by};
 
 use rule_model::{Act, Event, Reading, ReplyRoom};
+use service_book::is_disconnect;
 use std::alloc::Global;
 use tags::NoMemory;
 use wire_frames::Request;
@@ -28,16 +29,6 @@ pub(crate) enum Coming {
     Ready(Request, Copies),
     /// one for whose copies memory was wanting; it is still to be looked at, since a limit that it passes is told first
     Poor(Request),
-}
-
-/// Whether the act is a disconnect.
-pub(crate) fn is_disconnect(act: &Act) -> bool
-    ensures { result ≡ is_disconnect act.now }
-{
-    match act {
-        Act::Disconnect => true,
-        _ => false,
-    }
 }
 
 /// Whether it is the disconnect of a connected client.
@@ -70,39 +61,17 @@ pub(crate) fn event_of(reading: Reading, client: u64, request: Request) -> Event
     }
 }
 
-/// The request for an act that a client asks for.
-fn request_of(act: Act) -> Request
-    requires asked { is_asked act ≡ true }
-    ensures { result ≡ act }
+/// The copies for an act of a client.
+fn copies_of(alloc: Global, reading: Reading, client: u64, act: &Act) -> Result<Copies, NoMemory>
+    ensures { IfOk result (λ copies. AreCopies (event_by reading client act.now) copies) }
 {
-    match Request::of(act) {
-        Some(request) => request,
-        None => unreachable!(),
-    }
-}
-
-/// The copies of an event.
-fn copies_of(alloc: Global, event: &Event) -> Result<Copies, NoMemory>
-    ensures { IfOk result (λ copies. AreCopies event.now copies) }
-{
-    let reply = ReplyRoom::of(alloc, &event.act, 0)?;
-    let event = event.copy(alloc)?;
+    let reply = ReplyRoom::of(alloc, act, 0)?;
+    let event = Event {
+        reading,
+        client: client_by(client, act),
+        act: act.copy(alloc)?,
+    };
     Ok(Copies { event, reply })
-}
-
-/// A request with its copies, where there is memory for them.
-fn with_copies(alloc: Global, reading: Reading, client: u64, request: Request) -> Coming
-    ensures act { act_in result ≡ request }
-    ensures coming { (connected : Bool) → is_disconnect request && connected ≡ false → IsComing reading client connected result }
-{
-    let event = event_of(reading, client, request);
-    let copies = copies_of(alloc, &event);
-    let Event { act, .. } = event;
-    let request = request_of(act);
-    match copies {
-        Ok(copies) => Coming::Ready(request, copies),
-        Err(NoMemory) => Coming::Poor(request),
-    }
 }
 
 impl Coming {
@@ -121,6 +90,9 @@ impl Coming {
             drop(request);
             return Coming::Parting;
         }
-        with_copies(alloc, reading, client, request)
+        match copies_of(alloc, reading, client, request.act()) {
+            Ok(copies) => Coming::Ready(request, copies),
+            Err(NoMemory) => Coming::Poor(request),
+        }
     }
 }

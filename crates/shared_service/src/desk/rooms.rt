@@ -24,18 +24,6 @@ pub(super) struct Rooms {
     pub(super) leave: Option<ReplyRoom>,
 }
 
-/// Whether the act enters an operation.
-fn is_enter(act: &Act) -> bool
-    ensures { result ≡ acts_spec.is_enter act.now }
-{
-    match act {
-        Act::EnterAad { .. } => true,
-        Act::EnterUpdate { .. } => true,
-        Act::EnterFinish { .. } => true,
-        _ => false,
-    }
-}
-
 impl<D: Disk, N: Entropy> Desk<D, N> {
     /// Takes the places of a request in the book.
     pub(super) fn reserve(&mut self, act: &Act) -> Result<(), NoMemory>
@@ -50,7 +38,7 @@ impl<D: Disk, N: Entropy> Desk<D, N> {
         ensures some { IfOk result (λ o. is_some o ≡ acts_spec.is_enter act.now) }
         ensures room { IfOk result (λ o. IfSome o (λ room. IsOutput (desk_engine self.now) act.now room)) }
     {
-        if !is_enter(act) {
+        if !act.is_enter() {
             return Ok(None);
         }
         let most = self.engine.most_out(act);

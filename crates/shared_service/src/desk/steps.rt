@@ -14,12 +14,12 @@ ghost use Rattle.shared_service.specs.Requests.{GrowsBy};
 ghost use Rattle.shared_service.specs.DeskWords.{desk_book, desk_name, desk_places};
 
 use super::Desk;
-use crate::coming::is_disconnect;
 use crate::made::Made;
 use crate::stamp::Stamp;
 use cipher_ops::Done;
 use ks_outside::{Disk, Entropy};
 use rule_model::{Act, Entry, Event, Reply, ReplyRoom, Stepped};
+use service_book::is_disconnect;
 use wire_frames::reply_length;
 
 /// How many bytes an event and its reply record, by the length of its request's frame.
