@@ -1,7 +1,8 @@
 #!/usr/bin/env python3
 """Writes checks/cuttings.jsonl and its expected replies: each mode, both ways, over a text that is cut where blocks begin to go
 through the cipher together (128 bytes and 1,024), around these, and into single bytes; and macs of texts in two pieces, verified
-with signatures of every length, with a changed one and with none.
+with signatures of every length, with a changed one and with none. And checks/many-blocks.jsonl: from none to 33 blocks at once, in
+ECB both ways under each size of key, and in GCM, whose additional data and text go through GHASH, also a hundred.
 
 The cipher texts are made by the Python package `cryptography`, and the replies by `tools/second_model.py`, which calls it too."""
 import hmac
@@ -100,19 +101,48 @@ def macs(number):
                 number += 1
 
 
-def lines():
+def keys():
     yield {"t": [0, 1000], "do": "connect", "uid": 10001}
     for size, key in KEYS.items():
         params = [["PURPOSE", 0], ["PURPOSE", 1], ["ALGORITHM", 32], *[["BLOCK_MODE", mode] for mode in (ECB, CBC, CTR, GCM)]]
         params += [["PADDING", NO_PADDING], ["PADDING", PKCS7], ["MIN_MAC_LENGTH", 128], ["CALLER_NONCE", True], ["NO_AUTH_REQUIRED", True]]
         yield call("importKey", key={"domain": 0, "alias": f"k{size}"}, params=params, format=3, material=key.hex())
+
+
+def cuttings():
+    yield from keys()
     for number, case in enumerate(cases(), 1):
         yield from operation(number, *case)
     yield from macs(len(list(cases())) + 1)
 
 
-if __name__ == "__main__":
-    script = "".join(json.dumps(line, separators=(",", ":")) + "\n" for line in lines())
-    (TOP / "checks/cuttings.jsonl").write_text(script, encoding="utf-8")
+def at_once(number, size, mode, opens, text):
+    """The lines of one operation whose whole text comes with its finish."""
+    given = sealed(KEYS[size], mode, NO_PADDING, text) if opens else text
+    params = [["PURPOSE", int(opens)], ["BLOCK_MODE", mode], ["PADDING", NO_PADDING]]
+    if mode == GCM:
+        params += [["MAC_LENGTH", 128], ["NONCE", NONCE.hex()]]
+    yield call("createOperation", key={"domain": 0, "alias": f"k{size}"}, params=params)
+    if mode == GCM:
+        yield call("updateAad", op=number, input=DATA.hex())
+    yield call("finish", op=number, input=given.hex())
+
+
+def many_blocks():
+    yield from keys()
+    blocks = [(size, ECB, opens, text_of(16 * count)) for size in KEYS for opens in (False, True) for count in range(34)]
+    blocks += [(16, GCM, opens, text_of(16 * count)) for opens in (False, True) for count in (*range(34), 100)]
+    for number, case in enumerate(blocks, 1):
+        yield from at_once(number, *case)
+
+
+def write(name, lines):
+    script = "".join(json.dumps(line, separators=(",", ":")) + "\n" for line in lines)
+    (TOP / f"checks/{name}.jsonl").write_text(script, encoding="utf-8")
     replies = subprocess.run([sys.executable, TOP / "tools/second_model.py"], input=script, capture_output=True, text=True, check=True).stdout
-    (TOP / "checks/cuttings.expected").write_text(replies, encoding="utf-8")
+    (TOP / f"checks/{name}.expected").write_text(replies, encoding="utf-8")
+
+
+if __name__ == "__main__":
+    write("cuttings", cuttings())
+    write("many-blocks", many_blocks())

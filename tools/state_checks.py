@@ -312,8 +312,37 @@ def kept_lists():
     return rows.rows
 
 
+# What is set in a new key's list, and what is dropped: whether the key is drawn, its parameters, the wall reading, and the list.
+GCM_KEY = [
+    ["PURPOSE", 0], ["PURPOSE", 1], ["ALGORITHM", 32], ["KEY_SIZE", 256], ["BLOCK_MODE", 32], ["PADDING", 1], ["MIN_MAC_LENGTH", 128], FREE,
+]
+SET_GCM = "000a2000000100000000200000010000000110000002000000203000000300000100200000040000002020000006000000013000000800000080700001f701600002bd00000000000003e8100002be00000000"
+SET_MAC = "000920000001000000022000000100000003100000020000008030000003000000a020000005000000043000000800000040700001f701600002bd00000000000003e8100002be00000002"
+SET_DATED_MAC = "000920000001000000022000000100000003100000020000008030000003000000a020000005000000043000000800000040700001f701600002bd0000000000000005100002be00000002"
+SET_LAST_GCM = "000a2000000100000000200000010000000110000002000000203000000300000100200000040000002020000006000000013000000800000080700001f701600002bdffffffffffffffff100002be00000000"
+DROPPED = [["KEY_SIZE", 160], ["ORIGIN", 4], ["NONCE", "000000"], ["MAC_LENGTH", 64], ["CREATION_DATETIME", 5]]
+SET_LISTS = [
+    (True, GCM_KEY, 1000, SET_GCM),
+    (False, PARAMS, 1000, SET_MAC),
+    (False, [*PARAMS, ["OS_VERSION", 1], ["OS_PATCHLEVEL", 2]], 1000, SET_MAC),
+    (False, [*PARAMS, *DROPPED], 1000, SET_DATED_MAC),
+    (True, [*GCM_KEY, ["ORIGIN", 2]], LAST, SET_LAST_GCM),
+]
+
+
+def set_lists():
+    rows = Rows([10001])
+    for number, (drawn, params, wall, encoded) in enumerate(SET_LISTS, 1):
+        making = call(1, "generateKey", key=named("k"), params=params) if drawn else made(1, named("k"), params)
+        rows.put(at(0, wall, making), {"code": 0, "key": number})
+        entry = {"code": 0, "key": number, "domain": 0, "nspace": 10001, "alias": "k", "list": encoded}
+        rows.put(at(0, wall, call(1, "getKeyEntry", key=named("k"))), entry)
+    return rows.rows
+
+
 if __name__ == "__main__":
     write("kept-lists", kept_lists())
+    write("set-lists", set_lists())
     write("dates", dates())
     write("restriction-order", order())
     write("device-locks", locks())

@@ -35,7 +35,11 @@ fn finishing(alloc: Global) -> Event {
 /// The copy of an event in words.
 fn words_of_copy(alloc: Global, event: &Event) -> Option<String> {
     match event.copy(alloc) {
-        Ok(copy) => format!(in alloc; "{copy:?}").ok(),
+        Ok(copy) => {
+            let words = format!(in alloc; "{copy:?}").ok();
+            drop(copy);
+            words
+        }
         Err(_) => None,
     }
 }
@@ -62,7 +66,9 @@ fn is_copied(alloc: Global, act: &Act, out: u64, reply: &Reply) -> bool
         return false;
     };
     let copy = room.copy(reply);
-    has_frame_of(alloc, &copy, reply)
+    let copied = has_frame_of(alloc, &copy, reply);
+    drop(copy);
+    copied
 }
 
 /// Whether two replies have one frame.
@@ -120,7 +126,11 @@ fn is_listing_copied(alloc: Global, list: &Act) -> bool
     requires { list.now ≡ ListEntriesBatched 0 0 None }
 {
     match listing(alloc, list) {
-        Ok(reply) => is_copied(alloc, list, 0, &reply),
+        Ok(reply) => {
+            let copied = is_copied(alloc, list, 0, &reply);
+            drop(reply);
+            copied
+        }
         Err(_) => false,
     }
 }
@@ -129,7 +139,11 @@ fn is_output_copied(alloc: Global, leave: &Act) -> bool
     requires { leave.now ≡ Leave 1 }
 {
     match output(alloc, leave) {
-        Ok(reply) => is_copied(alloc, leave, 4, &reply),
+        Ok(reply) => {
+            let copied = is_copied(alloc, leave, 4, &reply);
+            drop(reply);
+            copied
+        }
         Err(_) => false,
     }
 }
@@ -137,8 +151,14 @@ fn is_output_copied(alloc: Global, leave: &Act) -> bool
 /// Whether a call of a leave that was stopped is copied, and one with an output.
 fn are_leaves_copied(alloc: Global) -> (bool, bool) {
     let leave = Act::Leave { ticket: 1 };
-    let copied = is_output_copied(alloc, &leave);
-    (is_copied(alloc, &leave, 0, &stopped()), copied)
+    let stopped = stopped();
+    let told = (
+        is_copied(alloc, &leave, 0, &stopped),
+        is_output_copied(alloc, &leave),
+    );
+    drop(stopped);
+    drop(leave);
+    told
 }
 
 fn are_listings_copied(alloc: Global) -> bool {
@@ -147,7 +167,9 @@ fn are_listings_copied(alloc: Global) -> bool {
         nspace: 0,
         past: None,
     };
-    is_listing_copied(alloc, &list)
+    let copied = is_listing_copied(alloc, &list);
+    drop(list);
+    copied
 }
 
 #[test]

@@ -391,7 +391,10 @@ fn is_written(alloc: Global, reply: &Reply, wanted: &[u8]) -> bool
 fn replies_are_written_as_the_format_says(rt: HostRuntime) {
     let mut other = None;
     for (place, wanted) in REPLIES.iter().enumerate() {
-        if !is_written(rt.alloc(), &reply_at(rt.alloc(), place), wanted) {
+        let reply = reply_at(rt.alloc(), place);
+        let written = is_written(rt.alloc(), &reply, wanted);
+        drop(reply);
+        if !written {
             other = Some(place);
         }
     }
@@ -401,7 +404,11 @@ fn replies_are_written_as_the_format_says(rt: HostRuntime) {
 #[test]
 fn a_disconnect_has_no_frame(rt: HostRuntime) {
     let length = match Request::of(Act::Disconnect) {
-        Some(request) => request.frame_length(),
+        Some(request) => {
+            let length = request.frame_length();
+            drop(request);
+            length
+        }
         None => 1,
     };
     assert!(&rt; length == 0);

@@ -35,6 +35,7 @@ fn lists_break(mut facts: BeginFacts) -> [bool; 7] {
     let tag = breaks(&facts, 6, Code::InvalidTag);
     facts.asked = Err(Code::InvalidKeyArgument);
     let argument = breaks(&facts, 6, Code::InvalidKeyArgument);
+    drop(facts);
     [slots, fits, opens, nonce, length, tag, argument]
 }
 
@@ -54,6 +55,7 @@ fn access_breaks(mut facts: BeginFacts, byte: Descriptor, surrogate: Descriptor)
     let other = breaks(&facts, 2, Code::InvalidArgument);
     facts.connected = false;
     let client = breaks(&facts, 1, Code::InvalidArgument);
+    drop(facts);
     [forced, found, owner, alias, other, client]
 }
 
@@ -453,8 +455,9 @@ fn meets(
         timely: states.2,
         ..facts
     };
-    let each_time = challenge_wanted(&facts) == 8;
-    (breaks_so(&facts, broken), each_time)
+    let met = (breaks_so(&facts, broken), challenge_wanted(&facts) == 8);
+    drop(facts);
+    met
 }
 
 #[test]

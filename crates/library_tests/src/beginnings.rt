@@ -458,7 +458,10 @@ fn begins_so(alloc: Global, row: &Row) -> bool {
     let asked = asked_list(alloc, asked, *nonce);
     let facts = facts_of(alloc, asked, key, material.len());
     let answer = plan_begin(alloc, &facts, material);
-    is_answered(&answer, *nonce, *expected)
+    drop(facts);
+    let answered = is_answered(&answer, *nonce, *expected);
+    drop(answer);
+    answered
 }
 
 #[test]

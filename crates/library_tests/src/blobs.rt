@@ -84,8 +84,10 @@ fn opens(
         Some(list) => (true, list.has(Tag::Origin, 2)),
         None => (false, false),
     };
-    if material && named == key.fits {
-        Some((opens, key.fits))
+    let fits = key.fits;
+    drop(key);
+    if material && named == fits {
+        Some((opens, fits))
     } else {
         None
     }
@@ -95,7 +97,10 @@ fn opens(
 fn told(alloc: Global, list: Pairs, asked: Pairs) -> Option<(bool, bool)> {
     let blob = blob_of(alloc, list)?;
     let asked = asked_list(alloc, asked, None);
-    opens(alloc, &DeviceSecrets::demo(), blob.as_slice(), &asked)
+    let told = opens(alloc, &DeviceSecrets::demo(), blob.as_slice(), &asked);
+    drop(asked);
+    drop(blob);
+    told
 }
 
 #[test]

@@ -1,13 +1,7 @@
-//! Blocks of AES: the vectors that FIPS 197 and SP 800-38A print, and many blocks at once beside one by one.
+//! Blocks of AES: the vectors that FIPS 197 and SP 800-38A print. Many blocks at once are in `checks/many-blocks.jsonl`.
 
-ghost use Rattle.std.specs.Prelude.{◌≤◌};
-
-use aes_core::{AesKey, BlockCipher, ManyBlocks};
+use aes_core::{AesKey, BlockCipher};
 use aes_wide::WideAes;
-
-/// The keys of FIPS 197, appendix C: the bytes 00, 01, 02 and so on.
-const COUNTING_KEY: [u8; 32] =
-    *b"\x00\x01\x02\x03\x04\x05\x06\x07\x08\x09\x0a\x0b\x0c\x0d\x0e\x0f\x10\x11\x12\x13\x14\x15\x16\x17\x18\x19\x1a\x1b\x1c\x1d\x1e\x1f";
 
 /// A key, a block, and what it becomes under the key.
 type Vector = (&'static [u8], u128, u128);
@@ -125,58 +119,6 @@ fn the_vectors_of_fips_197_and_sp_800_38a_both_ways(rt: HostRuntime) {
     for (row, vector) in VECTORS.iter().enumerate() {
         let right = goes_both_ways(vector);
         assert!(rt; right, "in row {row}");
-    }
-}
-
-/// Blocks that differ.
-fn different() -> [[u8; 16]; 33] {
-    let mut blocks = [[0; 16]; 33];
-    for i in 0..33usize {
-        for j in 0..16usize {
-            blocks[i][j] = ((i * 16 + j * 37) % 256) as u8;
-        }
-    }
-    blocks
-}
-
-/// The sizes of a key.
-static SIZES: [usize; 3] = [16, 24, 32];
-
-/// Whether so many blocks at once become what they become one by one, and back.
-fn are_as_one_by_one(plain: &AesKey, wide: &WideAes, count: usize) -> bool
-    requires { count ≤ 33 }
-{
-    let (mut one, mut other) = (different(), different());
-    for block in &mut one[..count] {
-        *block = plain.encrypt(*block);
-    }
-    wide.encrypt_all(&mut other[..count]);
-    let sealed = one == other;
-    plain.decrypt_all(&mut one[..count]);
-    wide.decrypt_all(&mut other[..count]);
-    sealed && one == different() && other == different()
-}
-
-/// Whether each count from 0 to 33 does, under a key.
-fn are_always(key: &[u8]) -> bool {
-    match (AesKey::new(key), WideAes::new(key)) {
-        (Some(plain), Some(wide)) => {
-            let mut same = true;
-            for count in 0..34usize {
-                same &= are_as_one_by_one(&plain, &wide, count);
-            }
-            same
-        }
-        _ => false,
-    }
-}
-
-// As many as go through in one call: none, and about one, two and four groups of eight.
-#[test]
-fn many_blocks_at_once_are_as_one_by_one(rt: HostRuntime) {
-    for size in &SIZES {
-        let right = are_always(&COUNTING_KEY[..*size]);
-        assert!(rt; right, "of {size}");
     }
 }
 

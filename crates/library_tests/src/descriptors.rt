@@ -192,7 +192,9 @@ fn finds(alloc: Global, case: &Case, policy: &Policy) -> bool {
         alias: alias(alloc, case.2),
         blob: None,
     };
-    match find_key(&descriptor, case.3, policy, &FewKeys) {
+    let access = find_key(&descriptor, case.3, policy, &FewKeys);
+    drop(descriptor);
+    match access {
         Access::Found { key, bits } => (key.id, bits.bits()) == (case.4, case.5),
         Access::Blob { bits } => (BLOB, bits.bits()) == (case.4, case.5),
         Access::Nothing => case.4 == 0,

@@ -153,9 +153,13 @@ fn first_other(store: &mut TokenStore, list: &AuthList, key: &Key) -> Option<usi
 }
 
 /// The same of a key by itself; of one without a list, its number of rows.
-fn first_other_of(alloc: Global, mut store: TokenStore, key: &Key) -> Option<usize> {
+fn first_other_of(alloc: Global, store: &mut TokenStore, key: &Key) -> Option<usize> {
     match key_list(alloc, key.list, &[]) {
-        Some(list) => first_other(&mut store, &list, key),
+        Some(list) => {
+            let other = first_other(store, &list, key);
+            drop(list);
+            other
+        }
         None => Some(key.rows.len()),
     }
 }
@@ -163,8 +167,9 @@ fn first_other_of(alloc: Global, mut store: TokenStore, key: &Key) -> Option<usi
 #[test]
 fn a_token_is_timely_for_the_keys_that_it_fits(rt: HostRuntime) -> Result<(), Fail> {
     for (number, key) in KEYS.iter().enumerate() {
-        let store = TokenStore::with_room(rt.alloc())?;
-        let other = first_other_of(rt.alloc(), store, key);
+        let mut store = TokenStore::with_room(rt.alloc())?;
+        let other = first_other_of(rt.alloc(), &mut store, key);
+        drop(store);
         assert_eq!(rt; other, None, "of key {number}");
     }
     Ok(())
@@ -192,8 +197,8 @@ static MORE: [((u64, u64, u32, u64), bool, [bool; 5]); 6] = [
 ];
 
 /// Whether a full store takes these tokens so, and one that is cleared takes the last.
-fn takes_more(mut store: TokenStore, list: &AuthList, last: &AuthList) -> bool {
-    let mut same = add_users(&mut store);
+fn takes_more(store: &mut TokenStore, list: &AuthList, last: &AuthList) -> bool {
+    let mut same = add_users(store);
     same &= !store.timely(last, 2000);
     for (fields, taken, opens) in &MORE {
         same &= store.add(token(*fields)).is_ok() == *taken;
@@ -213,12 +218,24 @@ fn takes_more(mut store: TokenStore, list: &AuthList, last: &AuthList) -> bool {
     same && store.timely(last, 2000)
 }
 
+/// Whether a new store does, for keys of the first and of the last user.
+fn a_store_takes_more(alloc: Global, first: &AuthList, last: &AuthList) -> bool {
+    match TokenStore::with_room(alloc) {
+        Ok(mut store) => {
+            let same = takes_more(&mut store, first, last);
+            drop(store);
+            same
+        }
+        Err(_) => false,
+    }
+}
+
 #[test]
 fn a_known_triple_is_replaced_and_a_257th_refused(rt: HostRuntime) -> Result<(), Fail> {
     let alloc = rt.alloc();
     let first = key_list(alloc, FIRST, &[]).ok_or("a list")?;
     let last = key_list(alloc, LAST, &[]).ok_or("a list")?;
-    let same = takes_more(TokenStore::with_room(alloc)?, &first, &last);
+    let same = a_store_takes_more(alloc, &first, &last);
     drop((first, last));
     assert!(rt; same);
     Ok(())

@@ -57,11 +57,10 @@ static PLANNED: [Call; 6] = [
 fn answers_in_memory(mut link: MemoryLink) -> (bool, bool, u64) {
     let right = answers_all(&mut link, &PLANNED);
     let moved = (link.left(), link.written()) == (b"".as_slice(), b"xyz".as_slice());
-    (
-        right,
-        moved && link.pieces() == [3].as_slice(),
-        link.faults(),
-    )
+    let pieces = link.pieces() == [3].as_slice();
+    let faults = link.faults();
+    drop(link);
+    (right, moved && pieces, faults)
 }
 
 #[test]
@@ -79,7 +78,9 @@ static FULL: [Call; 2] = [Call::Write(b"a", None), Call::Write(b"", Some(0))];
 fn answers_over(stream: Broken, calls: &[Call]) -> (bool, u64) {
     let mut link = StreamLink::new(stream);
     let right = answers_all(&mut link, calls);
-    (right, link.faults())
+    let faults = link.faults();
+    drop(link);
+    (right, faults)
 }
 
 #[test]
@@ -121,7 +122,9 @@ fn gives_two(mut listener: MemoryListener) -> (bool, [(u64, u64, u64); 2], usize
     let given = first == (Some(b"a".as_slice()), None)
         && second == (Some(b"b".as_slice()), None)
         && end.is_none();
-    (given, [before, counts(&listener)], listener.served().len())
+    let (after, served) = (counts(&listener), listener.served().len());
+    drop(listener);
+    (given, [before, after], served)
 }
 
 // The links come in order and are kept; a call that fails takes none, and the end is told each time.

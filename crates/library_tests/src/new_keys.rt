@@ -1,125 +1,11 @@
-//! What is kept with a new key and drawn for it, and keys that are not made: the kept list, a material that no line spells,
-//! and lists and lengths that are no key's. What a script shows is in `checks/new-keys.jsonl` and
-//! `checks/new-key-lists.jsonl`.
+//! Keys that are not made: a material that no line spells, and lists and lengths that are no key's. What a script shows is in
+//! `checks/new-keys.jsonl`, `checks/new-key-lists.jsonl` and `checks/kept-lists.jsonl`.
 
 use crate::spelled::{AES_KEY, GCM_KEY, MAC_KEY, Pairs, key_list, new_facts};
-use key_rules::{KeyPlan, NewFacts, NewFault, check_new, read_asked, usable};
+use key_rules::{NewFacts, NewFault, check_new, read_asked, usable};
 use keymint_ops::plan_key;
 use std::alloc::Global;
-use tag_lists::AuthList;
 use tags::{Bytes, Code, Rule, RuleTable, Tag};
-
-/// A list, the length of an import, the wall reading, the kept list, and the bytes of the material.
-type Kept = (Pairs, Option<u64>, u64, &'static [u8], usize);
-
-static KEPT: [Kept; 5] = [
-    (
-        GCM_KEY,
-        None,
-        1000,
-        b"\x00\x0a\x20\x00\x00\x01\x00\x00\x00\x00\x20\x00\x00\x01\x00\x00\x00\x01\x10\x00\x00\x02\x00\x00\x00\x20\x30\x00\x00\x03\x00\x00\x01\x00\x20\x00\x00\x04\x00\x00\x00\x20\x20\x00\x00\x06\x00\x00\x00\x01\x30\x00\x00\x08\x00\x00\x00\x80\x70\x00\x01\xf7\x01\x60\x00\x02\xbd\x00\x00\x00\x00\x00\x00\x03\xe8\x10\x00\x02\xbe\x00\x00\x00\x00",
-        32,
-    ),
-    (
-        MAC_KEY,
-        Some(20),
-        1000,
-        b"\x00\x09\x20\x00\x00\x01\x00\x00\x00\x02\x20\x00\x00\x01\x00\x00\x00\x03\x10\x00\x00\x02\x00\x00\x00\x80\x30\x00\x00\x03\x00\x00\x00\xa0\x20\x00\x00\x05\x00\x00\x00\x04\x30\x00\x00\x08\x00\x00\x00\x40\x70\x00\x01\xf7\x01\x60\x00\x02\xbd\x00\x00\x00\x00\x00\x00\x03\xe8\x10\x00\x02\xbe\x00\x00\x00\x02",
-        20,
-    ),
-    (
-        &[
-            (Tag::Purpose, 2),
-            (Tag::Purpose, 3),
-            (Tag::Algorithm, 128),
-            (Tag::Digest, 4),
-            (Tag::MinMacLength, 64),
-            (Tag::NoAuthRequired, 1),
-            (Tag::OsVersion, 1),
-            (Tag::OsPatchlevel, 2),
-        ],
-        Some(20),
-        1000,
-        b"\x00\x09\x20\x00\x00\x01\x00\x00\x00\x02\x20\x00\x00\x01\x00\x00\x00\x03\x10\x00\x00\x02\x00\x00\x00\x80\x30\x00\x00\x03\x00\x00\x00\xa0\x20\x00\x00\x05\x00\x00\x00\x04\x30\x00\x00\x08\x00\x00\x00\x40\x70\x00\x01\xf7\x01\x60\x00\x02\xbd\x00\x00\x00\x00\x00\x00\x03\xe8\x10\x00\x02\xbe\x00\x00\x00\x02",
-        20,
-    ),
-    (
-        &[
-            (Tag::Purpose, 2),
-            (Tag::Purpose, 3),
-            (Tag::Algorithm, 128),
-            (Tag::Digest, 4),
-            (Tag::MinMacLength, 64),
-            (Tag::NoAuthRequired, 1),
-            (Tag::KeySize, 160),
-            (Tag::Origin, 4),
-            (Tag::Nonce, 3),
-            (Tag::MacLength, 64),
-            (Tag::CreationDatetime, 5),
-        ],
-        Some(20),
-        1000,
-        b"\x00\x09\x20\x00\x00\x01\x00\x00\x00\x02\x20\x00\x00\x01\x00\x00\x00\x03\x10\x00\x00\x02\x00\x00\x00\x80\x30\x00\x00\x03\x00\x00\x00\xa0\x20\x00\x00\x05\x00\x00\x00\x04\x30\x00\x00\x08\x00\x00\x00\x40\x70\x00\x01\xf7\x01\x60\x00\x02\xbd\x00\x00\x00\x00\x00\x00\x00\x05\x10\x00\x02\xbe\x00\x00\x00\x02",
-        20,
-    ),
-    (
-        &[
-            (Tag::Purpose, 0),
-            (Tag::Purpose, 1),
-            (Tag::Algorithm, 32),
-            (Tag::KeySize, 256),
-            (Tag::BlockMode, 32),
-            (Tag::Padding, 1),
-            (Tag::MinMacLength, 128),
-            (Tag::NoAuthRequired, 1),
-            (Tag::Origin, 2),
-        ],
-        None,
-        18446744073709551615,
-        b"\x00\x0a\x20\x00\x00\x01\x00\x00\x00\x00\x20\x00\x00\x01\x00\x00\x00\x01\x10\x00\x00\x02\x00\x00\x00\x20\x30\x00\x00\x03\x00\x00\x01\x00\x20\x00\x00\x04\x00\x00\x00\x20\x20\x00\x00\x06\x00\x00\x00\x01\x30\x00\x00\x08\x00\x00\x00\x80\x70\x00\x01\xf7\x01\x60\x00\x02\xbd\xff\xff\xff\xff\xff\xff\xff\xff\x10\x00\x02\xbe\x00\x00\x00\x00",
-        32,
-    ),
-];
-
-/// Whether a list is spelled so.
-fn is_spelled(alloc: Global, list: &AuthList, bytes: &[u8]) -> bool {
-    match list.write(alloc) {
-        Ok(written) => written.as_slice() == bytes,
-        Err(_) => false,
-    }
-}
-
-/// Whether a plan keeps this list, without a limit, and draws so many bytes.
-fn keeps(alloc: Global, plan: &KeyPlan, list: &[u8], drawn: usize) -> bool {
-    is_spelled(alloc, &plan.list, list) && (plan.limit, plan.size) == (0, drawn)
-}
-
-/// Whether the key of these facts is planned so, by the rules alone and with its list spelled.
-fn is_kept(alloc: Global, facts: &NewFacts, list: &[u8], drawn: usize) -> bool {
-    let checked = match check_new(alloc, facts) {
-        Ok(plan) => keeps(alloc, &plan, list, drawn),
-        Err(_) => false,
-    };
-    match plan_key(alloc, facts) {
-        Ok(key) => {
-            let spelled = key.list.as_slice() == list;
-            spelled && checked && keeps(alloc, &key.plan, list, drawn)
-        }
-        Err(_) => false,
-    }
-}
-
-#[test]
-fn the_kept_list_has_what_is_set_and_not_what_is_dropped(rt: HostRuntime) {
-    let alloc = rt.alloc();
-    for (row, (list, length, wall, expected, size)) in KEPT.iter().enumerate() {
-        let drawn = if length.is_some() { 0 } else { *size };
-        let facts = new_facts(alloc, b"k", list, *length, *wall);
-        let kept = is_kept(alloc, &facts, expected, drawn);
-        drop(facts);
-        assert!(rt; kept, "in row {row}");
-    }
-}
 
 /// An alias, a list, the length of an import, and the rule that is broken with its code.
 type Refused = (&'static [u8], Pairs, Option<u64>, u8, Code);
@@ -345,11 +231,15 @@ fn placed(alloc: Global, row: &Placed) -> NewFacts {
 /// Whether such a key is made, or breaks its rule.
 fn is_placed(alloc: Global, row: &Placed) -> bool {
     let facts = placed(alloc, row);
-    match (check_new(alloc, &facts), row.5) {
+    let checked = check_new(alloc, &facts);
+    drop(facts);
+    let placed = match (&checked, row.5) {
         (Ok(_), None) => true,
-        (Err(NewFault::Broken(rule, code)), Some(wanted)) => (rule.number, code) == wanted,
+        (Err(NewFault::Broken(rule, code)), Some(wanted)) => (rule.number, *code) == wanted,
         _ => false,
-    }
+    };
+    drop(checked);
+    placed
 }
 
 #[test]
@@ -419,11 +309,13 @@ static USED: [Use; 9] = [
 fn is_key(alloc: Global, row: &Use) -> Option<bool> {
     let (params, dropped, length, _) = row;
     let list = key_list(alloc, params, dropped)?;
-    if list.has(Tag::Purpose, 3) || list.is_aes() {
+    let told = if list.has(Tag::Purpose, 3) || list.is_aes() {
         Some(usable(&list, *length))
     } else {
         None
-    }
+    };
+    drop(list);
+    told
 }
 
 #[test]

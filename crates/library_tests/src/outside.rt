@@ -89,7 +89,9 @@ static ONCE: [Fill; 2] = [(3, None), (3, Some(b"\x07\x07\x07"))];
 fn reads_over<R: Read + Drop>(reader: R, rows: &[Fill]) -> (bool, u64) {
     let mut source = ReaderSource::new(reader);
     let right = reads(&mut source, rows);
-    (right, source.faults())
+    let faults = source.faults();
+    drop(source);
+    (right, faults)
 }
 
 // Each read is one call of the reader, whatever the buffer's length, and a failed one is answered and counted.
@@ -131,14 +133,18 @@ static REFUSED: [Put; 2] = [(b"a", None), (b"", Some(0))];
 fn writes_in_memory(mut sink: MemorySink) -> (bool, bool, u64) {
     let right = writes(&mut sink, &KEPT);
     let kept = sink.written() == b"abcde".as_slice() && sink.pieces() == [3, 0, 2].as_slice();
-    (right, kept, sink.faults())
+    let faults = sink.faults();
+    drop(sink);
+    (right, kept, faults)
 }
 
 /// Whether a sink writes so, and how many of its calls fail then.
 fn writes_over<W: Write + Drop>(writer: W, rows: &[Put]) -> (bool, u64) {
     let mut sink = WriterSink::new(writer);
     let right = writes(&mut sink, rows);
-    (right, sink.faults())
+    let faults = sink.faults();
+    drop(sink);
+    (right, faults)
 }
 
 #[test]
@@ -211,22 +217,30 @@ fn entropies_in_memory(rt: HostRuntime) {
 static SHORT: [Fill; 2] = [(3, Some(b"abc")), (3, None)];
 
 /// Whether two draws of 64 bytes differ, and neither is of zeros.
-fn draws_twice<N: Entropy>(device: &mut N) -> bool {
+fn draws_twice<N: Entropy + Drop>(mut device: N) -> bool {
     let (mut first, mut second) = ([0; 64], [0; 64]);
     let drawn = (device.draw(&mut first), device.draw(&mut second));
+    drop(device);
     drawn == (Ok(()), Ok(())) && first != second && first != [0; 64] && second != [0; 64]
+}
+
+/// The same of an entropy that is let go then.
+fn draws_over<N: Entropy + Drop>(mut entropy: N, rows: &[Fill]) -> (bool, u64) {
+    let told = draws(&mut entropy, rows);
+    drop(entropy);
+    told
 }
 
 #[test]
 fn entropy_of_the_random_device(rt: HostRuntime) {
     let told = [
-        draws(&mut open_device(&rt), &AT_END),
-        draws(&mut open_device_at(&rt, "no_such_device"), &FAILED),
-        draws(&mut DeviceEntropy::new(b"abcde".as_slice()), &SHORT),
-        draws(&mut DeviceEntropy::new(Broken { fails: true }), &FAILED),
-        draws(&mut DeviceEntropy::new(FailsOnce { asked: 0 }), &ONCE),
+        draws_over(open_device(&rt), &AT_END),
+        draws_over(open_device_at(&rt, "no_such_device"), &FAILED),
+        draws_over(DeviceEntropy::new(b"abcde".as_slice()), &SHORT),
+        draws_over(DeviceEntropy::new(Broken { fails: true }), &FAILED),
+        draws_over(DeviceEntropy::new(FailsOnce { asked: 0 }), &ONCE),
     ];
-    let twice = draws_twice(&mut open_device(&rt));
+    let twice = draws_twice(open_device(&rt));
     let faults = [(true, 0), (true, 1), (true, 1), (true, 1), (true, 1)];
     assert_eq!(rt; (told, twice), (faults, true));
 }
@@ -352,8 +366,10 @@ fn answers_all<D: Disk>(disk: &mut D) -> (bool, [u8; 4]) {
 
 /// Whether each call of a disk fails.
 fn fails<D: Disk + Drop>(mut missing: D) -> bool {
-    let failed = (missing.len(), missing.sync(), missing.faults());
-    failed == (Err(Failed), Err(Failed), 2)
+    let failed = (missing.len().is_err(), missing.sync().is_err());
+    let faults = missing.faults();
+    drop(missing);
+    failed == (true, true) && faults == 2
 }
 
 #[test]
@@ -395,7 +411,9 @@ fn two_handles<D: Disk + Drop>(
     }
     failed &= (first.read(0, &mut out), first.faults()) == (Ok(3), 0);
     drop(first);
-    (out, failed, (second.len(), second.faults()))
+    let found = (second.len(), second.faults());
+    drop(second);
+    (out, failed, found)
 }
 
 // As long as one handle has the store, each call of another fails, and harms nothing.

@@ -122,6 +122,8 @@ fn ends(desk: &mut Desk) -> ([Told; 3], [bool; 4], [Option<u32>; 2]) {
     desk.end(3);
     let ended = oldest_of(&desk.slots, 20).is_none();
     let same = [is_value(&value, 90), is_value(&held, 30), refused, ended];
+    drop(value);
+    drop(held);
     ([closed, out, told(&desk.slots)], same, owners)
 }
 

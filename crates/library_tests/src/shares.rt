@@ -103,7 +103,9 @@ fn finds_each(grants: &mut Grants) -> bool {
 /// Whether each is found, and none went.
 fn finds_all(mut grants: Grants) -> (bool, usize) {
     let found = finds_each(&mut grants);
-    (found, grants.len())
+    let count = grants.len();
+    drop(grants);
+    (found, count)
 }
 
 #[test]
@@ -137,7 +139,9 @@ fn told_in_turn(mut grants: Grants) -> ((bool, usize), [bool; 5], (bool, usize),
     let ended = standing(&grants, &ENDED);
     grants.end_key(8);
     grants.end_key(9);
-    (made, calls, ended, grants.is_empty())
+    let none = grants.is_empty();
+    drop(grants);
+    (made, calls, ended, none)
 }
 
 #[test]

@@ -79,6 +79,28 @@ fn count(params: Pairs, dropped: &[Tag]) -> u16 {
     count
 }
 
+/// Adds these parameters without those of some tags, and a nonce where there is one.
+fn put_all(
+    bytes: &mut Vec<u8>,
+    params: Pairs,
+    dropped: &[Tag],
+    nonce: Option<&[u8]>,
+) -> Result<(), AllocError> {
+    let all = count(params, dropped).wrapping_add(u16::from(nonce.is_some()));
+    bytes.extend_from_slice(&all.to_be_bytes())?;
+    for (tag, number) in params {
+        if !dropped.contains(tag) {
+            put(bytes, *tag, *number)?;
+        }
+    }
+    let Some(nonce) = nonce else {
+        return Ok(());
+    };
+    bytes.extend_from_slice(&Tag::Nonce.number().to_be_bytes())?;
+    bytes.extend_from_slice(&((nonce.len() % 65536) as u16).to_be_bytes())?;
+    bytes.extend_from_slice(nonce)
+}
+
 /// The encoded list of these parameters without those of some tags, and of a nonce where there is one.
 pub fn encoded(
     alloc: Global,
@@ -87,18 +109,7 @@ pub fn encoded(
     nonce: Option<&[u8]>,
 ) -> Result<Vec<u8>, AllocError> {
     let mut bytes = Vec::new(alloc);
-    let all = count(params, dropped).wrapping_add(u16::from(nonce.is_some()));
-    bytes.extend_from_slice(&all.to_be_bytes())?;
-    for (tag, number) in params {
-        if !dropped.contains(tag) {
-            put(&mut bytes, *tag, *number)?;
-        }
-    }
-    if let Some(nonce) = nonce {
-        bytes.extend_from_slice(&Tag::Nonce.number().to_be_bytes())?;
-        bytes.extend_from_slice(&((nonce.len() % 65536) as u16).to_be_bytes())?;
-        bytes.extend_from_slice(nonce)?;
-    }
+    put_all(&mut bytes, params, dropped, nonce)?;
     Ok(bytes)
 }
 

@@ -314,7 +314,9 @@ fn first_to_go(alloc: Global, case: &Case) -> (usize, u64, Option<OpId>) {
     let mut desk = Desk { slots, next: 1 };
     fill(&mut desk, case);
     let victim = pruned::<Brand>(&desk, case.uid, case.forced, Blank::new(1));
-    (desk.slots.open_count(), desk.next, victim)
+    let (open, now) = (desk.slots.open_count(), desk.next);
+    drop(desk);
+    (open, now, victim)
 }
 
 #[test]
@@ -496,7 +498,10 @@ fn agree_behind_events(alloc: Global, draws: &mut Draws) -> bool {
     for _ in 0..60 {
         same &= act(&mut desk, &mut rows, draws, uids);
     }
-    same && agree(&desk, rows.as_slice())
+    same &= agree(&desk, rows.as_slice());
+    drop(desk);
+    drop(rows);
+    same
 }
 
 #[test]

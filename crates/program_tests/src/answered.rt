@@ -115,6 +115,10 @@ fn answered(alloc: Global) -> Option<(Status, usize)> {
         &mut disk,
         &[],
     );
+    drop(policy);
+    drop(words);
+    drop(disk);
+    drop(source);
     Some((status, answered.get()))
 }
 

@@ -1,4 +1,5 @@
-//! AES in its block modes. Further vectors and paddings are in `checks/vectors.jsonl` and `checks/paddings.jsonl`.
+//! AES in its block modes. Further vectors and paddings are in `checks/fips-197.jsonl`, `checks/vectors.jsonl` and
+//! `checks/paddings.jsonl`.
 
 use crate::script::{BEGUN, CONNECT, CONNECTED, IMPORTED, NOT_OPEN, NOTHING_OUT, Row, check_each};
 
@@ -14,7 +15,7 @@ const DECRYPT_PADDED: &str =
 
 const FINISH_ALL: &str = r#"{"t":[0,1000],"c":1,"do":"finish","op":1,"input":""}"#;
 
-static BLOCK_MODES: [&[Row]; 4] = [
+static BLOCK_MODES: [&[Row]; 3] = [
     &[
         // FIPS 197, appendix C.1, and a text that is no whole number of blocks.
         (CONNECT, CONNECTED),
@@ -30,31 +31,6 @@ static BLOCK_MODES: [&[Row]; 4] = [
         ),
         (FINISH_ALL, r#"{"code":-21,"rule":"S8"}"#),
         (FINISH_ALL, NOT_OPEN),
-    ],
-    &[
-        // The other two vectors of FIPS 197, appendix C.
-        (CONNECT, CONNECTED),
-        (
-            r#"{"t":[0,1000],"c":1,"do":"importKey","key":{"domain":0,"alias":"a"},"params":[["PURPOSE",0],["PURPOSE",1],["ALGORITHM",32],["BLOCK_MODE",1],["BLOCK_MODE",2],["BLOCK_MODE",3],["BLOCK_MODE",32],["PADDING",1],["PADDING",64],["MIN_MAC_LENGTH",96],["CALLER_NONCE",true],["NO_AUTH_REQUIRED",true]],"format":3,"material":"000102030405060708090a0b0c0d0e0f1011121314151617"}"#,
-            IMPORTED,
-        ),
-        (
-            r#"{"t":[0,1000],"c":1,"do":"importKey","key":{"domain":0,"alias":"b"},"params":[["PURPOSE",0],["PURPOSE",1],["ALGORITHM",32],["BLOCK_MODE",1],["BLOCK_MODE",2],["BLOCK_MODE",3],["BLOCK_MODE",32],["PADDING",1],["PADDING",64],["MIN_MAC_LENGTH",96],["CALLER_NONCE",true],["NO_AUTH_REQUIRED",true]],"format":3,"material":"000102030405060708090a0b0c0d0e0f101112131415161718191a1b1c1d1e1f"}"#,
-            r#"{"code":0,"key":2}"#,
-        ),
-        (ENCRYPT, BEGUN),
-        (
-            r#"{"t":[0,1000],"c":1,"do":"createOperation","key":{"domain":0,"alias":"b"},"params":[["PURPOSE",0],["BLOCK_MODE",1],["PADDING",1]]}"#,
-            r#"{"code":0,"op":2}"#,
-        ),
-        (
-            r#"{"t":[0,1000],"c":1,"do":"finish","op":1,"input":"00112233445566778899aabbccddeeff"}"#,
-            r#"{"code":0,"out":"dda97ca4864cdfe06eaf70a0ec0d7191"}"#,
-        ),
-        (
-            r#"{"t":[0,1000],"c":1,"do":"finish","op":2,"input":"00112233445566778899aabbccddeeff"}"#,
-            r#"{"code":0,"out":"8ea2b7ca516745bfeafc49904b496089"}"#,
-        ),
     ],
     &[
         // A byte and the fifteen others: SP 800-38A, F.2.1. The counter behind ff..ff is 0.

@@ -96,7 +96,9 @@ fn after_fault(alloc: Global, failing: &[u64], script: &str) -> Told {
     match MemoryDisk::with_room(alloc, ROOM, failing) {
         Ok(mut disk) => {
             let given = Outside { script, ..FRESH }.text(alloc, &mut disk);
-            (given, asked(alloc, &mut disk))
+            let lasts = asked(alloc, &mut disk);
+            drop(disk);
+            (given, lasts)
         }
         Err(_) => (None, None),
     }
@@ -109,7 +111,9 @@ fn after_stop(alloc: Global, passed: u64, script: &str) -> Told {
             let mut stopped = StoppedDisk::new(disk, passed);
             let given = Outside { script, ..FRESH }.text(alloc, &mut stopped);
             let mut disk = stopped.into_inner();
-            (given, asked(alloc, &mut disk))
+            let lasts = asked(alloc, &mut disk);
+            drop(disk);
+            (given, lasts)
         }
         Err(_) => (None, None),
     }

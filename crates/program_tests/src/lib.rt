@@ -13,8 +13,6 @@ mod draws;
 #[cfg(test)]
 mod faults;
 #[cfg(test)]
-mod lengths;
-#[cfg(test)]
 mod lines;
 #[cfg(test)]
 mod loads;

@@ -133,6 +133,8 @@ impl<'a> Outside<'a> {
             disk,
             self.draws,
         );
+        drop(policy);
+        drop(words);
         let left = source.left().len();
         Some(Ended { status, sink, left })
     }
@@ -140,17 +142,21 @@ impl<'a> Outside<'a> {
     /// What is written in a run over a disk that reads the script to its end.
     pub fn text<D: Disk>(&self, alloc: Global, disk: &mut D) -> Option<String> {
         let ended = self.run(alloc, disk)?;
-        if ended.status == Status::Ok {
+        let text = if ended.status == Status::Ok {
             String::from_str(alloc, ended.text()).ok()
         } else {
             None
-        }
+        };
+        drop(ended);
+        text
     }
 
     /// The same over an empty disk.
     pub fn fresh_text(&self, alloc: Global) -> Option<String> {
         let mut disk = MemoryDisk::with_room(alloc, ROOM, &[]).ok()?;
-        self.text(alloc, &mut disk)
+        let text = self.text(alloc, &mut disk);
+        drop(disk);
+        text
     }
 }
 
@@ -194,18 +200,28 @@ fn first_other(ended: &Ended, rows: &[Row]) -> Option<usize> {
 
 /// The same of a run over a disk.
 fn other_on(alloc: Global, outside: Outside, rows: &[Row], disk: &mut MemoryDisk) -> Option<usize> {
-    let script = script_of(alloc, rows);
-    let script = script.as_str();
-    match (Outside { script, ..outside }).run(alloc, disk) {
-        Some(ended) => first_other(&ended, rows),
+    let lines = script_of(alloc, rows);
+    let script = lines.as_str();
+    let other = match (Outside { script, ..outside }).run(alloc, disk) {
+        Some(ended) => {
+            let other = first_other(&ended, rows);
+            drop(ended);
+            other
+        }
         None => Some(0),
-    }
+    };
+    drop(lines);
+    other
 }
 
 /// The same over an empty disk.
 fn other_of(alloc: Global, outside: Outside, rows: &[Row]) -> Option<usize> {
     match MemoryDisk::with_room(alloc, ROOM, &[]) {
-        Ok(mut disk) => other_on(alloc, outside, rows, &mut disk),
+        Ok(mut disk) => {
+            let other = other_on(alloc, outside, rows, &mut disk);
+            drop(disk);
+            other
+        }
         Err(_) => Some(0),
     }
 }
@@ -237,6 +253,7 @@ fn other_in(alloc: Global, failing: &[u64], runs: &[&[Row]]) -> Option<(usize, u
         }
         outside.words = "run";
     }
+    drop(disk);
     other
 }
 

@@ -78,23 +78,40 @@ static CASES: [Case; 13] = [
     (TWO, (&[], &[2]), Status::WriteFault, CONNECTED),
 ];
 
-/// Whether a run over an empty disk ends with this status and this text; words that are no form read nothing.
-fn ends_so(alloc: Global, outside: Outside, status: Status, text: &str) -> bool {
-    let Ok(mut disk) = MemoryDisk::with_room(alloc, ROOM, &[]) else {
-        return false;
-    };
-    match outside.run(alloc, &mut disk) {
+/// Whether a run over a disk ends with this status and this text; words that are no form read nothing.
+fn ends_so(
+    alloc: Global,
+    outside: Outside,
+    disk: &mut MemoryDisk,
+    status: Status,
+    text: &str,
+) -> bool {
+    match outside.run(alloc, disk) {
         Some(ended) => {
             let is_untouched = status != Status::Usage || ended.left == outside.script.len();
-            ended.status == status && ended.text() == text && is_untouched
+            let right = ended.status == status && ended.text() == text && is_untouched;
+            drop(ended);
+            right
         }
         None => false,
     }
 }
 
+/// The same over an empty disk.
+fn ends_fresh(alloc: Global, outside: Outside, status: Status, text: &str) -> bool {
+    match MemoryDisk::with_room(alloc, ROOM, &[]) {
+        Ok(mut disk) => {
+            let right = ends_so(alloc, outside, &mut disk, status, text);
+            drop(disk);
+            right
+        }
+        Err(_) => false,
+    }
+}
+
 /// Compares the status and the text of a run.
 pub fn check_end(rt: &impl Abort, alloc: Global, outside: Outside, status: Status, text: &str) {
-    let right = ends_so(alloc, outside, status, text);
+    let right = ends_fresh(alloc, outside, status, text);
     assert!(rt; right, "{} is to write {text}", outside.words);
 }
 
@@ -137,7 +154,7 @@ fn ends_long(alloc: Global, length: usize, status: Status, text: &str) -> bool {
     match long_script(alloc, length) {
         Ok(script) => {
             let script = script.as_str();
-            ends_so(alloc, Outside { script, ..FRESH }, status, text)
+            ends_fresh(alloc, Outside { script, ..FRESH }, status, text)
         }
         Err(_) => false,
     }

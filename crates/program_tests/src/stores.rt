@@ -26,7 +26,11 @@ fn ends_so<'a>(
         ..FRESH
     };
     match outside.run(alloc, disk) {
-        Some(ended) => ended.status == status && ended.text().is_empty(),
+        Some(ended) => {
+            let right = ended.status == status && ended.text().is_empty();
+            drop(ended);
+            right
+        }
         None => false,
     }
 }
@@ -42,6 +46,7 @@ fn makes_empty(alloc: Global, words: &str) -> bool {
     let ended = ends_so(alloc, words, "", &mut disk, Status::Ok);
     let mut bytes = [0xffu8; 9];
     let told = (disk.read(0, &mut bytes), disk.len());
+    drop(disk);
     ended && told == (Ok(9), Ok(9)) && bytes == EMPTY
 }
 
@@ -75,6 +80,7 @@ fn is_refused(alloc: Global, bytes: &[u8], offset: u64) -> bool {
     let status = Status::Corrupted { offset };
     let ended = ends_so(alloc, "run", CONNECT, &mut disk, status);
     let told = (written, disk.len());
+    drop(disk);
     ended && told == (Ok(()), Ok(bytes.len() as u64))
 }
 
@@ -105,6 +111,7 @@ fn end_so(alloc: Global, call: u64, runs: &[(&str, Status)]) -> bool {
     for (words, status) in runs {
         right &= ends_so(alloc, words, CONNECT, &mut disk, *status);
     }
+    drop(disk);
     right
 }
 

@@ -25,23 +25,32 @@ fn opened(alloc: Global) -> Option<(Service, Pass)>
     let policy = Policy::demo(alloc).ok()?;
     let mut disk = disk_of(alloc, FORMATTED)?;
     let device = DeviceSecrets::demo();
-    let Ok(engine) = Engine::open(alloc, &device, &policy, 16, &mut disk) else {
-        return None;
-    };
+    let engine = Engine::open(alloc, &device, &policy, 16, &mut disk);
     drop(policy);
-    let entropy = SteadyEntropy::counting();
-    let Ok((shared, mut passes)) = Shared::new(alloc, engine, disk, entropy, 1) else {
+    let Ok(engine) = engine else {
+        drop(disk);
         return None;
     };
-    let pass = passes.swap_remove(0);
-    Some((shared, pass))
+    match Shared::new(alloc, engine, disk, SteadyEntropy::counting(), 1) {
+        Ok((shared, mut passes)) => {
+            let pass = passes.swap_remove(0);
+            drop(passes);
+            Some((shared, pass))
+        }
+        Err(back) => {
+            drop(back);
+            None
+        }
+    }
 }
 
 /// How a connection ends.
 fn end_of<R: Wait, L: Link>(rt: &R, alloc: Global, link: &mut L) -> Option<End> {
     let (shared, pass) = opened(alloc)?;
     let clock = FixedClock::at(NOW);
-    let (_pass, end) = serve_connection(rt, alloc, &shared, pass, link, &clock, &OpenGate);
+    let (pass, end) = serve_connection(rt, alloc, &shared, pass, link, &clock, &OpenGate);
+    drop(pass);
+    drop(shared);
     Some(end)
 }
 
@@ -58,7 +67,9 @@ fn ends<R: Wait>(
         return false;
     };
     let found = end_of(rt, alloc, &mut link);
-    found == Some(end) && link.written() == replies(written)
+    let same = link.written() == replies(written);
+    drop(link);
+    found == Some(end) && same
 }
 
 #[test]
@@ -121,7 +132,9 @@ fn is_answered_in_two<R: Wait>(rt: &R, alloc: Global, first: usize) -> bool {
         faults: FaultCount::new(),
     };
     let found = end_of(rt, alloc, &mut link);
-    found == Some(End::EndOfInput) && link.link.written() == replies(38)
+    let same = link.link.written() == replies(38);
+    drop(link);
+    found == Some(End::EndOfInput) && same
 }
 
 #[test]

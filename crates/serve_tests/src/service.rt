@@ -203,13 +203,15 @@ fn outcome_over<R: Threads + Wait + Sync, G: Gate + Sync>(
         gate,
     );
     let (entries, gone) = counts_of(&end.book);
-    Outcome {
+    let outcome = Outcome {
         status: end.status,
         given: end.listener.given(),
         told: links_that_told(end.listener.served(), told),
         entries,
         gone,
-    }
+    };
+    drop(end);
+    outcome
 }
 
 /// What comes of the words over such a disk and such links; `None` where memory is wanting before.
@@ -224,8 +226,13 @@ pub(crate) fn outcome_of<R: Threads + Wait + Sync, G: Gate + Sync>(
 ) -> Option<Outcome> {
     let policy = Policy::demo(alloc).ok()?;
     let disk = disk_of(alloc, held)?;
-    let listener = listener_of(alloc, sent)?;
+    let Some(listener) = listener_of(alloc, sent) else {
+        drop(disk);
+        return None;
+    };
     let words = words_of(alloc, words);
-    let words = words.as_slice();
-    Some(outcome_over(rt, alloc, words, &policy, listener, disk, gate, told))
+    let outcome = outcome_over(rt, alloc, &words, &policy, listener, disk, gate, told);
+    drop(words);
+    drop(policy);
+    Some(outcome)
 }

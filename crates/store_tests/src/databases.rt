@@ -186,7 +186,11 @@ fn table_told(table: &LastingTable) -> Told {
 /// What the database of a disk tells, opened anew.
 fn told_anew(alloc: Global, disk: &mut MemoryDisk) -> Option<Told> {
     match KeyDatabase::open(alloc, disk) {
-        Ok(database) => Some(told(&database)),
+        Ok(database) => {
+            let told = told(&database);
+            drop(database);
+            Some(told)
+        }
         Err(_) => None,
     }
 }
@@ -222,7 +226,10 @@ fn make_all(alloc: Global, disk: &mut MemoryDisk) -> bool {
     match fresh(alloc, disk) {
         Some(mut database) => {
             let mut table = LastingTable::empty(alloc);
-            make_steps(alloc, &mut table, &mut database, disk)
+            let made = make_steps(alloc, &mut table, &mut database, disk);
+            drop(database);
+            drop(table);
+            made
         }
         None => false,
     }
@@ -278,7 +285,9 @@ fn shared_found(alloc: Global) -> Found {
     for record in &SHARED {
         make(alloc, &mut table, record);
     }
-    found(&table)
+    let found = found(&table);
+    drop(table);
+    found
 }
 
 #[test]
@@ -325,17 +334,41 @@ fn settles(
     is_settled & (found == ((count, 0), Some((count, 0))))
 }
 
-/// Whether the making of a key with a failing call is refused, makes no key that is told, and settles so.
+/// Whether the making of a key is refused, makes no key that is told, and settles so.
+fn refuses(
+    alloc: Global,
+    database: &mut KeyDatabase,
+    disk: &mut MemoryDisk,
+    settled: Settled,
+    count: u64,
+) -> bool {
+    let made = apply(alloc, database, disk, SHARED[0]);
+    let refused = made == Some(Err(StoreFault::Device)) && told(database).0 == (0, 0);
+    refused & settles(alloc, database, disk, settled, count)
+}
+
+/// Whether it does over an empty store on this disk.
+fn refuses_fresh(alloc: Global, disk: &mut MemoryDisk, settled: Settled, count: u64) -> bool {
+    match fresh(alloc, disk) {
+        Some(mut database) => {
+            let refused = refuses(alloc, &mut database, disk, settled, count);
+            drop(database);
+            refused
+        }
+        None => false,
+    }
+}
+
+/// Whether it does over a disk of which these calls fail.
 fn fails_so(alloc: Global, failing: &[u64], settled: Settled, count: u64) -> bool {
-    let Ok(mut disk) = MemoryDisk::with_room(alloc, ROOM, failing) else {
-        return false;
-    };
-    let Some(mut database) = fresh(alloc, &mut disk) else {
-        return false;
-    };
-    let made = apply(alloc, &mut database, &mut disk, SHARED[0]);
-    let refused = made == Some(Err(StoreFault::Device)) && told(&database).0 == (0, 0);
-    refused & settles(alloc, &mut database, &mut disk, settled, count)
+    match MemoryDisk::with_room(alloc, ROOM, failing) {
+        Ok(mut disk) => {
+            let refused = refuses_fresh(alloc, &mut disk, settled, count);
+            drop(disk);
+            refused
+        }
+        Err(_) => false,
+    }
 }
 
 #[test]

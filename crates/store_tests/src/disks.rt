@@ -119,8 +119,8 @@ static FAR_APART: [(Ask, Result<u64, Failed>); 7] = [
 ];
 
 /// Whether a disk takes pieces at places far apart, and reads over the end of a page and of the disk.
-fn takes_far_apart(mut disk: MemoryDisk) -> bool {
-    let taken = first_other(&mut disk, &FAR_APART);
+fn takes_far_apart(disk: &mut MemoryDisk) -> bool {
+    let taken = first_other(disk, &FAR_APART);
     let (mut page, mut end) = ([9; 6], [9; 6]);
     let reads = (
         disk.read(4093, &mut page),
@@ -137,8 +137,10 @@ fn takes_far_apart(mut disk: MemoryDisk) -> bool {
 // Places past a gigabyte cost a page each; what was never written reads 00; a read goes over the end of a page.
 #[test]
 fn places_far_apart(rt: HostRuntime) -> Result<(), Fail> {
-    let disk = MemoryDisk::with_room(rt.alloc(), ROOM, &[])?;
-    assert!(rt; takes_far_apart(disk));
+    let mut disk = MemoryDisk::with_room(rt.alloc(), ROOM, &[])?;
+    let taken = takes_far_apart(&mut disk);
+    drop(disk);
+    assert!(rt; taken);
     Ok(())
 }
 
@@ -163,21 +165,23 @@ static SOME_FAIL: [(Ask, Result<u64, Failed>); 5] = [
 ];
 
 /// Whether calls fail as they are to, and what was written before a sync that failed is lost in a crash, and kept by the next sync.
-fn keeps_what_is_pending(alloc: Global, mut disk: MemoryDisk) -> bool {
+fn keeps_what_is_pending(alloc: Global, disk: &mut MemoryDisk) -> bool {
     let old = [Choice::New, Choice::New, Choice::Old];
-    let failed = first_other(&mut disk, &SOME_FAIL);
+    let failed = first_other(disk, &SOME_FAIL);
     let counts = (disk.count(), disk.faults());
-    let lost = leaves(alloc, &disk, 3, &old, b"abcde");
+    let lost = leaves(alloc, disk, 3, &old, b"abcde");
     let synced = disk.sync();
-    let kept = leaves(alloc, &disk, 4, &old, b"aXYZe");
+    let kept = leaves(alloc, disk, 4, &old, b"aXYZe");
     failed.is_none() && counts == (3, 4) && lost && synced == Ok(()) && kept
 }
 
 // A call that fails changes nothing, and a sync that fails leaves what was pending pending.
 #[test]
 fn calls_that_fail(rt: HostRuntime) -> Result<(), Fail> {
-    let disk = five(rt.alloc(), &[3, 5, 6, 7])?;
-    assert!(rt; keeps_what_is_pending(rt.alloc(), disk));
+    let mut disk = five(rt.alloc(), &[3, 5, 6, 7])?;
+    let kept = keeps_what_is_pending(rt.alloc(), &mut disk);
+    drop(disk);
+    assert!(rt; kept);
     Ok(())
 }
 
@@ -238,7 +242,7 @@ static CRASHES: [Crash; 9] = [
 ];
 
 /// The number of the first crash that leaves other bytes.
-fn first_other_crash(alloc: Global, mut disk: MemoryDisk) -> Option<usize> {
+fn first_other_crash(alloc: Global, disk: &mut MemoryDisk) -> Option<usize> {
     let calls = (
         disk.write_at(1, b"XYZ"),
         disk.write_at(7, b"fg"),
@@ -250,7 +254,7 @@ fn first_other_crash(alloc: Global, mut disk: MemoryDisk) -> Option<usize> {
         Some(0)
     };
     for (number, crash) in CRASHES.iter().enumerate() {
-        let same = leaves(alloc, &disk, crash.calls, crash.choices, crash.left);
+        let same = leaves(alloc, disk, crash.calls, crash.choices, crash.left);
         if other.is_none() && !same {
             other = Some(number);
         }
@@ -260,24 +264,26 @@ fn first_other_crash(alloc: Global, mut disk: MemoryDisk) -> Option<usize> {
 
 #[test]
 fn images_at_each_moment(rt: HostRuntime) -> Result<(), Fail> {
-    let disk = five(rt.alloc(), &[])?;
-    assert_eq!(rt; first_other_crash(rt.alloc(), disk), None);
+    let mut disk = five(rt.alloc(), &[])?;
+    let other = first_other_crash(rt.alloc(), &mut disk);
+    drop(disk);
+    assert_eq!(rt; other, None);
     Ok(())
 }
 
 /// Whether a disk whose third call fails passes three calls on, and then no more.
 fn stops_behind_three(alloc: Global, disk: MemoryDisk) -> bool {
     let mut disk = StoppedDisk::new(disk, 3);
-    let writes = (
-        write_synced(&mut disk, 0, b"x"),
-        write_synced(&mut disk, 0, b"y"),
-        write_synced(&mut disk, 0, b"z"),
-    );
-    let (length, faults) = (disk.len(), disk.faults());
+    let first = write_synced(&mut disk, 0, b"x").is_ok();
+    let second = write_synced(&mut disk, 0, b"y").is_ok();
+    let third = write_synced(&mut disk, 0, b"z").is_ok();
+    let fails = disk.len().is_err();
+    let faults = disk.faults();
     let mut below = disk.into_inner();
-    writes == (Err(Failed), Ok(()), Err(Failed))
-        && (length, faults, below.faults()) == (Err(Failed), 3, 1)
-        && holds(alloc, &mut below, b"ybcde")
+    let counts = (faults, below.faults());
+    let held = holds(alloc, &mut below, b"ybcde");
+    drop(below);
+    (first, second, third) == (false, true, false) && fails && counts == (3, 1) && held
 }
 
 // The first k calls are passed on, and every later one fails without a call of the disk below.
@@ -289,16 +295,12 @@ fn a_disk_that_stops(rt: HostRuntime) -> Result<(), Fail> {
 }
 
 /// What five bytes read, one by one, also behind three that are written far behind them.
-fn synced_bytes(mut disk: MemoryDisk) -> [Result<Option<u8>, Failed>; 4] {
-    let (last, none) = (
-        read_synced_byte(&mut disk, 4),
-        read_synced_byte(&mut disk, 5),
-    );
-    let _ = write_synced(&mut disk, 1023, b"end");
-    let (between, end) = (
-        read_synced_byte(&mut disk, 1022),
-        read_synced_byte(&mut disk, 1025),
-    );
+fn synced_bytes(disk: &mut MemoryDisk) -> [Option<Option<u8>>; 4] {
+    let last = read_synced_byte(disk, 4).ok();
+    let none = read_synced_byte(disk, 5).ok();
+    let _ = write_synced(disk, 1023, b"end");
+    let between = read_synced_byte(disk, 1022).ok();
+    let end = read_synced_byte(disk, 1025).ok();
     [last, none, between, end]
 }
 
@@ -306,20 +308,36 @@ fn synced_bytes(mut disk: MemoryDisk) -> [Result<Option<u8>, Failed>; 4] {
 fn is_not_read(alloc: Global, disk: MemoryDisk) -> bool {
     let mut stopped = StoppedDisk::new(disk, 3);
     let all = read_synced(alloc, &mut stopped).is_err();
-    let byte = read_synced_byte(&mut stopped, 0);
-    all && (byte, stopped.faults()) == (Err(Failed), 2)
+    let byte = read_synced_byte(&mut stopped, 0).is_err();
+    let faults = stopped.faults();
+    drop(stopped);
+    all && byte && faults == 2
+}
+
+/// Whether that holds of three bytes far behind the first place.
+fn far_bytes_are_not_read(alloc: Global) -> bool {
+    match MemoryDisk::with_room(alloc, ROOM, &[]) {
+        Ok(mut disk) => {
+            let _ = write_synced(&mut disk, 1023, b"end");
+            is_not_read(alloc, disk)
+        }
+        Err(_) => false,
+    }
 }
 
 #[test]
 fn what_was_synced_is_read(rt: HostRuntime) -> Result<(), Fail> {
-    let disk = five(rt.alloc(), &[])?;
-    assert_eq!(rt;
-        synced_bytes(disk),
-        [Ok(Some(b'e')), Ok(None), Ok(Some(0)), Ok(Some(b'd'))]
-    );
-    let mut long = MemoryDisk::with_room(rt.alloc(), ROOM, &[])?;
-    let _ = write_synced(&mut long, 1023, b"end");
-    assert!(rt; is_not_read(rt.alloc(), long));
+    let mut disk = five(rt.alloc(), &[])?;
+    let bytes = synced_bytes(&mut disk);
+    drop(disk);
+    let wanted = [
+        Some(Some(b'e')),
+        Some(None),
+        Some(Some(0)),
+        Some(Some(b'd')),
+    ];
+    assert_eq!(rt; bytes, wanted);
+    assert!(rt; far_bytes_are_not_read(rt.alloc()));
     Ok(())
 }
 

@@ -1,0 +1,69 @@
+#!/usr/bin/env python3
+"""Checks a crate as it stands over the libraries that `rt ci` left in a clone, and lists the modules that took longest.
+
+    python3 tools/check_over.py CLONE CRATE [--test] [--only PATH ..] [--most N]
+
+`rt ci` keeps what it proves for itself alone, and a first `rt check` proves all crates below once more. Over a clone in which `rt ci
+CRATE` has run, the functions of a path (`--only CRATE::MODULE`) are checked within a minute or two, and again only where they
+changed. With `--test` the tests are checked too. It is for the work on proofs and on what they cost, and gives no verdict: that is
+the gate's."""
+import argparse
+import pathlib
+import subprocess
+import sys
+import time
+
+import build
+
+TOP = pathlib.Path(__file__).resolve().parent.parent
+
+
+def libraries(name):
+    """The libraries that crates.txt names for a crate."""
+    with open(TOP / "crates.txt", encoding="utf-8") as lines:
+        rows = [line.split("#")[0].strip() for line in lines]
+    return next(row.split(":")[1].split() for row in rows if row.startswith((f"{name}:", f"{name} ")))
+
+
+def command(kit, clone, name):
+    """The check of a crate, as the gate makes it."""
+    own = build.libraries()
+    words = [kit / "bin/rattle", "check", "--crate-name", name, "src/lib.rt" if (TOP / f"crates/{name}/src/lib.rt").exists() else "src/main.rt"]
+    for library in ["std", *libraries(name)]:
+        place = clone / f"crates/{library}/out/rlib" if library in own else kit / "rlibs"
+        words += ["--extern", f"{library}={place}/{library}.rlib"]
+    for place in [kit / "rlibs", *(clone / f"crates/{it}/out/rlib" for it in build.needed(own, name)[:-1])]:
+        words += ["-L", f"dependency={place}"]
+    words += ["--antt-project", kit / "rattle/logic/antt-project.json", "--logic-built", kit / "logic_built", "--links", f"{name}="]
+    return [*words, "--jobs", "1", "--empty-contracts", "--incremental", "out/over"]
+
+
+def longest(folder, start):
+    """Seconds and names of what was checked since then: a check writes one module behind the other."""
+    written = sorted((it.stat().st_mtime, it.name) for it in folder.rglob("*.oantt") if it.stat().st_mtime > start)
+    return sorted(((later - sooner, what) for (sooner, _), (later, what) in zip(written, written[1:])), reverse=True)
+
+
+def main():
+    parser = argparse.ArgumentParser(description=__doc__.split("\n", maxsplit=1)[0])
+    parser.add_argument("clone", type=pathlib.Path)
+    parser.add_argument("crate")
+    parser.add_argument("--test", action="store_true")
+    parser.add_argument("--only", action="append", default=[])
+    parser.add_argument("--most", type=int, default=12)
+    given = parser.parse_args()
+    kit = pathlib.Path(subprocess.run(["rt", "doc"], capture_output=True, text=True, check=True).stdout.strip()).parent
+    folder = TOP / "crates" / given.crate
+    (folder / "out/over").mkdir(parents=True, exist_ok=True)
+    words = command(kit, given.clone.resolve(), given.crate)
+    words += ["--test"] * given.test + [word for path in given.only for word in ("--only", path)]
+    start = time.time()
+    said = subprocess.run(words, cwd=folder, stdout=subprocess.PIPE, stderr=subprocess.STDOUT, text=True, check=False)
+    print("\n".join(it for it in said.stdout.splitlines() if not it.startswith("statements ") and not it.endswith(": proved")))
+    for seconds, what in longest(folder / "out/over", start)[: given.most]:
+        print(f"{seconds:7.1f}  {what.removesuffix('.oantt')}")
+    return said.returncode
+
+
+if __name__ == "__main__":
+    sys.exit(main())
