@@ -4,6 +4,7 @@ writes, and what it reads of each reply. It needs no service.
 
     python3 tools/check_client.py
 """
+import argparse
 import sys
 
 import frames
@@ -65,6 +66,7 @@ def check(name, found, wanted):
 
 
 def main():
+    argparse.ArgumentParser(description=__doc__.split("\n", maxsplit=1)[0]).parse_args()
     stream = Canned()
     one_of_each(Client(stream))
     check("the requests", stream.sent, [frame for frame, _ in frames.REQUESTS])

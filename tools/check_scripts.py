@@ -7,6 +7,7 @@ must differ there, so that a program whose random bytes are none is seen. A scri
 Python package `cryptography` is there, the replies of the second model are compared too. It says nothing where all is well, and ends
 with status 1 at the first script that is answered otherwise.
 """
+import argparse
 import importlib.util
 import os
 import pathlib
@@ -62,6 +63,7 @@ def fault_of(script):
 
 
 def main():
+    argparse.ArgumentParser(description=__doc__.split("\n", maxsplit=1)[0]).parse_args()
     with scratch_folder() as folder:
         # where no device.key and no policy.json stand
         os.chdir(folder)
