@@ -299,19 +299,6 @@ KEPT_LISTS = [
 ]
 
 
-def kept_lists():
-    rows = Rows([10001])
-    for restrictions in KEPT_LISTS:
-        free = [] if any(name == "USER_SECURE_ID" for name, _ in restrictions) else [FREE]
-        rows.key(1, "k", [*restrictions, *free, *reversed(MAC_LIST)])
-        kept = [*MAC_LIST, *free, *restrictions, ["KEY_SIZE", 160], ["ORIGIN", 2]]
-        kept += [] if any(name == "CREATION_DATETIME" for name, _ in restrictions) else [["CREATION_DATETIME", 1000]]
-        encoded = write_list(read_list(encoded_list(kept))).hex()
-        entry = {"code": 0, "key": rows.keys, "domain": 0, "nspace": 10001, "alias": "k", "list": encoded}
-        rows.put(call(1, "getKeyEntry", key=named("k")), entry)
-    return rows.rows
-
-
 # What is set in a new key's list, and what is dropped: whether the key is drawn, its parameters, the wall reading, and the list.
 GCM_KEY = [
     ["PURPOSE", 0], ["PURPOSE", 1], ["ALGORITHM", 32], ["KEY_SIZE", 256], ["BLOCK_MODE", 32], ["PADDING", 1], ["MIN_MAC_LENGTH", 128], FREE,
@@ -330,19 +317,29 @@ SET_LISTS = [
 ]
 
 
-def set_lists():
+def entry(rows, encoded):
+    """The entry of the newest key."""
+    return {"code": 0, "key": rows.keys, "domain": 0, "nspace": 10001, "alias": "k", "list": encoded}
+
+
+def kept_lists():
     rows = Rows([10001])
-    for number, (drawn, params, wall, encoded) in enumerate(SET_LISTS, 1):
+    for restrictions in KEPT_LISTS:
+        free = [] if any(name == "USER_SECURE_ID" for name, _ in restrictions) else [FREE]
+        rows.key(1, "k", [*restrictions, *free, *reversed(MAC_LIST)])
+        kept = [*MAC_LIST, *free, *restrictions, ["KEY_SIZE", 160], ["ORIGIN", 2]]
+        kept += [] if any(name == "CREATION_DATETIME" for name, _ in restrictions) else [["CREATION_DATETIME", 1000]]
+        rows.put(call(1, "getKeyEntry", key=named("k")), entry(rows, write_list(read_list(encoded_list(kept))).hex()))
+    for drawn, params, wall, encoded in SET_LISTS:
+        rows.keys += 1
         making = call(1, "generateKey", key=named("k"), params=params) if drawn else made(1, named("k"), params)
-        rows.put(at(0, wall, making), {"code": 0, "key": number})
-        entry = {"code": 0, "key": number, "domain": 0, "nspace": 10001, "alias": "k", "list": encoded}
-        rows.put(at(0, wall, call(1, "getKeyEntry", key=named("k"))), entry)
+        rows.put(at(0, wall, making), {"code": 0, "key": rows.keys})
+        rows.put(at(0, wall, call(1, "getKeyEntry", key=named("k"))), entry(rows, encoded))
     return rows.rows
 
 
 if __name__ == "__main__":
     write("kept-lists", kept_lists())
-    write("set-lists", set_lists())
     write("dates", dates())
     write("restriction-order", order())
     write("device-locks", locks())
