@@ -23,11 +23,16 @@ LANES = f"{TOP}/crates/{PROGRAM}/out/lanes"
 LANE_MEMORY, MOST_JOBS = 4_000_000_000, 4
 
 
-def libraries():
-    """The crates of crates.txt, each with those of the repository that it stands on."""
+def listed():
+    """The crates of crates.txt, each with the libraries that it stands on."""
     with open(f"{TOP}/crates.txt", encoding="utf-8") as lines:
         rows = [line.split("#")[0].strip() for line in lines]
-    named = {row.split(":")[0].split()[0]: row.split(":")[1].split() for row in rows if row}
+    return {row.split(":")[0].split()[0]: row.split(":")[1].split() for row in rows if row}
+
+
+def libraries():
+    """The same, each with those of the repository alone."""
+    named = listed()
     return {name: [it for it in below if it in named] for name, below in named.items()}
 
 

@@ -14,34 +14,23 @@ import sys
 import time
 
 import build
+from slow_functions import times
 
 TOP = pathlib.Path(__file__).resolve().parent.parent
-
-
-def libraries(name):
-    """The libraries that crates.txt names for a crate."""
-    with open(TOP / "crates.txt", encoding="utf-8") as lines:
-        rows = [line.split("#")[0].strip() for line in lines]
-    return next(row.split(":")[1].split() for row in rows if row.startswith((f"{name}:", f"{name} ")))
 
 
 def command(kit, clone, name):
     """The check of a crate, as the gate makes it."""
     own = build.libraries()
-    words = [kit / "bin/rattle", "check", "--crate-name", name, "src/lib.rt" if (TOP / f"crates/{name}/src/lib.rt").exists() else "src/main.rt"]
-    for library in ["std", *libraries(name)]:
+    root = "src/lib.rt" if (TOP / f"crates/{name}/src/lib.rt").exists() else "src/main.rt"
+    words = [kit / "bin/rattle", "check", "--crate-name", name, root]
+    for library in ["std", *build.listed()[name]]:
         place = clone / f"crates/{library}/out/rlib" if library in own else kit / "rlibs"
         words += ["--extern", f"{library}={place}/{library}.rlib"]
     for place in [kit / "rlibs", *(clone / f"crates/{it}/out/rlib" for it in build.needed(own, name)[:-1])]:
         words += ["-L", f"dependency={place}"]
     words += ["--antt-project", kit / "rattle/logic/antt-project.json", "--logic-built", kit / "logic_built", "--links", f"{name}="]
     return [*words, "--jobs", "1", "--empty-contracts", "--incremental", "out/over"]
-
-
-def longest(folder, start):
-    """Seconds and names of what was checked since then: a check writes one module behind the other."""
-    written = sorted((it.stat().st_mtime, it.name) for it in folder.rglob("*.oantt") if it.stat().st_mtime > start)
-    return sorted(((later - sooner, what) for (sooner, _), (later, what) in zip(written, written[1:])), reverse=True)
 
 
 def main():
@@ -60,8 +49,8 @@ def main():
     start = time.time()
     said = subprocess.run(words, cwd=folder, stdout=subprocess.PIPE, stderr=subprocess.STDOUT, text=True, check=False)
     print("\n".join(it for it in said.stdout.splitlines() if not it.startswith("statements ") and not it.endswith(": proved")))
-    for seconds, what in longest(folder / "out/over", start)[: given.most]:
-        print(f"{seconds:7.1f}  {what.removesuffix('.oantt')}")
+    for seconds, what in sorted(times(folder / "out/over", start), reverse=True)[: given.most]:
+        print(f"{seconds:7.1f}  {what}")
     return said.returncode
 
 

@@ -11,9 +11,9 @@ from pathlib import Path
 TOP = Path(__file__).resolve().parent.parent
 
 
-def times(crate):
-    """Seconds and name of each module, from the times at which the check wrote them."""
-    written = sorted((file.stat().st_mtime, file.name) for file in (TOP / "crates" / crate / "out/incremental").rglob("*.oantt"))
+def times(folder, start=0):
+    """Seconds and name of each module that a check has written to a folder since then, from the times at which it wrote them."""
+    written = sorted((file.stat().st_mtime, file.name) for file in folder.rglob("*.oantt") if file.stat().st_mtime > start)
     return [(later - sooner, name.removesuffix(".oantt")) for (sooner, _), (later, name) in zip(written, written[1:])]
 
 
@@ -23,7 +23,7 @@ def main():
     parser.add_argument("--most", type=int, default=20)
     given = parser.parse_args()
     crates = given.crates or sorted(folder.name for folder in (TOP / "crates").iterdir() if (folder / "out/incremental").is_dir())
-    rows = sorted((row for crate in crates for row in times(crate)), reverse=True)
+    rows = sorted((row for crate in crates for row in times(TOP / "crates" / crate / "out/incremental")), reverse=True)
     if not rows:
         sys.exit("slow_functions.py: no check has left its work in out/")
     for seconds, name in rows[:given.most]:
