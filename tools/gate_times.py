@@ -3,17 +3,20 @@
 crate the processor seconds of its bodies, of its tests' proofs, of its bodies once more for its edits, of these and of its runs,
 their sums, and what an edit took on the average.
 
-    python3 tools/gate_times.py [FILE [--anew]]
+    python3 tools/gate_times.py [FILE [WORD ..]]
 
-What an earlier run on the machine kept is not done again, unless `--anew` says so; then nothing is kept for a later one either.
+FILE is where the table goes, as Markdown; without it, standard output has it last. The words are handed to `rt ci`. A toolchain
+whose `rt ci` keeps what it proved for a later run does not do that again; there the word `--anew` has it begin from nothing.
 
-FILE is where the table goes, as Markdown; without it, standard output has it last. The seconds are those of the processes
-that the gate starts, read from /proc twice a second, so a process that is shorter than that is missed. A process that is
-ending has no words any more, and is not looked at again. An edit is told from a crate by its folder: the gate checks it on
-a copy, over what a check of the crate as it stands has proved there before, which is the part "again". To compile what a
-program's check proved counts with the runs. Below the table stands after how many minutes the program was proved with all
-that it stands on, which is what a first `./keystore2` waits for at most."""
+The seconds are those of the processes that the gate starts, read from /proc twice a second, so a process that is shorter than
+that is missed. A process that is ending has no words any more, and is not looked at again. An edit is told from a crate by its
+folder: the gate checks it on a copy. A crate's edits are checked one after another, each over what the ones before it proved, so
+the first of them proves the bodies once more, and with a kit that seeds them a check of the crate as it stands does: that is the
+part "again". It has the last check of a crate too where that is the crate as it stands. To compile what a program's check proved
+counts with the runs. Below the table stands after how many minutes the program was proved with all that it stands on, which is
+what a first `./keystore2` waits for at most."""
 import collections
+import dataclasses
 import glob
 import os
 import subprocess
@@ -50,8 +53,17 @@ def below(top):
     return {pid: it for pid, it in found.items() if pid != top and is_below(pid)}
 
 
-def place(words, folder):
-    """The crate and the part of the gate that a process works for, or None for a process of no crate.
+@dataclasses.dataclass
+class Work:
+    """A process of the gate: its crate, the part that it works for, the folder in which it does, and its processor seconds so far."""
+    crate: str
+    part: str
+    folder: str
+    seconds: float = 0.0
+
+
+def part_of(words, folder):
+    """The crate and the part that a process works for, or None for a process of no crate.
 
     A library is proved by `rattle build`, a program by `rattle check`, and an edit by `rattle check` in a copy."""
     name = os.path.basename(words[0])
@@ -72,25 +84,46 @@ def watch(process, seen, last):
     start = time.time()
     while process.poll() is None:
         for pid, (words, folder, seconds) in below(process.pid).items():
-            at = place(words, folder)
-            if at:
-                seen[pid, *at] = max(seconds, seen.get((pid, *at), 0))
-                last[at] = (time.time() - start) / 60
+            part = part_of(words, folder)
+            if part:
+                work = seen.setdefault((pid, *part), Work(*part, folder))
+                work.seconds = max(seconds, work.seconds)
+                last[part] = (time.time() - start) / 60
         time.sleep(0.5)
 
 
-def table(seen, last, minutes):
+def edits_of(crate):
+    return len(glob.glob(f"crates/{crate}/must-fail/*.edit"))
+
+
+def tell_again(works):
+    """Where no check of a crate's edits was seeded, the first of them proves the bodies once more, and the one behind the last edit
+    checks the crate as it stands. A check has a folder of its own, and may have several processes."""
+    folders = collections.defaultdict(dict)
+    for work in works:
+        if work.part in ("edits", "again"):
+            folders[work.crate].setdefault(work.folder, []).append(work)
+    for crate, checks in folders.items():
+        checks = list(checks.values())
+        if all(work.part == "edits" for check in checks for work in check):
+            count = edits_of(crate)
+            for work in [*checks[0], *(it for check in checks[count:count + 1] for it in check)]:
+                work.part = "again"
+
+
+def table(works, last, minutes):
+    tell_again(works)
     sums = collections.defaultdict(lambda: dict.fromkeys(PARTS, 0.0))
-    for (_pid, crate, part), seconds in seen.items():
-        sums[crate][part] += seconds
-    edits = {crate: len(glob.glob(f"crates/{crate}/must-fail/*.edit")) for crate in sums}
+    for work in works:
+        sums[work.crate][work.part] += work.seconds
+    tried = collections.Counter(crate for crate, _ in {(it.crate, it.folder) for it in works if it.part == "edits"})
     rows = ["| Crate | " + " | ".join(PARTS) + " | all | an edit |", "|---|" + "---|" * (len(PARTS) + 2)]
 
     def add_row(name, parts, count):
         rows.append(f"| {name} | " + " | ".join(f"{it:.0f}" for it in [*parts, sum(parts), parts[PARTS.index("edits")] / max(count, 1)]) + " |")
     for crate in sorted(sums, key=lambda it: -sum(sums[it].values())):
-        add_row(crate, [sums[crate][it] for it in PARTS], edits[crate])
-    add_row("all", [sum(it[part] for it in sums.values()) for part in PARTS], sum(edits.values()))
+        add_row(crate, [sums[crate][it] for it in PARTS], tried[crate])
+    add_row("all", [sum(it[part] for it in sums.values()) for part in PARTS], tried.total())
     proved = max(last.get((it, "bodies"), 0) for it in build.needed(build.libraries(), build.PROGRAM))
     rows.append(f"\nSeconds of processor; {minutes:.1f} minutes by the clock on {os.cpu_count()} processors; the program was proved after {proved:.1f}.")
     return "\n".join(rows) + "\n"
@@ -107,7 +140,7 @@ def main():
     except KeyboardInterrupt:
         print("the gate was stopped; the table has what it did by then")
     status = process.wait()
-    text = table(seen, last, (time.time() - start) / 60)
+    text = table(list(seen.values()), last, (time.time() - start) / 60)
     if len(sys.argv) > 1:
         with open(sys.argv[1], "w", encoding="utf-8") as out:
             out.write(text)
