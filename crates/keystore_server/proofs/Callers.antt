@@ -8,10 +8,9 @@ use Rattle.rule_model.specs.declared.event.Act.{Act}
 use Rattle.rule_model.specs.declared.event.Act.TheVariants.{Connect, Disconnect, GenerateKey, ImportKey, CreateOperation, EnterAad, EnterUpdate, EnterFinish, Abort, GetKeyEntry, DeleteKey, Grant, Ungrant, GetNumberOfEntries, ListEntriesBatched, AddAuthToken, DeviceLocked, DeviceUnlocked, EarlyBootEnded, ClearNamespace, UserRemoved, Leave, Restart}
 use Rattle.rule_model.specs.declared.reply.Reply.{Reply}
 use Rattle.rule_model.specs.declared.reply.Reply.TheVariants.{Done, Broken, Stopped}
-use Rattle.rule_model.specs.Acts.{is_connect}
+use Rattle.rule_model.specs.Acts.{is_connect, is_disconnect}
 use Rattle.rule_model.specs.Entries.{is_done}
 use Rattle.wire_frames.specs.Spelling.{is_framed}
-use Rattle.service_book.specs.Limits.{is_disconnect}
 use Rattle.service_book.specs.declared.entry.BookEntry.{BookEntry}
 use Rattle.connections.specs.Talks.{is_refusal}
 use Rattle.atomic_table.specs.Seated.{TableId, table_id_coded}

@@ -105,6 +105,10 @@ abbrev pub is_connect : Act → Bool
 is_connect (acts.Connect uid) = true
 is_connect _ = false
 
+abbrev pub is_disconnect : Act → Bool
+is_disconnect acts.Disconnect = true
+is_disconnect _ = false
+
 abbrev pub is_begin : Act → Bool
 is_begin (acts.CreateOperation key params forced) = true
 is_begin _ = false
@@ -114,6 +118,10 @@ is_enter (acts.EnterAad op input) = true
 is_enter (acts.EnterUpdate op input) = true
 is_enter (acts.EnterFinish op input signature) = true
 is_enter _ = false
+
+abbrev pub is_leave : Act → Bool
+is_leave (acts.Leave ticket) = true
+is_leave _ = false
 
 abbrev pub is_restart : Act → Bool
 is_restart (acts.Restart root) = true

@@ -1,7 +1,7 @@
 //! The kind of an act, and what is fixed for it.
 
 ghost use Rattle.std.specs.Prelude.{◌≡◌};
-ghost use Rattle.rule_model.specs.Acts.{fixed_for, is_connect, is_enter, kind_of};
+ghost use Rattle.rule_model.specs.Acts.{fixed_for, is_connect, is_disconnect, is_enter, is_leave, kind_of};
 
 use crate::{Act, ActKind};
 
@@ -47,6 +47,16 @@ impl Act {
         }
     }
 
+    /// Whether a client goes by the act.
+    pub fn is_disconnect(&self) -> bool
+        ensures { result ≡ is_disconnect self.now }
+    {
+        match self {
+            Act::Disconnect => true,
+            _ => false,
+        }
+    }
+
     /// Whether the act enters an operation.
     pub fn is_enter(&self) -> bool
         ensures { result ≡ is_enter self.now }
@@ -55,6 +65,16 @@ impl Act {
             Act::EnterAad { .. } => true,
             Act::EnterUpdate { .. } => true,
             Act::EnterFinish { .. } => true,
+            _ => false,
+        }
+    }
+
+    /// Whether a ticket comes back by the act.
+    pub fn is_leave(&self) -> bool
+        ensures { result ≡ is_leave self.now }
+    {
+        match self {
+            Act::Leave { .. } => true,
             _ => false,
         }
     }

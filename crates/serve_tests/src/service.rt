@@ -3,7 +3,7 @@
 use disk_model::{MemoryDisk, Room};
 use keystore_service::{ServeStatus, serve_words};
 use ks_outside::{Disk, FixedClock, Gate, MemoryLink, MemoryListener, Reading, SteadyEntropy};
-use rule_model::{Act, Entry};
+use rule_model::Entry;
 use service_book::{Book, BookEntry};
 use std::alloc::Global;
 use std::sync::Wait;
@@ -130,10 +130,7 @@ fn links_that_told(links: &[MemoryLink<'_>], told: Told<'_>) -> usize {
 /// Whether an entry is the disconnect of a client.
 fn is_disconnect(entry: &BookEntry) -> bool {
     match &entry.entry {
-        Entry::Acted { event, reply, .. } => match event.act {
-            Act::Disconnect => reply.is_done(),
-            _ => false,
-        },
+        Entry::Acted { event, reply, .. } => event.act.is_disconnect() && reply.is_done(),
         Entry::Settling { .. } => false,
     }
 }

@@ -3,9 +3,9 @@ use Rattle.std.specs.Prelude.{ℕ, ◌+◌, ◌-◌, ◌*◌, nat_lt, Bool, true
 use Rattle.rule_model.specs.declared.entry.Entry.{Entry}
 use Rattle.rule_model.specs.declared.entry.Entry.TheVariants.{Acted, Settling}
 use Rattle.rule_model.specs.declared.event.Act.{Act}
-use Rattle.rule_model.specs.declared.event.Act.TheVariants.{Connect, Disconnect, EnterAad, EnterUpdate, EnterFinish, Leave}
+use Rattle.rule_model.specs.declared.event.Act.TheVariants.{Connect, Disconnect, EnterAad, EnterUpdate, EnterFinish}
 use Rattle.rule_model.specs.declared.reply.Reply.{Reply}
-use Rattle.rule_model.specs.Acts.{is_connect, is_enter}
+use Rattle.rule_model.specs.Acts.{is_connect, is_disconnect, is_enter, is_leave}
 use Rattle.rule_model.specs.Entries.{admits}
 use Rattle.wire_frames.specs.Replies.{reply_of}
 use Rattle.wire_frames.specs.Sizes.{frame_length}
@@ -21,14 +21,6 @@ MOST_BYTES = 536870912
 -- the bytes that are set aside for the replies of a call: more than a reply and its ticket's can have
 abbrev pub CALL_BYTES : ℕ
 CALL_BYTES = 1114112
-
-abbrev pub is_disconnect : Act → Bool
-is_disconnect Disconnect = true
-is_disconnect _ = false
-
-abbrev pub is_leave : Act → Bool
-is_leave (Leave ticket) = true
-is_leave _ = false
 
 -- how many entries of a log pass a test
 abbrev pub count : (Entry → Bool) → List BookEntry → ℕ

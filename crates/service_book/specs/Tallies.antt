@@ -1,10 +1,10 @@
 -- When a tally is that of a log.
 use Rattle.std.specs.Prelude.{◌≡◌, ℕ, List, length}
-use Rattle.rule_model.specs.Acts.{is_connect, is_enter}
+use Rattle.rule_model.specs.Acts.{is_connect, is_disconnect, is_enter, is_leave}
 use Rattle.rule_model.specs.Entries.{admits}
 use Rattle.service_book.specs.declared.entry.BookEntry.{BookEntry}
 use Rattle.service_book.specs.declared.tally.Tally.{Tally}
-use Rattle.service_book.specs.Limits.{count, is_disconnect, is_leave, is_of, recorded}
+use Rattle.service_book.specs.Limits.{count, is_of, recorded}
 
 abbrev pub entries_in : Tally → ℕ
 entries_in tally = tally.entries

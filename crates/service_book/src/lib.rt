@@ -5,12 +5,10 @@
 //! (`specs/Book.antt`): what a pass made, what a client is, and when a book is caused.
 #![tactic(auto)]
 
-mod acts;
 mod book;
 mod entry;
 mod tally;
 
-pub use acts::is_disconnect;
 pub use book::Book;
 pub use entry::BookEntry;
 pub use tally::{Tally, need_of};

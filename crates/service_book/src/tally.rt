@@ -5,7 +5,6 @@ ghost use Rattle.wire_frames.specs.Spelling.{body_of};
 ghost use Rattle.service_book.specs.declared.entry.BookEntry.{BookEntry};
 ghost use Rattle.service_book.specs.Limits.{bytes_of, clients_in, need_of, passes_limit, tickets_in, MOST_ENTRIES, MOST_BYTES, CALL_BYTES};
 
-use crate::acts::{is_disconnect, is_leave};
 use rule_model::{Act, Entry};
 use wire_frames::Request;
 
@@ -84,13 +83,13 @@ impl Tally {
         if admitted && event.act.is_connect() {
             self.connects += 1;
         }
-        if admitted && is_disconnect(&event.act) {
+        if admitted && event.act.is_disconnect() {
             self.disconnects += 1;
         }
         if admitted && event.act.is_enter() {
             self.enters += 1;
         }
-        if is_leave(&event.act) {
+        if event.act.is_leave() {
             self.leaves += 1;
         }
     }

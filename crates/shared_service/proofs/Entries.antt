@@ -10,14 +10,14 @@ use Rattle.rule_model.specs.declared.event.Event.{Event}
 use Rattle.rule_model.specs.declared.reply.Fields.{Fields}
 use Rattle.rule_model.specs.declared.reply.Reply.{Reply}
 use Rattle.rule_model.specs.declared.reply.Reply.TheVariants.{Done, Broken, Stopped}
-use Rattle.rule_model.specs.Acts.{is_connect, is_enter, is_restart}
+use Rattle.rule_model.specs.Acts.{is_connect, is_disconnect, is_enter, is_leave, is_restart}
 use Rattle.rule_model.specs.Clients.{ClientChange, SameClients, Comes, Goes, admitted_client, client_change, comes, uid_after, uid_of}
 use Rattle.rule_model.specs.Entries.{admits, count_of, gives, is_done}
 use Rattle.rule_model.specs.Tickets.{TicketChange, SameTickets, GoesOut, ComesBack, Entered, admitted_ticket, goes_out, stopped_ticket, ticket_after, ticket_at, ticket_change, next_ticket}
 use Rattle.wire_frames.specs.Spelling.{is_asked}
 use Rattle.service_book.specs.declared.entry.BookEntry.{BookEntry}
 use Rattle.service_book.specs.Book.{Counts, client_given, client_of, gives_ticket, history_of, later_client, pass_of_ticket, ticket_in}
-use Rattle.service_book.specs.Limits.{count, is_disconnect, is_leave, is_of}
+use Rattle.service_book.specs.Limits.{count, is_of}
 use Rattle.shared_service.specs.Calls.{entry_by}
 use Rattle.shared_service.specs.Desks.{ComesInTurn}
 use Rattle.shared_service.specs.Facts.{ClientFacts, TicketFacts, is_given, pass_of_client}

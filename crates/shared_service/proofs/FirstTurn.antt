@@ -16,14 +16,14 @@ use Rattle.rule_model.specs.declared.event.Event.{Event}
 use Rattle.rule_model.specs.declared.field_sizes.FieldSizes.{FieldSizes}
 use Rattle.rule_model.specs.declared.reply.Reply.{Reply}
 use Rattle.rule_model.specs.declared.reply.Reply.TheVariants.{Done, Broken, Stopped}
-use Rattle.rule_model.specs.Acts.{is_enter}
+use Rattle.rule_model.specs.Acts.{is_disconnect, is_enter}
 use Rattle.rule_model.specs.Entries.{History, is_done}
 use Rattle.rule_model.specs.Jobs.{GoesWith, HasJob, IsJobOut}
 use Rattle.rule_model.specs.Setup.{Setup}
 use Rattle.rule_model.specs.Tickets.{ticket_at}
 use Rattle.service_book.specs.declared.entry.BookEntry.{BookEntry}
 use Rattle.service_book.specs.Book.{client_of, history_of, log_of, ticket_in}
-use Rattle.service_book.specs.Limits.{is_disconnect, passes_limit}
+use Rattle.service_book.specs.Limits.{passes_limit}
 use Rattle.wire_frames.specs.Replies.{reply_body}
 use Rattle.shared_service.specs.declared.name.Name.{Name}
 use Rattle.shared_service.specs.declared.served.Served.{Served}

@@ -8,10 +8,10 @@ use Rattle.tags.specs.declared.settled.Settled.{Settled}
 use Rattle.rule_model.specs.declared.entry.Entry.{Entry}
 use Rattle.rule_model.specs.declared.entry.Entry.TheVariants.{Acted, Settling}
 use Rattle.rule_model.specs.Entries.{after_step, admits}
-use Rattle.rule_model.specs.Acts.{is_connect}
+use Rattle.rule_model.specs.Acts.{is_connect, is_disconnect, is_leave}
 use Rattle.service_book.specs.declared.entry.BookEntry.{BookEntry}
 use Rattle.service_book.specs.Book.{client_given, client_of, history_of, later_client, log_of}
-use Rattle.service_book.specs.Limits.{is_disconnect, is_leave, is_of}
+use Rattle.service_book.specs.Limits.{is_of}
 use Rattle.shared_service.specs.Calls.{OneStep, entries_of, entry_by, settling_by}
 use Rattle.shared_service.specs.Owning.{by, is_connected, later_ticket, out_of, ticket_given}
 use Rattle.shared_service.proofs.Fitting.{then_is, else_is}

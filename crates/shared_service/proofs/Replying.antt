@@ -23,7 +23,7 @@ use Rattle.rule_model.specs.declared.reply.Fields.{Fields}
 use Rattle.rule_model.specs.declared.reply.Reply.{Reply}
 use Rattle.rule_model.specs.declared.reply.Reply.TheVariants.{Done, Broken, Stopped}
 use Rattle.rule_model.specs.Access.{id_by}
-use Rattle.rule_model.specs.Acts.{fixed_for, is_connect, is_enter, is_restart}
+use Rattle.rule_model.specs.Acts.{fixed_for, is_connect, is_disconnect, is_enter, is_leave, is_restart}
 use Rattle.rule_model.specs.Answer.{answer, answer_by_rules, given_or, leaving, out_of}
 use Rattle.rule_model.specs.Calls.{disconnect_ruling, grant_ruling, granted_in, key_entry}
 use Rattle.rule_model.specs.Clients.{caller_of, uid_of}
@@ -38,7 +38,6 @@ use Rattle.rule_model.specs.Setup.{Setup}
 use Rattle.rule_model.specs.Stored.{change_by, where_stored}
 use Rattle.rule_model.specs.Tickets.{ComesBack, Entered, next_ticket, stopped_ticket, ticket_at, ticket_change, admitted_ticket}
 use Rattle.rule_model.proofs.Admitted.{answered_done, broken_done, broken_fields}
-use Rattle.service_book.specs.Limits.{is_disconnect, is_leave}
 
 -- ---- an admitted answer is by the rules
 

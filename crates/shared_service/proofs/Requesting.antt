@@ -19,7 +19,7 @@ use Rattle.rule_model.specs.declared.reply.Fields.{Fields}
 use Rattle.rule_model.specs.declared.reply.Reply.{Reply}
 use Rattle.rule_model.specs.declared.reply.Reply.TheVariants.{Done, Broken, Stopped}
 use Rattle.rule_model.specs.Access.{id_by}
-use Rattle.rule_model.specs.Acts.{fixed_for, is_connect, is_enter}
+use Rattle.rule_model.specs.Acts.{fixed_for, is_connect, is_enter, is_leave}
 use Rattle.rule_model.specs.Answer.{answer_by_rules, leaving}
 use Rattle.rule_model.specs.Calls.{disconnect_ruling, grant_ruling, granted_in, key_entry}
 use Rattle.rule_model.specs.Clients.{caller_of}
@@ -35,7 +35,6 @@ use Rattle.keystore_core.specs.declared.engine.Engine.{Engine}
 use Rattle.keystore_core.specs.Engine.{Stands}
 use Rattle.service_book.specs.declared.entry.BookEntry.{BookEntry}
 use Rattle.service_book.specs.Book.{history_of, log_of, ticket_in}
-use Rattle.service_book.specs.Limits.{is_leave}
 use Rattle.shared_service.specs.declared.desk.rooms.Rooms.{Rooms}
 use Rattle.shared_service.specs.declared.name.Name.{Name}
 use Rattle.shared_service.specs.Calls.{OneStep, entries_of}

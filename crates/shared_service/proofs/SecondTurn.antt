@@ -14,7 +14,7 @@ use Rattle.rule_model.specs.declared.event.Act.TheVariants.{Disconnect, Leave}
 use Rattle.rule_model.specs.declared.event.Event.{Event}
 use Rattle.rule_model.specs.declared.field_sizes.FieldSizes.{FieldSizes}
 use Rattle.rule_model.specs.declared.reply.Reply.{Reply}
-use Rattle.rule_model.specs.Acts.{is_enter}
+use Rattle.rule_model.specs.Acts.{is_disconnect, is_enter, is_leave}
 use Rattle.rule_model.specs.Entries.{is_done}
 use Rattle.rule_model.specs.Jobs.{IsDoneOn, IsDoneOut, IsJobOn, IsJobOut}
 use Rattle.rule_model.specs.Kept.{operation_at}
@@ -24,7 +24,6 @@ use Rattle.rule_model.specs.Tickets.{Entered, ticket_at}
 use Rattle.keystore_core.specs.Outputs.{PutsOut}
 use Rattle.service_book.specs.declared.entry.BookEntry.{BookEntry}
 use Rattle.service_book.specs.Book.{history_of, log_of}
-use Rattle.service_book.specs.Limits.{is_disconnect, is_leave}
 use Rattle.shared_service.specs.declared.name.Name.{Name}
 use Rattle.shared_service.specs.Away.{IsBack, IsEntered, IsJobAway}
 use Rattle.shared_service.specs.Calls.{IsCall, Recorded, Twice, entries_of}

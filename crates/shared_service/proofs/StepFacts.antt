@@ -9,7 +9,7 @@ use Rattle.rule_model.specs.declared.event.Event.{Event}
 use Rattle.rule_model.specs.declared.reply.Fields.{Fields}
 use Rattle.rule_model.specs.declared.reply.Reply.{Reply}
 use Rattle.rule_model.specs.declared.reply.Reply.TheVariants.{Done, Broken, Stopped}
-use Rattle.rule_model.specs.Acts.{is_connect, is_enter}
+use Rattle.rule_model.specs.Acts.{is_connect, is_disconnect, is_enter, is_leave}
 use Rattle.rule_model.specs.Clients.{uid_of}
 use Rattle.rule_model.specs.Entries.{admits, after_settling, after_step, count_of, is_done}
 use Rattle.rule_model.specs.Jobs.{Stays}
@@ -19,7 +19,6 @@ use Rattle.rule_model.specs.Setup.{Setup}
 use Rattle.rule_model.specs.Tickets.{next_ticket}
 use Rattle.service_book.specs.declared.entry.BookEntry.{BookEntry}
 use Rattle.service_book.specs.Book.{IsOwnAct, client_of, history_of}
-use Rattle.service_book.specs.Limits.{is_disconnect, is_leave}
 use Rattle.shared_service.specs.Calls.{OneStep}
 use Rattle.shared_service.specs.Desks.{ComesInTurn}
 use Rattle.shared_service.specs.Facts.{AllFacts, ClientFacts, Facts, TicketFacts}

@@ -11,7 +11,7 @@ use Rattle.rule_model.specs.declared.entry.Entry.TheVariants.{Acted}
 use Rattle.rule_model.specs.declared.event.Act.{Act}
 use Rattle.rule_model.specs.declared.event.Act.TheVariants.{Disconnect, Leave}
 use Rattle.rule_model.specs.declared.field_sizes.FieldSizes.{FieldSizes}
-use Rattle.rule_model.specs.Acts.{fixed_for, is_connect, is_enter}
+use Rattle.rule_model.specs.Acts.{fixed_for, is_connect, is_disconnect, is_enter, is_leave}
 use Rattle.rule_model.specs.Clients.{uid_of}
 use Rattle.rule_model.specs.Entries.{History, admits, is_done}
 use Rattle.rule_model.specs.Jobs.{HasDone}
@@ -23,7 +23,7 @@ use Rattle.keystore_core.specs.declared.engine.Engine.{Engine}
 use Rattle.keystore_core.specs.Engine.{Stands}
 use Rattle.service_book.specs.declared.entry.BookEntry.{BookEntry}
 use Rattle.service_book.specs.Book.{IsOwnAct, client_of, history_of, log_of, pass_of_ticket}
-use Rattle.service_book.specs.Limits.{MOST_ENTRIES, count, is_disconnect, is_leave, need_of}
+use Rattle.service_book.specs.Limits.{MOST_ENTRIES, count, need_of}
 use Rattle.service_book.specs.Limits as limits
 use Rattle.shared_service.specs.declared.name.Name.{Name}
 use Rattle.shared_service.specs.Calls.{OneStep}

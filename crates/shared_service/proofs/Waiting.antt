@@ -20,7 +20,7 @@ use Rattle.rule_model.specs.declared.facts.Caller.{Caller}
 use Rattle.rule_model.specs.declared.reply.Fields.{Fields}
 use Rattle.rule_model.specs.declared.reply.Reply.{Reply}
 use Rattle.rule_model.specs.declared.reply.Reply.TheVariants.{Done, Broken, Stopped}
-use Rattle.rule_model.specs.Acts.{is_connect, is_enter}
+use Rattle.rule_model.specs.Acts.{is_connect, is_enter, is_leave}
 use Rattle.rule_model.specs.Answer.{answer_by_rules, given_or, leaving}
 use Rattle.rule_model.specs.Clients.{caller_of}
 use Rattle.rule_model.specs.Entries.{History, admits, count_of, gives, is_done}
@@ -38,7 +38,6 @@ use Rattle.rule_model.proofs.Outputs.{Apart, Differs}
 use Rattle.rule_model.proofs.Returned.{paired_of}
 use Rattle.service_book.specs.declared.entry.BookEntry.{BookEntry}
 use Rattle.service_book.specs.Book.{IsOwnAct, client_given, client_in, client_of, gives_ticket, history_of, pass_of_ticket, ticket_in}
-use Rattle.service_book.specs.Limits.{is_leave}
 use Rattle.shared_service.specs.Calls.{OneStep}
 use Rattle.shared_service.specs.Desks.{ComesInTurn}
 use Rattle.shared_service.specs.Facts.{AllWaitedFor, Facts, IsWaitedFor, is_given, pass_of_client}

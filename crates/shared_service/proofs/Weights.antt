@@ -6,11 +6,11 @@ use Rattle.rule_model.specs.declared.entry.Entry.{Entry}
 use Rattle.rule_model.specs.declared.entry.Entry.TheVariants.{Acted, Settling}
 use Rattle.rule_model.specs.declared.event.Act.{Act}
 use Rattle.rule_model.specs.declared.event.Act.TheVariants.{Connect, Disconnect, EnterAad, EnterUpdate, EnterFinish}
-use Rattle.rule_model.specs.Acts.{is_connect, is_enter}
+use Rattle.rule_model.specs.Acts.{is_connect, is_disconnect, is_enter, is_leave}
 use Rattle.rule_model.specs.Entries.{admits, is_done}
 use Rattle.service_book.specs.declared.entry.BookEntry.{BookEntry}
 use Rattle.service_book.specs.Book.{Counts}
-use Rattle.service_book.specs.Limits.{count, is_disconnect, is_leave, is_of, need_of}
+use Rattle.service_book.specs.Limits.{count, is_of, need_of}
 use Rattle.shared_service.specs.Calls.{OneStep, entry_by, settling_by}
 use Rattle.shared_service.specs.Desks.{weight}
 use Rattle.shared_service.specs.Facts.{has}

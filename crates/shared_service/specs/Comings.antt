@@ -7,7 +7,7 @@ use Rattle.rule_model.specs.declared.event.Event.{Event}
 use Rattle.rule_model.specs.ReplyRooms.{sizes_of}
 use Rattle.service_book.specs.declared.entry.BookEntry.{BookEntry}
 use Rattle.service_book.specs.Book.{client_of}
-use Rattle.service_book.specs.Limits.{is_disconnect}
+use Rattle.rule_model.specs.Acts.{is_disconnect}
 use Rattle.shared_service.specs.declared.coming.Coming.{Coming}
 use Rattle.shared_service.specs.declared.coming.Coming.TheVariants.{Parting, Ready, Poor}
 use Rattle.shared_service.specs.declared.coming.Copies.{Copies}

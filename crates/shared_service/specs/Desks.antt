@@ -19,7 +19,8 @@ use Rattle.keystore_core.specs.Engine.{Stands, StoreStands}
 use Rattle.keystore_core.specs.Outputs.{HasOutRoom}
 use Rattle.service_book.specs.declared.entry.BookEntry.{BookEntry}
 use Rattle.service_book.specs.Book.{AreLater, Counts, IsCaused, IsOwnAct, client_of, counts_after, history_of, log_of}
-use Rattle.service_book.specs.Limits.{MOST_ENTRIES, clients_in, is_leave, need_of, tickets_in}
+use Rattle.rule_model.specs.Acts.{is_leave}
+use Rattle.service_book.specs.Limits.{MOST_ENTRIES, clients_in, need_of, tickets_in}
 use Rattle.shared_service.specs.declared.name.Name.{Name}
 use Rattle.shared_service.specs.Calls.{OneStep, entries_of}
 use Rattle.shared_service.specs.Facts.{AllFacts}

@@ -1,7 +1,7 @@
 -- What holds of every log of a service, whose passes make one call after another: the newest entry stands first.
 use Rattle.std.specs.Prelude.{◌≡◌, ◌⊎◌, ℕ, ◌+◌, ◌≤◌, ◌==◌, Bool, true, false, List, [], ◌∷◌, length, Option, Some, None, is_some, if◌then◌else◌}
 use Rattle.std.specs.List.{list_any}
-use Rattle.rule_model.specs.Acts.{is_connect, is_enter}
+use Rattle.rule_model.specs.Acts.{is_connect, is_disconnect, is_enter, is_leave}
 use Rattle.rule_model.specs.Clients.{uid_of}
 use Rattle.rule_model.specs.Entries.{admits, count_of}
 use Rattle.rule_model.specs.Jobs.{Stays}
@@ -11,7 +11,7 @@ use Rattle.rule_model.specs.Setup.{Setup}
 use Rattle.rule_model.specs.Tickets.{Entered, ticket_at}
 use Rattle.service_book.specs.declared.entry.BookEntry.{BookEntry}
 use Rattle.service_book.specs.Book.{client_given, client_of, history_of, pass_of_ticket}
-use Rattle.service_book.specs.Limits.{count, is_disconnect, is_leave, is_of}
+use Rattle.service_book.specs.Limits.{count, is_of}
 use Rattle.shared_service.specs.Owning.{is_connected, out_of}
 
 abbrev pub has : ℕ → List ℕ → Bool

@@ -4,9 +4,8 @@ use Rattle.rule_model.specs.declared.event.Act.{Act}
 use Rattle.rule_model.specs.declared.event.Act.TheVariants as acts
 use Rattle.rule_model.specs.declared.reply.Reply.{Reply}
 use Rattle.rule_model.specs.declared.reply.Reply.TheVariants.{Done, Broken, Stopped}
-use Rattle.rule_model.specs.Acts.{is_connect}
+use Rattle.rule_model.specs.Acts.{is_connect, is_disconnect}
 use Rattle.rule_model.specs.Entries.{is_done}
-use Rattle.service_book.specs.Limits.{is_disconnect}
 use Rattle.shared_service.specs.declared.shared.turns.Kind.{Kind}
 use Rattle.shared_service.specs.declared.shared.turns.Kind.TheVariants.{Connects, Parts, Other}
 

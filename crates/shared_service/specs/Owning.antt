@@ -5,12 +5,12 @@ use Rattle.rule_model.specs.declared.entry.Entry.TheVariants.{Acted, Settling}
 use Rattle.rule_model.specs.declared.event.Act.{Act}
 use Rattle.rule_model.specs.declared.event.Act.TheVariants.{Connect}
 use Rattle.rule_model.specs.declared.event.Event.{Event}
-use Rattle.rule_model.specs.Acts.{is_connect, is_enter}
+use Rattle.rule_model.specs.Acts.{is_connect, is_disconnect, is_enter, is_leave}
 use Rattle.rule_model.specs.Entries.{admits}
 use Rattle.ks_outside.specs.declared.clock.Reading.{Reading}
 use Rattle.service_book.specs.declared.entry.BookEntry.{BookEntry}
 use Rattle.service_book.specs.Book.{client_of, ticket_in}
-use Rattle.service_book.specs.Limits.{is_disconnect, is_leave, is_of}
+use Rattle.service_book.specs.Limits.{is_of}
 
 -- the number of the entry's pass
 abbrev pub by : BookEntry → ℕ

@@ -1,14 +1,13 @@
 //! A request on its way to the desk, with the memory that was taken for it before the turn.
 
 ghost use Rattle.std.specs.Prelude.{◌≡◌, ◌&&◌, Bool, true, false, IfOk};
-ghost use Rattle.service_book.specs.Limits.{is_disconnect};
+ghost use Rattle.rule_model.specs.Acts.{is_disconnect};
 ghost use Rattle.wire_frames.specs.Spelling.{is_asked};
 ghost use Rattle.shared_service.specs.Comings.{AreCopies, IsComing, act_in};
 ghost use Rattle.shared_service.specs.Owning as owning;
 ghost use Rattle.shared_service.specs.Owning.{event_by};
 
 use rule_model::{Act, Event, Reading, ReplyRoom};
-use service_book::is_disconnect;
 use std::alloc::Global;
 use tags::NoMemory;
 use wire_frames::Request;
@@ -35,7 +34,11 @@ pub(crate) enum Coming {
 fn is_parting(connected: bool, act: &Act) -> bool
     ensures { result ≡ (is_disconnect act.now && connected) }
 {
-    if connected { is_disconnect(act) } else { false }
+    if connected {
+        act.is_disconnect()
+    } else {
+        false
+    }
 }
 
 /// The client of an act: 0 for a connect.
@@ -48,12 +51,10 @@ fn client_by(client: u64, act: &Act) -> u64
     }
 }
 
-/// The event of a request.
-pub(crate) fn event_of(reading: Reading, client: u64, request: Request) -> Event
-    ensures asked { is_asked result.act ≡ true }
-    ensures event { result ≡ event_by reading client request }
+/// The event of an act that a client makes.
+fn client_event(reading: Reading, client: u64, act: Act) -> Event
+    ensures { result ≡ event_by reading client act }
 {
-    let act = request.into_act();
     Event {
         reading,
         client: client_by(client, &act),
@@ -61,16 +62,20 @@ pub(crate) fn event_of(reading: Reading, client: u64, request: Request) -> Event
     }
 }
 
+/// The event of a request.
+pub(crate) fn event_of(reading: Reading, client: u64, request: Request) -> Event
+    ensures asked { is_asked result.act ≡ true }
+    ensures event { result ≡ event_by reading client request }
+{
+    client_event(reading, client, request.into_act())
+}
+
 /// The copies for an act of a client.
 fn copies_of(alloc: Global, reading: Reading, client: u64, act: &Act) -> Result<Copies, NoMemory>
     ensures { IfOk result (λ copies. AreCopies (event_by reading client act.now) copies) }
 {
     let reply = ReplyRoom::of(alloc, act, 0)?;
-    let event = Event {
-        reading,
-        client: client_by(client, act),
-        act: act.copy(alloc)?,
-    };
+    let event = client_event(reading, client, act.copy(alloc)?);
     Ok(Copies { event, reply })
 }
 

@@ -19,7 +19,6 @@ use crate::stamp::Stamp;
 use cipher_ops::Done;
 use ks_outside::{Disk, Entropy};
 use rule_model::{Act, Entry, Event, Reply, ReplyRoom, Stepped};
-use service_book::is_disconnect;
 use wire_frames::reply_length;
 
 /// How many bytes an event and its reply record, by the length of its request's frame.
@@ -30,7 +29,7 @@ fn recorded_bytes(act: &Act, frame: u64, reply: &Reply) -> u64
     ensures bytes { result ≡ acted_bytes act.now reply.now }
     ensures small { result < 2 ^ 34 }
 {
-    if is_disconnect(act) {
+    if act.is_disconnect() {
         return 0;
     }
     frame + reply_length(reply)
