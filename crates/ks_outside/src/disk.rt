@@ -1,10 +1,9 @@
 //! The disk that a store lies on, and what a crash may leave of it.
 
-ghost use Rattle.std.specs.Prelude.{◌≡◌, ◌≤◌, ◌<◌, ℕ, List, Option, Some, None, length, is_some, IfOk, OnOk, OnErr, IsOk};
+ghost use Rattle.std.specs.Prelude.{◌≡◌, ◌≤◌, ◌<◌, ℕ, List, Option, Some, length, is_some, IfOk, OnOk, OnErr, IsOk};
 ghost use Rattle.ks_outside.specs.Faults.{HasCause};
 ghost use Rattle.ks_outside.specs.Ranges.{Holds, Torn, Becomes, Gives};
 ghost use Rattle.ks_outside.specs.Moments.{Follows, Elapses};
-ghost use Rattle.ks_outside.specs.Telling.{none_is_some};
 
 use crate::faults::Failed;
 
@@ -86,46 +85,4 @@ pub trait Disk {
 
     /// Since this moment there is no other.
     ghost only_now: { (disk : Self) (c : List ℕ) → images_since disk (moment disk) c → images disk c };
-}
-
-/// No disk. It takes every write, keeps nothing and tells nothing. It has no fault.
-#[derive(Clone, Copy, Debug, PartialEq, Eq)]
-pub struct EmptyDisk;
-
-impl Disk for EmptyDisk {
-    ghost content = { λ _. None };
-
-    ghost images = { λ _ _. ⊥ };
-
-    ghost moment = { λ _. 0 };
-
-    ghost images_since = { λ _ _ _. ⊥ };
-
-    ghost fault_count = { λ _. 0 };
-
-    ghost content_is_image = { λ disk c told. none_is_some c told };
-
-    ghost counts_now = { λ disk t c before now. now };
-
-    ghost only_now = { λ disk c was. was };
-
-    fn read(&mut self, _at: u64, _out: &mut [u8]) -> Result<usize, Failed> {
-        Ok(0)
-    }
-
-    fn write_at(&mut self, _at: u64, _piece: &[u8]) -> Result<(), Failed> {
-        Ok(())
-    }
-
-    fn len(&mut self) -> Result<u64, Failed> {
-        Ok(0)
-    }
-
-    fn sync(&mut self) -> Result<(), Failed> {
-        Ok(())
-    }
-
-    fn faults(&self) -> u64 {
-        0
-    }
 }

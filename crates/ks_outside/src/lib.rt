@@ -36,7 +36,7 @@ pub use clock::{Clock, FixedClock, MachineClock, Reading};
 pub use counting::{MemoryEntropy, SteadyEntropy};
 pub use cursor::Cursor;
 pub use device::{DeviceEntropy, open_device, open_device_at};
-pub use disk::{Disk, EmptyDisk};
+pub use disk::Disk;
 pub use edge::{RealReader, RealWriter};
 pub use entropy::Entropy;
 pub use faults::{Failed, FaultCount};
