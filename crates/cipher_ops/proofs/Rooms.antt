@@ -89,12 +89,12 @@ can_take state plan limited key nonce aad text size room stands enough =
     let left = held_left limited plan key nonce text state.held size stands.held_is stands.transform.within in
     record {
       fits = omega arith;
-      transform = has_room state.transform plan key nonce aad text size (room - length state.held) stands.transform.transform_is (omega arith);
+      transform = has_room state.transform.value plan key nonce aad text size (room - length state.held) stands.transform.transform_is (omega arith);
     }
 
 pub can_complete : (state : CipherState) (plan : Plan) (limited : Bool) (key nonce aad text input : List ℕ) (room : ℕ) → StandsFor state plan limited key nonce aad text
     → may_end plan (length (text ++ input)) ≡ true → piece_room plan (taken limited (length text) (length input)) + end_room plan ≤ room
-    → CanComplete state.transform input (length state.held) room
+    → CanComplete state.transform.value input (length state.held) room
 can_complete state plan limited key nonce aad text input room stands may enough =
     let left = held_left limited plan key nonce text state.held (length input) stands.held_is stands.transform.within in
     record {
@@ -129,7 +129,7 @@ HasRoom-prop (Sign mac n) size room = hlevel props
 HasRoom-prop (Verify mac least) size room = hlevel props
 
 pub CanTake-prop : (state : CipherState) (size room : ℕ) → IsProp (CanTake state size room)
-CanTake-prop state size room = hlevel (HasRoom-prop state.transform size (room - length state.held), le_prop {n = length state.held} {m = room})
+CanTake-prop state size room = hlevel (HasRoom-prop state.transform.value size (room - length state.held), le_prop {n = length state.held} {m = room})
 
 pub MayEnd-prop : (transform : Transform) (room : ℕ) → IsProp (MayEnd transform room)
 MayEnd-prop (Modes blocks) room = le_prop {n = 16} {m = room}

@@ -31,10 +31,10 @@ may_take (Open opening) plan key nonce aad text is gcm none = is.opens.untouched
 may_take (Sign mac size) plan key nonce aad text is gcm none = (let e = rw is.plan_is at gcm in cc)
 may_take (Verify mac least) plan key nonce aad text is gcm none = (let e = rw is.plan_is at gcm in cc)
 
-pub run_aad : (state : CipherState) (room : JobRoom) (input : List ℕ) → room.work ≡ Aad input → CanRun state room → TakesAad state.transform
+pub run_aad : (state : CipherState) (room : JobRoom) (input : List ℕ) → room.work ≡ Aad input → CanRun state room → TakesAad state.transform.value
 run_aad state room input work can =
     let may : MayCome can.plan can.text (Aad input) = subst (λ (w : Work). MayCome can.plan can.text w) (sym can.fits.work_is ∙ work) can.may in
-    may_take state.transform can.plan can.key can.nonce can.aad can.text can.stands.transform.transform_is may.0 may.1
+    may_take state.transform.value can.plan can.key can.nonce can.aad can.text can.stands.transform.transform_is may.0 may.1
 
 room_is : (state : CipherState) (room : JobRoom) (work : Work) → room.work ≡ work → (can : CanRun state room) → job_room can.plan can.limited (length can.text) work ≤ length room.out.items
 room_is state room work is can = subst (λ (w : Work). job_room can.plan can.limited (length can.text) w ≤ length room.out.items) (sym can.fits.work_is ∙ is) can.fits.enough
@@ -51,7 +51,7 @@ run_last state room input bytes signature work same can =
     rw same (can_take state can.plan can.limited can.key can.nonce can.aad can.text (length input) (length room.out.items) can.stands (omega arith))
 
 pub run_end : (state : CipherState) (room : JobRoom) (input bytes : List ℕ) (signature : Option (List ℕ)) → room.work ≡ Last input signature → bytes ≡ input → CanRun state room
-    → CanComplete state.transform bytes (length state.held) (length room.out.items)
+    → CanComplete state.transform.value bytes (length state.held) (length room.out.items)
 run_end state room input bytes signature work same can =
     let may : MayCome can.plan can.text (Last input signature) = subst (λ (w : Work). MayCome can.plan can.text w) (sym can.fits.work_is ∙ work) can.may in
     rw same (can_complete state can.plan can.limited can.key can.nonce can.aad can.text input (length room.out.items) can.stands may (room_is state room (Last input signature) work can))

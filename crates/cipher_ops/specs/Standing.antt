@@ -77,7 +77,7 @@ kept false bytes = []
 -- The state is that of an operation with this plan under this key and nonce, with all output at its finish where it is
 -- limited, which has taken this additional data and this text.
 pub record StandsFor (state : CipherState) (plan : Plan) (limited : Bool) (key nonce aad text : List ℕ) : Type 0 where
-  pub transform : Holds state.transform plan key nonce aad text
+  pub transform : Holds state.transform.value plan key nonce aad text
   pub limited_is : state.limited ≡ limited
   pub held_is : state.held ≡ kept limited (given plan key nonce text)
 
@@ -105,7 +105,7 @@ MayEnd (Verify mac least) room = ⊤
 -- so many bytes are room enough for what is held and for a piece of this length
 pub record CanTake (state : CipherState) (size room : ℕ) : Type 0 where
   pub fits : length state.held ≤ room
-  pub transform : HasRoom state.transform size (room - length state.held)
+  pub transform : HasRoom state.transform.value size (room - length state.held)
 
 -- the transform has taken a text of which this is the last piece, and there is room enough behind what is held for that
 -- piece and for the end

@@ -10,11 +10,12 @@ use tags::{Bytes, Code, NoMemory, Plan};
 /// An operation under way: a plan under a key and a nonce, with the additional data and the text that it has taken.
 ///
 /// `StandsFor` says which. Where the key has a use limit it keeps its output until the end, else at most a block and
-/// the bytes that may be its tag.
+/// the bytes that may be its tag. The transform lies apart: it has three thousand bytes, and a state goes by value from
+/// slot to job and back.
 #[derive(Drop)]
 pub struct CipherState {
     pub(crate) limited: bool,
-    pub(crate) transform: Transform,
+    pub(crate) transform: Box<Transform>,
     pub(crate) held: Bytes,
 }
 
@@ -36,16 +37,17 @@ impl CipherState {
         requires { Fits plan key.now nonce.now }
         ensures { IfOk result (λ state. StandsFor state plan limited key.now nonce.now [] []) }
     {
+        let transform = Box::new(alloc, Transform::new(plan, key, nonce))?;
         Ok(CipherState {
             limited,
-            transform: Transform::new(plan, key, nonce),
+            transform,
             held: Bytes::empty(alloc),
         })
     }
 
     /// Takes the next bytes of the additional data.
     pub(crate) fn aad(&mut self, input: &[u8])
-        requires { TakesAad self.old.transform }
+        requires { TakesAad self.old.transform.value }
         ensures { (plan : Plan) (limited : Bool) (key nonce aad : List ℕ) → StandsFor self.old plan limited key nonce aad [] →
             StandsFor self.new plan limited key nonce (aad ++ input.now) [] }
     {
@@ -83,7 +85,7 @@ impl CipherState {
         out: Vec<u8>,
     ) -> Result<Bytes, Code>
         requires room { CanTake self (length input.now) (length out.items) }
-        requires end { ∥ CanComplete self.transform input.now (length self.held) (length out.items) ∥₁ }
+        requires end { ∥ CanComplete self.transform.value input.now (length self.held) (length out.items) ∥₁ }
         ensures { (plan : Plan) (limited : Bool) (key nonce aad text : List ℕ) → StandsFor self plan limited key nonce aad text →
             result ≡ finish_output plan limited key nonce aad text (text ++ input.now) signature }
     {
@@ -93,7 +95,7 @@ impl CipherState {
             held,
         } = self;
         let mut out = out;
-        match transform.complete(held.as_slice(), input, signature, &mut out) {
+        match Box::into_inner(transform).complete(held.as_slice(), input, signature, &mut out) {
             Ok(size) => {
                 out.truncate(size);
                 Ok(Bytes::of(out))

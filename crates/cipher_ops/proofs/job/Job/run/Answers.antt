@@ -8,7 +8,7 @@ use Rattle.cipher_ops.proofs.job.Job.run.Goals as goal
 
 pub aad-requires : goal.aad-requires
 aad-requires c =
-    ∥∥₁_elim c.args.self.can_run (TakesAad-prop c.args.self.state.transform) (λ can. run_aad c.args.self.state c.args.self.room c.in-Aad.input c.in-Aad.is can)
+    ∥∥₁_elim c.args.self.can_run (TakesAad-prop c.args.self.state.transform.value) (λ can. run_aad c.args.self.state c.args.self.room c.in-Aad.input c.in-Aad.is can)
 
 pub text-bytes-requires-clause-room : goal.text-bytes-requires-clause-room
 text-bytes-requires-clause-room c =
