@@ -19,8 +19,9 @@ const SERVED: usize = 2;
 /// The word that counts the entries.
 const ENTRIES: usize = 3;
 
-/// How often a thread that waits lets others run before it sleeps.
-const YIELDS: u32 = 64;
+/// How often a thread that waits lets others run before it sleeps: longer than some turns take, since waking a thread takes longer
+/// than a turn.
+const YIELDS: u32 = 1024;
 
 impl<T: History<E, K>, E, K> TurnLock<T, E, K> {
     /// Gives the processor away while this turn is served.
