@@ -12,9 +12,10 @@ The seconds are those of the processes that the gate starts, read from /proc twi
 that is missed. A process that is ending has no words any more, and is not looked at again. An edit is told from a crate by its
 folder: the gate checks it on a copy. A crate's edits are checked one after another, each over what the ones before it proved, so
 the first of them proves the bodies once more, and with a kit that seeds them a check of the crate as it stands does: that is the
-part "again". It has the last check of a crate too where that is the crate as it stands. To compile what a program's check proved
-counts with the runs. Below the table stands after how many minutes the program was proved with all that it stands on, which is
-what a first `./keystore2` waits for at most."""
+part "again". What the first took beyond the bodies is its own. The last check of a crate, where that is the crate as it stands,
+counts with the part "again" too. To compile what a program's check proved counts with the runs. Below the table stands after how
+many minutes the program was proved with all that it stands on, which is what a first `./keystore2` waits for at most."""
+import argparse
 import collections
 import dataclasses
 import glob
@@ -97,8 +98,8 @@ def edits_of(crate):
 
 
 def tell_again(works):
-    """Where no check of a crate's edits was seeded, the first of them proves the bodies once more, and the one behind the last edit
-    checks the crate as it stands. A check has a folder of its own, and may have several processes."""
+    """Where no check of a crate's edits was seeded, the first of them proves the bodies once more (its part is "first" here), and the
+    one behind the last edit checks the crate as it stands. A check has a folder of its own, and may have several processes."""
     folders = collections.defaultdict(dict)
     for work in works:
         if work.part in ("edits", "again"):
@@ -107,16 +108,21 @@ def tell_again(works):
         checks = list(checks.values())
         if all(work.part == "edits" for check in checks for work in check):
             count = edits_of(crate)
-            for work in [*checks[0], *(it for check in checks[count:count + 1] for it in check)]:
-                work.part = "again"
+            for part, check in [("first", checks[0]), *(("again", it) for it in checks[count:count + 1])]:
+                for work in check:
+                    work.part = part
 
 
 def table(works, last, minutes):
     tell_again(works)
-    sums = collections.defaultdict(lambda: dict.fromkeys(PARTS, 0.0))
+    sums = collections.defaultdict(lambda: dict.fromkeys((*PARTS, "first"), 0.0))
     for work in works:
         sums[work.crate][work.part] += work.seconds
-    tried = collections.Counter(crate for crate, _ in {(it.crate, it.folder) for it in works if it.part == "edits"})
+    for parts in sums.values():
+        own = max(parts["first"] - parts["bodies"], 0) if parts["bodies"] else 0
+        parts["again"] += parts["first"] - own
+        parts["edits"] += own
+    tried = collections.Counter(crate for crate, _ in {(it.crate, it.folder) for it in works if it.part in ("edits", "first")})
     rows = ["| Crate | " + " | ".join(PARTS) + " | all | an edit |", "|---|" + "---|" * (len(PARTS) + 2)]
 
     def add_row(name, parts, count):
@@ -130,8 +136,12 @@ def table(works, last, minutes):
 
 
 def main():
+    parser = argparse.ArgumentParser(description=__doc__.split("\n", maxsplit=1)[0])
+    parser.add_argument("file", nargs="?")
+    parser.add_argument("words", nargs=argparse.REMAINDER)
+    given = parser.parse_args()
     start, seen, last = time.time(), {}, {}
-    process = subprocess.Popen(["rt", "ci", *sys.argv[2:]], stdout=subprocess.PIPE, stderr=subprocess.STDOUT, text=True, errors="replace")
+    process = subprocess.Popen(["rt", "ci", *given.words], stdout=subprocess.PIPE, stderr=subprocess.STDOUT, text=True, errors="replace")
     watcher = threading.Thread(target=watch, args=(process, seen, last), daemon=True)
     watcher.start()
     try:
@@ -141,8 +151,8 @@ def main():
         print("the gate was stopped; the table has what it did by then")
     status = process.wait()
     text = table(list(seen.values()), last, (time.time() - start) / 60)
-    if len(sys.argv) > 1:
-        with open(sys.argv[1], "w", encoding="utf-8") as out:
+    if given.file:
+        with open(given.file, "w", encoding="utf-8") as out:
             out.write(text)
     else:
         print(text)
