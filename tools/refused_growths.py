@@ -53,6 +53,7 @@ REFUSING = """
 #define _GNU_SOURCE
 #include <dlfcn.h>
 #include <stdlib.h>
+#include <sys/syscall.h>
 static long asked;
 static int refuses(void) { return ++asked == atol(getenv("REFUSED_GROWTH")); }
 void *malloc(size_t size) {
@@ -65,8 +66,14 @@ void *realloc(void *old, size_t size) {
     if (!grow) grow = dlsym(RTLD_NEXT, "realloc");
     return refuses() ? NULL : grow(old, size);
 }
+static int has_enough(void) { return asked < atol(getenv("REFUSED_GROWTH")); }
+/* A program ends by exit, behind which this runs, or straight by _exit. */
 __attribute__((destructor)) static void tell(void) {
-    if (asked < atol(getenv("REFUSED_GROWTH"))) _exit(99);
+    if (has_enough()) syscall(SYS_exit_group, 99);
+}
+void _exit(int status) {
+    syscall(SYS_exit_group, has_enough() ? 99 : status);
+    __builtin_unreachable();
 }
 """
 ENOUGH = 99
