@@ -6,9 +6,9 @@ the second, and so on. Each line is sent when the one before it is answered, and
 
 A growth that is refused may end the run with status 1 after a front of the replies, or give one -41, at an act that takes
 memory; then nothing is changed by it, so the other replies are those of the script's `.expected` file (`?` there stands for
-any digit, or for a number). Without SCRIPT it takes those of examples/ and checks/ that are short and have no further words: where
-slots are few, a begin that was answered -41 is a step by which operations are older, and so may prune when it is sent again. A line
-may need what an earlier reply told, as `tools/dialog.py` says.
+any digit, or for a number). Without SCRIPT it takes those of examples/ and checks/ that are short, fill no slots and prune nothing: a
+begin that was answered -41 is a step by which operations are older, and so may prune when it is sent again. A line may need what an
+earlier reply told, as `tools/dialog.py` says.
 
 Then it refuses each growth of a line that enters an operation, one of two that fill the slots, and goes on with a begin. Where the
 line is answered -41, the operation is idle with the stamp of its begin: so the begin prunes it, and else the other one.
@@ -123,6 +123,12 @@ def fault_of(replies, given_up, status, expected):
     return None
 
 
+def is_taken(script):
+    """Whether a script is short, fills no slots and prunes nothing."""
+    prunes = '"pruned":' in script.with_suffix(".expected").read_text(encoding="utf-8")
+    return not prunes and not words_of(script) and len(script.read_text(encoding="utf-8").splitlines()) <= MOST_LINES
+
+
 def check_script(program, library, script):
     """Refuses each growth of a script, and counts the faults."""
     lines = [f"{line}\n" for line in script.read_text(encoding="utf-8").splitlines()]
@@ -170,7 +176,7 @@ def main():
         library = Path(folder) / "refusing.so"
         subprocess.run(["cc", "-shared", "-fPIC", "-xc", "-", "-include", "unistd.h", "-o", library, "-ldl"], input=REFUSING, text=True, check=True)
         for script in scripts:
-            if asked.scripts or not words_of(script) and len(script.read_text(encoding="utf-8").splitlines()) <= MOST_LINES:
+            if asked.scripts or is_taken(script):
                 faults += check_script(asked.program, library, script)
         for row in ENTERS:
             faults += check_enter(asked.program, library, *row)
