@@ -12,9 +12,9 @@ The seconds are those of the processes that the gate starts, read from /proc twi
 that is missed. A process that is ending has no words any more, and is not looked at again. An edit is told from a crate by its
 folder: the gate checks it on a copy. A crate's edits are checked one after another, each over what the ones before it proved, so
 the first of them proves the bodies once more, and with a kit that seeds them a check of the crate as it stands does: that is the
-part "again". What the first took beyond the bodies is its own. The last check of a crate, where that is the crate as it stands,
-counts with the part "again" too. To compile what a program's check proved counts with the runs. Below the table stands after how
-many minutes the program was proved with all that it stands on, which is what a first `./keystore2` waits for at most."""
+part "again". It has the last check of a crate too where that is the crate as it stands. To compile what a program's check proved
+counts with the runs. Below the table stands after how many minutes the program was proved with all that it stands on, which is
+what a first `./keystore2` waits for at most."""
 import argparse
 import collections
 import dataclasses
@@ -98,8 +98,8 @@ def edits_of(crate):
 
 
 def tell_again(works):
-    """Where no check of a crate's edits was seeded, the first of them proves the bodies once more (its part is "first" here), and the
-    one behind the last edit checks the crate as it stands. A check has a folder of its own, and may have several processes."""
+    """Where no check of a crate's edits was seeded, the first of them proves the bodies once more, and the one behind the last edit
+    checks the crate as it stands. A check has a folder of its own, and may have several processes."""
     folders = collections.defaultdict(dict)
     for work in works:
         if work.part in ("edits", "again"):
@@ -108,21 +108,16 @@ def tell_again(works):
         checks = list(checks.values())
         if all(work.part == "edits" for check in checks for work in check):
             count = edits_of(crate)
-            for part, check in [("first", checks[0]), *(("again", it) for it in checks[count:count + 1])]:
-                for work in check:
-                    work.part = part
+            for work in [*checks[0], *(it for check in checks[count:count + 1] for it in check)]:
+                work.part = "again"
 
 
 def table(works, last, minutes):
     tell_again(works)
-    sums = collections.defaultdict(lambda: dict.fromkeys((*PARTS, "first"), 0.0))
+    sums = collections.defaultdict(lambda: dict.fromkeys(PARTS, 0.0))
     for work in works:
         sums[work.crate][work.part] += work.seconds
-    for parts in sums.values():
-        own = max(parts["first"] - parts["bodies"], 0) if parts["bodies"] else 0
-        parts["again"] += parts["first"] - own
-        parts["edits"] += own
-    tried = collections.Counter(crate for crate, _ in {(it.crate, it.folder) for it in works if it.part in ("edits", "first")})
+    tried = collections.Counter(crate for crate, _ in {(it.crate, it.folder) for it in works if it.part == "edits"})
     rows = ["| Crate | " + " | ".join(PARTS) + " | all | an edit |", "|---|" + "---|" * (len(PARTS) + 2)]
 
     def add_row(name, parts, count):
