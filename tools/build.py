@@ -1,18 +1,18 @@
 #!/usr/bin/env python3
 """Builds the program: proves each crate that it stands on and then the program, on all processors.
 
-A check holds its crate and all below it, so each processor has a lane, a folder with copies of the crates' sources, in which one
-crate after another is proved. What was proved of a crate goes into the repository, and from there into each lane that proves a
-crate above it, by links. The crate goes first that has the most behind it, in lines, and one that nothing can go on beside has the
-processors that are free. On a terminal one line goes on: how many crates of how many, the minutes so far, and what is at work. At a
-failure it prints the last lines and where the logs are. It tries no test and no must-fail edit: that is the gate."""
-import concurrent.futures
+What the program stands on is copied to a temporary folder (where TMPDIR says, some gigabytes), without must-fail edits, and the gate's
+`rt ci` runs there: it proves crates side by side, each over the statements of those below it, and runs the program once as each of two
+compilers builds it. A toolchain that keeps what it proved passes over what has not changed, here and in the gate; another one proves
+all of it each time. On a terminal one line goes on: how many crates of how many, the minutes so far, and what is at work. At a failure
+it prints what was refused and where the whole log is. It tries no must-fail edit: that is the gate."""
 import contextlib
 import fcntl
 import glob
 import os
-import pathlib
+import re
 import shutil
+import signal
 import subprocess
 import sys
 import tempfile
@@ -20,9 +20,8 @@ import time
 
 PROGRAM = "keystore_program"
 TOP = os.path.dirname(os.path.dirname(os.path.realpath(__file__)))
-LANES = f"{TOP}/crates/{PROGRAM}/out/lanes"
-# What a lane is likely to take at most, in bytes, and the most processors that a check gains from.
-LANE_MEMORY, MOST_JOBS = 4_000_000_000, 4
+BUILT = f"crates/{PROGRAM}/out/{PROGRAM}"
+PREFIX = "keystore2-build-"
 
 
 def listed():
@@ -46,149 +45,137 @@ def needed(below, name):
     return [*found, name]
 
 
-def lines_of(name):
-    """How many lines a crate's sources, definitions and proofs have."""
-    files = [it for part in ("src", "specs", "proofs") for it in glob.glob(f"{TOP}/crates/{name}/{part}/**/*.*", recursive=True)]
-    return sum(pathlib.Path(it).read_bytes().count(b"\n") for it in files)
-
-
-def lines_behind(below, names):
-    """For each crate, which come from the bottom up, the lines of the longest chain that begins with it."""
-    behind = {}
-    for name in reversed(names):
-        behind[name] = lines_of(name) + max((behind[it] for it in names if name in below[it] and it in behind), default=0)
-    return behind
-
-
-def made_lane(number, names):
-    """A folder with these crates' sources and nothing that was proved."""
-    folder = f"{LANES}/{number}"
+def is_built(names):
+    """Whether the program is there and no source of these crates is newer."""
+    sources = [f"{TOP}/crates.txt"]
     for name in names:
-        shutil.copytree(f"{TOP}/crates/{name}", f"{folder}/crates/{name}", ignore=shutil.ignore_patterns("out"))
+        sources += [it for part in ("src", "specs", "proofs") for it in glob.glob(f"{TOP}/crates/{name}/{part}/**/*.*", recursive=True)]
+    return os.path.exists(f"{TOP}/{BUILT}") and max(map(os.path.getmtime, sources)) <= os.path.getmtime(f"{TOP}/{BUILT}")
+
+
+def copy_crates(names, folder):
+    """Makes a folder a repository that has these crates' sources and nothing else."""
+    for name in names:
+        shutil.copytree(f"{TOP}/crates/{name}", f"{folder}/crates/{name}", ignore=shutil.ignore_patterns("out", "must-fail"))
     shutil.copy(f"{TOP}/HANDLES", folder)
     with open(f"{TOP}/crates.txt", encoding="utf-8") as lines, open(f"{folder}/crates.txt", "w", encoding="utf-8") as kept:
         kept.writelines(line for line in lines if line.split("#")[0].split(":")[0].split()[:1] in [[it] for it in names])
-    return folder
+    # A repository begins where a folder .git is.
+    os.mkdir(f"{folder}/.git")
+
+
+def processes_below(top):
+    """The processes under a process, with their words, their folders and the fields of their `stat`."""
+    parents, found = {}, {}
+    for pid in map(int, filter(str.isdigit, os.listdir("/proc"))):
+        try:
+            with open(f"/proc/{pid}/stat", encoding="utf-8", errors="replace") as it:
+                stat = it.read().rsplit(")", 1)[1].split()
+            with open(f"/proc/{pid}/cmdline", "rb") as it:
+                words = it.read().decode(errors="replace").split("\0")
+            folder = os.readlink(f"/proc/{pid}/cwd")
+        except OSError:
+            continue
+        parents[pid] = int(stat[1])
+        # A process that is ending has no words any more.
+        if words[0]:
+            found[pid] = (words, folder, stat)
+
+    def is_below(pid):
+        while pid in parents and pid != top:
+            pid = parents[pid]
+        return pid == top
+    return {pid: it for pid, it in found.items() if pid != top and is_below(pid)}
+
+
+def tell(what, end=""):
+    print(f"\r\033[Kkeystore2: {what}"[:shutil.get_terminal_size().columns + 3], end=end, file=sys.stderr, flush=True)
+
+
+def run(words, folder, log, told):
+    """Runs a command to its end, with what it says in a log; on a terminal it is told meanwhile which crates are at work."""
+    with open(log, "wb") as out, subprocess.Popen(words, cwd=folder, stdin=subprocess.DEVNULL, stdout=out, stderr=out) as process:
+        try:
+            while sys.stderr.isatty() and process.poll() is None:
+                at_work = {it[0][it[0].index("--crate-name") + 1] for it in processes_below(process.pid).values() if "--crate-name" in it[0]}
+                told(", ".join(sorted(at_work)))
+                time.sleep(1)
+            return process.wait()
+        finally:
+            process.terminate()
+
+
+def lines_of(log):
+    with open(log, encoding="utf-8", errors="replace") as lines:
+        return lines.read().splitlines()
+
+
+def build(names):
+    """Builds the program; the status is 0, or 2 where it was not built."""
+    start, log = time.time(), f"{tempfile.mkdtemp(prefix='keystore2-log-')}/log"
+
+    def told(at_work):
+        proved = {it[1] for line in lines_of(log) if (it := re.fullmatch(r"rt: (\w+) (?:proved|is kept:.*)", line))}
+        tell(f"{len(proved)} of {len(names)} crates proved, {(time.time() - start) / 60:.1f} min: {at_work}")
+
+    with tempfile.TemporaryDirectory(prefix=f"{PREFIX}{os.getpid()}-") as folder:
+        copy_crates(names, folder)
+        status = run(["rt", "ci"], folder, log, told)
+        if status or not os.access(f"{folder}/{BUILT}", os.X_OK):
+            lines = lines_of(log)
+            refused = [it for it in lines if "NOT PROVED" in it or ": error" in it]
+            print(f"\nkeystore2: the program was not built; {log} says", *refused[:20], *lines[-10:], sep="\n", file=sys.stderr)
+            return 2
+        os.makedirs(os.path.dirname(f"{TOP}/{BUILT}"), exist_ok=True)
+        shutil.copy(f"{folder}/{BUILT}", f"{TOP}/{BUILT}.new")
+    # What was changed meanwhile is newer than the program.
+    os.utime(f"{TOP}/{BUILT}.new", (start, start))
+    os.replace(f"{TOP}/{BUILT}.new", f"{TOP}/{BUILT}")
+    shutil.rmtree(os.path.dirname(log))
+    if sys.stderr.isatty():
+        tell(f"built in {(time.time() - start) / 60:.1f} min", "\n")
+    return 0
+
+
+def sweep():
+    """Removes the folders of builds that were killed."""
+    for folder in glob.glob(f"{tempfile.gettempdir()}/{PREFIX}*"):
+        pid = os.path.basename(folder).removeprefix(PREFIX).split("-")[0]
+        if not os.path.exists(f"/proc/{pid}"):
+            shutil.rmtree(folder, ignore_errors=True)
 
 
 @contextlib.contextmanager
-def held(folder, said=""):
-    """Keeps others out of a folder, as `rt` does with a crate's, and waits for whoever is in it."""
-    at = os.open(folder, os.O_RDONLY)
+def held(folder):
+    """Keeps other builds out of a folder, and waits for the one that is in it; gives whether it had to."""
+    at, has_waited = os.open(folder, os.O_RDONLY), False
     try:
         try:
             fcntl.flock(at, fcntl.LOCK_EX | fcntl.LOCK_NB)
         except BlockingIOError:
-            print(said, end="", file=sys.stderr, flush=True)
+            print("keystore2: another build is at work here; this one waits for it", file=sys.stderr, flush=True)
             fcntl.flock(at, fcntl.LOCK_EX)
-        yield
+            has_waited = True
+        yield has_waited
     finally:
         os.close(at)
 
 
-def give(name, source, target, but=()):
-    """Gives one folder what the other one has proved of a crate, but for some of it."""
-    proved, kept = f"{source}/crates/{name}/out", f"{target}/crates/{name}/out"
-    if os.path.isdir(proved):
-        with held(f"{target}/crates/{name}"):
-            shutil.rmtree(kept, ignore_errors=True)
-            shutil.copytree(proved, kept, copy_function=os.link, ignore=shutil.ignore_patterns(*but))
-
-
-def lanes_here():
-    """How many lanes this machine has room for."""
-    processors = len(os.sched_getaffinity(0))
-    with open("/proc/meminfo", encoding="utf-8") as lines:
-        free = next(int(line.split()[1]) * 1024 for line in lines if line.startswith("MemAvailable:"))
-    return max(1, min(processors, free // LANE_MEMORY))
-
-
-class Build:
-    """A build in work: which crates stand on which, what is done and at work, since when, and the folder of its logs."""
-
-    def __init__(self, below):
-        self.below, self.names = below, needed(below, PROGRAM)
-        self.done, self.at_work, self.start = set(), set(), time.time()
-        self.logs = tempfile.mkdtemp(prefix="keystore2-build-")
-
-    def minutes(self):
-        return (time.time() - self.start) / 60
-
-    def tell(self, what=None):
-        if sys.stderr.isatty():
-            what = what or f"{len(self.done)} of {len(self.names)} crates proved, {self.minutes():.1f} min: {', '.join(sorted(self.at_work))}"
-            print(f"\r\033[Kkeystore2: {what}"[:120], end="", file=sys.stderr, flush=True)
-
-    def run(self, name, words, folder):
-        with open(f"{self.logs}/{name}", "wb") as log:
-            return subprocess.run(words, cwd=folder, stdin=subprocess.DEVNULL, stdout=log, stderr=subprocess.STDOUT, check=False).returncode
-
-    def prove(self, name, folder, jobs):
-        """Proves a crate in a lane, and gives the repository what came of it. What is kept for a crate's own next check is no matter of
-        those above."""
-        for it in needed(self.below, name)[:-1]:
-            if not os.path.isdir(f"{folder}/crates/{it}/out"):
-                give(it, TOP, folder, but=["incremental"])
-        give(name, TOP, folder)
-        status = self.run(name, ["rt", "lib", "--jobs", str(jobs)], f"{folder}/crates/{name}")
-        give(name, folder, TOP)
-        return status
-
-    def fail(self, name):
-        with open(f"{self.logs}/{name}", errors="replace") as lines:
-            last = "".join(lines.readlines()[-20:])
-        print(f"\nkeystore2: the program was not built: {name} was not proved; the last lines of {self.logs}/{name} are\n{last}", file=sys.stderr)
-        return 2
-
-
-def prove_all(build, names):
-    """Proves these crates, in lanes; answers the first one that was not proved, or None."""
-    shutil.rmtree(LANES, ignore_errors=True)
-    behind, lanes = lines_behind(build.below, names), lanes_here()
-    free, left = [made_lane(number, names) for number in range(lanes)], sorted(names, key=lambda it: -behind[it])
-    with concurrent.futures.ThreadPoolExecutor(lanes) as pool:
-        running, failed = {}, None
-        while running or (left and not failed):
-            ready = [it for it in left if build.done.issuperset(build.below[it])] if not failed else []
-            spare = lanes - sum(jobs for _, _, jobs in running.values())
-            for name in ready[:spare]:
-                jobs = min(MOST_JOBS, 1 + (spare - len(ready)) // len(ready)) if spare > len(ready) else 1
-                folder = free.pop()
-                running[pool.submit(build.prove, name, folder, jobs)] = name, folder, jobs
-                build.at_work.add(name)
-                left.remove(name)
-            build.tell()
-            for ran in concurrent.futures.wait(running, 2, concurrent.futures.FIRST_COMPLETED).done:
-                name, folder, _ = running.pop(ran)
-                free.append(folder)
-                build.at_work.discard(name)
-                if ran.result():
-                    failed = failed or name
-                else:
-                    build.done.add(name)
-        return failed
-
-
-def built():
-    """Builds the program; the status is 0, or 2 where a crate was not proved."""
-    build = Build(libraries())
-    failed = prove_all(build, build.names[:-1])
-    if failed:
-        return build.fail(failed)
-    # Without words the program prints its usage and ends with status 2.
-    build.at_work.add(PROGRAM)
-    build.tell()
-    build.run(PROGRAM, ["rt", "run", "--jobs", str(min(MOST_JOBS, lanes_here()))], f"{TOP}/crates/{PROGRAM}")
-    if not os.access(f"{TOP}/crates/{PROGRAM}/out/{PROGRAM}", os.X_OK):
-        return build.fail(PROGRAM)
-    shutil.rmtree(LANES, ignore_errors=True)
-    build.tell(f"built in {build.minutes():.1f} min\n")
-    return 0
-
-
 def main():
-    with held(f"{TOP}/crates", "keystore2: another build is at work here; this one waits for it\n"):
-        return built()
+    if not shutil.which("rt"):
+        sys.exit("keystore2: the Rattle toolchain's command rt is not on the PATH")
+    # What is at work ends with this.
+    signal.signal(signal.SIGTERM, lambda *_: sys.exit(2))
+    names = needed(libraries(), PROGRAM)
+    try:
+        with held(f"{TOP}/crates") as has_waited:
+            if has_waited and is_built(names):
+                return 0
+            sweep()
+            return build(names)
+    except KeyboardInterrupt:
+        print("\nkeystore2: the build was stopped", file=sys.stderr)
+        return 2
 
 
 if __name__ == "__main__":

@@ -7,6 +7,7 @@ their sums, and what an edit took on the average.
 
 FILE is where the table goes, as Markdown; without it, standard output has it last. The words are handed to `rt ci`. A toolchain
 whose `rt ci` keeps what it proved for a later run does not do that again; there the word `--anew` has it begin from nothing.
+Behind the table stand the edits that took longest, where the toolchain numbers their folders.
 
 The seconds are those of the processes that the gate starts, read from /proc twice a second, so a process that is shorter than
 that is missed. A process that is ending has no words any more, and is not looked at again. An edit is told from a crate by its
@@ -18,6 +19,7 @@ what a first `./keystore2` waits for at most."""
 import argparse
 import collections
 import dataclasses
+import functools
 import glob
 import os
 import subprocess
@@ -31,35 +33,14 @@ TICKS = os.sysconf("SC_CLK_TCK")
 PARTS = ("bodies", "tests", "again", "edits", "runs")
 
 
-def below(top):
-    """The processes under a process, with their words, their folders and processor seconds."""
-    parents, found = {}, {}
-    for name in filter(str.isdigit, os.listdir("/proc")):
-        try:
-            with open(f"/proc/{name}/stat", encoding="utf-8", errors="replace") as it:
-                stat = it.read().rsplit(")", 1)[1].split()
-            with open(f"/proc/{name}/cmdline", "rb") as it:
-                words = it.read().decode(errors="replace").split("\0")
-            folder = os.readlink(f"/proc/{name}/cwd")
-        except OSError:
-            continue
-        parents[int(name)] = int(stat[1])
-        if words[0]:
-            found[int(name)] = (words, folder, (int(stat[11]) + int(stat[12])) / TICKS)
-
-    def is_below(pid):
-        while pid in parents and pid != top:
-            pid = parents[pid]
-        return pid == top
-    return {pid: it for pid, it in found.items() if pid != top and is_below(pid)}
-
-
 @dataclasses.dataclass
 class Work:
-    """A process of the gate: its crate, the part that it works for, the folder in which it does, and its processor seconds so far."""
+    """A process of the gate: its crate, the part that it works for, the folder in which it does, the edit that it tries where that is
+    told, and its processor seconds so far."""
     crate: str
     part: str
     folder: str
+    edit: str | None
     seconds: float = 0.0
 
 
@@ -81,20 +62,29 @@ def part_of(words, folder):
     return crate, "again" if any(it.startswith("/") and it.endswith("/seed") for it in words) else "edits"
 
 
+@functools.cache
+def edits_of(crate):
+    return sorted(glob.glob(f"crates/{crate}/must-fail/*.edit"))
+
+
+def edit_of(words, crate):
+    """The edit that a process tries, by the number at the end of the folder that it begins with."""
+    number = os.path.basename(words[words.index("--incremental") + 1]) if "--incremental" in words else ""
+    edits = dict(enumerate(edits_of(crate)))
+    return os.path.basename(edits[int(number)]).removesuffix(".edit") if number.isdigit() and int(number) in edits else None
+
+
 def watch(process, seen, last):
     start = time.time()
     while process.poll() is None:
-        for pid, (words, folder, seconds) in below(process.pid).items():
+        for pid, (words, folder, stat) in build.processes_below(process.pid).items():
             part = part_of(words, folder)
             if part:
-                work = seen.setdefault((pid, *part), Work(*part, folder))
+                seconds = (int(stat[11]) + int(stat[12])) / TICKS
+                work = seen.setdefault((pid, *part), Work(*part, folder, edit_of(words, part[0]) if part[1] == "edits" else None))
                 work.seconds = max(seconds, work.seconds)
                 last[part] = (time.time() - start) / 60
         time.sleep(0.5)
-
-
-def edits_of(crate):
-    return len(glob.glob(f"crates/{crate}/must-fail/*.edit"))
 
 
 def tell_again(works):
@@ -107,7 +97,7 @@ def tell_again(works):
     for crate, checks in folders.items():
         checks = list(checks.values())
         if all(work.part == "edits" for check in checks for work in check):
-            count = edits_of(crate)
+            count = len(edits_of(crate))
             for work in [*checks[0], *(it for check in checks[count:count + 1] for it in check)]:
                 work.part = "again"
 
@@ -127,11 +117,21 @@ def table(works, last, minutes):
     add_row("all", [sum(it[part] for it in sums.values()) for part in PARTS], tried.total())
     proved = max(last.get((it, "bodies"), 0) for it in build.needed(build.libraries(), build.PROGRAM))
     rows.append(f"\nSeconds of processor; {minutes:.1f} minutes by the clock on {os.cpu_count()} processors; the program was proved after {proved:.1f}.")
-    return "\n".join(rows) + "\n"
+    return "\n".join([*rows, *dearest(works)]) + "\n"
+
+
+def dearest(works, most=20):
+    """Lines of the edits that took longest, by their names; none where no edit was told by its number."""
+    sums = collections.Counter()
+    for work in works:
+        if work.edit:
+            sums[work.crate, work.edit] += work.seconds
+    rows = [f"| {crate} | {edit} | {seconds:.0f} |" for (crate, edit), seconds in sums.most_common(most)]
+    return ["", "| Crate | edit | seconds |", "|---|---|---|", *rows] if rows else []
 
 
 def main():
-    parser = argparse.ArgumentParser(description=__doc__.split("\n", maxsplit=1)[0])
+    parser = argparse.ArgumentParser(description=__doc__.split("\n\n", maxsplit=1)[0])
     parser.add_argument("file", nargs="?")
     parser.add_argument("words", nargs=argparse.REMAINDER)
     given = parser.parse_args()
@@ -145,6 +145,7 @@ def main():
     except KeyboardInterrupt:
         print("the gate was stopped; the table has what it did by then")
     status = process.wait()
+    watcher.join()
     text = table(list(seen.values()), last, (time.time() - start) / 60)
     if given.file:
         with open(given.file, "w", encoding="utf-8") as out:
