@@ -5,9 +5,9 @@ writes, and what it reads of each reply. It needs no service.
     python3 tools/check_client.py
 """
 import argparse
-import sys
 
 import frames
+from harness import check
 from keystore_client import Client, Key, ServiceError, counted, read_reply
 
 
@@ -60,13 +60,8 @@ def refusal(body):
     return None
 
 
-def check(name, found, wanted):
-    if found != wanted:
-        sys.exit(f"check_client: {name} gave {found} and not {wanted}")
-
-
 def main():
-    argparse.ArgumentParser(description=__doc__.split("\n", maxsplit=1)[0]).parse_args()
+    argparse.ArgumentParser(description=__doc__.split("\n\n", maxsplit=1)[0]).parse_args()
     stream = Canned()
     one_of_each(Client(stream))
     check("the requests", stream.sent, [frame for frame, _ in frames.REQUESTS])

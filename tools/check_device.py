@@ -5,20 +5,19 @@
 
 Where the Python package `cryptography` is there, the blobs that the program makes are opened by tools/blobs.py and sealed again to the same
 bytes, and blobs and tokens of other devices are handed in. It says nothing where all is well, and ends with status 1 at the first
-difference.
+difference. It builds the program first where it is not built.
 """
 import argparse
 import importlib.util
 import json
 import pathlib
 import subprocess
-import sys
 
 from check_lines import ASKED, BLOB, MAC_LIST, OK, PARAMS, begin, broken, call, connect, made, named, sealed, text_of
+from harness import COMMAND, add_program, check
 from make_token import mac_of
 from scratch import scratch_folder
 
-PROGRAM = pathlib.Path(__file__).resolve().parent.parent / "keystore2"
 HAS_CIPHERS = importlib.util.find_spec("cryptography") is not None
 RUN = ["run", "--fresh"]
 DEVICE, OTHER_DEVICE = bytes(range(96)), bytes(range(1, 97))
@@ -26,10 +25,6 @@ DEVICE, OTHER_DEVICE = bytes(range(96)), bytes(range(1, 97))
 FOLDER = object()
 NO_DEVICE = ("", 2, "keystore2: bad device file")
 NO_POLICY = ("", 2, "keystore2: bad policy file")
-
-
-class Differs(Exception):
-    """The program does otherwise than it must."""
 
 
 def script_of(lines):
@@ -46,11 +41,6 @@ def ended_run(program, files, words, lines):
                 (pathlib.Path(name) / file).write_bytes(content)
         ended = subprocess.run([program, *words], input=script_of(lines), cwd=name, capture_output=True, text=True, check=False)
     return ended.stdout, ended.returncode, ended.stderr.split("\n")[0]
-
-
-def check(name, given, wanted):
-    if given != wanted:
-        raise Differs(f"{name}: gave {given} and not {wanted}")
 
 
 # The two files, right and wrong, whatever the words are.
@@ -181,14 +171,9 @@ def check_all(program):
 
 def main():
     parser = argparse.ArgumentParser(description="Runs the program in folders with devices and policies.")
-    parser.add_argument("--program", type=pathlib.Path, default=PROGRAM, metavar="PATH")
-    try:
-        check_all(parser.parse_args().program.resolve())
-    except Differs as difference:
-        print(f"check_device: {difference}", file=sys.stderr)
-        return 1
-    return 0
+    add_program(parser, COMMAND)
+    check_all(parser.parse_args().program)
 
 
 if __name__ == "__main__":
-    sys.exit(main())
+    main()

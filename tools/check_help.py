@@ -3,17 +3,15 @@
 
     python3 tools/check_help.py [--program PATH]
 
-It says nothing where all is well, and ends with status 1 at the first difference.
+It says nothing where all is well, and ends with status 1 at the first difference. It builds the program first where it is not built.
 """
 import argparse
-import pathlib
 import shlex
 import subprocess
-import sys
 
+from harness import COMMAND, TOP, add_program, check
 from scratch import scratch_folder
 
-TOP = pathlib.Path(__file__).resolve().parent.parent
 WORDS = ["init", "run", "soak", "serve"]
 # The summary of seed 7 with 1,000 lines, of a model that was written independently of the service.
 SUMMARY_OF_7 = (
@@ -29,20 +27,11 @@ NO_FORMS = [
 ]
 
 
-class Differs(Exception):
-    """The program does otherwise than it must."""
-
-
 def ended_run(program, words, folder, script=None):
     """What the program writes, its status, and what it tells on standard error."""
     with open(script or "/dev/null", "rb") as source:
         ended = subprocess.run([program, *words], stdin=source, cwd=folder, capture_output=True, text=True, check=False)
     return ended.stdout, ended.returncode, ended.stderr
-
-
-def check(name, given, wanted):
-    if given != wanted:
-        raise Differs(f"{name}: gave {given} and not {wanted}")
 
 
 def examples_in(text):
@@ -81,16 +70,10 @@ def check_all(program):
 
 
 def main():
-    parser = argparse.ArgumentParser(description=__doc__.split("\n")[0])
-    parser.add_argument("--program", default=TOP / "keystore2")
-    program = pathlib.Path(parser.parse_args().program).resolve()
-    try:
-        check_all(program)
-    except Differs as differs:
-        print(f"tools/check_help.py: {differs}", file=sys.stderr)
-        return 1
-    return 0
+    parser = argparse.ArgumentParser(description=__doc__.split("\n\n", maxsplit=1)[0])
+    add_program(parser, COMMAND)
+    check_all(parser.parse_args().program)
 
 
 if __name__ == "__main__":
-    sys.exit(main())
+    main()

@@ -1,12 +1,12 @@
 #!/usr/bin/env python3
 """Checks a crate as it stands over the libraries that `rt ci` left in a clone, and lists the modules that took longest.
 
-    python3 tools/check_over.py CLONE CRATE [--test] [--only PATH ..] [--most N]
+    python3 tools/check_over.py CLONE CRATE [--test] [--only PATH].. [--most N]
 
 `rt ci` keeps what it proves for itself alone, and a first `rt check` proves all crates below once more. Over a clone in which `rt ci
 CRATE` has run, the functions of a path (`--only CRATE::MODULE`) are checked within a minute or two, and again only where they
-changed. With `--test` the tests are checked too. It is for the work on proofs and on what they cost, and gives no verdict: that is
-the gate's."""
+changed. With `--test` the tests are checked too; N modules are listed. What was checked stays in the crate's `out/over`. It is for the
+work on proofs and on what they cost, and gives no verdict: that is the gate's."""
 import argparse
 import pathlib
 import subprocess
@@ -34,7 +34,7 @@ def command(kit, clone, name):
 
 
 def main():
-    parser = argparse.ArgumentParser(description=__doc__.split("\n", maxsplit=1)[0])
+    parser = argparse.ArgumentParser(description=__doc__.split("\n\n", maxsplit=1)[0])
     parser.add_argument("clone", type=pathlib.Path)
     parser.add_argument("crate")
     parser.add_argument("--test", action="store_true")
@@ -42,6 +42,8 @@ def main():
     parser.add_argument("--most", type=int, default=12)
     given = parser.parse_args()
     kit = pathlib.Path(subprocess.run(["rt", "doc"], capture_output=True, text=True, check=True).stdout.strip()).parent
+    if given.crate not in build.listed():
+        parser.error(f"crates.txt lists no {given.crate}")
     folder = TOP / "crates" / given.crate
     (folder / "out/over").mkdir(parents=True, exist_ok=True)
     words = command(kit, given.clone.resolve(), given.crate)

@@ -14,6 +14,7 @@ import socket
 import subprocess
 import sys
 
+from harness import check
 from keystore_client import Client, Key, ServiceError, parameters
 
 TOP = pathlib.Path(__file__).resolve().parent.parent
@@ -48,11 +49,6 @@ class Page:
     def recv(self, count):
         piece, self.left = self.left[:count], self.left[count:]
         return piece
-
-
-def check(name, found, wanted):
-    if found != wanted:
-        sys.exit(f"check_protocol: {name} is {found} and not {wanted}")
 
 
 def refusal(call, *words):

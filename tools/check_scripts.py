@@ -5,7 +5,7 @@ A `?` in an expected reply stands for a digit that is drawn, and one that is a m
 must differ there, so that a program whose random bytes are none is seen. A script's further words, as `--slots 1`, stand in a file
 .words beside it. A script that needs what its replies tell is answered line by line, as `tools/dialog.py` says. Where the
 Python package `cryptography` is there, the replies of the second model are compared too. It says nothing where all is well, and ends
-with status 1 at the first script that is answered otherwise.
+with status 1 at the first script that is answered otherwise. It builds the program first where it is not built.
 """
 import argparse
 import importlib.util
@@ -63,7 +63,7 @@ def fault_of(script):
 
 
 def main():
-    argparse.ArgumentParser(description=__doc__.split("\n", maxsplit=1)[0]).parse_args()
+    argparse.ArgumentParser(description=__doc__.split("\n\n", maxsplit=1)[0]).parse_args()
     with scratch_folder() as folder:
         # where no device.key and no policy.json stand
         os.chdir(folder)

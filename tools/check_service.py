@@ -24,11 +24,10 @@ import sys
 import time
 
 from check_protocol import PAGE, play, session_in
+from harness import TOP, add_program, check
 from keystore_client import KINDS, Client, Key, counted, optional, parameters, u32, u64
 from scratch import scratch_folder
 
-TOP = pathlib.Path(__file__).resolve().parent.parent
-PROGRAM = TOP / "crates/keystore_program/out/keystore_program"
 EXAMPLE = TOP / "examples/sealed_file.py"
 COMMANDS = TOP / "tools/keystore_client.py"
 SAYS = b"sealed 1000000 bytes as 1000032\nopened as they were\na changed byte is told\n"
@@ -69,11 +68,6 @@ TURNS = [
     (["delete", "m", "--json"], "{}\n", 0),
     (["mac", "m", "letter", "--json"], '{"code": 7, "rule": "B4", "name": "KEY_NOT_FOUND"}\n', 1),
 ]
-
-
-def check(name, found, wanted):
-    if found != wanted:
-        sys.exit(f"check_service: {name} gave {found} and not {wanted}")
 
 
 def free_port():
@@ -183,7 +177,7 @@ def check_clients(program, port, folder, calls):
     check_silent(port)
 
 
-def check_only_worker(_, port, __, ___):
+def check_only_worker(_program, port, _folder, _calls):
     """A client behind a silent one, with one worker, is answered when that one has gone."""
     silent = once_it_listens(socket.create_connection, ("127.0.0.1", port))
     silent.sendall(HALF_A_FRAME)
@@ -209,6 +203,7 @@ def check_run(program, folder, connections, workers, clients, calls):
         check("the service", (service.returncode, *wrote), (0, b"", b""))
     finally:
         service.kill()
+        service.wait()
 
 
 def check_store(program, folder):
@@ -226,10 +221,10 @@ def check_store(program, folder):
 
 def main():
     ask = argparse.ArgumentParser(description="Runs the service and clients of it.")
-    ask.add_argument("--program", type=pathlib.Path, default=PROGRAM, metavar="PATH")
+    add_program(ask)
     ask.add_argument("--calls", type=int, default=1000, metavar="N", help="how many calls each client of a crowd makes")
     words = ask.parse_args()
-    program = words.program.resolve()
+    program = words.program
     session = sum(len(request) for request, _ in SESSION)
     connections = 1 + len(TURNS) + len(BAD_SESSIONS) + session + 1 + session - 1 + CLIENTS + 2
     with scratch_folder() as folder:

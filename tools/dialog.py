@@ -7,6 +7,7 @@ The words are `run --fresh` where none are given. A line addAuthToken of such a 
 it gets the challenge that the reply to the begin of operation N told, and the mac that an authenticator of the demo device makes. A
 line may have "line N" as the blob of its key: it gets the one that the reply to line N told. With a member `flip` that bit of the mac,
 or of the blob, is turned. So a line is sent once the reply to the one before is there. The replies are printed as they come.
+It builds the program first where it is not built.
 """
 import json
 import re

@@ -11,10 +11,10 @@ of the Python package `cryptography`. It says nothing where all is well, and end
 import argparse
 import itertools
 import sys
-from pathlib import Path
 
 from check_lines import OK, Rows, begin, broken, call, named
-from long_inputs import PROGRAM, fault_of
+from harness import add_program
+from long_inputs import fault_of
 from vectors import AES_LIST, CBC, CTR, ECB, GCM, KEYS, MACS, NO_PADDING, PKCS7, gcm_cases, mac_list, vectors
 
 COUNTING = bytes(range(33)).hex()
@@ -210,11 +210,11 @@ def least(params, bits):
 
 
 def main():
-    parser = argparse.ArgumentParser(description=__doc__.split("\n", maxsplit=1)[0])
-    parser.add_argument("--program", type=Path, default=PROGRAM)
+    parser = argparse.ArgumentParser(description=__doc__.split("\n\n", maxsplit=1)[0])
+    add_program(parser)
     given = parser.parse_args()
     for make in (published, lengths_and_counters, tags, macs, works):
-        if fault := fault_of(given.program.resolve(), make()):
+        if fault := fault_of(given.program, make()):
             print(fault, file=sys.stderr)
             return 1
     return 0

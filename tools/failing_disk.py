@@ -15,7 +15,6 @@ Then read_store.py reads the store that is left: its keys and grants are the mod
 needs a C compiler, `cc`. The exit status is 1 where a script differs."""
 import argparse
 import collections
-import json
 import os
 import subprocess
 import sys
@@ -24,7 +23,8 @@ import threading
 from pathlib import Path
 
 from dialog import Told
-from random_scripts import MOST_SECONDS, PROGRAM, shown
+from harness import add_program
+from random_scripts import MOST_SECONDS, shown
 from read_store import Lasting, read_journal
 from scratch import scratch_folder
 from script_events import Malformed, event_of
@@ -213,9 +213,9 @@ def main():
     parser = argparse.ArgumentParser(description="Compares the program's replies over a failing disk with those of the second model.")
     parser.add_argument("seed", type=int, metavar="SEED")
     parser.add_argument("count", type=int, metavar="COUNT")
-    parser.add_argument("--program", type=Path, default=PROGRAM, metavar="PATH")
+    add_program(parser)
     words = parser.parse_args()
-    program = words.program.resolve()
+    program = words.program
     differing, tally = 0, collections.Counter()
     with tempfile.TemporaryDirectory() as tools:
         library = library_in(tools)

@@ -10,12 +10,10 @@ import argparse
 import itertools
 import subprocess
 import sys
-from pathlib import Path
 
+from harness import add_program
 from scratch import scratch_folder
 
-TOP = Path(__file__).resolve().parent.parent
-PROGRAM = TOP / "crates/keystore_program/out/keystore_program"
 MOST = 65_536
 FULL = '{"code":1002}'
 DONE = '{"code":0}'
@@ -75,12 +73,12 @@ def grants():
 
 
 def main():
-    parser = argparse.ArgumentParser(description=__doc__.split("\n", maxsplit=1)[0])
-    parser.add_argument("--program", type=Path, default=PROGRAM)
+    parser = argparse.ArgumentParser(description=__doc__.split("\n\n", maxsplit=1)[0])
+    add_program(parser)
     given = parser.parse_args()
     asked, wanted = zip(*itertools.chain(keys(), grants()))
     with scratch_folder() as folder:
-        ended = subprocess.run([given.program.resolve(), "run", "--fresh"], input="\n".join(asked), cwd=folder, capture_output=True, text=True, check=False)
+        ended = subprocess.run([given.program, "run", "--fresh"], input="\n".join(asked), cwd=folder, capture_output=True, text=True, check=False)
     if ended.returncode == 0 and ended.stdout == "\n".join(wanted) + "\n":
         return 0
     for line, own, reply in itertools.zip_longest(asked, wanted, ended.stdout.splitlines()):

@@ -12,12 +12,10 @@ import argparse
 import itertools
 import subprocess
 import sys
-from pathlib import Path
 
+from harness import add_program
 from scratch import scratch_folder
 
-TOP = Path(__file__).resolve().parent.parent
-PROGRAM = TOP / "crates/keystore_program/out/keystore_program"
 START = '{"t":[0,1000],'
 AES = '[["PURPOSE",0],["PURPOSE",1],["ALGORITHM",32],["BLOCK_MODE",32],["PADDING",1],["MIN_MAC_LENGTH",96],["CALLER_NONCE",true],["NO_AUTH_REQUIRED",true]]'
 MAC = '[["PURPOSE",2],["ALGORITHM",128],["DIGEST",4],["MIN_MAC_LENGTH",64],["NO_AUTH_REQUIRED",true]]'
@@ -104,9 +102,9 @@ def fault_of(program, orders):
 
 
 def main():
-    parser = argparse.ArgumentParser(description=__doc__.split("\n", maxsplit=1)[0])
+    parser = argparse.ArgumentParser(description=__doc__.split("\n\n", maxsplit=1)[0])
     parser.add_argument("--all", action="store_true")
-    parser.add_argument("--program", type=Path, default=PROGRAM)
+    add_program(parser)
     given = parser.parse_args()
     ways = list(itertools.permutations(range(6)))
     orders = [steps_of(order) for order in orders_of(tuple(range(12)))]
@@ -115,7 +113,7 @@ def main():
     else:
         pairs = zip(orders, itertools.cycle(ways))
     while script := list(itertools.islice(pairs, ORDERS_A_SCRIPT)):
-        if fault := fault_of(given.program.resolve(), script):
+        if fault := fault_of(given.program, script):
             print(fault, file=sys.stderr)
             return 1
     return 0

@@ -19,9 +19,9 @@ import sys
 import tempfile
 from pathlib import Path
 
+from harness import add_program
 from scratch import scratch_folder
 
-PROGRAM = Path(__file__).resolve().parent.parent / "crates/keystore_program/out/keystore_program"
 KILLS_PER_STORE = 100
 # How `timeout` ends where it killed the run, which may be by the same signal.
 KILLED = (-9, 137)
@@ -272,9 +272,9 @@ def main():
     # Some runs are killed while their store is read, most amid their lines.
     parser.add_argument("--longest", type=float, default=0.03, metavar="SECONDS", help="after which a run is killed at the latest")
     parser.add_argument("--folder", type=Path, default=None, metavar="PATH", help="where the stores stand, in place of memory")
-    parser.add_argument("--program", type=Path, default=PROGRAM, metavar="PATH")
+    add_program(parser)
     words = parser.parse_args()
-    program = words.program.resolve()
+    program = words.program
     clients = []
     kills = 0
     try:

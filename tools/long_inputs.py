@@ -13,14 +13,12 @@ import itertools
 import json
 import subprocess
 import sys
-from pathlib import Path
 
 from check_lines import OK, Rows, begin, broken, call, named
+from harness import add_program
 from scratch import scratch_folder
 from vectors import AES_LIST, mac_list
 
-TOP = Path(__file__).resolve().parent.parent
-PROGRAM = TOP / "crates/keystore_program/out/keystore_program"
 SECRET, NO_MAC = "0b" * 20, {"code": -30}
 MOST, OVER = "00" * 32_768, "00" * 32_769
 TOO_LONG, TOO_MUCH = broken(21, "S3"), broken(-21, "S7")
@@ -100,11 +98,11 @@ def fault_of(program, rows):
 
 
 def main():
-    parser = argparse.ArgumentParser(description=__doc__.split("\n", maxsplit=1)[0])
-    parser.add_argument("--program", type=Path, default=PROGRAM)
+    parser = argparse.ArgumentParser(description=__doc__.split("\n\n", maxsplit=1)[0])
+    add_program(parser)
     given = parser.parse_args()
     for rows in (single_inputs(), whole_operations()):
-        if fault := fault_of(given.program.resolve(), rows):
+        if fault := fault_of(given.program, rows):
             print(fault, file=sys.stderr)
             return 1
     return 0

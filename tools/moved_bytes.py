@@ -79,7 +79,7 @@ def names_in(program):
 
 
 def main():
-    parser = argparse.ArgumentParser(description=__doc__.split("\n", maxsplit=1)[0])
+    parser = argparse.ArgumentParser(description=__doc__.split("\n\n", maxsplit=1)[0])
     parser.add_argument("--per", type=int, default=1)
     parser.add_argument("--most", type=int, default=20)
     parser.add_argument("program")

@@ -15,18 +15,16 @@ import argparse
 import collections
 import itertools
 import json
-import os
 import subprocess
 import sys
 import tempfile
 import threading
-from pathlib import Path
 
 from dialog import replies_of
+from harness import add_program
 from script_maker import Maker, without_drawn
 from scratch import scratch_folder
 
-PROGRAM = Path(__file__).resolve().parent.parent / "crates/keystore_program/out/keystore_program"
 # How many seconds a run may take, and how many characters of a line are printed.
 MOST_SECONDS = 60
 MOST_SHOWN = 400
@@ -105,13 +103,10 @@ def main():
     parser = argparse.ArgumentParser(description="Compares the program's replies with those of the second model.")
     parser.add_argument("seed", type=int, metavar="SEED")
     parser.add_argument("count", type=int, metavar="COUNT")
-    parser.add_argument("--program", type=Path, default=PROGRAM, metavar="PATH")
+    add_program(parser)
     parser.add_argument("--runs", type=int, default=1, metavar="N")
     words = parser.parse_args()
-    program = words.program.resolve()
-    if not program.is_file() or not os.access(program, os.X_OK):
-        parser.error(f"{program} is no program; ./keystore2 builds it")
-    return 1 if compare(program, words.seed, words.count, words.runs) > 0 else 0
+    return 1 if compare(words.program, words.seed, words.count, words.runs) > 0 else 0
 
 
 if __name__ == "__main__":

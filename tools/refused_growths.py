@@ -19,15 +19,14 @@ import json
 import os
 import subprocess
 import sys
-import tempfile
 from pathlib import Path
 
 from check_scripts import fits, words_of
 from dialog import Told
+from harness import TOP, add_program
+from scratch import scratch_folder
 
-TOP = Path(__file__).resolve().parent.parent
-PROGRAM = TOP / "crates/keystore_program/out/keystore_program"
-MOST_LINES = 60
+MOST_LINES, MOST_GROWTHS = 60, 20_000
 WANT = '{"code":-41}\n'
 # Acts that are never given up for want of memory.
 WITHOUT_MEMORY = {"abort", "disconnect", "leave", "addAuthToken", "deviceLocked", "deviceUnlocked", "earlyBootEnded"}
@@ -95,7 +94,7 @@ def replies_of(program, lines, library, refused, words=(), once=None):
     environment = {**os.environ, "LD_PRELOAD": str(library), "REFUSED_GROWTH": str(refused)}
     replies, given_up, told = [], [], Told()
     pipes = {"stdin": subprocess.PIPE, "stdout": subprocess.PIPE, "stderr": subprocess.DEVNULL, "bufsize": 0}
-    with subprocess.Popen([program, "run", "--fresh", *words], env=environment, **pipes) as run:
+    with subprocess.Popen([program, "run", "--fresh", *words], cwd=library.parent, env=environment, **pipes) as run:
         for place, line in enumerate(lines):
             spoken = told.filled(line.removesuffix("\n").encode()) + b"\n"
             while (reply := reply_to(run, spoken)) == WANT and place != once:
@@ -129,13 +128,20 @@ def is_taken(script):
     return not prunes and not words_of(script) and len(script.read_text(encoding="utf-8").splitlines()) <= MOST_LINES
 
 
+def next_growth(growth):
+    """The number of the next growth to refuse; a run that asks for so many tells nothing of what it asked for."""
+    if growth == MOST_GROWTHS:
+        sys.exit("refused_growths: the library that refuses is not told when a run ends")
+    return growth + 1
+
+
 def check_script(program, library, script):
     """Refuses each growth of a script, and counts the faults."""
     lines = [f"{line}\n" for line in script.read_text(encoding="utf-8").splitlines()]
     expected = script.with_suffix(".expected").read_text(encoding="utf-8").splitlines()
     growths, stopped, wanted, faults, status = 0, 0, 0, 0, 0
     while status != ENOUGH:
-        growths += 1
+        growths = next_growth(growths)
         replies, given_up, status = replies_of(program, lines, library, growths, words_of(script))
         stopped += status == 1
         wanted += len(given_up)
@@ -152,7 +158,7 @@ def check_enter(program, library, members, reply, begun):
     lines = [*FULL, f'{AT}"c":1,{members}}}\n', BEGIN]
     stopped, wanted, faults, refused, status = 0, 0, 0, 0, 0
     while status != ENOUGH:
-        refused += 1
+        refused = next_growth(refused)
         replies, given_up, status = replies_of(program, lines, library, refused, ["--slots", "2"], len(FULL))
         is_wanted = replies[len(FULL):len(FULL) + 1] == [WANT]
         wanted += is_wanted
@@ -166,13 +172,13 @@ def check_enter(program, library, members, reply, begun):
 
 
 def main():
-    parser = argparse.ArgumentParser(description=__doc__.split("\n", maxsplit=1)[0])
+    parser = argparse.ArgumentParser(description=__doc__.split("\n\n", maxsplit=1)[0])
     parser.add_argument("scripts", nargs="*", type=Path)
-    parser.add_argument("--program", type=Path, default=PROGRAM)
+    add_program(parser)
     asked = parser.parse_args()
     scripts = asked.scripts or sorted(TOP.glob("examples/*.jsonl")) + sorted(TOP.glob("checks/*.jsonl"))
     faults = 0
-    with tempfile.TemporaryDirectory() as folder:
+    with scratch_folder() as folder:
         library = Path(folder) / "refusing.so"
         subprocess.run(["cc", "-shared", "-fPIC", "-xc", "-", "-include", "unistd.h", "-o", library, "-ldl"], input=REFUSING, text=True, check=True)
         for script in scripts:

@@ -11,10 +11,10 @@ import pathlib
 import subprocess
 import sys
 
+from harness import add_program
 from read_store import HEADER, THREE, Lasting, framed, read_journal
 from scratch import scratch_folder
 
-PROGRAM = pathlib.Path(__file__).resolve().parent.parent / "crates/keystore_program/out/keystore_program"
 MOST = 65_536
 
 
@@ -136,9 +136,9 @@ def rows():
 
 
 def main():
-    parser = argparse.ArgumentParser(description=__doc__.split("\n", maxsplit=1)[0])
-    parser.add_argument("--program", type=pathlib.Path, default=PROGRAM)
-    program = parser.parse_args().program.resolve()
+    parser = argparse.ArgumentParser(description=__doc__.split("\n\n", maxsplit=1)[0])
+    add_program(parser)
+    program = parser.parse_args().program
     with scratch_folder() as folder:
         for store, wanted in rows():
             found = opened(program, store, folder)

@@ -16,15 +16,13 @@ What is between two rows is the part that the second lacks. Between seal and hex
 cipher is what tools/cipher_speed.py tells of GCM, 32 KiB a line."""
 import argparse
 import os
-import resource
 import statistics
-import subprocess
 import sys
-import tempfile
 from pathlib import Path
 
-TOP = Path(__file__).resolve().parent.parent
-PROGRAM = TOP / "crates/keystore_program/out/keystore_program"
+from harness import add_program, processor_seconds
+from scratch import scratch_folder
+
 OPERATIONS = 12
 LINES = 32 * OPERATIONS
 SIZE = 32768
@@ -58,28 +56,20 @@ def script_of(name):
     return "\n".join(lines) + "\n"
 
 
-def taken(program, script):
-    """Seconds of processor, and the replies."""
-    with open(script, "rb") as lines:
-        before = resource.getrusage(resource.RUSAGE_CHILDREN)
-        said = subprocess.run([program, "run", "--fresh"], stdin=lines, stdout=subprocess.PIPE, check=True).stdout
-        after = resource.getrusage(resource.RUSAGE_CHILDREN)
-    return after.ru_utime + after.ru_stime - before.ru_utime - before.ru_stime, said.splitlines()
-
-
 def main():
     ask = argparse.ArgumentParser()
     ask.add_argument("rounds", nargs="?", type=int, default=7)
-    ask.add_argument("--program", default=PROGRAM)
+    add_program(ask)
     ask = ask.parse_args()
-    with tempfile.TemporaryDirectory(prefix="script-speed-") as place:
+    with scratch_folder("script-speed-") as place:
         scripts = {name: os.path.join(place, name) for name in [*ROWS, "none"]}
         for name, script in scripts.items():
             Path(script).write_text(script_of(name), encoding="ascii")
         times = {name: [] for name in scripts}
         for _ in range(ask.rounds):
             for name, script in scripts.items():
-                seconds, replies = taken(ask.program, script)
+                seconds, said = processor_seconds([ask.program, "run", "--fresh"], script, place)
+                replies = said.splitlines()
                 if name in ROWS and not all(reply.endswith(ROWS[name][2]) for reply in replies[3:35]):
                     sys.exit(f"script_speed.py: {name} has another reply than it should: {replies[3][:80]}")
                 times[name].append(seconds)

@@ -14,13 +14,13 @@ import functools
 import hashlib
 import hmac
 import multiprocessing
-import pathlib
 import statistics
 import subprocess
 import sys
 import time
 
-from check_service import PROGRAM, free_port
+from check_service import free_port
+from harness import add_program
 from keystore_client import KINDS, Client, Key, counted, parameters, u32
 from mac_peers import KEY, SoftHsm, Token, Tpm, TpmServer, connected, exactly
 from scratch import scratch_folder
@@ -68,8 +68,8 @@ def count_macs(maker, seconds, start, counts):
 
 
 def macs_a_second(maker, makers, seconds):
-    start, counts = multiprocessing.Barrier(makers), multiprocessing.Queue()
-    clients = [multiprocessing.Process(target=count_macs, args=(maker, seconds, start, counts)) for _ in range(makers)]
+    start, counts = multiprocessing.Barrier(makers, timeout=60), multiprocessing.Queue()
+    clients = [multiprocessing.Process(target=count_macs, args=(maker, seconds, start, counts), daemon=True) for _ in range(makers)]
     for client in clients:
         client.start()
     made = [counts.get(timeout=60 + seconds) for _ in clients]
@@ -126,10 +126,10 @@ def main():
     ask = argparse.ArgumentParser(description="Measures the service over sockets, beside other makers of a mac.")
     ask.add_argument("rounds", nargs="?", type=int, default=3)
     ask.add_argument("--seconds", type=float, default=3.0, metavar="S")
-    ask.add_argument("--program", type=pathlib.Path, default=PROGRAM, metavar="PATH")
+    add_program(ask)
     words = ask.parse_args()
     with scratch_folder() as folder:
-        found = measured(words.program.resolve(), folder, words.rounds, words.seconds)
+        found = measured(words.program, folder, words.rounds, words.seconds)
     middle = {name: statistics.median(macs) for name, macs in found.items()}
     for name, macs in middle.items():
         frames = f"{2 * macs:9,.0f} frames a second" if name.startswith("service") else " " * 25

@@ -18,7 +18,7 @@ def times(folder, start=0):
 
 
 def main():
-    parser = argparse.ArgumentParser(description=__doc__.split("\n", maxsplit=1)[0])
+    parser = argparse.ArgumentParser(description=__doc__.split("\n\n", maxsplit=1)[0])
     parser.add_argument("crates", nargs="*")
     parser.add_argument("--most", type=int, default=20)
     given = parser.parse_args()

@@ -9,44 +9,31 @@ middle round, and the ratio; the file lies in memory, where the machine has such
 """
 import argparse
 import os
-import resource
 import statistics
-import subprocess
 import sys
 from pathlib import Path
 
+from harness import add_program, processor_seconds
 from scratch import scratch_folder
 from soak_lines import lines
 
-TOP = Path(__file__).resolve().parent.parent
-PROGRAM = TOP / "crates/keystore_program/out/keystore_program"
-
-
-def taken(words, folder, script):
-    """Seconds of processor of a run, which must end with status 0."""
-    with open(script, "rb") as source:
-        before = resource.getrusage(resource.RUSAGE_CHILDREN)
-        subprocess.run(words, stdin=source, stdout=subprocess.DEVNULL, cwd=folder, check=True)
-        after = resource.getrusage(resource.RUSAGE_CHILDREN)
-    return after.ru_utime + after.ru_stime - before.ru_utime - before.ru_stime
 
 
 def main():
-    ask = argparse.ArgumentParser(description=__doc__.split("\n", maxsplit=1)[0])
+    ask = argparse.ArgumentParser(description=__doc__.split("\n\n", maxsplit=1)[0])
     ask.add_argument("rounds", nargs="?", type=int, default=5)
     ask.add_argument("--seed", type=int, default=7)
     ask.add_argument("--lines", type=int, default=100_000)
-    ask.add_argument("--program", type=Path, default=PROGRAM)
+    add_program(ask)
     ask = ask.parse_args()
-    program = str(ask.program.resolve())
-    runs = {"soak": [program, "soak", str(ask.seed), str(ask.lines)], "run": [program, "run", "--fresh"]}
+    runs = {"soak": [ask.program, "soak", str(ask.seed), str(ask.lines)], "run": [ask.program, "run", "--fresh"]}
     with scratch_folder("soak-speed-") as folder:
         script = os.path.join(folder, "load.jsonl")
         Path(script).write_text("".join(f"{line}\n" for line in lines(ask.seed, ask.lines)), encoding="ascii")
         times = {name: [] for name in runs}
         for _ in range(ask.rounds):
             for name, words in runs.items():
-                times[name].append(taken(words, folder, script))
+                times[name].append(processor_seconds(words, script, folder)[0])
     rate = {name: (ask.lines + 7) / statistics.median(seconds) for name, seconds in times.items()}
     for name, seconds in times.items():
         print(f"{name:<5} {rate[name]:12,.0f} lines a second, from {min(seconds):.2f} to {max(seconds):.2f} seconds")

@@ -9,14 +9,12 @@ the spelling of the line, and their ratio: of the least of all rounds, which are
 owner, who has 64 keys in both, and a clearing ends one key."""
 import argparse
 import os
-import resource
-import subprocess
 import sys
-import tempfile
 from pathlib import Path
 
-TOP = Path(__file__).resolve().parent.parent
-PROGRAM = TOP / "crates/keystore_program/out/keystore_program"
+from harness import add_program, processor_seconds
+from scratch import scratch_folder
+
 # The first app's keys; with the second's, and the one that a clearing ends, the greater number makes 65,536 in all.
 SIZES = (64, 65_471)
 STEPS = 200_000
@@ -71,25 +69,22 @@ def script_of(kind, size):
     return lines
 
 
-def taken(program, script):
+def taken(program, script, folder):
     """Seconds of processor; each line must be admitted."""
-    with open(script, "rb") as lines:
-        before = resource.getrusage(resource.RUSAGE_CHILDREN)
-        said = subprocess.run([program, "run", "--fresh"], stdin=lines, stdout=subprocess.PIPE, check=True).stdout
-        after = resource.getrusage(resource.RUSAGE_CHILDREN)
+    seconds, said = processor_seconds([program, "run", "--fresh"], script, folder)
     other = [reply for reply in said.splitlines() if b'"code":0' not in reply]
     if other:
         sys.exit(f"step_speed.py: a step has another reply than it should: {other[0][:100]}")
-    return after.ru_utime + after.ru_stime - before.ru_utime - before.ru_stime
+    return seconds
 
 
 def main():
-    ask = argparse.ArgumentParser(description=__doc__.split("\n", maxsplit=1)[0])
+    ask = argparse.ArgumentParser(description=__doc__.split("\n\n", maxsplit=1)[0])
     ask.add_argument("rounds", nargs="?", type=int, default=5)
-    ask.add_argument("--program", default=PROGRAM)
+    add_program(ask)
     ask = ask.parse_args()
     runs = [(kind, size) for kind in [None, *KINDS] for size in SIZES]
-    with tempfile.TemporaryDirectory(prefix="step-speed-") as place:
+    with scratch_folder("step-speed-") as place:
         scripts, counts = {}, {}
         for number, run in enumerate(runs):
             lines = script_of(*run)
@@ -98,7 +93,7 @@ def main():
         times = {run: [] for run in runs}
         for _ in range(ask.rounds):
             for run, script in scripts.items():
-                times[run].append(taken(ask.program, script))
+                times[run].append(taken(ask.program, script, place))
     least = {run: min(seconds) for run, seconds in times.items()}
     print(f"{'steps':<30} {'64 keys':>10} {'65,536':>10} {'ratio':>6}")
     for kind in KINDS:

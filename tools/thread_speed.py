@@ -17,15 +17,20 @@ import time
 PROGRAM = pathlib.Path(__file__).resolve().parent.parent / "crates" / "keystore_threads" / "out" / "keystore_threads"
 THREADS = (1, 2, 4)
 RUNS = 5
-# Of each kind: the rounds of all threads, and the calls of a round.
-KINDS = {"macs": (96_000, 2), "updates": (1_600, 18)}
+# Of each kind: the rounds of all threads, and the calls of a round with their entries of the book. Each thread connects and imports
+# a key first.
+KINDS = {"macs": (96_000, 2, 3), "updates": (1_600, 18, 35)}
 
 
 def seconds(kind, rounds, threads):
-    """The wall time of a run, which has to end well."""
+    """The wall time of a run, whose calls all have to be served."""
     start = time.perf_counter()
-    subprocess.run([PROGRAM, kind, str(rounds), str(threads)], check=True, stdout=subprocess.DEVNULL)
-    return time.perf_counter() - start
+    said = subprocess.run([PROGRAM, kind, str(rounds), str(threads)], check=True, capture_output=True, text=True).stdout
+    took = time.perf_counter() - start
+    entries = threads * (2 + KINDS[kind][2] * rounds)
+    if not said.endswith(f", {entries} entries\n"):
+        sys.exit(f"thread_speed: {kind} of {threads} threads came to {said.rstrip()}, where {entries} entries are wanted")
+    return took
 
 
 def rates(kind, rounds, calls):
@@ -38,14 +43,14 @@ def rates(kind, rounds, calls):
 
 
 def main():
-    parser = argparse.ArgumentParser(description=__doc__.split("\n", maxsplit=1)[0])
+    parser = argparse.ArgumentParser(description=__doc__.split("\n\n", maxsplit=1)[0])
     parser.add_argument("--rounds", type=int, metavar="N")
     words = parser.parse_args()
     if not PROGRAM.exists():
         sys.exit("tools/thread_speed.py: there is no program yet: run `rt run` in crates/keystore_threads")
     print("| Calls | Threads | Calls a second | Ratio to one thread |")
     print("|---|---|---|---|")
-    for kind, (rounds, calls) in KINDS.items():
+    for kind, (rounds, calls, _entries) in KINDS.items():
         found = rates(kind, words.rounds or rounds, calls)
         for threads, rate in found.items():
             print(f"| {kind} | {threads} | {rate:,.0f} | {rate / found[1]:.2f} |", flush=True)

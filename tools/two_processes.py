@@ -12,8 +12,8 @@ import subprocess
 import sys
 import tempfile
 
-TOP = pathlib.Path(__file__).resolve().parent.parent
-PROGRAM = TOP / "crates/keystore_program/out/keystore_program"
+from harness import TOP, add_program, check
+
 CONNECT, IMPORT, BEGIN, FINISH = (TOP / "examples/hmac.jsonl").read_bytes().splitlines(keepends=True)
 REPLIES = (TOP / "examples/hmac.expected").read_bytes().splitlines(keepends=True)
 DISK_FAULT = b"keystore2: disk fault\n"
@@ -23,11 +23,6 @@ def ended(program, words, script, folder):
     """How a run over a script ended: its status, and what it wrote."""
     done = subprocess.run([program, *words], input=script, cwd=folder, capture_output=True, check=False)
     return done.returncode, done.stdout, done.stderr
-
-
-def check(name, given, wanted):
-    if given != wanted:
-        sys.exit(f"{name} gave {given} and not {wanted}")
 
 
 def check_second(program, folder):
@@ -48,8 +43,8 @@ def check_second(program, folder):
 
 def main():
     parser = argparse.ArgumentParser(description="Runs two processes on one store.")
-    parser.add_argument("--program", type=pathlib.Path, default=PROGRAM, metavar="PATH")
-    program = parser.parse_args().program.resolve()
+    add_program(parser)
+    program = parser.parse_args().program
     with tempfile.TemporaryDirectory() as name:
         folder = pathlib.Path(name)
         check("a run without a store", ended(program, ["run"], CONNECT, folder), (7, b"", b"keystore2: store corrupted at 0\n"))

@@ -1,0 +1,38 @@
+"""What the tools that run the built program share: which program it is, the processor time of a run, and how a difference is told."""
+import argparse
+import os
+import pathlib
+import resource
+import subprocess
+import sys
+
+TOP = pathlib.Path(__file__).resolve().parent.parent
+# The program as it was built, and the script that builds it where it is not.
+PROGRAM, COMMAND = TOP / "crates/keystore_program/out/keystore_program", TOP / "keystore2"
+
+
+def program_at(path):
+    found = pathlib.Path(path).resolve()
+    if not os.access(found, os.X_OK):
+        raise argparse.ArgumentTypeError(f"{found} is no program; ./keystore2 builds it")
+    return found
+
+
+def add_program(parser, default=PROGRAM):
+    """Gives a tool the option --program: which program it runs."""
+    parser.add_argument("--program", type=program_at, default=str(default), metavar="PATH")
+
+
+def processor_seconds(words, script, folder):
+    """Seconds of processor of a run over a script in a folder, which must end with status 0, and what it printed."""
+    with open(script, "rb") as lines:
+        before = resource.getrusage(resource.RUSAGE_CHILDREN)
+        said = subprocess.run(words, stdin=lines, stdout=subprocess.PIPE, cwd=folder, check=True).stdout
+        after = resource.getrusage(resource.RUSAGE_CHILDREN)
+    return after.ru_utime + after.ru_stime - before.ru_utime - before.ru_stime, said
+
+
+def check(name, found, wanted):
+    """Ends the tool where something is otherwise than wanted, and says what."""
+    if found != wanted:
+        sys.exit(f"{pathlib.Path(sys.argv[0]).stem}: {name} gave {found} and not {wanted}")
