@@ -5,7 +5,7 @@ What the program stands on is copied to a temporary folder (where TMPDIR says, s
 `rt ci` runs there: it proves crates side by side, each over the statements of those below it, and runs the program once as each of two
 compilers builds it. A toolchain that keeps what it proved passes over what has not changed, here and in the gate; another one proves
 all of it each time. On a terminal one line goes on: how many crates of how many, the minutes so far, and what is at work. At a failure
-it prints what was refused and where the whole log is. It tries no must-fail edit: that is the gate."""
+it prints the lines of the first crate that was refused, and where the whole log is. It tries no must-fail edit: that is the gate."""
 import contextlib
 import fcntl
 import glob
@@ -110,28 +110,35 @@ def lines_of(log):
         return lines.read().splitlines()
 
 
+def tell_failure(log):
+    """Says what was refused, and keeps the whole log."""
+    lines = lines_of(log)
+    with tempfile.NamedTemporaryFile("w", prefix="keystore2-log-", delete=False) as kept:
+        kept.write("\n".join(lines))
+    end = next((place for place, line in enumerate(lines, 1) if line.endswith(" NOT PROVED")), len(lines))
+    print(f"\nkeystore2: the program was not built; {kept.name} says", *lines[max(end - 20, 0):end], sep="\n", file=sys.stderr)
+
+
 def build(names):
     """Builds the program; the status is 0, or 2 where it was not built."""
-    start, log = time.time(), f"{tempfile.mkdtemp(prefix='keystore2-log-')}/log"
-
-    def told(at_work):
-        proved = {it[1] for line in lines_of(log) if (it := re.fullmatch(r"rt: (\w+) (?:proved|is kept:.*)", line))}
-        tell(f"{len(proved)} of {len(names)} crates proved, {(time.time() - start) / 60:.1f} min: {at_work}")
-
+    start = time.time()
     with tempfile.TemporaryDirectory(prefix=f"{PREFIX}{os.getpid()}-") as folder:
         copy_crates(names, folder)
+        log = f"{folder}/log"
+
+        def told(at_work):
+            proved = {it[1] for line in lines_of(log) if (it := re.fullmatch(r"rt: (\w+) (?:proved|is kept:.*)", line))}
+            tell(f"{len(proved)} of {len(names)} crates proved, {(time.time() - start) / 60:.1f} min: {at_work}")
+
         status = run(["rt", "ci"], folder, log, told)
         if status or not os.access(f"{folder}/{BUILT}", os.X_OK):
-            lines = lines_of(log)
-            refused = [it for it in lines if "NOT PROVED" in it or ": error" in it]
-            print(f"\nkeystore2: the program was not built; {log} says", *refused[:20], *lines[-10:], sep="\n", file=sys.stderr)
+            tell_failure(log)
             return 2
         os.makedirs(os.path.dirname(f"{TOP}/{BUILT}"), exist_ok=True)
         shutil.copy(f"{folder}/{BUILT}", f"{TOP}/{BUILT}.new")
     # What was changed meanwhile is newer than the program.
     os.utime(f"{TOP}/{BUILT}.new", (start, start))
     os.replace(f"{TOP}/{BUILT}.new", f"{TOP}/{BUILT}")
-    shutil.rmtree(os.path.dirname(log))
     if sys.stderr.isatty():
         tell(f"built in {(time.time() - start) / 60:.1f} min", "\n")
     return 0
