@@ -1,9 +1,10 @@
 //! Keys that are kept in sealed blobs. More of them are in `checks/application-data.jsonl` and `checks/handed-blobs.jsonl`, blobs of
 //! another tool in `checks/made-elsewhere.jsonl`.
 
-use crate::script::{BEGIN, BEGUN, CONNECT, CONNECTED, FINISH, IMPORTED, MAC, Row, check_each};
-
-const SYSTEM: &str = r#"{"t":[0,1000],"do":"connect","uid":1000}"#;
+use crate::script::{
+    BEGIN, BEGUN, CONNECT, CONNECTED, FINISH, IMPORTED, MAC, Row, SECOND_CONNECTED, SYSTEM,
+    check_each,
+};
 
 const NOT_OWN: &str = r#"{"code":-33,"rule":"B8"}"#;
 
@@ -45,7 +46,7 @@ static BLOBS: [&[Row]; 2] = [
             r#"{"t":[0,1000],"c":1,"do":"generateKey","key":{"domain":3,"nspace":100},"params":[["PURPOSE",0],["PURPOSE",1],["ALGORITHM",32],["KEY_SIZE",256],["BLOCK_MODE",32],["PADDING",1],["MIN_MAC_LENGTH",128],["NO_AUTH_REQUIRED",true],["MAX_USES_PER_BOOT",1]]}"#,
             r#"{"code":-39,"rule":"K14"}"#,
         ),
-        (CONNECT, r#"{"client":2,"code":0}"#),
+        (CONNECT, SECOND_CONNECTED),
         (
             r#"{"t":[0,1000],"c":2,"do":"generateKey","key":{"domain":3,"nspace":100},"params":[["PURPOSE",0],["PURPOSE",1],["ALGORITHM",32],["KEY_SIZE",256],["BLOCK_MODE",32],["PADDING",1],["MIN_MAC_LENGTH",128],["NO_AUTH_REQUIRED",true]]}"#,
             r#"{"code":6,"rule":"K3"}"#,

@@ -1,11 +1,9 @@
 //! AES in its block modes. Further vectors and paddings are in `checks/fips-197.jsonl`, `checks/vectors.jsonl` and
 //! `checks/paddings.jsonl`.
 
-use crate::script::{BEGUN, CONNECT, CONNECTED, IMPORTED, NOT_OPEN, NOTHING_OUT, Row, check_each};
-
-/// A key of AES that has every mode and padding.
-const IMPORT_AES: &str =
-    r#"{"t":[0,1000],"c":1,"do":"importKey","key":{"domain":0,"alias":"a"},"params":[["PURPOSE",0],["PURPOSE",1],["ALGORITHM",32],["BLOCK_MODE",1],["BLOCK_MODE",2],["BLOCK_MODE",3],["BLOCK_MODE",32],["PADDING",1],["PADDING",64],["MIN_MAC_LENGTH",96],["CALLER_NONCE",true],["NO_AUTH_REQUIRED",true]],"format":3,"material":"000102030405060708090a0b0c0d0e0f"}"#;
+use crate::script::{
+    BEGUN, CONNECT, CONNECTED, IMPORT_AES, IMPORTED, NOT_OPEN, NOTHING_OUT, Row, check_each,
+};
 
 const ENCRYPT: &str =
     r#"{"t":[0,1000],"c":1,"do":"createOperation","key":{"domain":0,"alias":"a"},"params":[["PURPOSE",0],["BLOCK_MODE",1],["PADDING",1]]}"#;

@@ -1,8 +1,8 @@
 //! Bytes that are drawn, and draws that fail.
 
 use crate::script::{
-    BEGIN, BEGUN, CONNECT, CONNECTED, FRESH, IMPORT, IMPORTED, MAC, NO_KEY, NOT_OPEN, NOTHING_OUT,
-    Outside, Row, check,
+    BEGIN, BEGUN, CONNECT, CONNECTED, FRESH, IMPORT, IMPORT_AES, IMPORTED, MAC, NO_KEY, NOT_OPEN,
+    NOTHING_OUT, Outside, Row, check,
 };
 
 const NO_DRAW: &str = r#"{"code":1005}"#;
@@ -15,9 +15,6 @@ const SEAL: &str =
 
 const REPLACE: &str =
     r#"{"t":[0,1000],"c":1,"do":"generateKey","key":{"domain":0,"alias":"m"},"params":[["PURPOSE",0],["PURPOSE",1],["ALGORITHM",32],["KEY_SIZE",256],["BLOCK_MODE",32],["PADDING",1],["MIN_MAC_LENGTH",128],["NO_AUTH_REQUIRED",true]]}"#;
-
-const IMPORT_AES: &str =
-    r#"{"t":[0,1000],"c":1,"do":"importKey","key":{"domain":0,"alias":"a"},"params":[["PURPOSE",0],["PURPOSE",1],["ALGORITHM",32],["BLOCK_MODE",1],["BLOCK_MODE",2],["BLOCK_MODE",3],["BLOCK_MODE",32],["PADDING",1],["PADDING",64],["MIN_MAC_LENGTH",96],["CALLER_NONCE",true],["NO_AUTH_REQUIRED",true]],"format":3,"material":"000102030405060708090a0b0c0d0e0f"}"#;
 
 /// The first, the third, the sixth and the eighth draw fail: both draws of a generated key, that of an import, and that
 /// of a begin. What was drawn before in such a call is spent, numbers are not; a refused call draws nothing.

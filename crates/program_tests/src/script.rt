@@ -26,8 +26,17 @@ pub const BEGIN: &str =
 
 pub const FINISH: &str = r#"{"t":[0,1000],"c":1,"do":"finish","op":1,"input":"4869205468657265"}"#;
 
+/// A client of the system.
+pub const SYSTEM: &str = r#"{"t":[0,1000],"do":"connect","uid":1000}"#;
+
+/// A key of AES that has every mode and padding.
+pub const IMPORT_AES: &str =
+    r#"{"t":[0,1000],"c":1,"do":"importKey","key":{"domain":0,"alias":"a"},"params":[["PURPOSE",0],["PURPOSE",1],["ALGORITHM",32],["BLOCK_MODE",1],["BLOCK_MODE",2],["BLOCK_MODE",3],["BLOCK_MODE",32],["PADDING",1],["PADDING",64],["MIN_MAC_LENGTH",96],["CALLER_NONCE",true],["NO_AUTH_REQUIRED",true]],"format":3,"material":"000102030405060708090a0b0c0d0e0f"}"#;
+
 /// What these are to get.
 pub const CONNECTED: &str = r#"{"client":1,"code":0}"#;
+
+pub const SECOND_CONNECTED: &str = r#"{"client":2,"code":0}"#;
 
 pub const IMPORTED: &str = r#"{"code":0,"key":1}"#;
 
@@ -137,6 +146,25 @@ impl<'a> Outside<'a> {
         drop(words);
         let left = source.left().len();
         Some(Ended { status, sink, left })
+    }
+
+    /// Whether a run over a disk ends with this status and this text; words that are no form read nothing.
+    pub fn ends_so(
+        &self,
+        alloc: Global,
+        disk: &mut MemoryDisk,
+        status: Status,
+        text: &str,
+    ) -> bool {
+        match self.run(alloc, disk) {
+            Some(ended) => {
+                let is_untouched = status != Status::Usage || ended.left == self.script.len();
+                let right = ended.status == status && ended.text() == text && is_untouched;
+                drop(ended);
+                right
+            }
+            None => false,
+        }
     }
 
     /// What is written in a run over a disk that reads the script to its end.

@@ -78,30 +78,11 @@ static CASES: [Case; 13] = [
     (TWO, (&[], &[2]), Status::WriteFault, CONNECTED),
 ];
 
-/// Whether a run over a disk ends with this status and this text; words that are no form read nothing.
-fn ends_so(
-    alloc: Global,
-    outside: Outside,
-    disk: &mut MemoryDisk,
-    status: Status,
-    text: &str,
-) -> bool {
-    match outside.run(alloc, disk) {
-        Some(ended) => {
-            let is_untouched = status != Status::Usage || ended.left == outside.script.len();
-            let right = ended.status == status && ended.text() == text && is_untouched;
-            drop(ended);
-            right
-        }
-        None => false,
-    }
-}
-
-/// The same over an empty disk.
+/// Whether a run over an empty disk ends with this status and this text.
 fn ends_fresh(alloc: Global, outside: Outside, status: Status, text: &str) -> bool {
     match MemoryDisk::with_room(alloc, ROOM, &[]) {
         Ok(mut disk) => {
-            let right = ends_so(alloc, outside, &mut disk, status, text);
+            let right = outside.ends_so(alloc, &mut disk, status, text);
             drop(disk);
             right
         }

@@ -1,8 +1,8 @@
 //! Keys of other owners: grants, namespaces, and begins that force.
 
 use crate::script::{
-    BEGIN, BEGUN, CONNECT, CONNECTED, DONE, FRESH, IMPORT, IMPORTED, NO_KEY, Outside, Row, check,
-    check_each,
+    BEGIN, BEGUN, CONNECT, CONNECTED, DONE, FRESH, IMPORT, IMPORTED, NO_KEY, Outside, Row,
+    SECOND_CONNECTED, check, check_each,
 };
 
 const COUNT: &str = r#"{"t":[0,1000],"c":1,"do":"getNumberOfEntries","domain":2,"nspace":100}"#;
@@ -13,7 +13,7 @@ static SHARED: [&[Row]; 2] = [
         (CONNECT, CONNECTED),
         (
             r#"{"t":[0,1000],"do":"connect","uid":10002}"#,
-            r#"{"client":2,"code":0}"#,
+            SECOND_CONNECTED,
         ),
         (IMPORT, IMPORTED),
         (
@@ -68,7 +68,7 @@ static FORCED: [Row; 7] = [
     (BEGIN, BEGUN),
     (
         r#"{"t":[0,1000],"do":"connect","uid":1000}"#,
-        r#"{"client":2,"code":0}"#,
+        SECOND_CONNECTED,
     ),
     (
         r#"{"t":[0,1000],"c":2,"do":"importKey","key":{"domain":0,"alias":"n"},"params":[["PURPOSE",2],["PURPOSE",3],["ALGORITHM",128],["DIGEST",4],["MIN_MAC_LENGTH",64],["NO_AUTH_REQUIRED",true]],"format":3,"material":"0b0b0b0b0b0b0b0b0b0b0b0b0b0b0b0b0b0b0b0b"}"#,

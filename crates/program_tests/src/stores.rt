@@ -2,7 +2,7 @@
 
 use crate::script::{
     BEGIN, BEGUN, CONNECT, CONNECTED, DONE, FINISH, FRESH, IMPORT, IMPORTED, MAC, NO_KEY, Outside,
-    ROOM, Runs, check_runs,
+    ROOM, Runs, SECOND_CONNECTED, SYSTEM, check_runs,
 };
 use disk_model::MemoryDisk;
 use keystore_run::Status;
@@ -25,14 +25,7 @@ fn ends_so<'a>(
         script,
         ..FRESH
     };
-    match outside.run(alloc, disk) {
-        Some(ended) => {
-            let right = ended.status == status && ended.text().is_empty();
-            drop(ended);
-            right
-        }
-        None => false,
-    }
+    outside.ends_so(alloc, disk, status, "")
 }
 
 /// Words that make an empty store.
@@ -123,9 +116,7 @@ fn a_device_that_fails_before_the_store_is_open_ends_the_run(rt: HostRuntime) {
     }
 }
 
-/// The system, another app, and what they and the owner do.
-const SYSTEM: &str = r#"{"t":[0,1000],"do":"connect","uid":1000}"#;
-
+/// Another app, and what it, the system and the owner do.
 const OTHER: &str = r#"{"t":[0,1000],"do":"connect","uid":10002}"#;
 
 const GRANT: &str =
@@ -144,8 +135,6 @@ const BEGIN_GRANTED: &str =
     r#"{"t":[0,1000],"c":1,"do":"createOperation","key":{"domain":1,"nspace":1},"params":[["PURPOSE",2],["MAC_LENGTH",256]]}"#;
 
 const IMPORTED_AGAIN: &str = r#"{"code":0,"key":2}"#;
-
-const SYSTEM_CONNECTED: &str = r#"{"client":2,"code":0}"#;
 
 const GRANTED: &str = r#"{"code":0,"grant":1}"#;
 
@@ -188,7 +177,7 @@ static LASTING: [Runs; 7] = [
     &[
         &[
             (CONNECT, CONNECTED),
-            (SYSTEM, SYSTEM_CONNECTED),
+            (SYSTEM, SECOND_CONNECTED),
             (IMPORT, IMPORTED),
             (CLEAR, DONE),
         ],
@@ -197,7 +186,7 @@ static LASTING: [Runs; 7] = [
     &[
         &[
             (CONNECT, CONNECTED),
-            (SYSTEM, SYSTEM_CONNECTED),
+            (SYSTEM, SECOND_CONNECTED),
             (IMPORT, IMPORTED),
             (REMOVE, DONE),
         ],

@@ -3,12 +3,9 @@
 //! `checks/counted-begins.jsonl`.
 
 use crate::script::{
-    BEGIN, BEGUN, CONNECT, CONNECTED, DONE, IMPORTED, NOTHING_OUT, Row, check_each,
+    BEGIN, BEGUN, CONNECT, CONNECTED, DONE, IMPORTED, NOTHING_OUT, Row, SECOND_CONNECTED, SYSTEM,
+    check_each,
 };
-
-const SYSTEM: &str = r#"{"t":[0,1000],"do":"connect","uid":1000}"#;
-
-const SYSTEM_CONNECTED: &str = r#"{"client":2,"code":0}"#;
 
 const NO_TOKEN: &str = r#"{"code":-26,"rule":"B15"}"#;
 
@@ -16,7 +13,7 @@ static BOUND: [&[Row]; 2] = [
     &[
         // A token opens its user's keys from its time on until the timeout.
         (CONNECT, CONNECTED),
-        (SYSTEM, SYSTEM_CONNECTED),
+        (SYSTEM, SECOND_CONNECTED),
         (
             r#"{"t":[0,1000],"c":1,"do":"importKey","key":{"domain":0,"alias":"m"},"params":[["PURPOSE",2],["PURPOSE",3],["ALGORITHM",128],["DIGEST",4],["MIN_MAC_LENGTH",64],["USER_SECURE_ID",7],["USER_AUTH_TYPE",1],["AUTH_TIMEOUT",10]],"format":3,"material":"0b0b0b0b0b0b0b0b0b0b0b0b0b0b0b0b0b0b0b0b"}"#,
             IMPORTED,
@@ -49,7 +46,7 @@ static BOUND: [&[Row]; 2] = [
     &[
         // An operation goes on once a token that fits its key has named its challenge. A date is looked at before tokens.
         (CONNECT, CONNECTED),
-        (SYSTEM, SYSTEM_CONNECTED),
+        (SYSTEM, SECOND_CONNECTED),
         (
             r#"{"t":[0,1000],"c":1,"do":"importKey","key":{"domain":0,"alias":"m"},"params":[["PURPOSE",2],["PURPOSE",3],["ALGORITHM",128],["DIGEST",4],["MIN_MAC_LENGTH",64],["USER_SECURE_ID",7],["USER_AUTH_TYPE",1]],"format":3,"material":"0b0b0b0b0b0b0b0b0b0b0b0b0b0b0b0b0b0b0b0b"}"#,
             IMPORTED,

@@ -2,7 +2,7 @@
 
 use crate::script::{
     BEGIN, BEGUN, CONNECT, CONNECTED, DONE, FINISH, IMPORTED, MAC, NO_KEY, NOT_OPEN, NOTHING_OUT,
-    Row, Runs, check_runs,
+    Row, Runs, SECOND_CONNECTED, check_runs,
 };
 
 const IMPORT_ONCE: &str =
@@ -15,8 +15,6 @@ const IMPORT_ONCE_A_BOOT: &str =
     r#"{"t":[0,1000],"c":1,"do":"importKey","key":{"domain":0,"alias":"m"},"params":[["PURPOSE",2],["PURPOSE",3],["ALGORITHM",128],["DIGEST",4],["MIN_MAC_LENGTH",64],["NO_AUTH_REQUIRED",true],["MAX_USES_PER_BOOT",1]],"format":3,"material":"0b0b0b0b0b0b0b0b0b0b0b0b0b0b0b0b0b0b0b0b"}"#;
 
 const RESTART: &str = r#"{"t":[0,1000],"do":"restart"}"#;
-
-const CONNECTED_AGAIN: &str = r#"{"client":2,"code":0}"#;
 
 const BEGUN_AGAIN: &str = r#"{"code":0,"op":2}"#;
 
@@ -53,7 +51,7 @@ static LIMITED: [Runs; 2] = [
             (FINISH_SECOND, ENDED),
             (BEGIN, NO_KEY),
             (RESTART, DONE),
-            (CONNECT, CONNECTED_AGAIN),
+            (CONNECT, SECOND_CONNECTED),
             (
                 r#"{"t":[0,1000],"c":2,"do":"createOperation","key":{"domain":0,"alias":"m"},"params":[["PURPOSE",2],["MAC_LENGTH",256]]}"#,
                 NO_KEY,
@@ -77,7 +75,7 @@ static LIMITED: [Runs; 2] = [
             ),
             (SHOW, ONE_USE_LEFT),
             (RESTART, DONE),
-            (CONNECT, CONNECTED_AGAIN),
+            (CONNECT, SECOND_CONNECTED),
             (
                 r#"{"t":[0,1000],"c":2,"do":"getKeyEntry","key":{"domain":0,"alias":"m"}}"#,
                 ONE_USE_LEFT,
@@ -151,7 +149,7 @@ static FAULTED: [(&[u64], Runs); 6] = [
                 (BEGIN, BEGUN),
                 (FINISH_EMPTY, FAILED),
                 (RESTART, "{\"settled\":\"kept\"}\n{\"code\":0}"),
-                (CONNECT, CONNECTED_AGAIN),
+                (CONNECT, SECOND_CONNECTED),
             ],
             GONE,
         ],
@@ -162,7 +160,7 @@ static FAULTED: [(&[u64], Runs); 6] = [
             &[
                 // A leave, a disconnect and a line that is no event settle nothing; a call that breaks a rule does.
                 (CONNECT, CONNECTED),
-                (CONNECT, CONNECTED_AGAIN),
+                (CONNECT, SECOND_CONNECTED),
                 (IMPORT_ONCE, IMPORTED),
                 (BEGIN, BEGUN),
                 (BEGIN, BEGUN_AGAIN),
@@ -223,7 +221,7 @@ static COUNTED: [&[Row]; 2] = [
         (BEGIN, BEGUN),
         (BEGIN, NONE_LEFT),
         (RESTART, DONE),
-        (CONNECT, CONNECTED_AGAIN),
+        (CONNECT, SECOND_CONNECTED),
         (
             r#"{"t":[0,1000],"c":2,"do":"createOperation","key":{"domain":0,"alias":"m"},"params":[["PURPOSE",2],["MAC_LENGTH",256]]}"#,
             BEGUN_AGAIN,
