@@ -7,7 +7,7 @@ their sums, and what an edit took on the average.
 
 FILE is where the table goes, as Markdown; without it, standard output has it last. The words are handed to `rt ci`. A toolchain
 whose `rt ci` keeps what it proved for a later run does not do that again; there the word `--anew` has it begin from nothing.
-Behind the table stand the edits that took longest, where the toolchain numbers their folders.
+Behind the table stand the edits that took longest.
 
 The seconds are those of the processes that the gate starts, read from /proc twice a second, so a process that is shorter than
 that is missed. A process that is ending has no words any more, and is not looked at again. An edit is told from a crate by its
@@ -64,14 +64,15 @@ def part_of(words, folder):
 
 @functools.cache
 def edits_of(crate):
-    return sorted(glob.glob(f"crates/{crate}/must-fail/*.edit"))
+    """The names of a crate's edits, in the order in which the gate tries them."""
+    return [os.path.basename(it).removesuffix(".edit") for it in sorted(glob.glob(f"crates/{crate}/must-fail/*.edit"))]
 
 
 def edit_of(words, crate):
-    """The edit that a process tries, by the number at the end of the folder that it begins with."""
+    """The edit that a process tries, by the number at the end of the folder that it begins with, where that has one."""
     number = os.path.basename(words[words.index("--incremental") + 1]) if "--incremental" in words else ""
     edits = dict(enumerate(edits_of(crate)))
-    return os.path.basename(edits[int(number)]).removesuffix(".edit") if number.isdigit() and int(number) in edits else None
+    return edits.get(int(number)) if number.isdigit() else None
 
 
 def watch(process, seen, last):
@@ -88,8 +89,9 @@ def watch(process, seen, last):
 
 
 def tell_again(works):
-    """Where no check of a crate's edits was seeded, the first of them proves the bodies once more, and the one behind the last edit
-    checks the crate as it stands. A check has a folder of its own, and may have several processes."""
+    """Where no check of a crate's edits was seeded, the first of them proves the bodies once more, those behind it are told by their
+    order, and the one behind the last edit checks the crate as it stands. A check has a folder of its own, and may have several
+    processes."""
     folders = collections.defaultdict(dict)
     for work in works:
         if work.part in ("edits", "again"):
@@ -97,8 +99,10 @@ def tell_again(works):
     for crate, checks in folders.items():
         checks = list(checks.values())
         if all(work.part == "edits" for check in checks for work in check):
-            count = len(edits_of(crate))
-            for work in [*checks[0], *(it for check in checks[count:count + 1] for it in check)]:
+            edits = edits_of(crate)
+            for edit, work in ((edit, it) for edit, check in zip(edits, checks) for it in check):
+                work.edit = edit
+            for work in [*checks[0], *(it for check in checks[len(edits):len(edits) + 1] for it in check)]:
                 work.part = "again"
 
 
@@ -121,10 +125,10 @@ def table(works, last, minutes):
 
 
 def dearest(works, most=20):
-    """Lines of the edits that took longest, by their names; none where no edit was told by its number."""
+    """Lines of the edits that took longest, by their names; none where none was told."""
     sums = collections.Counter()
     for work in works:
-        if work.edit:
+        if work.edit and work.part == "edits":
             sums[work.crate, work.edit] += work.seconds
     rows = [f"| {crate} | {edit} | {seconds:.0f} |" for (crate, edit), seconds in sums.most_common(most)]
     return ["", "| Crate | edit | seconds |", "|---|---|---|", *rows] if rows else []

@@ -96,6 +96,7 @@ pub(crate) fn answer_all<R: Wait, L: Link, A: Answerer>(
     let mut left = requests.into_iter();
     'requests: while let Some(request) = left.next() {
         if !is_due(progress.joined, request.act()) {
+            drop(request);
             let offset = progress.place;
             return (answerer, Err(End::BadFrame { offset }));
         }

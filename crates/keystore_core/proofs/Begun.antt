@@ -14,9 +14,10 @@ use Rattle.use_rules.specs.Plans.{challenge_wanted, is_per_operation, nonce_give
 use Rattle.use_rules.specs.Table as begin_table
 use Rattle.use_rules.specs.Table.{asked_of, key_of}
 use Rattle.cipher_ops.specs.declared.state.CipherState.{CipherState}
-use Rattle.cipher_ops.specs.Standing.{StandsFor}
 use Rattle.keymint_ops.specs.declared.begin.Begin.{Begin}
-use Rattle.keymint_ops.specs.Begin.{MayBegin, nonce_used}
+use Rattle.keymint_ops.specs.declared.begin.BeginFault.{BeginFault}
+use Rattle.keymint_ops.specs.declared.begin.BeginFault.TheVariants as Fault
+use Rattle.keymint_ops.specs.Begin.{GivesBegin, MayBegin, nonce_used}
 use Rattle.rule_model.specs.declared.entry.Entry.TheVariants.{Acted}
 use Rattle.journal_records.specs.declared.record.KeyRecord.{KeyRecord}
 use Rattle.key_domains.specs.declared.access.Access.{Access}
@@ -59,7 +60,8 @@ use Rattle.keystore_core.specs.Begins.{begins_in}
 use Rattle.keystore_core.specs.Boot.{SameBoot, conditions_in}
 use Rattle.keystore_core.specs.Device.{early_in, unlocked_in}
 use Rattle.keystore_core.specs.Tokens.{token_key_in, tokens_in}
-use Rattle.keystore_core.specs.Beginning.{IsBeginKey, IsNewRow, MakesWay, OpensOne}
+use Rattle.keystore_core.specs.Beginning.{GivesAdmitted, IsAdmitted, IsBeginKey, IsNewRow, IsStart, MakesWay, OpensOne}
+use Rattle.keystore_core.specs.declared.beginning.Admitted.{Admitted}
 use Rattle.keystore_core.specs.declared.beginning.BeginKey.{BeginKey as OwnKey}
 use Rattle.key_database.specs.Stands.{lasting}
 use Rattle.keystore_core.specs.Keys.{SameKeys}
@@ -104,6 +106,11 @@ challenge_is facts begin drawn may long =
 -- what may begin over the facts that were gathered may begin over those of the history
 pub may_begin : (begin : Begin) (gathered facts : BeginFacts) → gathered ≡ facts → MayBegin begin gathered → MayBegin begin facts
 may_begin begin gathered facts e may = subst (MayBegin begin) e may
+
+-- and what keeps an operation from beginning over the facts that were gathered does so over those of the history
+pub may_not : (fault : BeginFault) (key : BeginKey) (gathered facts : BeginFacts) → gathered ≡ facts → GivesBegin (Err fault) gathered → GivesAdmitted (Err fault) key facts
+may_not (Fault.Broken rule code) key gathered facts e told = sym (ap begin_table.answer e) ∙ told
+may_not Fault.Memory key gathered facts e told = tt
 
 -- what the choice of the operation that gives way reads of a slot is what it reads of the open operation
 facts_alike : (slot : Slot CipherState) (o : Open) → IsSlot slot o → seen.facts slot ≡ facts_of_open o
@@ -205,8 +212,8 @@ module _ (setup : Setup) (past : History) (tables : Tables) (caller : Caller) (k
   })
 
   -- the reply of a begin that no rule denies
-  abbrev Admitted : List ℕ → Reply
-  Admitted drawn = begun_with (count_of is_begin past + 1) (challenge_of Facts drawn) (drawn_nonce Facts drawn) (pruned_for setup past (owner_of caller) forced)
+  abbrev Begun : List ℕ → Reply
+  Begun drawn = begun_with (count_of is_begin past + 1) (challenge_of Facts drawn) (drawn_nonce Facts drawn) (pruned_for setup past (owner_of caller) forced)
 
   -- a broken rule
   pub refused : (rule : Rule) (code : Code) → Answer ≡ Err (rule, code)
@@ -216,7 +223,7 @@ module _ (setup : Setup) (past : History) (tables : Tables) (caller : Caller) (k
       record {
         follows = answered [] (Broken rule code)
             (sym (ap (λ found. size_of (wanted_by_begin found Facts)) e))
-            (sym (ap (λ found. broken_or found (Admitted [])) e));
+            (sym (ap (λ found. broken_or found (Begun [])) e));
         stands = denied_tables setup past Beginning [] (Broken rule code) tables tables stands (same_tables tables) refl refl none refl;
         has_job = refl;
         stays = stays_same setup past Beginning [] (Broken rule code) none;
@@ -318,15 +325,18 @@ module _ (setup : Setup) (past : History) (tables : Tables) (caller : Caller) (k
             (is_other op n (open_of setup past) x (idle_there (held tables.slots op) (operation_at setup past op) (slot_found setup past tables op stands) (idle op refl)) found busy) found;
       }
 
-  pub begins : (start new : Tables) (own : OwnKey) (begin : Begin) (row : Operation) (state : CipherState) (drawn : List ℕ) (number step : ℕ) (challenge : Option ℕ) (nonce : Option (List ℕ)) (pruned : Option ℕ)
-      → IsBeginKey own Key → MayBegin begin Facts → SameTables tables start → length drawn ≡ Size begin
-      → number ≡ operations_given start.operations + 1 → challenge ≡ (if length (drop begin.wanted drawn) == 8 then Some (big_number 8 (drop begin.wanted drawn)) else None)
-      → nonce ≡ (if begin.wanted == 0 then None else Some (take begin.wanted drawn)) → pruned ≡ pruned_for setup past (owner_of caller) forced
+  pub begins : (start new : Tables) (admitted : Admitted) (row : Operation) (state : CipherState) (drawn : List ℕ) (number step : ℕ) (challenge : Option ℕ) (nonce : Option (List ℕ)) (pruned : Option ℕ)
+      → IsAdmitted admitted Key Facts → SameTables tables start → length drawn ≡ admitted.begin.wanted + admitted.challenge
+      → number ≡ operations_given start.operations + 1 → challenge ≡ (if length (drop admitted.begin.wanted drawn) == 8 then Some (big_number 8 (drop admitted.begin.wanted drawn)) else None)
+      → nonce ≡ (if admitted.begin.wanted == 0 then None else Some (take admitted.begin.wanted drawn)) → pruned ≡ pruned_for setup past (owner_of caller) forced
       → ((op : ℕ) → pruned ≡ Some op → is_some (idle_value (held tables.slots op)) ≡ true) → step ≡ step_of past
-      → IsNewRow row number caller.client own.id own.limited begin.plan (key_of Facts) challenge → StandsFor state begin.plan own.limited own.opened.material (nonce_used begin.nonce (take begin.wanted drawn)) [] []
-      → OpensOne pruned step (owner_of caller) own.id row state start new
+      → IsNewRow row number caller.client admitted challenge → IsStart state admitted (take admitted.begin.wanted drawn)
+      → OpensOne pruned step (owner_of caller) admitted.id row state start new
       → AnswersAfter setup past new Beginning (record { reply = begun_with number challenge nonce pruned; job = None; drawn = drawn })
-  begins start new own begin row state drawn number step challenge nonce pruned is may still_same long next challenge_told nonce_told pruned_told idle is_step row_is standing one =
+  begins start new admitted row state drawn number step challenge nonce pruned is still_same whole next challenge_told nonce_told pruned_told idle is_step row_is standing one =
+      let begin : Begin = admitted.begin in
+      let may : MayBegin begin Facts = is.may in
+      let long : length drawn ≡ Size begin = omega (arith, whole, is.challenge_is) in
       let o : Rattle.rule_model.specs.Operations.Operation = operation_on Key (facts_of_begin setup past caller key params) caller number drawn in
       let reply : Reply = begun_with number challenge nonce pruned in
       let way : Way pruned one.middle = makes_way start pruned one.middle still_same idle one.way in
@@ -340,7 +350,7 @@ module _ (setup : Setup) (past : History) (tables : Tables) (caller : Caller) (k
       (λ ticket entered x after named busy there. found_more entered.op (without_pruned pruned (open_of setup past)) (as_begun (step_of past) o ∷ []) x (way.keeps entered.op x busy there)) in
       record {
         follows = answered drawn reply (long ∙ sym (wanted_is begin may)) (rw (first, challenged, told, pruned_told)
-            (sym (ap (λ found. broken_or found (Admitted drawn)) may.answers)));
+            (sym (ap (λ found. broken_or found (Begun drawn)) may.answers)));
         stands = record {
           clients = clients_stay setup past Beginning drawn reply tables.clients new.clients stands.clients
               (record { uids = λ client. one.clients.uids client ∙ way.clients.uids client; given = one.clients.given ∙ way.clients.given }) refl refl;
@@ -357,7 +367,7 @@ module _ (setup : Setup) (past : History) (tables : Tables) (caller : Caller) (k
                 busy_is = row_is.busy_is;
                 challenge_is = row_is.challenge_is ∙ challenged;
                 shown_is = row_is.shown_is;
-                list_is = row_is.list_is;
+                list_is = row_is.list_is ∙ is.list_is;
               })))
               (one.rows.given ∙ ap (λ n. n + 1) (way.given ∙ stands.operations.given));
           slots = slots_after setup past Beginning drawn reply (Opens pruned o) tables.slots new.slots stands.slots change

@@ -1,13 +1,25 @@
 -- The beginning of an operation.
-use Rattle.std.specs.Prelude.{◌≡◌, ℕ, Bool, false, List, Option, Some, None, length}
-use Rattle.tags.specs.declared.param.Param.{Param}
-use Rattle.tags.specs.declared.plan.Plan.{Plan}
+use Rattle.std.specs.Prelude.{◌≡◌, ℕ, Bool, false, List, [], Option, Some, None, Result, Ok, Err, ⊤}
+use Rattle.tags.specs.declared.descriptor.Descriptor.{Descriptor}
+use Rattle.use_rules.specs.declared.facts.BeginFacts.{BeginFacts}
+use Rattle.use_rules.specs.Plans.{challenge_wanted}
+use Rattle.use_rules.specs.Table.{answer, key_of}
+use Rattle.cipher_ops.specs.Standing.{StandsFor}
+use Rattle.keymint_ops.specs.declared.begin.BeginFault.{BeginFault}
+use Rattle.keymint_ops.specs.declared.begin.BeginFault.TheVariants.{Broken, Memory}
+use Rattle.keymint_ops.specs.Begin.{MayBegin, nonce_used}
+use Rattle.rule_model.specs.declared.facts.Caller.{Caller}
+use Rattle.rule_model.specs.Access.{owner_of}
 use Rattle.rule_model.specs.BeginFacts.{BeginKey}
 use Rattle.rule_model.specs.Blobs.{fits_key, list_read, material_read}
 use Rattle.rule_model.specs.Boot.{begins_on}
+use Rattle.rule_model.specs.Entries.{History}
+use Rattle.rule_model.specs.Kept.{begin_key_at}
+use Rattle.rule_model.specs.Setup.{Setup}
+use Rattle.rule_model.specs.Slots.{begin_facts, has_room}
+use Rattle.keystore_core.specs.declared.beginning.Admitted.{Admitted}
 use Rattle.keystore_core.specs.declared.beginning.BeginKey.{BeginKey as OwnKey}
 use Rattle.keystore_core.specs.declared.operations.Operation.{Operation}
-use Rattle.keystore_core.specs.declared.room.Room.{Room}
 use Rattle.keystore_core.specs.declared.tables.Tables.{Tables}
 use Rattle.cipher_ops.specs.declared.state.CipherState.{CipherState}
 use Rattle.operation_slots.specs.Table.{Begins, FindsNew, KeepsLaterThan, idle_operation}
@@ -17,7 +29,7 @@ use Rattle.keystore_core.specs.Clients.{SameClients}
 use Rattle.keystore_core.specs.Keys.{SameKeys}
 use Rattle.keystore_core.specs.Leaving.{ClosesOne}
 use Rattle.keystore_core.specs.Operations.{AddsRow}
-use Rattle.keystore_core.specs.Room.{room_in}
+use Rattle.keystore_core.specs.Tables.{TablesStand}
 use Rattle.keystore_core.specs.Tickets.{SameTickets}
 
 -- the key of a begin as the rules read it
@@ -34,23 +46,45 @@ abbrev pub HasRoomOn : TheBegins → Option ℕ → Type 0
 HasRoomOn begins None = Unit {0}
 HasRoomOn begins (Some id) = HasRoomForBegin begins id
 
--- a row is an operation of this plan on a key of this list, without text and additional data, to which no token was shown
-pub record IsNewRow (row : Operation) (number client : ℕ) (key : Option ℕ) (limited : Bool) (plan : Plan) (list : List Param) (challenge : Option ℕ) : Type 0 where
+-- what no rule denies, on this key, where the rules read these facts
+pub record IsAdmitted (admitted : Admitted) (key : BeginKey) (facts : BeginFacts) : Type 0 where
+  pub may : MayBegin admitted.begin facts
+  pub id_is : admitted.id ≡ key.id
+  pub limited_is : admitted.limited ≡ key.limited
+  pub material_is : admitted.material ≡ material_read key.opened
+  pub list_is : admitted.list ≡ key_of facts
+  pub challenge_is : admitted.challenge ≡ challenge_wanted (key_of facts)
+
+-- what may begin, or the first rule that is broken, unless memory ran out
+abbrev pub GivesAdmitted : Result Admitted BeginFault → BeginKey → BeginFacts → Type 0
+GivesAdmitted (Ok admitted) key facts = IsAdmitted admitted key facts
+GivesAdmitted (Err (Broken rule code)) key facts = answer facts ≡ Err (rule, code)
+GivesAdmitted (Err Memory) key facts = ⊤
+
+-- the same of a caller's begin, after every history for which the tables stand and by which there is a slot where this says so
+abbrev pub Admits : Tables → Caller → Descriptor → List ℕ → Bool → Bool → Result Admitted BeginFault → Type 0
+Admits tables caller key params forced room result =
+    (setup : Setup) (past : History) → TablesStand setup tables past → room ≡ has_room setup past (owner_of caller) forced
+    → GivesAdmitted result (begin_key_at setup past caller key params) (begin_facts setup past caller key params forced)
+
+-- the state of an operation that begins, where these bytes were drawn for its nonce
+abbrev pub IsStart : CipherState → Admitted → List ℕ → Type 0
+IsStart state admitted drawn =
+    StandsFor state admitted.begin.plan admitted.limited admitted.material (nonce_used admitted.begin.nonce drawn) [] []
+
+-- a row is an operation of what may begin, without text and additional data, to which no token was shown
+pub record IsNewRow (row : Operation) (number client : ℕ) (admitted : Admitted) (challenge : Option ℕ) : Type 0 where
   pub number_is : row.number ≡ number
   pub client_is : row.client ≡ client
-  pub key_is : row.key ≡ key
-  pub plan_is : row.plan ≡ plan
-  pub limited_is : row.limited ≡ limited
+  pub key_is : row.key ≡ admitted.id
+  pub plan_is : row.plan ≡ admitted.begin.plan
+  pub limited_is : row.limited ≡ admitted.limited
   pub aad_is : row.aad ≡ 0
   pub text_is : row.text ≡ 0
   pub busy_is : row.busy ≡ false
   pub challenge_is : row.challenge ≡ challenge
   pub shown_is : row.shown ≡ false
-  pub list_is : row.list ≡ list
-
--- the room is just large enough for what is drawn
-abbrev pub IsNonceRoom : Room → List ℕ → Type 0
-IsNonceRoom room drawn = room_in room ≡ length drawn
+  pub list_is : row.list ≡ admitted.list
 
 -- the operation that gives way is closed, where one does
 abbrev pub MakesWay : Option ℕ → Tables → Tables → Type 0

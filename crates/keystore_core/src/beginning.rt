@@ -1,20 +1,20 @@
 //! The beginning of an operation.
 
-ghost use Rattle.std.specs.Prelude.{◌≡◌, ℕ, ◌^◌, ◌==◌, ◌<◌, ◌≤◌, List, [], true, false, unwrap_or, Some, None, IfNone, IfOk, IfSome, IsSome, OnOk, is_some, length, if◌then◌else◌};
+ghost use Rattle.std.specs.Prelude.{◌≡◌, ℕ, ◌+◌, ◌^◌, ◌==◌, ◌<◌, ◌≤◌, List, [], true, false, unwrap_or, Some, None, IfNone, IfOk, IfSome, IsSome, OnOk, is_some, length, if◌then◌else◌};
 ghost use Rattle.std.specs.List.{list_any};
 ghost use Rattle.std.specs.Option.{option_and_then, option_copied, option_map_or};
 ghost use Rattle.byteorder.specs.Endian.{big_number};
 ghost use Rattle.tags.specs.Plan.{Fits};
 ghost use Rattle.tag_lists.specs.Lookups.{IsKey};
 ghost use Rattle.use_rules.specs.Table.{key_of};
-ghost use Rattle.cipher_ops.specs.Standing.{StandsFor};
 ghost use Rattle.keymint_ops.specs.Begin.{nonce_used};
 ghost use Rattle.rule_model.specs.declared.event.Act.TheVariants as acts;
 ghost use Rattle.journal_records.specs.declared.record.KeyRecord.{KeyRecord};
 ghost use Rattle.rule_model.specs.BeginFacts as model;
 ghost use Rattle.keystore_core.specs.Beginning as spec;
-ghost use Rattle.keystore_core.specs.Drawn.{DrewForResult};
-ghost use Rattle.keystore_core.specs.Operations.{HasRoomForOperation, operations_given};
+ghost use Rattle.keystore_core.specs.Drawn.{DrewForResult, pieces_in};
+ghost use Rattle.keystore_core.specs.Operations.{HasRoomForOperation, SameRows, operations_given};
+ghost use Rattle.keystore_core.specs.Room.{room_in};
 ghost use Rattle.keystore_core.specs.Tables.{IsAt, IsCaller, ServesAt, event_by, state_at};
 ghost use Rattle.keystore_core.specs.Writing.{LeavesStore};
 ghost use Rattle.operation_slots.specs.Table.{IsLater, has_room as is_free, held};
@@ -30,7 +30,7 @@ use crate::answered::Answered;
 use crate::begins::Begins;
 use crate::boot::Boot;
 use crate::draw_room::DrawRoom;
-use crate::operations::Operation;
+use crate::operations::{Operation, Operations};
 use crate::room::Room;
 use crate::tables::Tables;
 use crate::tokens::Tokens;
@@ -58,6 +58,28 @@ struct BeginKey {
     opened: OpenedKey,
     /// whether all output comes at the finish
     limited: bool,
+}
+
+/// What may begin: no rule denies it.
+#[derive(Drop)]
+struct Admitted {
+    /// the number of its key, where that is stored
+    id: Option<u64>,
+    /// whether all output comes at the finish
+    limited: bool,
+    /// what is planned, with the nonce that the caller gave
+    begin: Begin,
+    /// how many bytes of challenge are drawn
+    challenge: usize,
+    /// the list and the material of its key
+    list: AuthList,
+    material: Bytes,
+}
+
+/// The room of a begin outside the tables: for the nonce that is drawn, and for all that is drawn.
+struct BeginRoom {
+    nonce: Room,
+    draws: DrawRoom,
 }
 
 /// The blob of the stored key, or the one that is handed in; no bytes, which open nowhere, where there is none.
@@ -202,36 +224,35 @@ fn begin_facts(
     }
 }
 
-/// What the rules read of a new operation on a key of this list, with the challenge that it has.
-fn new_operation(
-    number: u64,
-    client: u64,
-    id: Option<u64>,
-    limited: bool,
-    begin: &Begin,
-    list: AuthList,
-    challenge: Option<u64>,
-) -> Operation
-    ensures { spec.IsNewRow result number client id limited begin.now.plan list challenge }
+/// The list of the key that a begin is on; no parameters where its blob did not open.
+fn list_of(alloc: Global, facts: BeginFacts) -> AuthList
+    ensures { result ≡ key_of facts }
+{
+    facts.opened.unwrap_or(AuthList::empty(alloc))
+}
+
+/// What the rules read of a new operation, with the challenge that it has.
+fn new_operation(number: u64, client: u64, admitted: Admitted, challenge: Option<u64>) -> Operation
+    ensures { spec.IsNewRow result number client admitted challenge }
 {
     Operation {
         number,
         client,
-        key: id,
-        plan: begin.plan,
-        limited,
+        key: admitted.id,
+        plan: admitted.begin.plan,
+        limited: admitted.limited,
         aad: 0,
         text: 0,
         busy: false,
         challenge,
         shown: false,
-        list,
+        list: admitted.list,
     }
 }
 
 /// The nonce that was drawn, for the reply.
 fn drawn_nonce(room: Room, wanted: usize, drawn: &[u8]) -> Option<Bytes>
-    requires { spec.IsNonceRoom room drawn.now }
+    requires { room_in room ≡ length drawn.now }
     ensures { result ≡ (if wanted == 0 then None else Some drawn.now) }
 {
     if wanted == 0 {
@@ -269,6 +290,43 @@ fn count_begin(begins: &mut Begins, id: Option<u64>)
 {
     if let Some(id) = id {
         begins.count(id);
+    }
+}
+
+/// Takes the room of a begin, in the tables too.
+fn make_ready(
+    alloc: Global,
+    operations: &mut Operations,
+    begins: &mut Begins,
+    admitted: &Admitted,
+) -> Result<BeginRoom, NoMemory>
+    requires { admitted.now.begin.wanted + admitted.now.challenge < 2 ^ 62 }
+    ensures nonce { IfOk result (λ room. room_in room.nonce ≡ admitted.now.begin.wanted) }
+    ensures draws { IfOk result (λ room. pieces_in room.draws ≡ admitted.now.begin.wanted + admitted.now.challenge) }
+    ensures row { OnOk result (HasRoomForOperation operations.new) }
+    ensures counted { OnOk result (spec.HasRoomOn begins.new admitted.now.id) }
+    ensures rows { SameRows operations.old operations.new }
+    ensures begins { SameBegins begins.old begins.new }
+{
+    let nonce = Room::of(alloc, admitted.begin.wanted)?;
+    let pieces = Pieces {
+        first: admitted.begin.wanted,
+        second: admitted.challenge,
+    };
+    let draws = DrawRoom::of(alloc, pieces)?;
+    operations.reserve()?;
+    reserve_begin(begins, admitted.id)?;
+    Ok(BeginRoom { nonce, draws })
+}
+
+impl Admitted {
+    /// The state that the operation begins with, where these bytes were drawn for its nonce.
+    fn start(&self, alloc: Global, drawn: &[u8]) -> Result<CipherState, NoMemory>
+        requires { Fits self.now.begin.plan self.now.material (nonce_used self.now.begin.nonce drawn.now) }
+        ensures { IfOk result (λ state. spec.IsStart state self.now drawn.now) }
+    {
+        self.begin
+            .start(alloc, self.limited, self.material.as_slice(), drawn)
     }
 }
 
@@ -314,28 +372,23 @@ impl Tables {
         count_begin(&mut self.boot.begins, key);
     }
 
-    /// A client begins an operation on a key that its descriptor finds.
-    pub fn begin<N: Entropy>(
-        &mut self,
+    /// What a caller may begin on the key that its descriptor finds, by the rules, where `room` says whether there is a slot.
+    fn admit(
+        &self,
         alloc: Global,
-        entropy: &mut N,
         caller: Caller,
-        step: u64,
         key: Descriptor,
-        params: Bytes,
+        params: &Bytes,
         forced: bool,
-    ) -> Result<Answered, NoMemory>
-        requires at { ∥ IsAt self.old step (acts.CreateOperation key params forced) None ∥₁ }
-        requires few { step ≤ 2 ^ 63 }
-        requires caller { IsCaller self.old caller }
-        ensures serves { ServesAt step None self.old self.new (event_by caller (acts.CreateOperation key params forced)) result }
-        ensures job { IfOk result (λ answered. answered.job ≡ None) }
-        ensures drew { DrewForResult N.Entropy entropy.old entropy.new result }
-        ensures store { IfOk result (λ answered. LeavesStore self.old self.new answered) }
+        room: bool,
+    ) -> Result<Admitted, BeginFault>
+        requires { IsCaller self.now caller }
+        ensures gives { spec.Admits self.now caller key params.now forced room result }
+        ensures room { IfOk result (λ admitted. room ≡ true) }
+        ensures fits { IfOk result (λ admitted. (drawn : List ℕ) → length drawn ≡ admitted.begin.wanted →
+            Fits admitted.begin.plan admitted.material (nonce_used admitted.begin.nonce drawn)) }
+        ensures few { IfOk result (λ admitted. admitted.begin.wanted + admitted.challenge < 2 ^ 62) }
     {
-        let uid = owner_of(caller);
-        let pruned = pruned_for(&self.slots, uid, forced, step);
-        let room = has_slot(&self.slots, pruned);
         let access = access_by(&self.policy, &self.keys, caller, &key);
         let stored = key_in(&self.keys, &access);
         let asked = read_asked(alloc, params.as_slice())?;
@@ -364,32 +417,69 @@ impl Tables {
             forced,
             conditions,
         );
-        let begin = match plan_begin(alloc, &facts, material.as_slice()) {
-            Ok(begin) => begin,
+        let begin = plan_begin(alloc, &facts, material.as_slice())?;
+        let challenge = challenge_wanted(&facts);
+        Ok(Admitted {
+            id,
+            limited,
+            begin,
+            challenge,
+            list: list_of(alloc, facts),
+            material,
+        })
+    }
+
+    /// A client begins an operation on a key that its descriptor finds.
+    pub fn begin<N: Entropy>(
+        &mut self,
+        alloc: Global,
+        entropy: &mut N,
+        caller: Caller,
+        step: u64,
+        key: Descriptor,
+        params: Bytes,
+        forced: bool,
+    ) -> Result<Answered, NoMemory>
+        requires at { ∥ IsAt self.old step (acts.CreateOperation key params forced) None ∥₁ }
+        requires few { step ≤ 2 ^ 63 }
+        requires caller { IsCaller self.old caller }
+        ensures serves { ServesAt step None self.old self.new (event_by caller (acts.CreateOperation key params forced)) result }
+        ensures job { IfOk result (λ answered. answered.job ≡ None) }
+        ensures drew { DrewForResult N.Entropy entropy.old entropy.new result }
+        ensures store { IfOk result (λ answered. LeavesStore self.old self.new answered) }
+    {
+        let uid = owner_of(caller);
+        let pruned = pruned_for(&self.slots, uid, forced, step);
+        let room = has_slot(&self.slots, pruned);
+        let admitted = match self.admit(alloc, caller, key, &params, forced, room) {
+            Ok(admitted) => admitted,
             Err(BeginFault::Broken(rule, code)) => return Ok(Answered::refused(alloc, rule, code)),
             Err(BeginFault::Memory) => return Err(NoMemory),
         };
-        let nonce = Room::of(alloc, begin.wanted)?;
-        let pieces = Pieces {
-            first: begin.wanted,
-            second: challenge_wanted(&facts),
-        };
-        let draws = DrawRoom::of(alloc, pieces)?;
         let op = self.operations.next();
-        self.operations.reserve()?;
-        reserve_begin(&mut self.boot.begins, id)?;
+        let ready = make_ready(
+            alloc,
+            &mut self.operations,
+            &mut self.boot.begins,
+            &admitted,
+        )?;
+        let BeginRoom { nonce, draws } = ready;
         let drawn = match draws.draw(entropy) {
             Ok(drawn) => drawn,
-            Err(drawn) => return Ok(Answered::without_entropy(drawn)),
+            Err(drawn) => {
+                drop(admitted);
+                return Ok(Answered::without_entropy(drawn));
+            }
         };
-        let (front, back) = drawn.as_slice().split_at(begin.wanted);
-        let Ok(state) = begin.start(alloc, limited, material.as_slice(), front) else {
+        let (front, back) = drawn.as_slice().split_at(admitted.begin.wanted);
+        let Ok(state) = admitted.start(alloc, front) else {
+            drop(admitted);
             return Ok(Answered::without_memory(drawn));
         };
         let challenge = challenge_in(back);
-        let nonce = drawn_nonce(nonce, begin.wanted, front);
-        let list = facts.opened.unwrap_or(AuthList::empty(alloc));
-        let row = new_operation(op, caller.client, id, limited, &begin, list, challenge);
+        let nonce = drawn_nonce(nonce, admitted.begin.wanted, front);
+        let id = admitted.id;
+        let row = new_operation(op, caller.client, admitted, challenge);
         self.open(pruned, step, uid, id, row, state);
         let fields = Fields {
             op: Some(op),

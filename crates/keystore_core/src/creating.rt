@@ -1,12 +1,14 @@
 //! A new key: generated, or imported.
 
-ghost use Rattle.std.specs.Prelude.{◌≡◌, ◌+◌, length, false, None, IfOk};
+ghost use Rattle.std.specs.Prelude.{◌≡◌, ◌+◌, ◌^◌, ◌<◌, ◌≤◌, length, take, false, None, IfOk, OnOk};
 ghost use Rattle.std.specs.Option.{option_map};
-ghost use Rattle.key_database.specs.Stands.{is_unsettled, lasting, table_of};
+ghost use Rattle.key_database.specs.Held.{HasRoomForKey};
+ghost use Rattle.key_database.specs.Stands.{SameStore, is_unsettled, lasting, table_of};
+ghost use Rattle.key_rules.specs.Creation.{IsSmall};
 ghost use Rattle.rule_model.specs.NewFacts as model;
 ghost use Rattle.rule_model.specs.Places.{has_key_place};
 ghost use Rattle.keystore_core.specs.Creating as spec;
-ghost use Rattle.keystore_core.specs.Drawn.{DrewForResult};
+ghost use Rattle.keystore_core.specs.Drawn.{DrewForResult, pieces_in};
 ghost use Rattle.keystore_core.specs.Keys.{AreSettled};
 ghost use Rattle.keystore_core.specs.Room.{room_in};
 ghost use Rattle.keystore_core.specs.Tables.{IsCaller, ServesAfter, event_by};
@@ -21,12 +23,12 @@ use crate::tables::Tables;
 use crate::writing::write_change;
 use journal_records::Change;
 use key_database::KeyDatabase;
-use key_rules::{ImportFacts, NewFacts, NewFault};
+use key_rules::{ImportFacts, KeyPlan, NewFacts, NewFault};
 use keymint_ops::{NewKey, plan_key, seal_key};
 use ks_outside::{Disk, Entropy};
 use rule_model::{Caller, Fields, NO_FIELDS, Pieces, Reply};
 use std::alloc::Global;
-use tags::{Bytes, Code, DOMAIN_BLOB, Descriptor, NoMemory, Policy};
+use tags::{Bytes, Code, DOMAIN_BLOB, Descriptor, DeviceSecrets, NoMemory, Policy};
 
 /// The bytes of the nonce that a key is sealed with.
 pub const NONCE_BYTES: usize = 12;
@@ -76,6 +78,13 @@ fn new_facts(
     }
 }
 
+/// The descriptor of a new key.
+fn descriptor_of(facts: NewFacts) -> Descriptor
+    ensures { result ≡ facts.descriptor }
+{
+    facts.descriptor
+}
+
 /// A new key's material: the imported one, or these drawn bytes in the room that was taken.
 fn material_of(import: Option<Import>, room: Room, drawn: &[u8]) -> Bytes
     requires { room_in room ≡ length drawn.now }
@@ -100,6 +109,59 @@ fn nonce_in(drawn: &[u8]) -> [u8; 12]
     let mut nonce = [0; 12];
     nonce.copy_from_slice(drawn);
     nonce
+}
+
+/// A key that no rule denies, before it is made.
+#[derive(Drop)]
+struct Planned {
+    key: Descriptor,
+    new: NewKey,
+    import: Option<Import>,
+}
+
+/// The room of a new key outside the tables: for the material that is drawn, and for all that is drawn.
+struct KeyRoom {
+    material: Room,
+    draws: DrawRoom,
+}
+
+/// Takes the room of a new key with so many bytes of material to draw, in the tables too.
+fn make_ready(alloc: Global, keys: &mut KeyDatabase, size: usize) -> Result<KeyRoom, NoMemory>
+    requires { size + 12 < 2 ^ 62 }
+    ensures material { IfOk result (λ room. room_in room.material ≡ size) }
+    ensures draws { IfOk result (λ room. pieces_in room.draws ≡ size + 12) }
+    ensures room { OnOk result (HasRoomForKey (table_of keys.new)) }
+    ensures same { SameStore keys.old keys.new }
+{
+    let material = Room::of(alloc, size)?;
+    let pieces = Pieces {
+        first: size,
+        second: NONCE_BYTES,
+    };
+    let draws = DrawRoom::of(alloc, pieces)?;
+    keys.reserve_key()?;
+    Ok(KeyRoom { material, draws })
+}
+
+/// The blob of a planned key, with what was drawn for it: its material, where that is not imported, and the blob's nonce.
+fn sealed(
+    alloc: Global,
+    device: &DeviceSecrets,
+    plan: KeyPlan,
+    import: Option<Import>,
+    room: Room,
+    drawn: &[u8],
+) -> Result<Bytes, NoMemory>
+    requires small { IsSmall plan }
+    requires short { length (spec.material_of import (take plan.size drawn.now)) ≤ 64 }
+    requires room { room_in room ≡ plan.size }
+    requires whole { length drawn.now ≡ plan.size + 12 }
+    ensures blob { IfOk result (λ blob. blob ≡ spec.blob_made device.now plan import drawn.now) }
+    ensures few { IfOk result (λ blob. length blob ≤ 6319) }
+{
+    let (front, back) = drawn.split_at(plan.size);
+    let material = material_of(import, room, front);
+    seal_key(alloc, device, nonce_in(back), plan, material)
 }
 
 /// The record of a key of a uid that is stored.
@@ -199,39 +261,42 @@ impl Tables {
             Err(NewFault::Broken(rule, code)) => return Ok(Answered::refused(alloc, rule, code)),
             Err(NewFault::Memory) => return Err(NoMemory),
         };
+        let planned = Planned {
+            key: descriptor_of(facts),
+            new,
+            import,
+        };
         let uid = owner_of(caller);
-        if !self.has_key_place(uid, &facts.descriptor) {
+        if !self.has_key_place(uid, &planned.key) {
+            drop(planned);
             return Ok(Answered::stopped(alloc, Code::StoreFull));
         }
-        let NewKey { plan, list } = new;
-        let size = plan.size;
-        let limit = plan.limit;
-        let room = Room::of(alloc, size)?;
-        let pieces = Pieces {
-            first: size,
-            second: NONCE_BYTES,
+        let Ok(ready) = make_ready(alloc, &mut self.keys, planned.new.plan.size) else {
+            drop(planned);
+            return Err(NoMemory);
         };
-        let draws = DrawRoom::of(alloc, pieces)?;
-        self.keys.reserve_key()?;
+        let KeyRoom { material, draws } = ready;
         let drawn = match draws.draw(entropy) {
             Ok(drawn) => drawn,
-            Err(drawn) => return Ok(Answered::without_entropy(drawn)),
+            Err(drawn) => {
+                drop(planned);
+                return Ok(Answered::without_entropy(drawn));
+            }
         };
-        let (front, back) = drawn.as_slice().split_at(size);
-        let material = material_of(import, room, front);
-        let Ok(blob) = seal_key(alloc, &self.device, nonce_in(back), plan, material) else {
+        let Planned { key, new, import } = planned;
+        let NewKey { plan, list } = new;
+        let limit = plan.limit;
+        let Ok(blob) = sealed(
+            alloc,
+            &self.device,
+            plan,
+            import,
+            material,
+            drawn.as_slice(),
+        ) else {
             return Ok(Answered::without_memory(drawn));
         };
-        let reply = keep(
-            alloc,
-            &mut self.keys,
-            disk,
-            uid,
-            facts.descriptor,
-            blob,
-            list,
-            limit,
-        );
+        let reply = keep(alloc, &mut self.keys, disk, uid, key, blob, list, limit);
         Ok(Answered {
             reply,
             job: None,

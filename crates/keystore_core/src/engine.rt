@@ -136,12 +136,12 @@ impl Engine {
         ensures telling { tells D.Disk disk.new ≡ tells D.Disk disk.old }
         ensures cause { OpenFaults (D.fault_count disk.old) (D.fault_count disk.new) result }
     {
+        let Ok(policy) = copied(alloc, policy) else {
+            return Err(OpenFault::Memory);
+        };
         let keys = match KeyDatabase::open(alloc, disk) {
             Ok(keys) => keys,
             Err(fault) => return Err(open_fault(fault)),
-        };
-        let Ok(policy) = copied(alloc, policy) else {
-            return Err(OpenFault::Memory);
         };
         match Tables::new(alloc, device, policy, slots, keys) {
             Ok(tables) => Ok(Engine {
@@ -224,7 +224,10 @@ impl Engine {
         root_is_whole(&self.tables.device);
         let settled = match self.tables.settle_first(disk, &event.act) {
             Ok(settled) => settled,
-            Err(Failed) => return self.not_settled(),
+            Err(Failed) => {
+                drop(event);
+                return self.not_settled();
+            }
         };
         let step = self.entries + entries_made(settled);
         let answered = self

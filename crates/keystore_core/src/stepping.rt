@@ -264,6 +264,7 @@ impl Tables {
         let brought = brought_by(&work);
         let facts = self.step_facts(caller, op, brought);
         if let Err((rule, code)) = check_step(&facts) {
+            drop(work);
             return Ok(self.deny(alloc, op, rule, code));
         }
         let used = self.used_key(op, brought.kind);
@@ -272,6 +273,7 @@ impl Tables {
         self.tickets.reserve()?;
         let reply = spend(&mut self.keys, disk, used, ticket);
         if !reply.is_done() {
+            drop(room);
             return Ok(self.unspent(alloc, op, reply));
         }
         let job = self.send(Out { op, brought }, room);

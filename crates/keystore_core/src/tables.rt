@@ -62,15 +62,17 @@ impl Tables {
         ensures stands { IfOk result (λ tables. (setup : Setup) → IsOver setup device.now policy slots keys → TablesStand setup tables []) }
         ensures keys { IfOk result (λ tables. tables.keys ≡ keys) }
     {
+        let slots = Slots::with_capacity(alloc, slots)?;
+        let boot = Boot::new(alloc, device.token)?;
         Ok(Tables {
             device: *device,
             policy,
             clients: Clients::new(alloc),
             keys,
             operations: Operations::new(alloc),
-            slots: Slots::with_capacity(alloc, slots)?,
+            slots,
             tickets: Tickets::new(alloc),
-            boot: Boot::new(alloc, device.token)?,
+            boot,
         })
     }
 
@@ -87,7 +89,7 @@ impl Tables {
         }
     }
 
-    /// Serves an act by the rules.
+    /// Serves an act by the rules; a leave takes what its job came back with.
     fn serve<D: Disk, N: Entropy>(
         &mut self,
         alloc: Global,
@@ -96,13 +98,13 @@ impl Tables {
         caller: Caller,
         step: u64,
         act: Act,
-        done: Option<Done>,
+        done: &mut Option<Done>,
     ) -> Result<Answered, NoMemory>
-        requires at { ∥ IsAt self.old step act done ∥₁ }
+        requires at { ∥ IsAt self.old step act done.old ∥₁ }
         requires few { step ≤ 2 ^ 63 }
         requires caller { IsCaller self.old caller }
         requires settled { (fixed_for act).settles ≡ true → AreSettled self.old }
-        ensures serves { ServesAt step done self.old self.new (event_by caller act) result }
+        ensures serves { ServesAt step done.old self.old self.new (event_by caller act) result }
         ensures number { IfOk result (λ answered. IfSome answered.job (λ job. ticket_of job ≡ tickets_given self.old.tickets + 1)) }
         ensures memory { OnErr result (IsTrue (fixed_for act).takes_memory) }
         ensures drew { DrewForResult N.Entropy entropy.old entropy.new result }
@@ -181,7 +183,7 @@ impl Tables {
             Act::DeviceLocked { user } => Ok(self.device_locked(alloc, caller, user)),
             Act::DeviceUnlocked { user } => Ok(self.device_unlocked(alloc, caller, user)),
             Act::EarlyBootEnded => Ok(self.early_boot_ended(alloc, caller)),
-            Act::Leave { ticket } => Ok(self.leave(alloc, caller, step, ticket, done)),
+            Act::Leave { ticket } => Ok(self.leave(alloc, caller, step, ticket, done.take())),
             Act::Restart { root } => self.restart(alloc, disk, caller, root),
         }
     }
@@ -212,7 +214,8 @@ impl Tables {
             act,
         } = event;
         let caller = self.caller(reading, client);
-        match self.serve(alloc, disk, entropy, caller, step, act, done) {
+        let mut done = done;
+        match self.serve(alloc, disk, entropy, caller, step, act, &mut done) {
             Ok(answered) => answered,
             Err(NoMemory) => Answered::without_memory(Bytes::empty(alloc)),
         }

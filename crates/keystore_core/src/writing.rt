@@ -26,11 +26,17 @@ pub fn write_change<D: Disk>(
 {
     match keys.commit(disk, change) {
         Ok(()) => Reply::Done(fields),
-        Err(StoreFault::Full) => Reply::Stopped {
-            code: Code::JournalFull,
-        },
-        Err(_) => Reply::Stopped {
-            code: Code::SystemError,
-        },
+        Err(StoreFault::Full) => {
+            drop(fields);
+            Reply::Stopped {
+                code: Code::JournalFull,
+            }
+        }
+        Err(_) => {
+            drop(fields);
+            Reply::Stopped {
+                code: Code::SystemError,
+            }
+        }
     }
 }

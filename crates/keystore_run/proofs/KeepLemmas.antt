@@ -6,7 +6,6 @@ use Rattle.ks_outside.specs.Faults.{CountsFaults}
 use Rattle.ks_outside.specs.Images.{AllImages, Passes, tells}
 use Rattle.ks_outside.specs.declared.disk.Disk.{Ghosts}
 use Rattle.tags.specs.declared.settled.Settled.{Settled}
-use Rattle.journal_records.specs.Effects.{after}
 use Rattle.rule_model.specs.declared.entry.Entry.TheVariants.{Acted, Settling}
 use Rattle.rule_model.specs.declared.event.Event.{Event}
 use Rattle.rule_model.specs.declared.reply.Reply.{Reply}

@@ -33,14 +33,18 @@ fn code_of(reply: &Reply) -> Option<Code>
 }
 
 /// The answer of a line whose last step is this, with the settling of its first one.
-pub fn answer_of(alloc: Global, stepped: &Stepped) -> Result<Answer, NoMemory>
-    ensures text { IfOk result (λ answer. answer.text ≡ spec_line_of stepped.now.settled stepped.now.reply) }
+pub fn answer_of(alloc: Global, stepped: Stepped) -> Result<Answer, NoMemory>
+    ensures text { IfOk result (λ answer. answer.text ≡ spec_line_of stepped.settled stepped.reply) }
     ensures is { IfOk result IsAnswer }
 {
-    let text = line_of(alloc, stepped)?;
+    let line = line_of(alloc, &stepped);
+    let settled = stepped.settled;
+    let code = code_of(&stepped.reply);
+    drop(stepped);
+    let text = line?;
     Ok(Answer {
-        settled: stepped.settled,
-        code: code_of(&stepped.reply),
+        settled,
+        code,
         text,
     })
 }

@@ -107,7 +107,7 @@ fn serve_store<S: Source, K: Sink, D: Disk, N: Entropy>(
         Err(fault) => return refusal(fault),
     };
     let mut session = Session::new(alloc, engine);
-    serve_script(
+    let status = serve_script(
         alloc,
         &mut session,
         &mut reader,
@@ -115,7 +115,9 @@ fn serve_store<S: Source, K: Sink, D: Disk, N: Entropy>(
         sink,
         disk,
         entropy,
-    )
+    );
+    drop(session);
+    status
 }
 
 /// Writes an empty store.

@@ -196,17 +196,18 @@ impl Session {
     {
         let Line { event, hold } = line;
         let reading = event.reading;
-        self.reserve()?;
+        let Ok(()) = self.reserve() else {
+            drop(event);
+            return Err(NoMemory);
+        };
         let stepped = self.step(disk, entropy, event);
         let Some(ticket) = ticket_due(hold, &stepped.reply) else {
-            return answer_of(alloc, &stepped);
+            return answer_of(alloc, stepped);
         };
+        let settled = stepped.settled;
+        drop(stepped);
         let left = self.leave(disk, entropy, leave_at(reading, ticket), ticket);
-        let both = Stepped {
-            settled: stepped.settled,
-            ..left
-        };
-        answer_of(alloc, &both)
+        answer_of(alloc, Stepped { settled, ..left })
     }
 
     /// Makes the steps of one line and gives their reply lines: of a line that enters without holding, the enter and its

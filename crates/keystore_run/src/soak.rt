@@ -101,19 +101,37 @@ fn session_over<D: Disk>(alloc: Global, disk: &mut D) -> Result<Session, NoMemor
     Ok(Session::new(alloc, engine))
 }
 
-/// The summary of a load, which is served over an empty store in memory. It is not made where memory is wanting, which a call of
-/// that store that fails tells too.
+/// The summary of a load, which is served over an empty store on an empty disk. It is not made where memory is wanting, which a
+/// call of that disk that fails tells too.
+fn summary_over<D: Disk>(
+    alloc: Global,
+    disk: &mut D,
+    seed: u64,
+    lines: u64,
+) -> Result<String, NoMemory>
+    requires few { lines ≤ 100000 }
+    requires empty { IsEmptyDisk D.Disk disk.old }
+    ensures summary { IfOk result (λ text. IsSummaryOf seed lines (string_bytes text)) }
+{
+    let mut session = session_over(alloc, disk)?;
+    let mut entropy = SeededEntropy::new(seed_of(seed, 1));
+    let mut script = SoakScript::new(seed, lines);
+    let served = serve_load(alloc, &mut script, &mut session, disk, &mut entropy);
+    drop(session);
+    let summary = served?;
+    let text = summary.text(alloc)?;
+    Ok(text)
+}
+
+/// The same over a disk in memory.
 fn summary_of(alloc: Global, seed: u64, lines: u64) -> Result<String, NoMemory>
     requires few { lines ≤ 100000 }
     ensures summary { IfOk result (λ text. IsSummaryOf seed lines (string_bytes text)) }
 {
     let mut disk = MemoryDisk::with_room(alloc, NO_ROOM, &[])?;
-    let mut session = session_over(alloc, &mut disk)?;
-    let mut entropy = SeededEntropy::new(seed_of(seed, 1));
-    let mut script = SoakScript::new(seed, lines);
-    let summary = serve_load(alloc, &mut script, &mut session, &mut disk, &mut entropy)?;
-    let text = summary.text(alloc)?;
-    Ok(text)
+    let summary = summary_over(alloc, &mut disk, seed, lines);
+    drop(disk);
+    summary
 }
 
 /// Writes the summary of the load of a seed, of so many lines behind its opening.

@@ -102,7 +102,8 @@ where
                 clock,
                 gate,
             );
-            let (_engine, disk, entropy, book) = shared.close(rt, passes);
+            let (engine, disk, entropy, book) = shared.close(rt, passes);
+            drop(engine);
             ServeEnd {
                 status: status_after(attendance),
                 listener,

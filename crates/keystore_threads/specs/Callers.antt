@@ -1,5 +1,5 @@
 -- Who calls, by the pass.
-use Rattle.std.specs.Prelude.{◌≡◌, ℕ}
+use Rattle.std.specs.Prelude.{◌≡◌}
 use Rattle.shared_service.specs.Passes.{number_of}
 use Rattle.keystore_threads.specs.declared.caller.Caller.{Caller}
 use Rattle.keystore_threads.specs.declared.service.Service.{Service}

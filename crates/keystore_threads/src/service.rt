@@ -75,7 +75,10 @@ impl Service {
         let engine = engine_over(alloc, &mut disk)?;
         match Shared::new(alloc, engine, disk, MemoryEntropy::counting(), passes) {
             Ok((shared, made)) => Some((Service { shared }, made)),
-            Err(_) => None,
+            Err(back) => {
+                drop(back);
+                None
+            }
         }
     }
 
@@ -104,7 +107,10 @@ impl Service {
         ensures book { IsBookOf self result }
         ensures own { All (λ p. own (number_of p) result ≡ own (number_of p) (front_of p)) passes.items }
     {
-        let (_engine, _disk, _entropy, book) = self.shared.close(rt, passes);
+        let (engine, disk, entropy, book) = self.shared.close(rt, passes);
+        drop(engine);
+        drop(disk);
+        drop(entropy);
         book
     }
 }

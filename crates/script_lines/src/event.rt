@@ -53,15 +53,20 @@ fn line_in(alloc: Global, object: &Value) -> Result<Line, LineFault>
     let name = name_of(object)?;
     let client = client_of(name, object)?;
     let act = act_of(alloc, name, object)?;
-    let hold = hold_of(name, object)?;
-    Ok(Line {
-        event: Event {
-            reading,
-            client,
-            act,
-        },
-        hold,
-    })
+    match hold_of(name, object) {
+        Ok(hold) => Ok(Line {
+            event: Event {
+                reading,
+                client,
+                act,
+            },
+            hold,
+        }),
+        Err(fault) => {
+            drop(act);
+            Err(fault)
+        }
+    }
 }
 
 fn reading_of(object: &Value) -> Result<Reading, LineFault>

@@ -1,5 +1,5 @@
 -- What a call came to.
-use Rattle.std.proofs.Common.{◌≡◌, ℕ, ◌+◌, List, ◌++◌, Option, None, refl}
+use Rattle.std.proofs.Common.{◌≡◌, ℕ, List, ◌++◌, Option, None, refl}
 use Rattle.ks_outside.specs.declared.clock.Reading.{Reading}
 use Rattle.turn_lock.specs.Fronts.{Extends, IsFrontOf}
 use Rattle.cipher_ops.specs.declared.job.Job.{Job}

@@ -1,5 +1,5 @@
 -- The places of a book after a step.
-use Rattle.std.proofs.Common.{◌≡◌, ℕ, ◌+◌, ◌-◌, ◌≤◌, ◌&&◌, Bool, true, false, if◌then◌else◌, List, [], ◌∷◌, ◌++◌, length, Option, Some, None, is_some, length-append, refl, ap, ◌∙◌, arith}
+use Rattle.std.proofs.Common.{◌≡◌, ℕ, ◌+◌, ◌≤◌, ◌&&◌, Bool, true, false, if◌then◌else◌, List, [], ◌∷◌, ◌++◌, length, Option, Some, None, is_some, length-append, refl, ap, ◌∙◌, arith}
 use Rattle.std.specs.Prelude.{IsSome}
 use Rattle.tags.specs.declared.settled.Settled.{Settled}
 use Rattle.rule_model.specs.declared.entry.Entry.{Entry}

@@ -118,6 +118,7 @@ impl<D: Disk, N: Entropy> Desk<D, N> {
             Ok(leave) => Requested::Made(self.go(pass, event, frame, Rooms { copies, leave })),
             Err(NoMemory) => {
                 drop(event);
+                drop(copies);
                 Requested::Poor
             }
         }
@@ -150,6 +151,7 @@ impl<D: Disk, N: Entropy> Desk<D, N> {
     {
         if self.is_full(&request) {
             drop(request);
+            drop(copies);
             return Requested::Full;
         }
         self.admit(pass, client, reading, request, copies)
@@ -161,7 +163,9 @@ impl<D: Disk, N: Entropy> Desk<D, N> {
         ensures { (name : Name) (pass : ℕ) (reading : Reading) → owning.is_parting request pass (log_of (desk_book self.now)) ≡ false
             → Requests name pass (event_for reading request pass (log_of (desk_book self.now))) (desk_book self.now) (desk_book self.now) result }
     {
-        if self.is_full(&request) {
+        let full = self.is_full(&request);
+        drop(request);
+        if full {
             Requested::Full
         } else {
             Requested::Poor

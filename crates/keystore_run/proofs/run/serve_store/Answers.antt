@@ -36,7 +36,7 @@ returns-clause-since_call g c =
         finds = c.in-Ok-open.ensures.finds;
         unwritten = unwritten;
       };
-      ends = c.serve_script.ensures.ends setup c.args.disk.now
+      ends = c.serve_script-status.ensures.ends setup c.args.disk.now
           (session_stands g.D.Disk setup c.in-Ok-open.engine c.new-session.result disk c.new-session.ensures.engine (c.in-Ok-open.ensures.stands setup opens) (c.in-Ok-open.ensures.holds setup opens) (c.new-session.ensures.jobs setup)) unwritten;
     })
 
@@ -55,6 +55,6 @@ returns-clause-since_opened g c =
         finds = c.in-Ok-open.ensures.finds;
         unwritten = unwritten;
       };
-      ends = c.serve_script.ensures.ends setup disk
+      ends = c.serve_script-status.ensures.ends setup disk
           (session_stands g.D.Disk setup c.in-Ok-open.engine c.new-session.result disk c.new-session.ensures.engine (c.in-Ok-open.ensures.stands setup opens) (c.in-Ok-open.ensures.holds setup opens) (c.new-session.ensures.jobs setup)) (unwritten_none g.D.Disk disk);
     })

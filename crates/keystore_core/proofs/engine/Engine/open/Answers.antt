@@ -9,10 +9,10 @@ pub returns-in-Ok-new-clause-stands : goal.returns-in-Ok-new-clause-stands
 returns-in-Ok-new-clause-stands g c = λ setup is. record {
   entries = refl;
   tables = c.in-Ok-new.ensures.stands setup
-      (subst (λ k. IsOver setup c.args.device.now c.in-Ok-copied.policy c.args.slots k) c.in-Ok-new.ensures.keys
-      (subst (λ p. IsOver setup c.args.device.now p c.args.slots c.in-Ok-new.tables.keys) (sym c.in-Ok-copied.ensures) is));
+      (subst (λ k. IsOver setup c.args.device.now c.in-Ok.policy c.args.slots k) c.in-Ok-new.ensures.keys
+      (subst (λ p. IsOver setup c.args.device.now p c.args.slots c.in-Ok-new.tables.keys) (sym c.in-Ok.ensures) is));
   legal = tt;
-  stored = (c.in-Ok.ensures.holds.past, c.in-Ok.ensures.holds.left ∙ ap Some (sym (ap lasting c.in-Ok-new.ensures.keys) ∙ sym is.start));
+  stored = (c.in-Ok-open.ensures.holds.past, c.in-Ok-open.ensures.holds.left ∙ ap Some (sym (ap lasting c.in-Ok-new.ensures.keys) ∙ sym is.start));
 }
 
 pub returns-in-Ok-new-clause-first : goal.returns-in-Ok-new-clause-first
@@ -23,7 +23,7 @@ returns-in-Ok-new-clause-first g c =
 pub returns-in-Ok-new-clause-store : goal.returns-in-Ok-new-clause-store
 returns-in-Ok-new-clause-store g c = λ setup stands.
     subst (λ part. Holds g.D.Disk c.in-Ok-new.tables.keys c.open.new.disk (Sure part)) stands.tables.keys.lasting_is
-    (subst (λ keys. Holds g.D.Disk keys c.open.new.disk (Sure (lasting keys))) (sym c.in-Ok-new.ensures.keys) c.in-Ok.ensures.holds)
+    (subst (λ keys. Holds g.D.Disk keys c.open.new.disk (Sure (lasting keys))) (sym c.in-Ok-new.ensures.keys) c.in-Ok-open.ensures.holds)
 
 pub returns-in-Ok-new-clause-finds : goal.returns-in-Ok-new-clause-finds
-returns-in-Ok-new-clause-finds g c = λ part images told. ap lasting c.in-Ok-new.ensures.keys ∙ c.in-Ok.ensures.stands part images told
+returns-in-Ok-new-clause-finds g c = λ part images told. ap lasting c.in-Ok-new.ensures.keys ∙ c.in-Ok-open.ensures.stands part images told

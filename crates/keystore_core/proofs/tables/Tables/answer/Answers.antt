@@ -8,8 +8,8 @@ use Rattle.keystore_core.proofs.tables.Tables.answer.Goals as goal
 pub returns-in-Ok-clause-answers : goal.returns-in-Ok-clause-answers
 returns-in-Ok-clause-answers g c = λ setup past at. (rw (c.caller-caller.ensures.reading, c.caller-caller.ensures.client) at c.in-Ok.ensures.serves) setup past at
 
-pub returns-in-Err-clause-answers : goal.returns-in-Err-clause-answers
-returns-in-Err-clause-answers g c = λ setup past at.
+pub returns-clause-answers : goal.returns-clause-answers
+returns-clause-answers g c = λ setup past at.
     let after = without_memory setup past c.args.self.now c.serve.new.self c.args.event [] at.tables_stand c.in-Err.ensures.memory c.in-Err.ensures.serves in
     rw (c.without_memory.ensures.reply, c.without_memory.ensures.job, c.without_memory.ensures.drawn, c.empty.ensures) (record {
       follows = λ ready. WithoutMemory (record { ready = inl refl; drew = omega arith; takes = c.in-Err.ensures.memory; is_want = refl });
@@ -23,6 +23,6 @@ returns-in-Ok-clause-store g c =
     subst (λ who. StoreGoesFor g.D.Disk c.args.self.now c.serve.new.self c.args.disk.now c.serve.new.disk who c.args.event.act c.in-Ok.answered)
     (caller_told c.args.self.now c.args.event c.caller-caller.result c.caller-caller.ensures.caller c.caller-caller.ensures.reading c.caller-caller.ensures.client) c.in-Ok.ensures.store
 
-pub returns-in-Err-clause-store : goal.returns-in-Err-clause-store
-returns-in-Err-clause-store g c =
+pub returns-clause-store : goal.returns-clause-store
+returns-clause-store g c =
     rw c.without_memory.ensures.reply (memory_goes g.D.Disk c.args.self.now.keys c.serve.new.self.keys c.args.disk.now c.serve.new.disk _ _ c.in-Err.ensures.store)

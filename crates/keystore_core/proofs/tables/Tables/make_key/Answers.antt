@@ -20,7 +20,7 @@ returns-in-Err-Broken-clause-serves g c = λ setup past stands.
 pub returns-then-not-has_key_place-clause-serves : goal.returns-then-not-has_key_place-clause-serves
 returns-then-not-has_key_place-clause-serves g c = λ setup past stands.
     let facts = rw c.has_early_ended-early_ended.ensures at c.new_facts-facts.ensures in
-    let told = rw (c.owner_of-uid.ensures, ap (λ (f : NewFacts). f.descriptor) facts) at c.has_key_place.ensures in
+    let told = rw (c.owner_of-uid.ensures, c.descriptor_of.ensures, ap (λ (f : NewFacts). f.descriptor) facts) at c.has_key_place.ensures in
     let plan = planned_as setup past c.args.self.now c.args.caller c.args.key c.args.params c.args.import stands c.requires.caller _
     (sym (ap planned facts) ∙ c.in-Ok.ensures.key) in
     rw (c.stopped.ensures.reply, c.stopped.ensures.job, c.stopped.ensures.drawn)
@@ -31,57 +31,57 @@ returns-then-not-has_key_place-clause-serves g c = λ setup past stands.
 pub returns-in-Err-clause-serves : goal.returns-in-Err-clause-serves
 returns-in-Err-clause-serves g c = λ setup past stands.
     let facts = rw c.has_early_ended-early_ended.ensures at c.new_facts-facts.ensures in
-    let told = rw (c.owner_of-uid.ensures, ap (λ (f : NewFacts). f.descriptor) facts) at c.has_key_place.ensures in
+    let told = rw (c.owner_of-uid.ensures, c.descriptor_of.ensures, ap (λ (f : NewFacts). f.descriptor) facts) at c.has_key_place.ensures in
     let plan = planned_as setup past c.args.self.now c.args.caller c.args.key c.args.params c.args.import stands c.requires.caller _
     (sym (ap planned facts) ∙ c.in-Ok.ensures.key) in
     let place = sym (place_is setup past c.args.self.now c.args.caller c.args.key c.args.params c.args.import stands c.requires.caller) ∙ sym told
     ∙ c.if-not-has_key_place.false in
-    let few : length c.in-Err.drawn < c.in-Ok.new.plan.size + 12 = omega (arith, c.in-Err.ensures.part, c.in_ok-draws.ensures) in
+    let few : length c.in-Err.drawn < c.in-Ok.new.plan.size + 12 = omega (arith, c.in-Err.ensures.part, c.in-Ok-make_ready.ensures.draws) in
     rw (c.without_entropy.ensures.reply, c.without_entropy.ensures.job, c.without_entropy.ensures.drawn)
     (without_entropy setup past c.args.self.now c.args.caller c.args.key c.args.params c.args.import stands c.requires.caller _ c.in-Ok.new c.in-Err.drawn plan place
-    (same_but_keys c.args.self.now c.reserve_key.new.self c.in_ok-reserve_key.ensures.same) few)
+    (same_but_keys c.args.self.now c.make_ready.new.keys c.in-Ok-make_ready.ensures.same) few)
 
-pub returns-in_default-clause-serves : goal.returns-in_default-clause-serves
-returns-in_default-clause-serves g c = λ setup past stands.
+pub returns-in_default-sealed-clause-serves : goal.returns-in_default-sealed-clause-serves
+returns-in_default-sealed-clause-serves g c = λ setup past stands.
     let facts = rw c.has_early_ended-early_ended.ensures at c.new_facts-facts.ensures in
-    let told = rw (c.owner_of-uid.ensures, ap (λ (f : NewFacts). f.descriptor) facts) at c.has_key_place.ensures in
+    let told = rw (c.owner_of-uid.ensures, c.descriptor_of.ensures, ap (λ (f : NewFacts). f.descriptor) facts) at c.has_key_place.ensures in
     let plan = planned_as setup past c.args.self.now c.args.caller c.args.key c.args.params c.args.import stands c.requires.caller _
     (sym (ap planned facts) ∙ c.in-Ok.ensures.key) in
     let place = sym (place_is setup past c.args.self.now c.args.caller c.args.key c.args.params c.args.import stands c.requires.caller) ∙ sym told
     ∙ c.if-not-has_key_place.false in
-    let long : length c.in-Ok-draw.drawn ≡ c.in-Ok.new.plan.size + 12 = omega (arith, c.in-Ok-draw.ensures.whole, c.in_ok-draws.ensures) in
+    let long : length c.in-Ok-draw.drawn ≡ c.in-Ok.new.plan.size + 12 = omega (arith, c.in-Ok-draw.ensures.whole, c.in-Ok-make_ready.ensures.draws) in
     rw (c.without_memory.ensures.reply, c.without_memory.ensures.job, c.without_memory.ensures.drawn)
     (unkept setup past c.args.self.now c.args.caller c.args.key c.args.params c.args.import stands c.requires.caller _ c.in-Ok.new c.in-Ok-draw.drawn plan place
-    (same_but_keys c.args.self.now c.reserve_key.new.self c.in_ok-reserve_key.ensures.same) long)
+    (same_but_keys c.args.self.now c.make_ready.new.keys c.in-Ok-make_ready.ensures.same) long)
 
 pub keep-reply-requires-clause-can : goal.keep-reply-requires-clause-can
 keep-reply-requires-clause-can g c =
-    let told = rw (c.owner_of-uid.ensures, ap (λ (f : NewFacts). f.descriptor) c.new_facts-facts.ensures) at c.has_key_place.ensures in
-    let place : has_key_place (lasting c.reserve_key.new.self) (owner_of c.args.caller) c.args.key ≡ true =
-    ap (λ part. has_key_place part (owner_of c.args.caller) c.args.key) c.in_ok-reserve_key.ensures.same.lasting_is ∙ sym told ∙ c.if-not-has_key_place.false in
+    let told = rw (c.owner_of-uid.ensures, c.descriptor_of.ensures, ap (λ (f : NewFacts). f.descriptor) c.new_facts-facts.ensures) at c.has_key_place.ensures in
+    let place : has_key_place (lasting c.make_ready.new.keys) (owner_of c.args.caller) c.args.key ≡ true =
+    ap (λ part. has_key_place part (owner_of c.args.caller) c.args.key) c.in-Ok-make_ready.ensures.same.lasting_is ∙ sym told ∙ c.if-not-has_key_place.false in
     let small : owner_of c.args.caller < 2 ^ 32 = rw c.owner_of-uid.ensures at c.owner_of-uid.type_inv in
-    rw (c.owner_of-uid.ensures, ap (λ (f : NewFacts). f.descriptor) c.new_facts-facts.ensures)
-    (may_keep c.args.self.now.policy c.args.caller c.args.key c.args.params c.args.import _ c.reserve_key.new.self c.in-Ok.new.plan _ _ c.in-Ok.new.plan.limit c.in_ok-reserve_key.ensures.room place small
-    (rw c.new_facts-facts.ensures at c.in-Ok.ensures.fit) c.in-Ok-seal_key.ensures.few c.in-Ok.ensures.listed)
+    rw (c.owner_of-uid.ensures, c.descriptor_of.ensures, ap (λ (f : NewFacts). f.descriptor) c.new_facts-facts.ensures)
+    (may_keep c.args.self.now.policy c.args.caller c.args.key c.args.params c.args.import _ c.make_ready.new.keys c.in-Ok.new.plan _ _ c.in-Ok.new.plan.limit c.in-Ok-make_ready.ensures.room place small
+    (rw c.new_facts-facts.ensures at c.in-Ok.ensures.fit) c.in-Ok-sealed.ensures.few c.in-Ok.ensures.listed)
 
 pub returns-clause-serves : goal.returns-clause-serves
 returns-clause-serves g c = λ setup past stands.
     let facts = rw c.has_early_ended-early_ended.ensures at c.new_facts-facts.ensures in
-    let told = rw (c.owner_of-uid.ensures, ap (λ (f : NewFacts). f.descriptor) facts) at c.has_key_place.ensures in
+    let told = rw (c.owner_of-uid.ensures, c.descriptor_of.ensures, ap (λ (f : NewFacts). f.descriptor) facts) at c.has_key_place.ensures in
     let plan = planned_as setup past c.args.self.now c.args.caller c.args.key c.args.params c.args.import stands c.requires.caller _
     (sym (ap planned facts) ∙ c.in-Ok.ensures.key) in
     let place = sym (place_is setup past c.args.self.now c.args.caller c.args.key c.args.params c.args.import stands c.requires.caller) ∙ sym told
     ∙ c.if-not-has_key_place.false in
-    let long : length c.in-Ok-draw.drawn ≡ c.in-Ok.new.plan.size + 12 = omega (arith, c.in-Ok-draw.ensures.whole, c.in_ok-draws.ensures) in
-    let blob = rw (c.nonce_in.ensures, c.split_at.ensures.back, c.material_of-material.ensures, c.split_at.ensures.front, c.as_slice.ensures) at c.in-Ok-seal_key.ensures.blob in
-    (made setup past c.args.self.now c.args.caller c.args.key c.args.params c.args.import stands c.requires.caller (record c.args.self.now { keys = c.reserve_key.new.self }) c.keep-reply.new.keys c.in-Ok.new c.in-Ok-draw.drawn c.keep-reply.result plan place long
-    (same_but_keys c.args.self.now c.reserve_key.new.self c.in_ok-reserve_key.ensures.same) c.requires.settled
-    (rw (c.owner_of-uid.ensures, ap (λ (f : NewFacts). f.descriptor) facts, blob) at c.keep-reply.ensures.written))
+    let long : length c.in-Ok-draw.drawn ≡ c.in-Ok.new.plan.size + 12 = omega (arith, c.in-Ok-draw.ensures.whole, c.in-Ok-make_ready.ensures.draws) in
+    let blob = rw c.as_slice.ensures at c.in-Ok-sealed.ensures.blob in
+    (made setup past c.args.self.now c.args.caller c.args.key c.args.params c.args.import stands c.requires.caller (record c.args.self.now { keys = c.make_ready.new.keys }) c.keep-reply.new.keys c.in-Ok.new c.in-Ok-draw.drawn c.keep-reply.result plan place long
+    (same_but_keys c.args.self.now c.make_ready.new.keys c.in-Ok-make_ready.ensures.same) c.requires.settled
+    (rw (c.owner_of-uid.ensures, c.descriptor_of.ensures, ap (λ (f : NewFacts). f.descriptor) facts, blob) at c.keep-reply.ensures.written))
 
 pub returns-clause-store : goal.returns-clause-store
 returns-clause-store g c =
     let facts = rw c.has_early_ended-early_ended.ensures at c.new_facts-facts.ensures in
-    let blob = rw (c.nonce_in.ensures, c.split_at.ensures.back, c.material_of-material.ensures, c.split_at.ensures.front, c.as_slice.ensures) at c.in-Ok-seal_key.ensures.blob in
-    keeps_goes g.D.Disk c.args.self.now c.reserve_key.new.self c.keep-reply.new.keys c.args.disk.now c.keep-reply.new.disk c.args.caller c.args.key c.args.params c.args.import
-    (early_in c.args.self.now.boot.device) c.in-Ok.new c.in-Ok-draw.drawn c.keep-reply.result (sym (ap planned facts) ∙ c.in-Ok.ensures.key) c.in_ok-reserve_key.ensures.same
-    (rw (c.owner_of-uid.ensures, ap (λ (f : NewFacts). f.descriptor) facts, blob) at c.keep-reply.ensures.store)
+    let blob = rw c.as_slice.ensures at c.in-Ok-sealed.ensures.blob in
+    keeps_goes g.D.Disk c.args.self.now c.make_ready.new.keys c.keep-reply.new.keys c.args.disk.now c.keep-reply.new.disk c.args.caller c.args.key c.args.params c.args.import
+    (early_in c.args.self.now.boot.device) c.in-Ok.new c.in-Ok-draw.drawn c.keep-reply.result (sym (ap planned facts) ∙ c.in-Ok.ensures.key) c.in-Ok-make_ready.ensures.same
+    (rw (c.owner_of-uid.ensures, c.descriptor_of.ensures, ap (λ (f : NewFacts). f.descriptor) facts, blob) at c.keep-reply.ensures.store)

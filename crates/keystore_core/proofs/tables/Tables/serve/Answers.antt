@@ -7,7 +7,7 @@ use Rattle.keystore_core.proofs.tables.Tables.serve.Goals as goal
 
 pub returns-in-CreateOperation-clause-serves : goal.returns-in-CreateOperation-clause-serves
 returns-in-CreateOperation-clause-serves g c =
-    rw c.in-CreateOperation.is (begin_at c.args.self.now _ c.args.caller _ _ _ _ c.args.step c.args.done c.begin.ensures.serves)
+    rw c.in-CreateOperation.is (begin_at c.args.self.now _ c.args.caller _ _ _ _ c.args.step c.args.done.now c.begin.ensures.serves)
 
 pub connect-requires : goal.connect-requires
 connect-requires g c = at_few c.args.self.now c.args.step _ _ c.requires.few c.requires.at

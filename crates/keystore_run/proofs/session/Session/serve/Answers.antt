@@ -5,12 +5,12 @@ use Rattle.keystore_run.proofs.Sessions.{served, text_same, went_and_left, went_
 use Rattle.keystore_run.proofs.Tickets.{reserved}
 use Rattle.keystore_run.proofs.session.Session.serve.Goals as goal
 
-pub returns-in_default-clause-serves : goal.returns-in_default-clause-serves
-returns-in_default-clause-serves g c = λ setup past for.
+pub returns-in_default-ticket_due-clause-serves : goal.returns-in_default-ticket_due-clause-serves
+returns-in_default-ticket_due-clause-serves g c = λ setup past for.
     let standing = reserved g.D.Disk setup _ c.reserve.new.self _ past c.reserve.ensures.engine (c.reserve.ensures.jobs setup past) for in
     let to = c.step-stepped.ensures.steps setup past standing in
     served g.D.Disk g.N.Entropy setup past _ (Some c.args.line) _ _ _ _ (text_in c.answer_of.result)
-    (went_on g.D.Disk g.N.Entropy setup past _ (devices _ _) (devices _ _) c.args.line c.step-stepped.result to c.step-stepped.ensures.drew c.in_default.ensures) (text_same _ _ c.answer_of.ensures.text)
+    (went_on g.D.Disk g.N.Entropy setup past _ (devices _ _) (devices _ _) c.args.line c.step-stepped.result to c.step-stepped.ensures.drew c.in_default-ticket_due.ensures) (text_same _ _ c.answer_of.ensures.text)
 
 pub returns-clause-serves : goal.returns-clause-serves
 returns-clause-serves g c = λ setup past for.
