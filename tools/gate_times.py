@@ -119,9 +119,18 @@ def table(works, last, minutes):
     for crate in sorted(sums, key=lambda it: -sum(sums[it].values())):
         add_row(crate, [sums[crate][it] for it in PARTS], tried[crate])
     add_row("all", [sum(it[part] for it in sums.values()) for part in PARTS], tried.total())
+    rows.append(beyond(sums))
     proved = max(last.get((it, "bodies"), 0) for it in build.needed(build.libraries(), build.PROGRAM))
     rows.append(f"\nSeconds of processor; {minutes:.1f} minutes by the clock on {os.cpu_count()} processors; the program was proved after {proved:.1f}.")
     return "\n".join([*rows, *dearest(works)]) + "\n"
+
+
+def beyond(sums):
+    """A line that says what the edits take beside the bodies, which their first check or its seed proves once more."""
+    edited = {crate: len(edits_of(crate)) for crate in sums if sums[crate]["edits"]}
+    seconds = sum(sums[it]["again"] + sums[it]["edits"] - sums[it]["bodies"] for it in edited)
+    count = max(sum(edited.values()), 1)
+    return f"\nAll checks for edits took {seconds:.0f} seconds more than the bodies of their crates: {seconds / count:.1f} for each of {count} edits."
 
 
 def dearest(works, most=20):
