@@ -14,8 +14,9 @@ that is missed. A process that is ending has no words any more, and is not looke
 folder: the gate checks it on a copy. A crate's edits are checked one after another, each over what the ones before it proved, so
 the first of them proves the bodies once more, and with a kit that seeds them a check of the crate as it stands does: that is the
 part "again". It has the last check of a crate too where that is the crate as it stands. To compile what a program's check proved
-counts with the runs. Below the table stands after how many minutes the program was proved with all that it stands on, which is
-what a first `./keystore2` waits for at most."""
+counts with the runs. Below the table stands what all checks for edits took beyond the bodies once, for each edit, and how much of
+it was the last checks; and after how many minutes the program was proved with all that it stands on, which is what a first
+`./keystore2` waits for at most."""
 import argparse
 import collections
 import dataclasses
@@ -36,12 +37,13 @@ PARTS = ("bodies", "tests", "again", "edits", "runs")
 @dataclasses.dataclass
 class Work:
     """A process of the gate: its crate, the part that it works for, the folder in which it does, the edit that it tries where that is
-    told, and its processor seconds so far."""
+    told, its processor seconds so far, and whether it is known to check a crate as it stands behind its edits."""
     crate: str
     part: str
     folder: str
     edit: str | None
     seconds: float = 0.0
+    stands: bool = False
 
 
 def part_of(words, folder):
@@ -102,8 +104,10 @@ def tell_again(works):
             edits = edits_of(crate)
             for edit, work in ((edit, it) for edit, check in zip(edits, checks) for it in check):
                 work.edit = edit
-            for work in [*checks[0], *(it for check in checks[len(edits):len(edits) + 1] for it in check)]:
+            for work in checks[0]:
                 work.part = "again"
+            for work in (it for check in checks[len(edits):len(edits) + 1] for it in check):
+                work.part, work.stands = "again", True
 
 
 def table(works, last, minutes):
@@ -119,18 +123,20 @@ def table(works, last, minutes):
     for crate in sorted(sums, key=lambda it: -sum(sums[it].values())):
         add_row(crate, [sums[crate][it] for it in PARTS], tried[crate])
     add_row("all", [sum(it[part] for it in sums.values()) for part in PARTS], tried.total())
-    rows.append(beyond(sums))
+    rows.append(beyond(sums, sum(it.seconds for it in works if it.stands)))
     proved = max(last.get((it, "bodies"), 0) for it in build.needed(build.libraries(), build.PROGRAM))
     rows.append(f"\nSeconds of processor; {minutes:.1f} minutes by the clock on {os.cpu_count()} processors; the program was proved after {proved:.1f}.")
     return "\n".join([*rows, *dearest(works)]) + "\n"
 
 
-def beyond(sums):
-    """A line that says what the edits take beside the bodies, which their first check or its seed proves once more."""
+def beyond(sums, stands):
+    """A line that says what the edits take beside the bodies, which their first check or its seed proves once more, and how much of that
+    the checks of the crates as they stand took, where they come last."""
     edited = {crate: len(edits_of(crate)) for crate in sums if sums[crate]["edits"]}
     seconds = sum(sums[it]["again"] + sums[it]["edits"] - sums[it]["bodies"] for it in edited)
     count = max(sum(edited.values()), 1)
-    return f"\nAll checks for edits took {seconds:.0f} seconds more than the bodies of their crates: {seconds / count:.1f} for each of {count} edits."
+    return (f"\nAll checks for edits took {seconds:.0f} seconds more than the bodies of their crates: {seconds / count:.2f} for each of "
+            f"{count} edits, {(seconds - stands) / count:.2f} without the last checks of the crates as they stand.")
 
 
 def dearest(works, most=20):

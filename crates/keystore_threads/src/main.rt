@@ -1,7 +1,7 @@
 //! `keystore_threads`: threads that call one service at once, over an empty store in memory.
 //!
-//! Its one contract is that of the service: each thread's calls are made by a pass of its own, and the passes end the service
-//! together (`src/running.rt`). It is the service's benchmark, and writes the book that a model can replay:
+//! Its one contract is that of `run`, in `service_load`: each thread's calls are made by a pass of its own, and the passes end
+//! the service together. It is the service's benchmark, and writes the book that a model can replay:
 //!
 //!     keystore_threads check
 //!     keystore_threads macs ROUNDS THREADS
@@ -13,21 +13,13 @@
 //! of the known text and the book's entries. `check` makes the calls of the rows of `src/rows.rt` and says what they came to.
 #![tactic(auto)]
 
-mod board;
-mod caller;
-mod counts;
-mod plan;
-mod requests;
 mod rows;
-mod running;
-mod service;
 mod words;
 
-use crate::board::Board;
 use crate::rows::{full, held, limited, pair, run_row, show};
-use crate::running::run;
-use crate::words::{Kind, Load, Words};
+use crate::words::Words;
 use service_book::Book;
+use service_load::{Board, Kind, Load, run};
 use std::io;
 use std::process::ExitCode;
 

@@ -2,10 +2,7 @@
 
 ghost use Rattle.std.specs.Prelude.{◌<◌};
 
-use crate::board::Board;
-use crate::counts::Counts;
-use crate::plan::{Call, MACS, Plan, USES};
-use crate::running::run;
+use service_load::{Board, Call, Counts, MACS, Plan, USES, run};
 use std::alloc::Global;
 use std::io;
 use std::sync::Wait;

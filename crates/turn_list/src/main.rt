@@ -1,7 +1,7 @@
 //! `turn_list`: threads that append to one plain list, behind the turn lock or, to compare, behind a `Mutex`.
 //!
-//! Its one contract is that of `appended` (`src/run.rt`): each thread's own entries stand in the list in their order, and
-//! nothing else. The program runs it, and looks at what came:
+//! Its one contract is that of `appended`, in `shared_list`: each thread's own entries stand in the list in their order,
+//! and nothing else. The program runs it, and looks at what came:
 //!
 //!     turn_list lock ITEMS THREADS..
 //!     turn_list mutex ITEMS THREADS..
@@ -10,19 +10,14 @@
 //! line.
 #![tactic(auto)]
 
-mod append;
-mod list;
-mod order;
-mod plain;
-mod run;
 mod words;
 
 ghost use Rattle.std.specs.Prelude.{◌≡◌, IfOk};
-ghost use Rattle.turn_list.specs.Lists.{IsInOrder};
+ghost use Rattle.shared_list.specs.Lists.{IsInOrder};
 ghost use Rattle.turn_list.specs.declared.words.Kind.TheVariants.{Lock};
 
-use crate::list::Entry;
 use crate::words::{Kind, Words};
+use shared_list::{Entry, appended, appended_behind_mutex, is_in_order};
 use std::alloc::{AllocError, Global};
 use std::io;
 use std::process::ExitCode;
@@ -39,8 +34,8 @@ fn listed<R: Threads + Wait + Sync>(
     ensures lock { words.now.kind ≡ Lock → IfOk result (λ list. IsInOrder threads words.now.items list.items) }
 {
     match words.kind {
-        Kind::Lock => run::appended(rt, alloc, threads, words.items),
-        Kind::Mutex => plain::appended(rt, alloc, threads, words.items),
+        Kind::Lock => appended(rt, alloc, threads, words.items),
+        Kind::Mutex => appended_behind_mutex(rt, alloc, threads, words.items),
     }
 }
 
@@ -52,7 +47,7 @@ fn main(rt: HostRuntime) -> io::Result<ExitCode> {
     for threads in words.threads.iter() {
         let entries = listed(&rt, rt.alloc(), &words, *threads)?;
         let found = entries.len();
-        if order::is_in_order(rt.alloc(), entries.as_slice(), *threads, words.items)? {
+        if is_in_order(rt.alloc(), entries.as_slice(), *threads, words.items)? {
             println!(rt; "{threads} threads: {found} entries, each thread's own in their order")?;
         } else {
             println!(rt; "{threads} threads: {found} entries, out of order")?;

@@ -1,5 +1,0 @@
-use Rattle.keystore_threads.specs.Callers.{Goes}
-use Rattle.keystore_threads.proofs.caller.make_all.Given as goal
-
-abbrev pub invariant-loop-call : goal.invariant-loop-call
-invariant-loop-call g l = Goes l.service l.fn.caller l.caller

@@ -1,5 +1,0 @@
-use Rattle.keystore_threads.specs.Callers.{Goes}
-use Rattle.keystore_threads.proofs.caller.make_rounds.Given as goal
-
-abbrev pub invariant-loop-round : goal.invariant-loop-round
-invariant-loop-round g l = Goes l.service l.fn.caller l.caller

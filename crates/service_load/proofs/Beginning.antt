@@ -1,0 +1,41 @@
+-- How a service begins, and what that makes of its book.
+use Rattle.std.proofs.Common.{◌≡◌, ℕ, List, [], refl, subst, arith}
+use Rattle.std.specs.Prelude.{replicate}
+use Rattle.tags.specs.declared.policy.PolicyRow.{PolicyRow}
+use Rattle.tags.specs.declared.secrets.DeviceSecrets.{DeviceSecrets}
+use Rattle.journal_records.specs.LastingPart.{empty_lasting}
+use Rattle.keystore_core.specs.declared.engine.Engine.{Engine}
+use Rattle.keystore_core.specs.Engine.{Stands, StandsAtFirst, lasting_of}
+use Rattle.keystore_core.specs.Opening.{setup_of}
+use Rattle.service_book.specs.declared.entry.BookEntry.{BookEntry}
+use Rattle.shared_service.specs.Passes.{start_of}
+use Rattle.service_load.specs.declared.service.Service.{Service}
+use Rattle.service_load.specs.Services.{BeganNew, IsBookBy, IsBookOf, IsNewEngine, count_of, demo_device, demo_policy}
+
+demo_is : (device : DeviceSecrets) → device.seal ≡ replicate 32 1 → device.token ≡ replicate 32 2 → device.root ≡ replicate 32 3 → device ≡ demo_device
+demo_is device seal token root =
+    subst (λ (bytes : List ℕ). device ≡ record { seal = bytes; token = replicate 32 2; root = replicate 32 3 }) seal
+    (subst (λ (bytes : List ℕ). device ≡ record { seal = device.seal; token = bytes; root = replicate 32 3 }) token
+    (subst (λ (bytes : List ℕ). device ≡ record { seal = device.seal; token = device.token; root = bytes }) root refl))
+
+-- one that was opened over an empty store, by the device and the policy for demonstrations
+pub new_engine : (device : DeviceSecrets) (policy : List PolicyRow) (engine : Engine) → device.seal ≡ replicate 32 1 → device.token ≡ replicate 32 2 → device.root ≡ replicate 32 3 → policy ≡ demo_policy
+    → Stands (setup_of device policy 64 engine) engine [] → lasting_of engine ≡ empty_lasting → IsNewEngine engine
+new_engine device policy engine seal token root rows stands empty = record {
+  setup = setup_of device policy 64 engine;
+  is_demo = record { device_is = demo_is device seal token root; policy_is = rows; slots_are = refl; empty = empty };
+  stands = stands;
+}
+
+pub first_stands : (engine : Engine) → IsNewEngine engine → StandsAtFirst engine
+first_stands engine new = record { setup = new.setup; stands = new.stands }
+
+pub book_by : (service : Service) (passes : ℕ) (book : List BookEntry) → BeganNew service → count_of service ≡ passes → IsBookOf service book → IsBookBy passes book
+book_by service passes book new count is = record {
+  setup = new.setup;
+  is_demo = new.is_demo;
+  start = start_of service.shared;
+  legal = is.legal new.setup new.stands;
+  caused = is.caused;
+  others = λ number more. is.others number (omega (arith, more, count));
+}

@@ -1,0 +1,6 @@
+use denote.Param.Send.{sendable}
+use Rattle.service_load.proofs.Crossing.{calls_shown}
+use Rattle.service_load.proofs.running.run.Goals as goal
+
+pub perform_all-requires-sync-T : goal.perform_all-requires-sync-T
+perform_all-requires-sync-T g c κs within = search (calls_shown, sendable) depth 60 fits 20000

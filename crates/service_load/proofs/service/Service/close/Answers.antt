@@ -1,0 +1,6 @@
+use Rattle.service_load.specs.Services.{count_of}
+use Rattle.service_load.proofs.Numbers.{all_numbered}
+use Rattle.service_load.proofs.service.Service.close.Goals as goal
+
+pub close-engine-requires-clause-all : goal.close-engine-requires-clause-all
+close-engine-requires-clause-all g c = all_numbered c.args.passes.items (count_of c.args.self) c.requires.count c.requires.numbers

@@ -1,0 +1,14 @@
+use Rattle.std.proofs.Common.{◌∙◌}
+use Rattle.journal_records.specs.LastingPart.{empty_lasting}
+use Rattle.keystore_core.specs.Opening.{is_opened, setup_of}
+use Rattle.service_load.proofs.Beginning.{new_engine}
+use Rattle.service_load.proofs.service.engine_over.Goals as goal
+
+pub returns-in-Ok-open-clause-new : goal.returns-in-Ok-open-clause-new
+returns-in-Ok-open-clause-new g c =
+    let device = c.demo-device.result in
+    let policy = c.in-Ok.policy in
+    let engine = c.in-Ok-open.engine in
+    new_engine device policy engine c.demo-device.ensures.seal c.demo-device.ensures.token c.demo-device.ensures.root c.in-Ok.ensures
+    (c.in-Ok-open.ensures.stands (setup_of device policy 64 engine) (is_opened device policy 64 engine))
+    (c.in-Ok-open.ensures.finds empty_lasting c.in-Ok-format.ensures.formatted (c.in-Ok-format.ensures.telling ∙ c.requires.telling))

@@ -1,0 +1,21 @@
+//! Threads that call one service at once, over an empty store in memory.
+//!
+//! A load is a plan of calls, which each thread makes by a pass of its own; a board has the threads' signals and counts what
+//! their calls came to. The one contract is that of `run` (`src/running.rt`): the passes end the service together, and its
+//! book is one legal history of all their calls.
+#![tactic(auto)]
+
+mod board;
+mod caller;
+mod counts;
+mod load;
+mod plan;
+mod requests;
+mod running;
+mod service;
+
+pub use board::Board;
+pub use counts::Counts;
+pub use load::{Kind, Load};
+pub use plan::{Call, MACS, Plan, USES};
+pub use running::run;
