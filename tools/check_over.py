@@ -19,8 +19,9 @@ from slow_functions import times
 TOP = pathlib.Path(__file__).resolve().parent.parent
 
 
-def command(kit, clone, name):
-    """The check of a crate, as the gate makes it."""
+def command(clone, name, kept):
+    """The check of a crate, as the gate makes it, over the libraries of a clone; what was checked is kept in the folder `kept`."""
+    kit = pathlib.Path(subprocess.run(["rt", "doc"], capture_output=True, text=True, check=True).stdout.strip()).parent
     own = build.libraries()
     root = "src/lib.rt" if (TOP / f"crates/{name}/src/lib.rt").exists() else "src/main.rt"
     words = [kit / "bin/rattle", "check", "--crate-name", name, root]
@@ -30,7 +31,7 @@ def command(kit, clone, name):
     for place in [kit / "rlibs", *(clone / f"crates/{it}/out/rlib" for it in build.needed(own, name)[:-1])]:
         words += ["-L", f"dependency={place}"]
     words += ["--antt-project", kit / "rattle/logic/antt-project.json", "--logic-built", kit / "logic_built", "--links", f"{name}="]
-    return [*words, "--jobs", "1", "--empty-contracts", "--incremental", "out/over"]
+    return [*words, "--jobs", "1", "--incremental", kept]
 
 
 def main():
@@ -41,12 +42,11 @@ def main():
     parser.add_argument("--only", action="append", default=[])
     parser.add_argument("--most", type=int, default=12)
     given = parser.parse_args()
-    kit = pathlib.Path(subprocess.run(["rt", "doc"], capture_output=True, text=True, check=True).stdout.strip()).parent
     if given.crate not in build.listed():
         parser.error(f"crates.txt lists no {given.crate}")
     folder = TOP / "crates" / given.crate
     (folder / "out/over").mkdir(parents=True, exist_ok=True)
-    words = command(kit, given.clone.resolve(), given.crate)
+    words = [*command(given.clone.resolve(), given.crate, "out/over"), "--empty-contracts"]
     words += ["--test"] * given.test + [word for path in given.only for word in ("--only", path)]
     start = time.time()
     said = subprocess.run(words, cwd=folder, stdout=subprocess.PIPE, stderr=subprocess.STDOUT, text=True, check=False)
