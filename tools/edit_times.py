@@ -5,9 +5,9 @@
 
 As the gate does, it tries them in the order of their names, on copies, each over what the checks before it kept: so the first proves the
 bodies too, and the last check is the crate as it stands. Edits that are named are tried alone, in that order. It writes the processor
-seconds of each check, the first line that says why it was refused, and the N modules that took longest: what lies before the first of
-them was loading. Two shapes of a crate compare by two of it side by side, from two clones of the repository. It is for the work on what
-edits cost, and gives no verdict: that is the gate's."""
+seconds of each check, the first line that says why it was refused, and the N modules that took longest, told by when they were written:
+what is loaded for a module counts with it, and what passes before the first one with none. Two shapes of a crate compare by two of it
+side by side, from two clones of the repository. It is for the work on what edits cost, and gives no verdict: that is the gate's."""
 import argparse
 import os
 import pathlib
@@ -23,6 +23,7 @@ from slow_functions import times
 
 PARTS = ("src", "specs", "proofs")
 AS_IT_STANDS = "as it stands"
+PROVED, REFUSED = 0, 1
 
 
 def change(folder, edit):
@@ -76,8 +77,8 @@ def main():
                 if name != AS_IT_STANDS:
                     change(pathlib.Path(folder), edits[name])
                 start = time.time()
-                seconds, refused, said = check(words, folder)
-            is_right = (refused == 0) == (name == AS_IT_STANDS)
+                seconds, answer, said = check(words, folder)
+            is_right = answer == (PROVED if name == AS_IT_STANDS else REFUSED)
             print(f"{seconds:7.1f}  {name}{'' if is_right else ': NOT AS IT MUST BE'}  {reason(said)[:160]}", flush=True)
             for spent, what in sorted(times(pathlib.Path(top, "kept"), start), reverse=True)[: given.most]:
                 print(f"{'':9}{spent:7.1f}  {what}", flush=True)
