@@ -61,10 +61,17 @@ impl<B: Listener> Intake<B> {
                 None
             }
             Err(Failed) => {
-                self.failed = true;
+                self.note_failure();
                 None
             }
         }
+    }
+
+    /// Notes that a call of the listener failed.
+    fn note_failure(&mut self)
+        ensures { self.new ≡ record self.old { failed = true } }
+    {
+        self.failed = true;
     }
 
     /// Takes a connection back that was served.

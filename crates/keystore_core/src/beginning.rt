@@ -29,7 +29,7 @@ use crate::access::{access_by, bits_in, key_in, owner_of, row_for};
 use crate::answered::Answered;
 use crate::begins::Begins;
 use crate::boot::Boot;
-use crate::draw_room::DrawRoom;
+use crate::draws::DrawnRooms;
 use crate::operations::{Operation, Operations};
 use crate::room::Room;
 use crate::tables::Tables;
@@ -74,12 +74,6 @@ struct Admitted {
     /// the list and the material of its key
     list: AuthList,
     material: Bytes,
-}
-
-/// The room of a begin outside the tables: for the nonce that is drawn, and for all that is drawn.
-struct BeginRoom {
-    nonce: Room,
-    draws: DrawRoom,
 }
 
 /// The blob of the stored key, or the one that is handed in; no bytes, which open nowhere, where there is none.
@@ -299,24 +293,22 @@ fn make_ready(
     operations: &mut Operations,
     begins: &mut Begins,
     admitted: &Admitted,
-) -> Result<BeginRoom, NoMemory>
+) -> Result<DrawnRooms, NoMemory>
     requires { admitted.now.begin.wanted + admitted.now.challenge < 2 ^ 62 }
-    ensures nonce { IfOk result (λ room. room_in room.nonce ≡ admitted.now.begin.wanted) }
-    ensures draws { IfOk result (λ room. pieces_in room.draws ≡ admitted.now.begin.wanted + admitted.now.challenge) }
+    ensures nonce { IfOk result (λ rooms. room_in rooms.copy ≡ admitted.now.begin.wanted) }
+    ensures draws { IfOk result (λ rooms. pieces_in rooms.draws ≡ admitted.now.begin.wanted + admitted.now.challenge) }
     ensures row { OnOk result (HasRoomForOperation operations.new) }
     ensures counted { OnOk result (spec.HasRoomOn begins.new admitted.now.id) }
     ensures rows { SameRows operations.old operations.new }
     ensures begins { SameBegins begins.old begins.new }
 {
-    let nonce = Room::of(alloc, admitted.begin.wanted)?;
     let pieces = Pieces {
         first: admitted.begin.wanted,
         second: admitted.challenge,
     };
-    let draws = DrawRoom::of(alloc, pieces)?;
     operations.reserve()?;
     reserve_begin(begins, admitted.id)?;
-    Ok(BeginRoom { nonce, draws })
+    DrawnRooms::of(alloc, pieces)
 }
 
 impl Admitted {
@@ -463,7 +455,7 @@ impl Tables {
             &mut self.boot.begins,
             &admitted,
         )?;
-        let BeginRoom { nonce, draws } = ready;
+        let DrawnRooms { draws, copy: nonce } = ready;
         let drawn = match draws.draw(entropy) {
             Ok(drawn) => drawn,
             Err(drawn) => {

@@ -17,7 +17,7 @@ ghost use Rattle.keystore_core.specs.Writing.{IsWrittenIf, StoreGoes, StoreGoesA
 use crate::access::{owner_of, row_for};
 use crate::answered::Answered;
 use crate::descriptors::{alias_bytes, into_alias, owner_for};
-use crate::draw_room::DrawRoom;
+use crate::draws::DrawnRooms;
 use crate::room::Room;
 use crate::tables::Tables;
 use crate::writing::write_change;
@@ -119,28 +119,20 @@ struct Planned {
     import: Option<Import>,
 }
 
-/// The room of a new key outside the tables: for the material that is drawn, and for all that is drawn.
-struct KeyRoom {
-    material: Room,
-    draws: DrawRoom,
-}
-
 /// Takes the room of a new key with so many bytes of material to draw, in the tables too.
-fn make_ready(alloc: Global, keys: &mut KeyDatabase, size: usize) -> Result<KeyRoom, NoMemory>
+fn make_ready(alloc: Global, keys: &mut KeyDatabase, size: usize) -> Result<DrawnRooms, NoMemory>
     requires { size + 12 < 2 ^ 62 }
-    ensures material { IfOk result (λ room. room_in room.material ≡ size) }
-    ensures draws { IfOk result (λ room. pieces_in room.draws ≡ size + 12) }
+    ensures material { IfOk result (λ rooms. room_in rooms.copy ≡ size) }
+    ensures draws { IfOk result (λ rooms. pieces_in rooms.draws ≡ size + 12) }
     ensures room { OnOk result (HasRoomForKey (table_of keys.new)) }
     ensures same { SameStore keys.old keys.new }
 {
-    let material = Room::of(alloc, size)?;
     let pieces = Pieces {
         first: size,
         second: NONCE_BYTES,
     };
-    let draws = DrawRoom::of(alloc, pieces)?;
     keys.reserve_key()?;
-    Ok(KeyRoom { material, draws })
+    DrawnRooms::of(alloc, pieces)
 }
 
 /// The blob of a planned key, with what was drawn for it: its material, where that is not imported, and the blob's nonce.
@@ -275,7 +267,10 @@ impl Tables {
             drop(planned);
             return Err(NoMemory);
         };
-        let KeyRoom { material, draws } = ready;
+        let DrawnRooms {
+            draws,
+            copy: material,
+        } = ready;
         let drawn = match draws.draw(entropy) {
             Ok(drawn) => drawn,
             Err(drawn) => {

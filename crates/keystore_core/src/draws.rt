@@ -4,12 +4,20 @@ ghost use Rattle.std.specs.Prelude.{◌≡◌, ◌+◌, ◌<◌, ◌≤◌, ◌^
 ghost use Rattle.ks_outside.specs.Shown.{Drew};
 ghost use Rattle.rule_model.specs.Drawn.{size_of};
 ghost use Rattle.keystore_core.specs.Drawn.{bytes_of, pieces_in};
+ghost use Rattle.keystore_core.specs.Room.{room_in};
 
 use crate::draw_room::DrawRoom;
+use crate::room::Room;
 use ks_outside::{Entropy, Failed};
 use rule_model::Pieces;
 use std::alloc::Global;
 use tags::{Bytes, NoMemory};
+
+/// The rooms of an event that draws: for all its pieces, and for a copy of the first.
+pub struct DrawnRooms {
+    pub draws: DrawRoom,
+    pub copy: Room,
+}
 
 /// Fills a piece by one draw; a piece of no bytes is not drawn.
 fn draw_piece<N: Entropy>(entropy: &mut N, piece: &mut [u8]) -> Result<(), Failed>
@@ -43,7 +51,7 @@ fn draw_pieces<N: Entropy>(entropy: &mut N, first: &mut [u8], second: &mut [u8])
 
 impl DrawRoom {
     /// Room for these pieces.
-    pub fn of(alloc: Global, pieces: Pieces) -> Result<DrawRoom, NoMemory>
+    fn of(alloc: Global, pieces: Pieces) -> Result<DrawRoom, NoMemory>
         requires { size_of pieces < 2 ^ 62 }
         ensures { IfOk result (λ room. pieces_in room ≡ size_of pieces) }
     {
@@ -67,5 +75,18 @@ impl DrawRoom {
         bytes.truncate(drawn);
         let bytes = Bytes::of(bytes);
         if drawn < size { Err(bytes) } else { Ok(bytes) }
+    }
+}
+
+impl DrawnRooms {
+    /// The rooms for these pieces.
+    pub fn of(alloc: Global, pieces: Pieces) -> Result<DrawnRooms, NoMemory>
+        requires { size_of pieces < 2 ^ 62 }
+        ensures draws { IfOk result (λ rooms. pieces_in rooms.draws ≡ size_of pieces) }
+        ensures copy { IfOk result (λ rooms. room_in rooms.copy ≡ pieces.first) }
+    {
+        let draws = DrawRoom::of(alloc, pieces)?;
+        let copy = Room::of(alloc, pieces.first)?;
+        Ok(DrawnRooms { draws, copy })
     }
 }

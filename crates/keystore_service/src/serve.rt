@@ -53,7 +53,8 @@ fn status_after(attendance: Attendance) -> ServeStatus
 fn ended_without_memory<B, D, N>(listener: B, back: (NoMemory, Engine, D, N)) -> ServeEnd<B, D, N>
     ensures { result ≡ without_memory listener back.2 back.3 }
 {
-    let (NoMemory, _engine, disk, entropy) = back;
+    let (NoMemory, engine, disk, entropy) = back;
+    drop(engine);
     ServeEnd {
         status: ServeStatus::Memory,
         listener,

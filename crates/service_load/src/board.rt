@@ -42,12 +42,12 @@ impl Board {
     }
 
     /// Raises one signal more.
-    pub fn raise(&self) {
+    pub(crate) fn raise(&self) {
         self.raised.fetch_add(1, Ordering::SeqCst);
     }
 
     /// Lets the thread with this number in: the first at once, each other once a signal was raised.
-    pub fn let_in(&self, number: u64) {
+    pub(crate) fn let_in(&self, number: u64) {
         if number > 0 {
             self.wait_for(1);
         }
@@ -64,7 +64,7 @@ impl Board {
     }
 
     /// Adds what the calls of one thread came to.
-    pub fn add(&self, counts: Counts) {
+    pub(crate) fn add(&self, counts: Counts) {
         self.admitted.fetch_add(counts.admitted, Ordering::SeqCst);
         self.right.fetch_add(counts.right, Ordering::SeqCst);
         self.gone.fetch_add(counts.gone, Ordering::SeqCst);

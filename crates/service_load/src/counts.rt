@@ -56,7 +56,7 @@ fn is_full(served: &Served) -> bool {
 
 impl Counts {
     /// With a call that was answered so.
-    pub fn with(self, served: &Served) -> Counts {
+    pub(crate) fn with(self, served: &Served) -> Counts {
         let mut counts = self;
         match &served.reply {
             Reply::Done(fields) => {
@@ -83,7 +83,7 @@ impl Counts {
     }
 
     /// With a call that was not made.
-    pub fn with_missed(self) -> Counts {
+    pub(crate) fn with_missed(self) -> Counts {
         Counts {
             missed: self.missed.wrapping_add(1),
             ..self

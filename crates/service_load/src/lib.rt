@@ -1,8 +1,8 @@
 //! Threads that call one service at once, over an empty store in memory.
 //!
 //! A load is a plan of calls, which each thread makes by a pass of its own; a board has the threads' signals and counts what
-//! their calls came to. The one contract is that of `run` (`src/running.rt`): the passes end the service together, and its
-//! book is one legal history of all their calls.
+//! their calls came to. Its contracts: `run` (`src/running.rt`) has the passes end the service together, and its book is one legal
+//! history of all their calls; `Load::read` (`src/words.rt`) gives the load that words ask for.
 #![tactic(auto)]
 
 mod board;
@@ -13,6 +13,7 @@ mod plan;
 mod requests;
 mod running;
 mod service;
+mod words;
 
 pub use board::Board;
 pub use counts::Counts;

@@ -83,7 +83,7 @@ pub static USES: Plan = Plan {
 
 impl Plan {
     /// The first calls of the thread with this number.
-    pub fn beginning(&self, number: u64) -> &'static [Call] {
+    pub(crate) fn beginning(&self, number: u64) -> &'static [Call] {
         if number == 0 { self.first } else { self.others }
     }
 }

@@ -2,6 +2,7 @@
 ghost use Rattle.std.specs.Prelude.{◌≡◌, ◌<◌, ◌≤◌, All, IfOk, IfSome};
 ghost use Rattle.turn_list.specs.Words.{kind_named, IsCount};
 
+use command_words::number_in;
 use std::{env, io};
 
 /// What the list lies behind.
@@ -19,7 +20,7 @@ pub struct Words {
     pub threads: Vec<u32>,
 }
 
-const MOST_THREADS: u32 = 64;
+const MOST_THREADS: u64 = 64;
 
 fn kind_of(word: &str) -> Option<Kind>
     ensures { result ≡ kind_named word.now }
@@ -37,13 +38,8 @@ fn kind_of(word: &str) -> Option<Kind>
 fn count_of(word: &str) -> Option<u32>
     ensures { IfSome result IsCount }
 {
-    let Ok(count) = word.parse::<u32>() else {
-        return None;
-    };
-    if count == 0 || count > MOST_THREADS {
-        return None;
-    }
-    Some(count)
+    let count = number_in(1, MOST_THREADS, word.as_bytes())?;
+    Some(count as u32)
 }
 
 impl Words {
@@ -61,7 +57,7 @@ impl Words {
         let Some(second) = args.next() else {
             return Ok(None);
         };
-        let Ok(items) = second.parse::<u64>() else {
+        let Some(items) = number_in(0, u64::MAX, second.as_bytes()) else {
             return Ok(None);
         };
         let mut threads = Vec::new(rt.alloc());
