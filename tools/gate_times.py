@@ -1,13 +1,13 @@
 #!/usr/bin/env python3
 """Runs the gate, `rt ci`, at the top of the repository, passes its output on, and writes how long each part of it took: for each
 crate the processor seconds of its bodies, of its tests' proofs, of its bodies once more for its edits, of these and of its runs,
-their sums, and what an edit took on the average.
+their sums, what an edit took on the average, and the last check, of the crate as it stands, where it stands behind the edits.
 
     python3 tools/gate_times.py [FILE [WORD ..]]
 
 FILE is where the table goes, as Markdown; without it, standard output has it last. The words are handed to `rt ci`. A toolchain
 whose `rt ci` keeps what it proved for a later run does not do that again; there the word `--anew` has it begin from nothing.
-Behind the table stand the edits that took longest.
+Behind the table stands each edit with its seconds, the longest first.
 
 The seconds are those of the processes that the gate starts, read from /proc twice a second, so a process that is shorter than
 that is missed. A process that is ending has no words any more, and is not looked at again. An edit is told from a crate by its
@@ -116,17 +116,21 @@ def table(works, last, minutes):
     for work in works:
         sums[work.crate][work.part] += work.seconds
     tried = collections.Counter(crate for crate, _ in {(it.crate, it.folder) for it in works if it.part == "edits"})
-    rows = ["| Crate | " + " | ".join(PARTS) + " | all | an edit |", "|---|" + "---|" * (len(PARTS) + 2)]
+    stands = collections.Counter()
+    for work in works:
+        if work.stands:
+            stands[work.crate] += work.seconds
+    rows = ["| Crate | " + " | ".join(PARTS) + " | all | an edit | as it stands |", "|---|" + "---|" * (len(PARTS) + 3)]
 
-    def add_row(name, parts, count):
-        rows.append(f"| {name} | " + " | ".join(f"{it:.0f}" for it in [*parts, sum(parts), parts[PARTS.index("edits")] / max(count, 1)]) + " |")
+    def add_row(name, parts, count, stands):
+        rows.append(f"| {name} | " + " | ".join(f"{it:.0f}" for it in [*parts, sum(parts), parts[PARTS.index("edits")] / max(count, 1), stands]) + " |")
     for crate in sorted(sums, key=lambda it: -sum(sums[it].values())):
-        add_row(crate, [sums[crate][it] for it in PARTS], tried[crate])
-    add_row("all", [sum(it[part] for it in sums.values()) for part in PARTS], tried.total())
-    rows.append(beyond(sums, sum(it.seconds for it in works if it.stands)))
+        add_row(crate, [sums[crate][it] for it in PARTS], tried[crate], stands[crate])
+    add_row("all", [sum(it[part] for it in sums.values()) for part in PARTS], tried.total(), stands.total() / max(len(stands), 1))
+    rows.append(beyond(sums, stands.total()))
     proved = max(last.get((it, "bodies"), 0) for it in build.needed(build.libraries(), build.PROGRAM))
     rows.append(f"\nSeconds of processor; {minutes:.1f} minutes by the clock on {os.cpu_count()} processors; the program was proved after {proved:.1f}.")
-    return "\n".join([*rows, *dearest(works)]) + "\n"
+    return "\n".join([*rows, *by_edit(works)]) + "\n"
 
 
 def beyond(sums, stands):
@@ -139,13 +143,13 @@ def beyond(sums, stands):
             f"{count} edits, {(seconds - stands) / count:.2f} without the last checks of the crates as they stand.")
 
 
-def dearest(works, most=20):
-    """Lines of the edits that took longest, by their names; none where none was told."""
+def by_edit(works):
+    """Lines of the edits by their names, the longest first; none where none was told."""
     sums = collections.Counter()
     for work in works:
         if work.edit and work.part == "edits":
             sums[work.crate, work.edit] += work.seconds
-    rows = [f"| {crate} | {edit} | {seconds:.0f} |" for (crate, edit), seconds in sums.most_common(most)]
+    rows = [f"| {crate} | {edit} | {seconds:.0f} |" for (crate, edit), seconds in sums.most_common()]
     return ["", "| Crate | edit | seconds |", "|---|---|---|", *rows] if rows else []
 
 
