@@ -7,7 +7,7 @@ their sums, what an edit took on the average, and the last check, of the crate a
 
 FILE is where the table goes, as Markdown; without it, standard output has it last. The words are handed to `rt ci`. A toolchain
 whose `rt ci` keeps what it proved for a later run does not do that again; there the word `--anew` has it begin from nothing.
-Behind the table stands each edit with its seconds, the longest first.
+Behind the table stands each edit that is told from its crate's bodies, with its seconds, the longest first.
 
 The seconds are those of the processes that the gate starts, read from /proc twice a second, so a process that is shorter than
 that is missed. A process that is ending has no words any more, and is not looked at again. An edit is told from a crate by its
