@@ -1,5 +1,6 @@
 #!/usr/bin/env python3
-"""An app seals a file of a megabyte over the service's socket, opens it again, and sees that a changed byte is told.
+"""An app seals a file of a megabyte and a half over the service's socket and opens it again; a changed byte is told, and so is a file
+that is put together from the pieces of two.
 
     ./keystore2 init
     ./keystore2 serve 7878 1 1 & sleep 1
@@ -11,14 +12,15 @@ import pathlib
 import sys
 
 sys.path.insert(0, str(pathlib.Path(__file__).resolve().parent.parent / "tools"))
-from keystore_client import KINDS, PORT, Client, Key, ServiceError, parameters, seal, unseal
+from keystore_client import KINDS, NONCE, PIECE, PORT, TAG, Client, Key, ServiceError, parameters, seal, unseal
 
-MEGABYTE = 1_000_000
+LENGTH = 1_500_000
+FIRST_PIECE = 4 + NONCE + PIECE + TAG
 APP = 10001
 
 
 def is_refused(client, key, sealed):
-    """Whether the service tells that a sealed file was changed."""
+    """Whether the service tells that this is no file as it was sealed."""
     try:
         unseal(client, key, sealed)
     except ServiceError as error:
@@ -27,20 +29,22 @@ def is_refused(client, key, sealed):
 
 
 def main():
-    parser = argparse.ArgumentParser(description="Seals a file of a megabyte over the service's socket, and opens it.")
+    parser = argparse.ArgumentParser(description="Seals a file of a megabyte and a half over the service's socket, and opens it.")
     parser.add_argument("--port", type=int, default=PORT, metavar="N")
     port = parser.parse_args().port
-    text, key = os.urandom(MEGABYTE), Key(alias="files")
+    text, key = os.urandom(LENGTH), Key(alias="files")
     with Client.connect(APP, port=port) as client:
         client.generateKey(key, parameters(KEY_SIZE=256, **KINDS["aes"]))
-        sealed = seal(client, key, text)
+        sealed, other = seal(client, key, text), seal(client, key, os.urandom(LENGTH))
         opened = unseal(client, key, sealed)
         changed = bytearray(sealed)
-        changed[MEGABYTE // 2] ^= 1
-        refused = is_refused(client, key, bytes(changed))
+        changed[LENGTH // 2] ^= 1
+        tells_change = is_refused(client, key, bytes(changed))
+        tells_joining = is_refused(client, key, sealed[:FIRST_PIECE] + other[FIRST_PIECE:])
     print(f"sealed {len(text)} bytes as {len(sealed)}")
     print("opened as they were" if opened == text else "opened otherwise")
-    print("a changed byte is told" if refused else "a changed byte is not told")
+    print("a changed byte is told" if tells_change else "a changed byte is not told")
+    print("pieces of two files are told" if tells_joining else "pieces of two files are not told")
 
 
 if __name__ == "__main__":

@@ -6,7 +6,7 @@ docs/PROTOCOL.md has its bytes back; a second service on its port ends with stat
 `tools/keystore_client.py` says what it should; bad frames end a connection behind the replies to what came before; a session that ends
 at each of its bytes gets the replies to its whole requests, and all of them where it comes in two pieces, wherever it is cut; sixteen
 clients make a thousand calls each. While a client that has sent
-half a frame stays silent, an app seals a file of a megabyte and opens it (`examples/sealed_file.py`). Behind the last connection the
+half a frame stays silent, an app seals a file of two pieces and opens it (`examples/sealed_file.py`). Behind the last connection the
 service ends with status 0, and a run over its store finds what the clients left. A silent client keeps its own worker: where that is
 the only one, another client waits until it goes.
 
@@ -30,7 +30,7 @@ from scratch import scratch_folder
 
 EXAMPLE = TOP / "examples/sealed_file.py"
 COMMANDS = TOP / "tools/keystore_client.py"
-SAYS = b"sealed 1000000 bytes as 1000032\nopened as they were\na changed byte is told\n"
+SAYS = b"sealed 1500000 bytes as 1500064\nopened as they were\na changed byte is told\npieces of two files are told\n"
 # No step takes as long, in seconds.
 PATIENCE = 120
 PAUSE = 0.005

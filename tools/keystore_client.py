@@ -132,15 +132,15 @@ class Reply:
 
 
 class Reader:
-    """Takes numbers and counted bytes off the front of a body."""
+    """Takes numbers and counted bytes off the front of what is read: a reply, or what else it is called."""
 
-    def __init__(self, data):
-        self.data, self.place = data, 0
+    def __init__(self, data, what="a reply"):
+        self.data, self.what, self.place = data, what, 0
 
     def take(self, count):
         self.place += count
         if self.place > len(self.data):
-            raise ValueError("a reply that is cut")
+            raise ValueError(f"{self.what} that is cut")
         return self.data[self.place - count:self.place]
 
     def number(self, count):
@@ -162,9 +162,11 @@ def read_reply(body):
         number = reader.number(1)
         if number == ENTRIES:
             fields["entries"] = [(reader.counted(), reader.number(8)) for _ in range(reader.number(4))]
-        else:
+        elif number in FIELDS:
             name, width = FIELDS[number]
             fields[name] = reader.number(width) if width else reader.counted()
+        else:
+            raise ValueError(f"a reply with a field {number}, which is none")
     return Reply(fields)
 
 
@@ -178,9 +180,13 @@ class Client:
     def connect(cls, uid, host="127.0.0.1", port=PORT, timeout=None):
         """Opens a connection to the service, for calls of this uid."""
         stream = socket.create_connection((host, port), timeout)
-        stream.setsockopt(socket.IPPROTO_TCP, socket.TCP_NODELAY, 1)
         client = cls(stream)
-        client.number = client.connect_as(uid).client
+        try:
+            stream.setsockopt(socket.IPPROTO_TCP, socket.TCP_NODELAY, 1)
+            client.number = client.connect_as(uid).client
+        except BaseException:
+            client.close()
+            raise
         return client
 
     def __enter__(self):
@@ -191,30 +197,40 @@ class Client:
 
     def close(self):
         """Ends the connection, behind its last reply; with it the client and its operations end."""
-        self.stream.close()
+        if self.stream is not None:
+            self.stream.close()
+            self.stream = None
 
     def exactly(self, count):
         parts = bytearray()
         while len(parts) < count:
-            try:
-                piece = self.stream.recv(count - len(parts))
-            except ConnectionError as error:
-                raise ConnectionEnded() from error
+            piece = self.stream.recv(count - len(parts))
             if not piece:
-                raise ConnectionEnded()
+                raise ConnectionResetError()
             parts += piece
         return bytes(parts)
+
+    def exchange(self, body):
+        """Sends the body of a request and gives that of its reply. Where that fails or takes too long, the connection ends: a reply
+        that comes later would be taken for that of the next request."""
+        if self.stream is None:
+            raise ConnectionEnded()
+        try:
+            self.stream.sendall(counted(body))
+            return self.exactly(int.from_bytes(self.exactly(4), "big"))
+        except ConnectionError as error:
+            self.close()
+            raise ConnectionEnded() from error
+        except BaseException:
+            self.close()
+            raise
 
     def call(self, act, *fields):
         """Sends one request and reads its reply."""
         body = bytes([act]) + b"".join(fields)
         if len(body) > MOST_BODY:
             raise ValueError(f"a request of more than {MOST_BODY} bytes")
-        try:
-            self.stream.sendall(counted(body))
-        except ConnectionError as error:
-            raise ConnectionEnded() from error
-        return read_reply(self.exactly(int.from_bytes(self.exactly(4), "big")))
+        return read_reply(self.exchange(body))
 
     def connect_as(self, uid):
         return self.call(1, u32(uid))
@@ -290,10 +306,11 @@ class Client:
 # ---- a file under a key
 
 # A sealed file is a row of pieces. Each is four bytes of its length, twelve of its nonce, and the ciphertext with the tag of sixteen
-# bytes behind it. The additional data of a piece is its number and whether it is the last one, so that none can be moved, dropped or
-# cut off unseen. A piece has as many bytes as one operation may take, with its additional data and its tag.
-PIECE = 1048576 - 9 - 16
+# bytes behind it. The additional data of a piece is its number, whether it is the last one, and, behind the first piece, the first
+# one's nonce, which no other file under the key has: so none can be moved, dropped, cut off or taken from another file unseen. A
+# piece has as many bytes as one operation may take, with its additional data and its tag.
 NONCE, TAG = 12, 16
+PIECE = 1048576 - 9 - NONCE - TAG
 SEALING = {"BLOCK_MODE": [32], "PADDING": [1], "MAC_LENGTH": 8 * TAG}
 
 
@@ -305,31 +322,33 @@ def worked(client, op, data):
     return bytes(out + client.finish(op).out)
 
 
-def place_of(number, last):
-    return u64(number) + bytes([last])
+def place_of(first, number, last):
+    """The additional data of a piece; `first` is the nonce of the first piece, or nothing for that piece itself."""
+    return u64(number) + bytes([last]) + first
 
 
 def seal(client, key, text):
     """A text as a sealed file."""
-    sealed = bytearray()
+    sealed, first = bytearray(), b""
     for number, place in enumerate(range(0, max(len(text), 1), PIECE)):
         begun = client.createOperation(key, parameters(PURPOSE=[0], **SEALING))
-        client.updateAad(begun.op, place_of(number, place + PIECE >= len(text)))
+        client.updateAad(begun.op, place_of(first, number, place + PIECE >= len(text)))
         out = worked(client, begun.op, text[place:place + PIECE])
         sealed += u32(len(out)) + begun.nonce + out
+        first = first or begun.nonce
     return bytes(sealed)
 
 
 def unseal(client, key, sealed):
     """The text of a sealed file. A ServiceError -30 says that it is not what was sealed under this key."""
-    reader, text, number = Reader(sealed), bytearray(), 0
+    reader, text, number, first = Reader(sealed, "a sealed file"), bytearray(), 0, b""
     while reader.place < len(sealed) or number == 0:
         size, nonce = reader.number(4), reader.take(NONCE)
         data = reader.take(size)
         op = client.createOperation(key, parameters(PURPOSE=[1], NONCE=nonce, **SEALING)).op
-        client.updateAad(op, place_of(number, reader.place == len(sealed)))
+        client.updateAad(op, place_of(first, number, reader.place == len(sealed)))
         text += worked(client, op, data)
-        number += 1
+        number, first = number + 1, first or nonce
     return bytes(text)
 
 
@@ -443,11 +462,22 @@ def show(result, as_json):
             print(plain(value) if name == "mac" else f"{name} {plain(value)}")
 
 
+def number(bits):
+    """What reads a word as a number of so many bits."""
+    def read(word):
+        value = int(word)
+        if not 0 <= value < 1 << bits:
+            raise ValueError
+        return value
+    read.__name__ = f"number of {bits} bits"
+    return read
+
+
 def words_of(words):
     common = argparse.ArgumentParser(add_help=False)
-    common.add_argument("--uid", type=int, default=10001, help="the uid that calls (10001)")
+    common.add_argument("--uid", type=number(32), default=10001, help="the uid that calls (10001)")
     common.add_argument("--host", default="127.0.0.1")
-    common.add_argument("--port", type=int, default=PORT, help=f"the service's port ({PORT})")
+    common.add_argument("--port", type=number(16), default=PORT, help=f"the service's port ({PORT})")
     common.add_argument("--json", action="store_true", help="write one JSON object")
     parser = argparse.ArgumentParser(description="A client of the key service.")
     commands = parser.add_subparsers(dest="command", required=True, metavar="COMMAND")
@@ -464,24 +494,24 @@ def words_of(words):
         command("generate", do_generate, "let the service draw a key", "key"),
         command("import", do_import, "bring a key's bytes", "key"),
     ]
-    made[0].add_argument("--bits", type=int, default=256, help="the key's size (256)")
+    made[0].add_argument("--bits", type=number(32), default=256, help="the key's size (256)")
     made[1].add_argument("--material", required=True, metavar="HEX", help="the key's bytes")
     for one in made:
         one.add_argument("--kind", choices=sorted(KINDS), default="aes")
-        one.add_argument("--uses", type=int, metavar="N", help="the key works N times")
+        one.add_argument("--uses", type=number(32), metavar="N", help="the key works N times")
     used = [
         command("mac", do_mac, "HMAC-SHA256 of a file (- for standard input)", "key", "file"),
         command("seal", do_seal, "seal a file with AES-GCM", "key", "file", "out"),
         command("open", do_open, "open a sealed file", "key", "file", "out"),
     ]
-    used[0].add_argument("--bits", type=int, default=256, help="the mac's length (256)")
+    used[0].add_argument("--bits", type=number(32), default=256, help="the mac's length (256)")
     used[0].add_argument("--verify", metavar="HEX", help="verify this mac instead")
     for one in used:
-        one.add_argument("--granted", type=int, metavar="N", help="the key of this grant, whatever KEY says")
+        one.add_argument("--granted", type=number(64), metavar="N", help="the key of this grant, whatever KEY says")
     command("list", do_list, "the caller's keys")
     granted = command("grant", do_grant, "let another uid use a key", "key")
-    granted.add_argument("grantee", type=int, metavar="uid")
-    granted.add_argument("--bits", type=int, default=USE, help=f"what it may do ({USE}, use)")
+    granted.add_argument("grantee", type=number(32), metavar="uid")
+    granted.add_argument("--bits", type=number(32), default=USE, help=f"what it may do ({USE}, use)")
     command("delete", do_delete, "delete a key", "key")
     return parser.parse_args(words)
 
