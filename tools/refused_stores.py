@@ -4,9 +4,11 @@
     python3 tools/refused_stores.py [--program PATH]
 
 Each need of a change broken alone, and met at its bound; one key and one grant too many; and a store of three records with each of
-its bytes changed, and cut at each byte. `tools/read_store.py` reads them all besides. It says nothing where all is well, and ends
-with status 1 at the first store that is opened otherwise."""
+its bytes changed, and cut at each byte. `tools/read_store.py` reads them all besides. Then a run whose store is changed beside it: a
+restart reads it again, so it is answered 8 over other bytes, which leaves all as it was, and goes through once they are back. It says
+nothing where all is well, and ends with status 1 at the first store that is opened otherwise."""
 import argparse
+import json
 import pathlib
 import subprocess
 import sys
@@ -33,6 +35,9 @@ def use(number=1):
 def grant(number=1, uid=10002, bits=256):
     return framed(4, [number, 1, uid, bits])
 
+
+# PURPOSE 2, ALGORITHM 128, DIGEST 4, MIN_MAC_LENGTH 64 and NO_AUTH_REQUIRED.
+HMAC_KEY = [["PURPOSE", 2], ["ALGORITHM", 128], ["DIGEST", 4], ["MIN_MAC_LENGTH", 64], ["NO_AUTH_REQUIRED", True]]
 
 # Key 1, alias m, of uid 10001, with two uses; key 2, alias n, of the same uid, without a limit.
 KEY = new_key()
@@ -128,6 +133,50 @@ def opened(program, store, folder):
     return int(offset) if (run.returncode, text) == (7, "keystore2: store corrupted at") else f"status {run.returncode}: {run.stderr}"
 
 
+# A client with a key; what tells that both are there.
+MADE = [
+    {"do": "connect", "uid": 10001},
+    {"c": 1, "do": "importKey", "key": {"domain": 0, "nspace": 0, "alias": "m"}, "params": HMAC_KEY, "format": 3, "material": "0b" * 32},
+]
+COUNTED = {"c": 1, "do": "getNumberOfEntries", "domain": 0}
+IS_THERE, IS_ANOTHER, IS_AGAIN, IS_GONE = {"code": 0, "count": 1}, {"code": 8}, {"code": 0}, {"code": 6, "rule": "A1"}
+
+
+def others(store):
+    """Stores that are not the one of a run: no store, one that is cut in its record, an empty one, and one with another key."""
+    yield b"X" + store[1:]
+    yield store[:-2]
+    yield HEADER + b"\0"
+    yield HEADER + KEY + b"\0"
+
+
+def restarts_otherwise(program, folder):
+    """What a run over a store that is changed beside it answers otherwise than it must, or None."""
+    path = pathlib.Path(folder) / "store.ks"
+    with subprocess.Popen([program, "run", "--fresh"], stdin=subprocess.PIPE, stdout=subprocess.PIPE, cwd=folder) as run:
+
+        def reply(line):
+            run.stdin.write(json.dumps({"t": [0, 1000], **line}).encode() + b"\n")
+            run.stdin.flush()
+            return json.loads(run.stdout.readline())
+
+        def found():
+            for line in MADE:
+                reply(line)
+            store = path.read_bytes()
+            for other in others(store):
+                path.write_bytes(other)
+                yield other, reply({"do": "restart"}), IS_ANOTHER
+                yield other, reply(COUNTED), IS_THERE
+            path.write_bytes(store)
+            yield store, reply({"do": "restart"}), IS_AGAIN
+            yield store, reply(COUNTED), IS_GONE
+
+        wrong = next((it for it in found() if it[1] != it[2]), None)
+        run.stdin.close()
+    return wrong
+
+
 def rows():
     for records, wanted in [*STORES, *crowds()]:
         yield HEADER + b"".join(records) + b"\0", wanted
@@ -148,6 +197,10 @@ def main():
             if len(store) < 1_000_000 and told(store) != wanted:
                 print(f"the store {store[:400].hex()} is read otherwise by tools/read_store.py", file=sys.stderr)
                 return 1
+        if wrong := restarts_otherwise(program, folder):
+            store, answered, wanted = wrong
+            print(f"beside the store {store.hex()} a run answers {answered} and not {wanted}", file=sys.stderr)
+            return 1
     return 0
 
 

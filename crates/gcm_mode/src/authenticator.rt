@@ -1,4 +1,4 @@
-// The hash of additional data and ciphertext (SP 800-38D section 7.1, steps 4 and 5).
+//! The hash of additional data and ciphertext (SP 800-38D section 7.1, steps 4 and 5).
 
 ghost use Rattle.std.specs.Prelude.{◌≡◌, ℕ, ◌++◌, [], List, false};
 ghost use Rattle.ghash.specs.Hash.{ghash};
@@ -39,7 +39,7 @@ impl Authenticator {
         self.aad_len = self.aad_len.wrapping_add(input.len() as u64);
     }
 
-    // Pads the additional data before the first byte of ciphertext.
+    /// Pads the additional data before the first byte of ciphertext.
     fn begin_text(&mut self)
         ensures feed { (h aad text : List ℕ) → Authenticates self.old h aad text → Feeds self.new.feed h (padded aad ++ text) }
         ensures lengths { (self.new.aad_len ≡ self.old.aad_len) × (self.new.text_len ≡ self.old.text_len) }

@@ -1,4 +1,4 @@
-// Work on plain bytes: adding blocks, and writing two strings one behind the other.
+//! Work on plain bytes: adding blocks, and writing two strings one behind the other.
 
 ghost use Rattle.std.specs.Prelude.{◌≡◌, ◌+◌, ◌*◌, ◌≤◌, ◌++◌, drop, length};
 ghost use Rattle.gcm_mode.specs.Bytewise.{xor_by, stream_byte};

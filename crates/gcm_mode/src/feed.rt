@@ -1,4 +1,4 @@
-// The hash of a string of bytes in any pieces.
+//! The hash of a string of bytes in any pieces.
 
 ghost use Rattle.std.specs.Prelude.{◌≡◌, ℕ, ◌<◌, ◌*◌, ◌/◌, ◌%◌, ◌++◌, ◌∷◌, [], List, length, take};
 ghost use Rattle.ghash.specs.Hash.{ghash};
@@ -40,7 +40,7 @@ impl Feed {
         self.hash.absorb(self.block);
     }
 
-    // Takes a few bytes, one by one.
+    /// Takes a few bytes, one by one.
     fn take_each(&mut self, input: &[u8])
         ensures { (h bytes : List ℕ) → Feeds self.old h bytes → Feeds self.new h (bytes ++ input.now) }
     {
@@ -49,7 +49,7 @@ impl Feed {
         }
     }
 
-    // Takes the whole blocks of an input, where no byte waits.
+    /// Takes the whole blocks of an input, where no byte waits.
     fn take_blocks(&mut self, blocks: &[[u8; 16]])
         ensures { (h bytes input : List ℕ) → Feeds self.old h bytes → length bytes % 16 ≡ 0 → blocks.now ≡ first_blocks (length input / 16) input
             → Feeds self.new h (bytes ++ take (length input / 16 * 16) input) }
@@ -57,7 +57,7 @@ impl Feed {
         self.hash.absorb_all(blocks);
     }
 
-    // Takes bytes where none waits.
+    /// Takes bytes where none waits.
     fn take_whole(&mut self, input: &[u8])
         ensures { (h bytes : List ℕ) → Feeds self.old h bytes → length bytes % 16 ≡ 0 → Feeds self.new h (bytes ++ input.now) }
     {

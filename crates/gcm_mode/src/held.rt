@@ -1,4 +1,4 @@
-// The bytes at the end of what an opening has taken, which may be the tag.
+//! The bytes at the end of what an opening has taken, which may be the tag.
 
 ghost use Rattle.std.specs.Prelude.{◌≡◌, ◌+◌, ◌≤◌, ◌++◌, [], drop, length, min, take};
 

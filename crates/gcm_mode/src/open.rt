@@ -1,4 +1,4 @@
-// Authenticated decryption (SP 800-38D section 7.2), in any pieces.
+//! Authenticated decryption (SP 800-38D section 7.2), in any pieces.
 
 ghost use Rattle.std.specs.Prelude.{◌≡◌, ℕ, ◌+◌, ◌≤◌, ◌++◌, [], List, drop, length, slice_range, take};
 ghost use Rattle.gcm_mode.specs.Gcm.{gcm_open, open_front, open_given, raw};

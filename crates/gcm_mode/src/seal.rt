@@ -1,4 +1,4 @@
-// Authenticated encryption (SP 800-38D section 7.1), in any pieces.
+//! Authenticated encryption (SP 800-38D section 7.1), in any pieces.
 
 ghost use Rattle.std.specs.Prelude.{◌≡◌, ℕ, ◌≤◌, ◌++◌, [], List, Some, drop, length, slice_range, take};
 ghost use Rattle.gcm_mode.specs.Gcm.{gcm_open, gcm_seal, raw, seal_front, seal_given};

@@ -1,4 +1,4 @@
-// GCTR (SP 800-38D section 6.5), a text in any pieces.
+//! GCTR (SP 800-38D section 6.5), a text in any pieces.
 
 ghost use Rattle.std.specs.Prelude.{◌≡◌, ℕ, ◌+◌, ◌*◌, ◌/◌, ◌%◌, ◌^◌, ◌<◌, ◌≤◌, ◌++◌, List, length};
 ghost use Rattle.std.specs.Int.{w32, to_be_bytes};
@@ -14,15 +14,15 @@ use aes_core::ManyBlocks;
 pub(crate) struct Gctr<C> {
     cipher: C,
     nonce: [u8; 12],
-    // the number in the next counter block
+    /// the number in the next counter block
     counter: u32,
     key_block: [u8; 16],
-    // how many bytes of the key block were used, 0 where the next is due
+    /// how many bytes of the key block were used, 0 where the next is due
     used: usize,
 }
 
-// Puts a counter block. Its parts are stored by themselves, since a vector that is read back from several stores waits for
-// all of them.
+/// Puts a counter block. Its parts are stored by themselves, since a vector that is read back from several stores waits
+/// for all of them.
 #[inline(always)]
 fn put_counter(out: &mut [u8; 16], nonce: &[u8; 12], counter: u32)
     ensures { out.new ≡ nonce.now ++ to_be_bytes w32 counter }
@@ -67,7 +67,7 @@ impl<C: ManyBlocks> Gctr<C> {
         self.cipher.encrypt(counter_block(&self.nonce, 1))
     }
 
-    // The next counter block, whose number goes up in 32 bits.
+    /// The next counter block, whose number goes up in 32 bits.
     fn next_counter(&mut self) -> [u8; 16]
         ensures block { result ≡ self.old.nonce ++ to_be_bytes w32 self.old.counter }
         ensures counter { self.new ≡ record self.old { counter = (self.old.counter + 1) % 2 ^ 32 } }
@@ -77,7 +77,7 @@ impl<C: ManyBlocks> Gctr<C> {
         block
     }
 
-    // Makes the next block of the key stream where it is due.
+    /// Makes the next block of the key stream where it is due.
     fn make_ready(&mut self)
         ensures { (cipher : List ℕ → List ℕ) (nonce : List ℕ) (n : ℕ)
             → Streams C.cipher self.old cipher nonce n → IsReady C.cipher self.new cipher nonce n }
@@ -88,7 +88,7 @@ impl<C: ManyBlocks> Gctr<C> {
         }
     }
 
-    // The next byte of the key stream.
+    /// The next byte of the key stream.
     fn next_byte(&mut self) -> u8
         ensures byte { (cipher : List ℕ → List ℕ) (nonce : List ℕ) (n : ℕ)
             → Streams C.cipher self.old cipher nonce n → result ≡ key_byte cipher nonce n }
@@ -102,7 +102,7 @@ impl<C: ManyBlocks> Gctr<C> {
         byte
     }
 
-    // Goes on with a few bytes, one by one.
+    /// Goes on with a few bytes, one by one.
     fn apply_each(&mut self, bytes: &mut [u8])
         ensures bytes { (cipher : List ℕ → List ℕ) (nonce : List ℕ) (n : ℕ)
             → Streams C.cipher self.old cipher nonce n → bytes.new ≡ xor_by (key_byte cipher nonce) n bytes.old }
@@ -115,7 +115,7 @@ impl<C: ManyBlocks> Gctr<C> {
         }
     }
 
-    // Puts the next counter blocks, where a block is due.
+    /// Puts the next counter blocks, where a block is due.
     fn put_counters(&mut self, out: &mut [[u8; 16]])
         ensures blocks { (cipher : List ℕ → List ℕ) (nonce : List ℕ) (n : ℕ)
             → Streams C.cipher self.old cipher nonce n → n % 16 ≡ 0 → out.new ≡ counter_blocks nonce (2 + n / 16) (length out.old) }
@@ -128,7 +128,7 @@ impl<C: ManyBlocks> Gctr<C> {
         }
     }
 
-    // Goes on with at most 64 whole blocks, where a block is due: one call of the cipher makes their key stream.
+    /// Goes on with at most 64 whole blocks, where a block is due: one call of the cipher makes their key stream.
     fn apply_group(&mut self, bytes: &mut [u8])
         requires few { length bytes.old ≤ 1024 }
         requires whole { length bytes.old % 16 ≡ 0 }
@@ -144,7 +144,7 @@ impl<C: ManyBlocks> Gctr<C> {
         add_blocks(bytes, keys);
     }
 
-    // Goes on with whole blocks, where a block is due, 64 at a time.
+    /// Goes on with whole blocks, where a block is due, 64 at a time.
     fn apply_blocks(&mut self, bytes: &mut [u8])
         requires { length bytes.old % 16 ≡ 0 }
         ensures bytes { (cipher : List ℕ → List ℕ) (nonce : List ℕ) (n : ℕ)

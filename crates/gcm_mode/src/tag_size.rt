@@ -1,4 +1,4 @@
-// The size of a tag.
+//! The size of a tag.
 
 ghost use Rattle.std.specs.Prelude.{◌≡◌, ◌≤◌};
 

@@ -1,5 +1,5 @@
-// GHASH of many blocks in sixteen chains. Each takes every sixteenth block, and its products are with the subkey to
-// the power 16.
+//! GHASH of many blocks in sixteen chains. Each takes every sixteenth block, and its products are with the subkey to
+//! the power 16.
 
 ghost use Rattle.std.specs.Prelude.{◌≡◌, ℕ, ◌+◌, ◌*◌, ◌%◌, ◌^◌, ◌<◌, ◌≤◌, List, [], length, slice_index_or};
 ghost use Rattle.std.specs.Int.RustNames.{bit_xor};
@@ -28,7 +28,7 @@ fn value_of_row(row: u8x16) -> u128
     element(row.to_array())
 }
 
-// Value l in lane l.
+/// Value l in lane l.
 fn grid_of(values: &[u128; 16]) -> [u8x16; 16]
     ensures grid { IsGrid result }
     ensures lanes { (l : ℕ) → l < 16 → lane_of result l ≡ slice_index_or values.now l 0 }
@@ -40,7 +40,7 @@ fn grid_of(values: &[u128; 16]) -> [u8x16; 16]
     turned(rows)
 }
 
-// Block at + l in lane l.
+/// Block at + l in lane l.
 fn lanes_of(blocks: &[[u8; 16]], at: usize) -> [u8x16; 16]
     requires { at + 16 ≤ length blocks.now }
     ensures grid { IsGrid result }
@@ -74,7 +74,7 @@ pub(crate) fn power_16(table: &[u128; 16], subkey: u128) -> u128
     power
 }
 
-// The products with the four bits behind those of the table.
+/// The products with the four bits behind those of the table.
 fn lower(table: &[u128; 16]) -> [u128; 16]
     ensures { (y : ℕ) → IsProducts table.now y → (n : ℕ) → n < 16 → slice_index_or result n 0 ≡ product (n * 2 ^ 120) y }
 {
@@ -85,7 +85,7 @@ fn lower(table: &[u128; 16]) -> [u128; 16]
     out
 }
 
-// The hash of the sixteen elements, one after the other.
+/// The hash of the sixteen elements, one after the other.
 fn end_of(table: &[u128; 16], subkey: u128, last: &[u8x16; 16]) -> u128
     requires table { IsProducts table.now subkey }
     requires grid { IsGrid last.now }

@@ -1,9 +1,9 @@
-// The field of 2^128 elements (SP 800-38D section 6.3), bit by bit over a u128.
+//! The field of 2^128 elements (SP 800-38D section 6.3), bit by bit over a u128.
 
 ghost use Rattle.std.specs.Prelude.{◌≡◌};
 ghost use Rattle.ghash.specs.Field.{block_of, element, product, times_x};
 
-// The bits 11100001 and then 120 zeros, for x^128 + x^7 + x^2 + x + 1.
+/// The bits 11100001 and then 120 zeros, for x^128 + x^7 + x^2 + x + 1.
 const REDUCTION: u128 = 0xE100_0000_0000_0000_0000_0000_0000_0000;
 
 /// The element of a block (SP 800-38D section 6.3): its first bit is the coefficient of x^0, and the highest of the number.

@@ -1,4 +1,4 @@
-// The functions of GHASH (SP 800-38D section 6.4).
+//! The functions of GHASH (SP 800-38D section 6.4).
 
 ghost use Rattle.std.specs.Prelude.{◌≡◌, ℕ, List, [], ◌∷◌, ◌++◌, ◌%◌, ◌≤◌, length};
 ghost use Rattle.ghash.specs.Chains.{repeated};
@@ -9,7 +9,7 @@ use crate::field::{block_of, element};
 use crate::state::Ghash;
 use crate::table::{product_by, products_with};
 
-// From how many blocks on the chains are worth their tables, and the power of the subkey besides, as measured.
+/// From how many blocks on the chains are worth their tables, and the power of the subkey besides, as measured.
 const MANY: usize = 32;
 
 const MANY_AT_FIRST: usize = 48;
@@ -37,7 +37,7 @@ impl Ghash {
         self.sum = product_by(&self.table, self.sum ^ element(block));
     }
 
-    // Takes a few blocks, one by one.
+    /// Takes a few blocks, one by one.
     fn absorb_each(&mut self, blocks: &[[u8; 16]])
         ensures { (h : List ℕ) (before : List (List ℕ)) → Holds self.old h before → Holds self.new h (before ++ blocks.now) }
     {
@@ -46,7 +46,7 @@ impl Ghash {
         }
     }
 
-    // The subkey to the power 16, as it was kept or made now.
+    /// The subkey to the power 16, as it was kept or made now.
     fn raised(&self) -> u128
         ensures { result ≡ repeated self.now.subkey 15 self.now.subkey }
     {
@@ -56,7 +56,7 @@ impl Ghash {
         }
     }
 
-    // Takes whole groups of sixteen blocks.
+    /// Takes whole groups of sixteen blocks.
     fn absorb_groups(&mut self, groups: &[[u8; 16]])
         requires some { 16 ≤ length groups.now }
         requires whole { length groups.now % 16 ≡ 0 }

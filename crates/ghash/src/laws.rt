@@ -1,4 +1,4 @@
-// The algebra of the field, on which a product by a table rests.
+//! The algebra of the field, on which a product by a table rests.
 
 ghost use Rattle.std.specs.Prelude.{◌≡◌, ℕ, ◌+◌, ◌-◌, ◌^◌, ◌<◌};
 ghost use Rattle.std.specs.Int.RustNames.{bit_xor};

@@ -1,4 +1,4 @@
-// The product with a fixed element by a table of sixteen products, four bits at a time.
+//! The product with a fixed element by a table of sixteen products, four bits at a time.
 
 ghost use Rattle.std.specs.Prelude.{◌≡◌, ℕ, ◌*◌, ◌%◌, ◌^◌, ◌<◌, slice_index_or};
 ghost use Rattle.ghash.specs.Field.{product, shifted};
@@ -6,7 +6,7 @@ ghost use Rattle.ghash.specs.Tables.{IsProducts};
 
 use crate::field::times_x;
 
-// The first 16 bits of x^4 times each element of four bits at the end: the others are zeros.
+/// The first 16 bits of x^4 times each element of four bits at the end: the others are zeros.
 static REMAINDERS: [u16; 16] = [
     0x0000, 0x1C20, 0x3840, 0x2460, 0x7080, 0x6CA0, 0x48C0, 0x54E0, 0xE100, 0xFD20, 0xD940, 0xC560,
     0x9180, 0x8DA0, 0xA9C0, 0xB5E0,

@@ -1,5 +1,5 @@
-// Products of sixteen elements at a time with one key, by shuffles of bytes. Which table entry is read depends on no
-// secret: each shuffle reads a whole row.
+//! Products of sixteen elements at a time with one key, by shuffles of bytes. Which table entry is read depends on no
+//! secret: each shuffle reads a whole row.
 
 ghost use Rattle.std.specs.Prelude.{◌≡◌, ℕ, ◌+◌, ◌*◌, ◌/◌, ◌%◌, ◌^◌, ◌<◌, ◌≤◌, List, [], length, slice_index_or};
 ghost use Rattle.std.specs.Int.RustNames.{bit_xor};
@@ -66,7 +66,7 @@ fn next(v: u8x16) -> u8x16
     sums(sums(left(v, 7), left(v, 6)), left(v, 1))
 }
 
-// Row p of x^8 times each element.
+/// Row p of x^8 times each element.
 #[inline(always)]
 fn moved(rows: &[u8x16; 16], p: usize) -> u8x16
     requires grid { IsGrid rows.now }
@@ -83,7 +83,7 @@ fn moved(rows: &[u8x16; 16], p: usize) -> u8x16
     }
 }
 
-// x^8 times each element of acc, and one more byte of each times the key.
+/// x^8 times each element of acc, and one more byte of each times the key.
 #[inline(always)]
 fn one_more(high: &[u8x16; 16], low: &[u8x16; 16], acc: &[u8x16; 16], bytes: u8x16) -> [u8x16; 16]
     requires high { IsGrid high.now }
@@ -120,7 +120,7 @@ pub(crate) fn products(high: &[u8x16; 16], low: &[u8x16; 16], x: &[u8x16; 16]) -
     acc
 }
 
-// The flat list of 256 bytes with its even places in front.
+/// The flat list of 256 bytes with its even places in front.
 #[inline(always)]
 fn woven(x: [u8x16; 16]) -> [u8x16; 16]
     requires { IsGrid x }

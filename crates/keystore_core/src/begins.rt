@@ -15,6 +15,7 @@ pub struct Begins {
 }
 
 impl Begins {
+    /// No begins.
     pub fn new(alloc: Global) -> Begins
         ensures { (key : ℕ) → begins_in result key ≡ 0 }
     {

@@ -16,6 +16,7 @@ pub struct Clients {
 }
 
 impl Clients {
+    /// No clients, of which none was made.
     pub fn new(alloc: Global) -> Clients
         ensures uids { (client : ℕ) → uid_in result client ≡ None }
         ensures given { clients_given result ≡ 0 }

@@ -137,6 +137,7 @@ fn drop_rows_of(rows: &mut Vec<Operation>, client: u64)
 }
 
 impl Operations {
+    /// No operations, of which none was begun.
     pub fn new(alloc: Global) -> Operations
         ensures rows { rows_in result ≡ [] }
         ensures given { operations_given result ≡ 0 }

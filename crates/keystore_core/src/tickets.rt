@@ -23,6 +23,7 @@ pub struct Tickets {
 }
 
 impl Tickets {
+    /// No works, and no ticket was given.
     pub fn new(alloc: Global) -> Tickets
         ensures outs { (ticket : ℕ) → out_in result ticket ≡ None }
         ensures given { tickets_given result ≡ 0 }

@@ -64,6 +64,7 @@ text_of kinds.UserRemoved = codes "userRemoved"
 text_of kinds.Leave = codes "leave"
 text_of kinds.Restart = codes "restart"
 
+-- every kind of act, once
 abbrev pub all_kinds : List ActKind
 all_kinds = kinds.Connect ∷ kinds.Disconnect ∷ kinds.GenerateKey ∷ kinds.ImportKey ∷ kinds.CreateOperation ∷ kinds.UpdateAad ∷ kinds.Update ∷ kinds.Finish ∷ kinds.Abort ∷ kinds.GetKeyEntry ∷ kinds.DeleteKey ∷ kinds.Grant ∷ kinds.Ungrant ∷ kinds.GetNumberOfEntries ∷ kinds.ListEntriesBatched ∷ kinds.AddAuthToken ∷ kinds.DeviceLocked ∷ kinds.DeviceUnlocked ∷ kinds.EarlyBootEnded ∷ kinds.ClearNamespace ∷ kinds.UserRemoved ∷ kinds.Leave ∷ kinds.Restart ∷ []
 
@@ -71,6 +72,7 @@ all_kinds = kinds.Connect ∷ kinds.Disconnect ∷ kinds.GenerateKey ∷ kinds.I
 abbrev pub kind_named : List ℕ → Option ActKind
 kind_named name = find (λ kind. bytes_eq (text_of kind) name) all_kinds
 
+-- an act's kind: the row of the table that it has
 abbrev pub kind_of : Act → ActKind
 kind_of (acts.Connect uid) = kinds.Connect
 kind_of acts.Disconnect = kinds.Disconnect
@@ -105,24 +107,29 @@ abbrev pub is_connect : Act → Bool
 is_connect (acts.Connect uid) = true
 is_connect _ = false
 
+-- a client goes
 abbrev pub is_disconnect : Act → Bool
 is_disconnect acts.Disconnect = true
 is_disconnect _ = false
 
+-- an operation begins
 abbrev pub is_begin : Act → Bool
 is_begin (acts.CreateOperation key params forced) = true
 is_begin _ = false
 
+-- a work goes into an operation: additional data, text, or the last text
 abbrev pub is_enter : Act → Bool
 is_enter (acts.EnterAad op input) = true
 is_enter (acts.EnterUpdate op input) = true
 is_enter (acts.EnterFinish op input signature) = true
 is_enter _ = false
 
+-- a work comes back by its ticket
 abbrev pub is_leave : Act → Bool
 is_leave (acts.Leave ticket) = true
 is_leave _ = false
 
+-- the device starts again
 abbrev pub is_restart : Act → Bool
 is_restart (acts.Restart root) = true
 is_restart _ = false

@@ -47,6 +47,7 @@ out_of (Aad input) bytes = None
 out_of (Text input) bytes = Some bytes
 out_of (Last input signature) bytes = Some bytes
 
+-- the reply to a work: what it puts out, or the code for which that is refused
 abbrev pub given_or : Work → Result (List ℕ) Code → Reply
 given_or work (Ok bytes) = Done (record no_fields { out = out_of work bytes })
 given_or work (Err code) = Stopped code

@@ -49,6 +49,7 @@ abbrev pub limited_by : Access → Option KeyRecord → Option (List Param) → 
 limited_by (Blob bits) stored list = option_map_or (stands UsageCountLimit) list false
 limited_by access stored list = option_map_or (λ (held : KeyRecord). is_limited held.limit) stored false
 
+-- the key of a begin: what the caller's descriptor finds with its bits, opened once for the device and the operation's ids
 abbrev pub begin_key : DeviceSecrets → Access → Option KeyRecord → Descriptor → Result (List Param) Code → BeginKey
 begin_key device access stored key asked = record {
   found = is_found access stored;

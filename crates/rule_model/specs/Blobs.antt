@@ -23,10 +23,12 @@ use Rattle.rule_model.specs.Setup.{Setup}
 
 -- ---- the root of trust
 
+-- the root of trust behind an act: the one that a restart gives, else the one before
 abbrev pub root_given : Act → List ℕ → List ℕ
 root_given (Restart (Some root)) before = root
 root_given _ before = before
 
+-- only an admitted restart gives one
 abbrev pub root_after : Entry → List ℕ → List ℕ
 root_after (Acted event drawn reply) before = if is_done reply then root_given event.act before else before
 root_after (Settling settled) before = before
@@ -64,6 +66,7 @@ list_read (Err Root) = Some []
 list_read (Err App) = Some []
 list_read (Err fault) = None
 
+-- the material that was in a blob; none where it does not open
 abbrev pub material_read : Result Opened BlobFault → List ℕ
 material_read (Ok key) = key.material
 material_read (Err fault) = []

@@ -29,6 +29,7 @@ pub data BootChange : Type 0 where
   BeginsOn : ℕ → BootChange
   StartsAgain : BootChange
 
+-- a begin on a stored key counts for that key; one on a blob that was handed in counts for none
 abbrev pub begins_on : Option ℕ → BootChange
 begins_on None = SameBoot
 begins_on (Some id) = BeginsOn id
@@ -43,6 +44,7 @@ admitted_boot EarlyBootEnded setup past caller = EndsEarlyBoot
 admitted_boot (Restart root) setup past caller = StartsAgain
 admitted_boot _ setup past caller = SameBoot
 
+-- only an admitted call changes what lasts until the next restart
 abbrev pub boot_change : Setup → History → Event → Reply → BootChange
 boot_change setup past event (Done fields) = admitted_boot event.act setup past (caller_of past event)
 boot_change setup past event (Broken rule code) = SameBoot
@@ -50,6 +52,7 @@ boot_change setup past event (Stopped code) = SameBoot
 
 -- ---- the state of the device
 
+-- a user is unlocked from an unlocking on, until a locking or a restart
 abbrev pub unlocked_after : BootChange → ℕ → Bool → Bool
 unlocked_after (Locks locked) user before = if locked == user then false else before
 unlocked_after (Unlocks unlocked) user before = if unlocked == user then true else before
@@ -62,6 +65,7 @@ is_unlocked setup [] user = false
 is_unlocked setup (Settling settled ∷ past) user = is_unlocked setup past user
 is_unlocked setup (Acted event drawn reply ∷ past) user = unlocked_after (boot_change setup past event reply) user (is_unlocked setup past user)
 
+-- early boot has ended from its end on, until a restart
 abbrev pub early_after : BootChange → Bool → Bool
 early_after EndsEarlyBoot before = true
 early_after StartsAgain before = false
@@ -101,6 +105,7 @@ is_timely setup past key boot = list_any (λ token. opens key boot token) (last_
 
 -- ---- the begins on a key
 
+-- how many begins on a key there were since the last restart, after one more entry
 abbrev pub begins_after : BootChange → ℕ → ℕ → ℕ
 begins_after (BeginsOn key) id before = if key == id then before + 1 else before
 begins_after StartsAgain id before = 0

@@ -38,6 +38,7 @@ key_call_facts policy found access caller key = record {
   bits = bits_in access;
 }
 
+-- what the rules read of a call on the key that a descriptor finds
 abbrev pub key_facts : List PolicyRow → Lasting → Caller → Descriptor → KeyCallFacts
 key_facts policy part caller key =
     key_call_facts policy (key_in part (access_by policy part caller key)) (access_by policy part caller key) caller key
@@ -52,28 +53,36 @@ system_facts caller = record { connected = is_some caller.uid; system = option_m
 
 -- ---- the first rule that each call breaks
 
+-- table A of each call: the first rule that it breaks
 abbrev pub disconnect_ruling : Caller → Bool → Ruling
 disconnect_ruling caller busy = first_broken A (disconnect_rules (is_some caller.uid) busy)
 
+-- of getKeyEntry
 abbrev pub get_key_entry_ruling : List PolicyRow → Lasting → Caller → Descriptor → Ruling
 get_key_entry_ruling policy part caller key = first_broken A (get_key_entry_rules key (key_facts policy part caller key))
 
+-- of deleteKey
 abbrev pub delete_key_ruling : List PolicyRow → Lasting → Caller → Descriptor → Ruling
 delete_key_ruling policy part caller key = first_broken A (delete_key_rules key (key_facts policy part caller key))
 
+-- of grant
 abbrev pub grant_ruling : List PolicyRow → Lasting → Caller → Descriptor → ℕ → Ruling
 grant_ruling policy part caller key bits = first_broken A (grant_rules key bits (key_facts policy part caller key))
 
+-- of ungrant, which reads besides whether the uid has a grant of the key
 abbrev pub ungrant_ruling : List PolicyRow → Lasting → Caller → Descriptor → ℕ → Ruling
 ungrant_ruling policy part caller key uid =
     first_broken A (ungrant_rules key (is_some (grant_of part (id_by policy part caller key) uid)) (key_facts policy part caller key))
 
+-- of getNumberOfEntries and listEntriesBatched
 abbrev pub listing_ruling : List PolicyRow → Caller → ℕ → ℕ → Ruling
 listing_ruling policy caller domain nspace = first_broken A (listing_rules (is_some caller.uid) domain (row_for policy caller nspace))
 
+-- of clearNamespace
 abbrev pub clear_namespace_ruling : Caller → ℕ → ℕ → Ruling
 clear_namespace_ruling caller domain nspace = first_broken A (clear_namespace_rules domain nspace (system_facts caller))
 
+-- of earlyBootEnded
 abbrev pub early_boot_ended_ruling : Caller → Ruling
 early_boot_ended_ruling caller = first_broken A (system_call_rules (system_facts caller))
 
@@ -81,6 +90,7 @@ early_boot_ended_ruling caller = first_broken A (system_call_rules (system_facts
 abbrev pub has_right_mac : List ℕ → AuthToken → Bool
 has_right_mac key token = bytes_eq token.mac (token_mac key token)
 
+-- of addAuthToken, which reads besides whether the mac is that of the fields
 abbrev pub add_auth_token_ruling : List ℕ → Caller → AuthToken → Ruling
 add_auth_token_ruling key caller token = first_broken A (token_rules (has_right_mac key token) (system_facts caller))
 
@@ -105,6 +115,7 @@ entry_fields key = record no_fields {
   list = Some key.list;
 }
 
+-- the entry of the key that was found; where the rules let the call through there is one
 abbrev pub key_entry : Option KeyRecord → Reply
 key_entry None = Done no_fields
 key_entry (Some key) = Done (entry_fields key)

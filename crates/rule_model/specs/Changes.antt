@@ -23,6 +23,7 @@ use Rattle.rule_model.specs.Blobs.{kept_as}
 use Rattle.rule_model.specs.NewFacts.{import_of, new_facts}
 use Rattle.rule_model.specs.Operations.{Open, used_key}
 
+-- the alias of a descriptor, empty where it has none
 abbrev pub alias_of : Descriptor → List ℕ
 alias_of key = unwrap_or key.alias []
 
@@ -62,6 +63,7 @@ grant_number part key uid = option_map_or (λ (held : GrantRow). held.grant) (gr
 abbrev pub grant_of : Lasting → Option ℕ → ℕ → Option ℕ
 grant_of part key uid = option_and_then (λ id. option_map (λ (held : GrantRow). held.grant) (grant_at part id uid)) key
 
+-- the grant of a key to a uid: under the number of the one that both have, else the next
 abbrev pub granting : Lasting → ℕ → ℕ → ℕ → Change
 granting part uid bits key = changes.Grant (record { grant = grant_number part key uid; key = key; uid = uid; bits = bits })
 

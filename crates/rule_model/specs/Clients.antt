@@ -17,6 +17,7 @@ pub data ClientChange : Type 0 where
   Goes : ℕ → ClientChange
   AllGo : ClientChange
 
+-- a client comes under the number that its reply gives
 abbrev pub comes : Option ℕ → ℕ → ClientChange
 comes None uid = SameClients
 comes (Some client) uid = Comes client uid
@@ -29,6 +30,7 @@ admitted_client Disconnect caller fields = Goes caller
 admitted_client (Restart root) caller fields = AllGo
 admitted_client _ caller fields = SameClients
 
+-- only an admitted call changes the clients
 abbrev pub client_change : Event → Reply → ClientChange
 client_change event (Done fields) = admitted_client event.act event.client fields
 client_change event (Broken rule code) = SameClients

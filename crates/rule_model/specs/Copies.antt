@@ -3,6 +3,7 @@ use Rattle.std.specs.Prelude.{Bool, true, false}
 use Rattle.rule_model.specs.declared.event.Act.{Act}
 use Rattle.rule_model.specs.declared.event.Act.TheVariants.{GenerateKey, ImportKey, CreateOperation, EnterAad, EnterUpdate, EnterFinish, GetKeyEntry, DeleteKey, Grant, Ungrant, ListEntriesBatched}
 
+-- whether an act is made of numbers alone, so that a copy of it takes no memory
 abbrev pub has_numbers : Act → Bool
 has_numbers (GenerateKey key params) = false
 has_numbers (ImportKey key params format material) = false

@@ -34,6 +34,7 @@ use Rattle.rule_model.specs.Slots.{begin_facts}
 abbrev pub size_of : Pieces → ℕ
 size_of pieces = pieces.first + pieces.second
 
+-- nothing is drawn
 abbrev pub no_pieces : Pieces
 no_pieces = record { first = 0; second = 0 }
 
@@ -48,6 +49,7 @@ abbrev pub wanted_by_begin : Result Plan (Rule × Code) → BeginFacts → Piece
 wanted_by_begin (Err broken) facts = no_pieces
 wanted_by_begin (Ok plan) facts = record { first = nonce_wanted (asked_of facts) (key_of facts); second = challenge_wanted (key_of facts) }
 
+-- the lengths of what is drawn: for a new key its material and the nonce of its blob, for a begin its nonce and then its challenge
 abbrev pub wanted_by_rules : Act → Setup → History → Caller → Pieces
 wanted_by_rules (GenerateKey key params) setup past caller =
     wanted_by_key (new_key (new_facts setup.policy caller key params None (has_early_ended setup past))) (has_key_place (kept setup past) (owner_of caller) key)
@@ -76,6 +78,7 @@ abbrev pub is_entropy_code : Code → Bool
 is_entropy_code EntropyFault = true
 is_entropy_code _ = false
 
+-- a reply that tells of a failed draw
 abbrev pub is_entropy_fault : Reply → Bool
 is_entropy_fault (Done fields) = false
 is_entropy_fault (Broken rule code) = false

@@ -57,6 +57,7 @@ kept setup past = kept_settled setup None past
 abbrev pub access_at : Setup → History → Caller → Descriptor → Access
 access_at setup past caller key = access_by setup.policy (kept setup past) caller key
 
+-- the stored key that a caller's descriptor finds after a history
 abbrev pub key_found : Setup → History → Caller → Descriptor → Option KeyRecord
 key_found setup past caller key = key_in (kept setup past) (access_at setup past caller key)
 
@@ -64,6 +65,7 @@ key_found setup past caller key = key_in (kept setup past) (access_at setup past
 abbrev pub begin_key_at : Setup → History → Caller → Descriptor → List ℕ → BeginKey
 begin_key_at setup past caller key params = begin_key_in (device_at setup past) setup.policy (kept setup past) caller key params
 
+-- what the rules of a begin read of the key and the lists; its place and its conditions are read apart
 abbrev pub facts_of_begin : Setup → History → Caller → Descriptor → List ℕ → BeginFacts
 facts_of_begin setup past caller key params = begin_facts_in (device_at setup past) setup.policy (kept setup past) caller key params
 

@@ -89,6 +89,7 @@ pub record MaySettle (past : History) (event : Event) : Type 0 where
   pub waits : IsTrue (is_unsettled past)
   pub settles : IsTrue (fixed_for event.act).settles
 
+-- a settling stands before an event of the same step, and is not the last entry
 abbrev pub MaySettleBefore : History → Option Event → Type 0
 MaySettleBefore past None = ⊥
 MaySettleBefore past (Some event) = MaySettle past event
@@ -108,6 +109,7 @@ abbrev pub MaySettleFirst : Option Settled → History → Event → Type 0
 MaySettleFirst None past event = Unit {0}
 MaySettleFirst (Some settled) past event = MaySettle past event
 
+-- a step: an earlier change is settled where that is due, and the event follows
 pub record MayStep (setup : Setup) (past : History) (settled : Option Settled) (event : Event) (drawn : List ℕ) (reply : Reply) : Type 0 where
   pub settles : MaySettleFirst settled past event
   pub follows : MayFollow setup (after_settling settled past) event drawn reply

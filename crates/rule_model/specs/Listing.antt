@@ -16,5 +16,6 @@ listed_from (suc most) part domain nspace past = behind (next_key part domain ns
 abbrev pub LISTED : ℕ
 LISTED = 256
 
+-- a page: at most 256 keys of an owner behind an alias, in the order of their aliases
 abbrev pub listing : Lasting → ℕ → ℕ → Option (List ℕ) → List (List ℕ × ℕ)
 listing part domain nspace past = listed_from LISTED part domain nspace past

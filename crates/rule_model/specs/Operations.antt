@@ -89,9 +89,11 @@ pub record Open : Type 0 where
   pub ticket : Option ℕ
   pub shown : Bool
 
+-- the operation of a number
 abbrev pub has_number : ℕ → Open → Bool
 has_number number o = o.operation.number == number
 
+-- an operation of a client
 abbrev pub is_of : ℕ → Open → Bool
 is_of client o = o.operation.client == client
 
@@ -128,20 +130,24 @@ abbrev pub begin_key_in : DeviceSecrets → List PolicyRow → Lasting → Calle
 begin_key_in device policy part caller key params =
     begin_key device (access_by policy part caller key) (key_in part (access_by policy part caller key)) key (asked params)
 
+-- a begin's facts over a lasting part, from which its plan and its nonce follow
 abbrev pub begin_facts_in : DeviceSecrets → List PolicyRow → Lasting → Caller → Descriptor → List ℕ → BeginFacts
 begin_facts_in device policy part caller key params =
     facts_on policy (begin_key_in device policy part caller key params) (access_by policy part caller key) caller key params false no_conditions
 
+-- an admitted begin opens the operation of its number, in the place of the one that gives way
 abbrev pub opens : BeginKey → BeginFacts → Caller → Fields → List ℕ → OperationChange
 opens key facts caller fields drawn = opens_as fields.op where
   opens_as : Option ℕ → OperationChange
   opens_as None = SameOperations
   opens_as (Some number) = Opens fields.pruned (operation_on key facts caller number drawn)
 
+-- an admitted enter gives its work a ticket
 abbrev pub enters : ℕ → Option ℕ → OperationChange
 enters op None = SameOperations
 enters op (Some ticket) = Enters op ticket
 
+-- an operation closes, where one does
 abbrev pub closes : Option ℕ → OperationChange
 closes None = SameOperations
 closes (Some number) = Closes number
@@ -202,12 +208,15 @@ step_of past = length past + 1
 abbrev pub as_begun : ℕ → Operation → Open
 as_begun step operation = record { operation = operation; aad = []; text = []; touched = step; ticket = None; shown = false }
 
+-- an operation while a work of it is out
 abbrev pub as_entered : ℕ → ℕ → Open → Open
 as_entered step ticket o = record o { touched = step; ticket = Some ticket }
 
+-- an operation whose work came back: it has taken the input
 abbrev pub as_returned : ℕ → List ℕ → List ℕ → Open → Open
 as_returned step aad text o = record o { aad = o.aad ++ aad; text = o.text ++ text; touched = step; ticket = None }
 
+-- an operation that was shown its token
 abbrev pub as_shown : Open → Open
 as_shown o = record o { shown = true }
 
@@ -215,9 +224,11 @@ as_shown o = record o { shown = true }
 abbrev pub with_change : ℕ → (Open → Open) → List Open → List Open
 with_change number change = map (λ o. if has_number number o then change o else o)
 
+-- the others
 abbrev pub without : ℕ → List Open → List Open
 without number = filter (λ o. not (has_number number o))
 
+-- the operations that a begin leaves in their places
 abbrev pub without_pruned : Option ℕ → List Open → List Open
 without_pruned None opened = opened
 without_pruned (Some number) opened = without number opened

@@ -12,12 +12,15 @@ use Rattle.rule_model.specs.Listing.{LISTED}
 abbrev pub ALIAS : ℕ
 ALIAS = 256
 
+-- the longest nonce (SP 800-38A: an initialization vector of one block), in bytes
 abbrev pub NONCE : ℕ
 NONCE = 16
 
+-- the longest blob of a key, in bytes
 abbrev pub BLOB : ℕ
 BLOB = 6327
 
+-- the longest kept list, encoded, in bytes
 abbrev pub LIST : ℕ
 LIST = 4140
 
@@ -46,10 +49,12 @@ IsWithin most (Some bytes) = length bytes ≤ most
 abbrev pub AreWithin : ℕ → List (List ℕ × ℕ) → Type 0
 AreWithin most entries = (length entries ≤ most) × All (λ (entry : List ℕ × ℕ). length entry.0 ≤ ALIAS) entries
 
+-- a listing, where there is one, has no more entries than that
 abbrev pub IsListingWithin : ℕ → Option (List (List ℕ × ℕ)) → Type 0
 IsListingWithin most None = ⊤
 IsListingWithin most (Some entries) = AreWithin most entries
 
+-- no field of a reply is longer than its room
 pub record FieldsFit (sizes : FieldSizes) (fields : Fields) : Type 0 where
   pub alias : IsWithin sizes.alias fields.alias
   pub nonce : IsWithin sizes.nonce fields.nonce

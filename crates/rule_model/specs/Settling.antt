@@ -34,6 +34,7 @@ is_unsettled [] = false
 is_unsettled (Settling settled ∷ past) = false
 is_unsettled (Acted event drawn reply ∷ past) = is_faulted (is_unsettled past) event.act reply || is_unsettled past
 
+-- a settling said that the change is on the disk
 abbrev pub is_kept : Option Settled → Bool
 is_kept None = false
 is_kept (Some Lost) = false

@@ -23,6 +23,7 @@ facts_of_open o = record {
   idle_since = if is_busy o then None else Some o.touched;
 }
 
+-- what the rule of the victim reads of the open operations
 abbrev pub open_facts : Setup → History → List OpenFacts
 open_facts setup past = map facts_of_open (open_of setup past)
 

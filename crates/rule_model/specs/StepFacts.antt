@@ -13,21 +13,25 @@ use Rattle.rule_model.specs.Kept.{is_live, operation_at}
 use Rattle.rule_model.specs.Operations.{Open, is_busy, is_waiting}
 use Rattle.rule_model.specs.Setup.{Setup}
 
+-- what a work brings: additional data, text, or the last text
 abbrev pub step_kind : Work → StepKind
 step_kind (Aad input) = kinds.Aad
 step_kind (Text input) = kinds.Text
 step_kind (Last input signature) = kinds.Last
 
+-- the input of a work
 abbrev pub input_of : Work → List ℕ
 input_of (Aad input) = input
 input_of (Text input) = input
 input_of (Last input signature) = input
 
+-- the signature that is handed in with the last text, empty where none is
 abbrev pub signature_of : Work → List ℕ
 signature_of (Aad input) = []
 signature_of (Text input) = []
 signature_of (Last input signature) = unwrap_or signature []
 
+-- a work's kind and how many bytes it brings
 abbrev pub brought_by : Work → Brought
 brought_by work = record { kind = step_kind work; input = length (input_of work); signature = length (signature_of work) }
 
@@ -67,6 +71,7 @@ facts_of (Some o) live caller brought = record {
   text = length o.text;
 }
 
+-- what the rules read of a step on the operation of a number
 abbrev pub step_facts : Setup → History → Caller → ℕ → Brought → StepFacts
 step_facts setup past caller op brought =
     facts_of (operation_at setup past op) (is_live setup past) caller brought

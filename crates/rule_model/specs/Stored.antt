@@ -32,6 +32,7 @@ abbrev pub bytes_with : Option Change → ℕ → ℕ
 bytes_with None bytes = bytes
 bytes_with (Some change) bytes = bytes + record_bytes change
 
+-- only a change that counts has a record
 abbrev pub bytes_if : Bool → Option Change → ℕ → ℕ
 bytes_if counting change bytes = if counting then bytes_with change bytes else bytes
 
@@ -75,6 +76,7 @@ abbrev pub MayWhere : Bool → Setup → History → Lasting → Type 0
 MayWhere true setup past part = (part ≡ kept setup (Settling Lost ∷ past)) ⊎ (part ≡ kept setup (Settling Kept ∷ past))
 MayWhere false setup past part = part ≡ kept setup past
 
+-- what the store may stand for after a history, whenever a crash comes
 abbrev pub May : Setup → History → Lasting → Type 0
 May setup past part = MayWhere (is_unsettled past) setup past part
 
@@ -83,6 +85,7 @@ abbrev pub made_by : Option Change → Holding → Holding
 made_by None held = held
 made_by (Some change) held = changed_in change held
 
+-- what is known where the record of a change was begun and its end was not told
 abbrev pub torn_by : Option Change → Holding → Holding
 torn_by None (Sure part) = Unsure part part
 torn_by None (Unsure part later) = Unsure part later

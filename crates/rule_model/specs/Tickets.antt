@@ -24,6 +24,7 @@ pub data TicketChange : Type 0 where
   ComesBack : ℕ → TicketChange
   AllGone : TicketChange
 
+-- an admitted enter sends its work out under a ticket
 abbrev pub goes_out : Option ℕ → ℕ → Work → TicketChange
 goes_out None op work = SameTickets
 goes_out (Some ticket) op work = GoesOut ticket (record { op = op; work = work })
@@ -42,6 +43,7 @@ abbrev pub stopped_ticket : Act → TicketChange
 stopped_ticket (Leave ticket) = ComesBack ticket
 stopped_ticket _ = SameTickets
 
+-- a ticket is given by an admitted enter, and comes back by its leave, also where that is refused for its output
 abbrev pub ticket_change : Event → Reply → TicketChange
 ticket_change event (Done fields) = admitted_ticket event.act fields
 ticket_change event (Broken rule code) = SameTickets

@@ -24,6 +24,7 @@ use Rattle.rule_model.specs.Tickets.{Entered, ticket_at}
 
 -- ---- what is counted in a run
 
+-- one more, where it counts
 abbrev pub one_if : Bool → ℕ → ℕ
 one_if counted before = if counted then before + 1 else before
 
@@ -51,6 +52,7 @@ output_key opened (Some entered) = by_work entered.work where
   by_work (Text input) = None
   by_work (Last input signature) = worked_key entered.op opened
 
+-- the key whose output a leave gives: that of the finish under its ticket
 abbrev pub finished_by : Setup → History → Act → Option ℕ
 finished_by setup past (Leave ticket) = output_key (open_of setup past) (ticket_at past ticket)
 finished_by setup past _ = None
@@ -106,6 +108,7 @@ abbrev pub uses_in : List Run → ℕ → ℕ
 uses_in [] id = 0
 uses_in (run ∷ earlier) id = uses_made run.setup run.past id + uses_in earlier id
 
+-- the outputs with a key over all runs
 abbrev pub outputs_in : List Run → ℕ → ℕ
 outputs_in [] id = 0
 outputs_in (run ∷ earlier) id = outputs_made run.setup run.past id + outputs_in earlier id

@@ -40,6 +40,7 @@ fn key_of(alloc: Global, object: &Value) -> Result<Descriptor, LineFault>
     descriptor_of(alloc, value)
 }
 
+/// A generateKey: its members `key` and `params`.
 pub fn generate_key(alloc: Global, object: &Value) -> Result<Act, LineFault>
     ensures { Gives result (act_of names.GenerateKey (view object.now)) }
 {
@@ -48,6 +49,7 @@ pub fn generate_key(alloc: Global, object: &Value) -> Result<Act, LineFault>
     Ok(Act::GenerateKey { key, params })
 }
 
+/// An importKey: its members `key`, `params`, `format` (32 bits) and `material` (hex).
 pub fn import_key(alloc: Global, object: &Value) -> Result<Act, LineFault>
     ensures { Gives result (act_of names.ImportKey (view object.now)) }
 {
@@ -63,6 +65,7 @@ pub fn import_key(alloc: Global, object: &Value) -> Result<Act, LineFault>
     })
 }
 
+/// A createOperation: its members `key` and `params`, and `forced`, a truth value that is false where it is not there.
 pub fn create_operation(alloc: Global, object: &Value) -> Result<Act, LineFault>
     ensures { Gives result (act_of names.CreateOperation (view object.now)) }
 {
@@ -76,6 +79,7 @@ pub fn create_operation(alloc: Global, object: &Value) -> Result<Act, LineFault>
     })
 }
 
+/// A getKeyEntry: its member `key`.
 pub fn get_key_entry(alloc: Global, object: &Value) -> Result<Act, LineFault>
     ensures { Gives result (act_of names.GetKeyEntry (view object.now)) }
 {
@@ -83,6 +87,7 @@ pub fn get_key_entry(alloc: Global, object: &Value) -> Result<Act, LineFault>
     Ok(Act::GetKeyEntry { key })
 }
 
+/// A deleteKey: its member `key`.
 pub fn delete_key(alloc: Global, object: &Value) -> Result<Act, LineFault>
     ensures { Gives result (act_of names.DeleteKey (view object.now)) }
 {
@@ -90,6 +95,7 @@ pub fn delete_key(alloc: Global, object: &Value) -> Result<Act, LineFault>
     Ok(Act::DeleteKey { key })
 }
 
+/// A grant: its members `key`, `uid` and `bits` (32 bits each).
 pub fn grant(alloc: Global, object: &Value) -> Result<Act, LineFault>
     ensures { Gives result (act_of names.Grant (view object.now)) }
 {
@@ -99,6 +105,7 @@ pub fn grant(alloc: Global, object: &Value) -> Result<Act, LineFault>
     Ok(Act::Grant { key, uid, bits })
 }
 
+/// An ungrant: its members `key` and `uid`.
 pub fn ungrant(alloc: Global, object: &Value) -> Result<Act, LineFault>
     ensures { Gives result (act_of names.Ungrant (view object.now)) }
 {
@@ -107,6 +114,7 @@ pub fn ungrant(alloc: Global, object: &Value) -> Result<Act, LineFault>
     Ok(Act::Ungrant { key, uid })
 }
 
+/// A getNumberOfEntries: its members `domain` and `nspace`, which is 0 where it is not there.
 pub fn get_number_of_entries(object: &Value) -> Result<Act, LineFault>
     ensures { Gives result (act_of names.GetNumberOfEntries (view object.now)) }
 {
@@ -115,6 +123,8 @@ pub fn get_number_of_entries(object: &Value) -> Result<Act, LineFault>
     Ok(Act::GetNumberOfEntries { domain, nspace })
 }
 
+/// A listEntriesBatched: its members `domain`, `nspace` and `past`, the alias behind which the page begins, where there is
+/// one.
 pub fn list_entries_batched(alloc: Global, object: &Value) -> Result<Act, LineFault>
     ensures { Gives result (act_of names.ListEntriesBatched (view object.now)) }
 {
@@ -128,6 +138,7 @@ pub fn list_entries_batched(alloc: Global, object: &Value) -> Result<Act, LineFa
     })
 }
 
+/// A clearNamespace: its members `domain` and `nspace`.
 pub fn clear_namespace(object: &Value) -> Result<Act, LineFault>
     ensures { Gives result (act_of names.ClearNamespace (view object.now)) }
 {

@@ -12,6 +12,7 @@ use rule_model::Act;
 use serde_json::Value;
 use std::alloc::Global;
 
+/// A connect: its member `uid`.
 pub fn connect(object: &Value) -> Result<Act, LineFault>
     ensures { Gives result (act_of names.Connect (view object.now)) }
 {
@@ -19,6 +20,8 @@ pub fn connect(object: &Value) -> Result<Act, LineFault>
     Ok(Act::Connect { uid })
 }
 
+/// An addAuthToken: its members `challenge`, `user`, `authenticator`, `kind`, `time` (milliseconds) and `mac` (hex of 32
+/// bytes).
 pub fn add_auth_token(alloc: Global, object: &Value) -> Result<Act, LineFault>
     ensures { Gives result (act_of names.AddAuthToken (view object.now)) }
 {
@@ -38,6 +41,7 @@ pub fn add_auth_token(alloc: Global, object: &Value) -> Result<Act, LineFault>
     })
 }
 
+/// A deviceLocked: its member `user`.
 pub fn device_locked(object: &Value) -> Result<Act, LineFault>
     ensures { Gives result (act_of names.DeviceLocked (view object.now)) }
 {
@@ -45,6 +49,7 @@ pub fn device_locked(object: &Value) -> Result<Act, LineFault>
     Ok(Act::DeviceLocked { user })
 }
 
+/// A deviceUnlocked: its member `user`.
 pub fn device_unlocked(object: &Value) -> Result<Act, LineFault>
     ensures { Gives result (act_of names.DeviceUnlocked (view object.now)) }
 {
@@ -52,6 +57,7 @@ pub fn device_unlocked(object: &Value) -> Result<Act, LineFault>
     Ok(Act::DeviceUnlocked { user })
 }
 
+/// A userRemoved: its member `user`.
 pub fn user_removed(object: &Value) -> Result<Act, LineFault>
     ensures { Gives result (act_of names.UserRemoved (view object.now)) }
 {
@@ -59,6 +65,7 @@ pub fn user_removed(object: &Value) -> Result<Act, LineFault>
     Ok(Act::UserRemoved { user })
 }
 
+/// A restart: its member `root` (hex of 32 bytes), where there is one.
 pub fn restart(alloc: Global, object: &Value) -> Result<Act, LineFault>
     ensures { Gives result (act_of names.Restart (view object.now)) }
 {

@@ -12,6 +12,7 @@ use rule_model::Act;
 use serde_json::Value;
 use std::alloc::Global;
 
+/// An updateAad: its members `op` and `input` (hex), which is empty where it is not there.
 pub fn update_aad(alloc: Global, object: &Value) -> Result<Act, LineFault>
     ensures { Gives result (act_of names.UpdateAad (view object.now)) }
 {
@@ -20,6 +21,7 @@ pub fn update_aad(alloc: Global, object: &Value) -> Result<Act, LineFault>
     Ok(Act::EnterAad { op, input })
 }
 
+/// An update: its members `op` and `input` (hex), which is empty where it is not there.
 pub fn update(alloc: Global, object: &Value) -> Result<Act, LineFault>
     ensures { Gives result (act_of names.Update (view object.now)) }
 {
@@ -28,6 +30,7 @@ pub fn update(alloc: Global, object: &Value) -> Result<Act, LineFault>
     Ok(Act::EnterUpdate { op, input })
 }
 
+/// A finish: its members `op` and `input`, and `signature` (hex), where there is one.
 pub fn finish(alloc: Global, object: &Value) -> Result<Act, LineFault>
     ensures { Gives result (act_of names.Finish (view object.now)) }
 {
@@ -41,6 +44,7 @@ pub fn finish(alloc: Global, object: &Value) -> Result<Act, LineFault>
     })
 }
 
+/// An abort: its member `op`.
 pub fn abort(object: &Value) -> Result<Act, LineFault>
     ensures { Gives result (act_of names.Abort (view object.now)) }
 {
@@ -48,6 +52,7 @@ pub fn abort(object: &Value) -> Result<Act, LineFault>
     Ok(Act::Abort { op })
 }
 
+/// A leave: its member `ticket`.
 pub fn leave(object: &Value) -> Result<Act, LineFault>
     ensures { Gives result (act_of names.Leave (view object.now)) }
 {

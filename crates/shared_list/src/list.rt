@@ -28,13 +28,17 @@ impl History<Entry, ()> for PlainList {
 /// A list behind the turn lock. It needs no name, since any list will do.
 pub type ListLock = TurnLock<PlainList, Entry, ()>;
 
+/// A pass to the lock.
 pub type ListPass = Pass<PlainList, Entry, ()>;
 
+/// What makes passes to the lock.
 pub type ListMaker = Maker<PlainList, Entry, ()>;
 
+/// A lock whose passes come back.
 pub type ListClosing = Closing<PlainList, Entry, ()>;
 
 impl PlainList {
+    /// An empty list.
     pub fn new(alloc: Global) -> PlainList
         ensures { result.entries.items ≡ [] }
     {

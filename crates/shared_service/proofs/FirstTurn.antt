@@ -60,9 +60,12 @@ call_full pass reading act front book served begins passes stays is = Full (reco
 parting_same : (act : Act) (pass : ℕ) (f g : List BookEntry) → lock.own by pass f ≡ lock.own by pass g → is_parting act pass (log_of g) ≡ false → is_parting act pass (log_of f) ≡ false
 parting_same act pass f g same stays = ap (λ (b : Bool). is_disconnect act && b) (same_connected pass f g same) ∙ stays
 
-pub call_poor : (pass : ℕ) (reading : Reading) (act : Act) (front book next : List BookEntry) (served : Served) → IsFrontOf by pass front book → next ≡ front → is_parting act pass (log_of book) ≡ false
+pub call_poor : (pass : ℕ) (reading : Reading) (act : Act) (front book next : List BookEntry) (served : Served) → IsFrontOf by pass front book → next ≡ front → passes_limit act (log_of book) ≡ false → is_parting act pass (log_of book) ≡ false
     → served ≡ Refused MemoryAllocationFailed → IsCall pass reading act front next served
-call_poor pass reading act front book next served begins same stays is = Poor (record {
+call_poor pass reading act front book next served begins same within stays is = Poor (record {
+  log = book;
+  begins = begins;
+  within = within;
   same = same;
   stays = ap (λ (l : List BookEntry). is_parting act pass (log_of l)) same ∙ parting_same act pass front book begins.owned stays;
   is_want = ap (λ (s : Served). s.reply) is;

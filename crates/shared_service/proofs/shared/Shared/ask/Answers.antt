@@ -112,7 +112,7 @@ returns-in-Poor g c =
         ours = c.seated-in-Poor.ensures.ours;
         number_is = c.seated-in-Poor.ensures.number ∙ rested;
         calls = ∣ call_at (number_of mine) n c.args.reading c.args.request (front_of mine) (front_of mine) (front_of c.seated-in-Poor.result) c.refused-in-Poor.result (sym number) fronted
-            (call_poor n c.args.reading c.args.request (front_of mine) before (front_of mine) c.refused-in-Poor.result begins refl requests.2 c.refused-in-Poor.ensures) ∣₁;
+            (call_poor n c.args.reading c.args.request (front_of mine) before (front_of mine) c.refused-in-Poor.result begins refl requests.1 requests.2 c.refused-in-Poor.ensures) ∣₁;
         connected_is = c.seated-in-Poor.ensures.connected ∙ refused_connected c.args.request MemoryAllocationFailed c.refused-in-Poor.result mine.connected c.refused-in-Poor.ensures;
         parts = refused_parts c.args.request n (log_of before) mine.connected c.refused-in-Poor.result.reply caller.connected_is requests.2;
         told = refused_told MemoryAllocationFailed c.refused-in-Poor.result c.refused-in-Poor.ensures;
