@@ -44,7 +44,7 @@ module _ {D : Type 0} (d : DiskGhosts D) where
       → AllImages d new (λ image. OpensStore image (Err fault)) → ((part : Lasting) → AllImages d old (IsStoreOf part) → tells d old ≡ true → OpensFor part (Err fault))
       → IsRefused d old new (refusal_of fault)
   refused old new faults.Device images passes cause reads finds = record { images = images; passes = passes; later = cause.0; refuses = cause.1 }
-  refused old new (faults.Corrupted offset) images passes cause reads finds = record { images = images; passes = passes; later = omega (arith, cause); refuses = record { bad = reads; no_store = finds } }
+  refused old new (faults.Corrupted offset) images passes cause reads finds = record { images = images; passes = passes; later = omega (arith, cause); refuses = record { bad = reads; same = cause; no_store = finds } }
   refused old new faults.Memory images passes cause reads finds = record { images = images; passes = passes; later = omega (arith, cause); refuses = cause }
 
   -- one that found no memory before it called the disk

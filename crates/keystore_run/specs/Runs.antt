@@ -60,12 +60,14 @@ module _ {D : Type 0} (d : DiskGhosts D) where
     pub count : d.fault_count new ≡ d.fault_count old
     pub telling : tells d new ≡ tells d old
 
-  -- why a store was not opened: want of memory; a failed device call; or what each image then has wrong, at this place, which comes
-  -- over no disk that tells its content where all images stood for one lasting part
+  -- each image has this wrong, at this place, and no call failed; this comes over no disk that tells its content where all images
+  -- stood for one lasting part
   pub record IsBad (old new : D) (offset : ℕ) : Type 0 where
     pub bad : AllImages d new (λ image. IsBadStore image offset)
+    pub same : d.fault_count new ≡ d.fault_count old
     pub no_store : (part : Lasting) → AllImages d old (StandsFor part) → tells d old ≡ true → ⊥
 
+  -- why a store was not opened: want of memory, a failed device call, or bytes that are no store
   abbrev pub Refuses : D → D → Status → Type 0
   Refuses old new statuses.Memory = d.fault_count new ≡ d.fault_count old
   Refuses old new statuses.DiskFault = Rises (d.fault_count old) (d.fault_count new)
