@@ -15,7 +15,7 @@ use Rattle.rule_model.specs.Setup.{Setup}
 use Rattle.keystore_core.specs.Engine.{MayHold, MayHoldEither}
 use Rattle.keystore_core.specs.Opening.{IsUnwritten}
 use Rattle.keystore_core.specs.Restarting.{is_other_store}
-use Rattle.keystore_run.specs.Kept.{AtSome, IsFront, Keeps, KeepsMore, estranged_of, failed_of}
+use Rattle.keystore_run.specs.Kept.{AtSome, AtSomeSince, IsFront, Keeps, KeepsMore, estranged_of, failed_of}
 use Rattle.keystore_run.proofs.DrawLemmas.{counted, unchanged}
 
 -- ---- fronts
@@ -39,9 +39,20 @@ front_step (Some settled) event drawn reply past = (Acted event drawn reply ∷ 
 some_on : (setup : Setup) (mid later : History) (c : List ℕ) → IsFront mid later → AtSome setup mid c → AtSome setup later c
 some_on setup mid later c front (at, is, held) = (at, front_on at mid later is front, held)
 
-either_some : (setup : Setup) (past later : History) (c : List ℕ) → IsFront past later → MayHoldEither setup past later c → AtSome setup later c
-either_some setup past later c front (inl held) = (past, front, held)
-either_some setup past later c front (inr held) = (later, front_self later, held)
+-- what holds since an earlier history, up to a later one still
+since_more : (setup : Setup) (past mid later : History) (c : List ℕ) → IsFront mid later → AtSomeSince setup past mid c → AtSomeSince setup past later c
+since_more setup past mid later c front (at, since, is, held) = (at, since, front_on at mid later is front, held)
+
+-- and since an earlier history still
+since_less : (setup : Setup) (past mid later : History) (c : List ℕ) → IsFront past mid → AtSomeSince setup mid later c → AtSomeSince setup past later c
+since_less setup past mid later c front (at, since, is, held) = (at, front_on past mid at front since, is, held)
+
+since_any : (setup : Setup) (past later : History) (c : List ℕ) → AtSomeSince setup past later c → AtSome setup later c
+since_any setup past later c (at, since, is, held) = (at, is, held)
+
+either_since : (setup : Setup) (past later : History) (c : List ℕ) → IsFront past later → MayHoldEither setup past later c → AtSomeSince setup past later c
+either_since setup past later c front (inl held) = (past, front_self past, front, held)
+either_since setup past later c front (inr held) = (later, front, front_self later, held)
 
 -- ---- what was counted
 
@@ -63,7 +74,7 @@ module _ {D : Type 0} (d : Ghosts D) (setup : Setup) where
   pub keeps_nothing : (disk : D) (past : History) → KeepsMore d setup disk disk past past false
   keeps_nothing disk past = record {
     front = front_self past;
-    passes = passes_none d disk (AtSome setup past);
+    passes = passes_none d disk (AtSomeSince setup past past);
     faults = counts_none (d.fault_count disk);
     failures = refl;
     telling = refl;
@@ -78,8 +89,8 @@ module _ {D : Type 0} (d : Ghosts D) (setup : Setup) where
       → KeepsMore d setup old new past (after_step settled event drawn reply past) (is_disk_fault reply)
   keeps_step old new past settled event drawn reply passes faults telling same = record {
     front = front_step settled event drawn reply past;
-    passes = passes_as d old new _ (AtSome setup (after_step settled event drawn reply past)) passes
-        (λ c held. either_some setup past (after_step settled event drawn reply past) c (front_step settled event drawn reply past) held);
+    passes = passes_as d old new _ (AtSomeSince setup past (after_step settled event drawn reply past)) passes
+        (λ c held. either_since setup past (after_step settled event drawn reply past) c (front_step settled event drawn reply past) held);
     faults = faults;
     failures = ap (λ n. if is_disk_fault reply then n + 1 else n) (settled_failed settled past);
     telling = telling;
@@ -90,7 +101,8 @@ module _ {D : Type 0} (d : Ghosts D) (setup : Setup) where
   pub keeps_both : (a b c : D) (past mid later : History) (failed : Bool) → KeepsMore d setup a b past mid false → KeepsMore d setup b c mid later failed → KeepsMore d setup a c past later failed
   keeps_both a b c past mid later failed first second = record {
     front = front_on past mid later first.front second.front;
-    passes = passes_on d a b c (AtSome setup mid) (AtSome setup later) (AtSome setup later) first.passes second.passes (λ image. some_on setup mid later image second.front) (λ image held. held);
+    passes = passes_on d a b c (AtSomeSince setup past mid) (AtSomeSince setup mid later) (AtSomeSince setup past later) first.passes second.passes
+        (λ image. since_more setup past mid later image second.front) (λ image. since_less setup past mid later image first.front);
     faults = counts_on _ _ _ false failed first.faults second.faults;
     failures = second.failures ∙ ap (λ n. if failed then n + 1 else n) first.failures;
     telling = second.telling ∙ first.telling;
@@ -124,8 +136,8 @@ module _ {D : Type 0} (d : Ghosts D) (setup : Setup) where
 
   pub since_on : (begin mid new : D) (past later : History) (failed : Bool) → KeptSince begin mid past → KeepsMore d setup mid new past later failed → KeptSince begin new later
   since_on begin mid new past later failed since more = record {
-    passes = passes_on d begin mid new (Came begin past) (AtSome setup later) (Came begin later) since.passes more.passes
-        (λ c came. ⊎_elim (λ image. inl image) (λ held. inr (some_on setup past later c more.front held)) came) (λ c held. inr held);
+    passes = passes_on d begin mid new (Came begin past) (AtSomeSince setup past later) (Came begin later) since.passes more.passes
+        (λ c came. ⊎_elim (λ image. inl image) (λ held. inr (some_on setup past later c more.front held)) came) (λ c held. inr (since_any setup past later c held));
     faults = counted failed (failed_of past) (failed_of later) (d.fault_count begin) (d.fault_count mid) (d.fault_count new) since.faults more.failures more.faults.later more.faults.rises;
     none = unchanged failed (failed_of past) (failed_of later) (d.fault_count begin) (d.fault_count mid) (d.fault_count new) since.none more.failures more.faults.same;
     later = omega (arith, since.later, more.faults.later);

@@ -1,5 +1,6 @@
 -- A store that was opened, and the run over it.
-use Rattle.std.proofs.Common.{◌≡◌, ℕ, ◌≤◌, Bool, true, false, [], Err, refl, sym, ◌∙◌, subst, arith}
+use Rattle.std.proofs.Common.{◌≡◌, ℕ, ◌≤◌, Bool, true, false, [], Option, Some, None, Err, refl, sym, ◌∙◌, subst, arith}
+use Rattle.ks_outside.specs.Faults.{Rises}
 use Rattle.ks_outside.specs.Images.{AllImages, Passes, tells}
 use Rattle.ks_outside.specs.Shown.{Outside}
 use Rattle.ks_outside.specs.declared.disk.Disk.{Ghosts as DiskGhosts}
@@ -20,7 +21,7 @@ use Rattle.keystore_run.specs.declared.status.Status.{Status}
 use Rattle.keystore_run.specs.declared.status.Status.TheVariants as statuses
 use Rattle.keystore_run.specs.Ends.{Ends}
 use Rattle.keystore_run.specs.Jobs.{JobsStand}
-use Rattle.keystore_run.specs.Runs.{Formats, Given, IsCause, IsRefused, Opened, Refused, Runs, RunsFresh, Formatted, Unformatted, is_disk_status, refusal_of}
+use Rattle.keystore_run.specs.Runs.{Formats, Given, IsCause, IsRefused, Opened, Refused, Runs, RunsFresh, Formatted, Unformatted, disk_told, refusal_of}
 use Rattle.keystore_run.specs.Session.{StandsFor, engine_of, jobs_of}
 
 -- a session over an engine that was opened
@@ -44,58 +45,71 @@ module _ {D : Type 0} (d : DiskGhosts D) where
       → AllImages d new (λ image. OpensStore image (Err fault)) → ((part : Lasting) → AllImages d old (IsStoreOf part) → tells d old ≡ true → OpensFor part (Err fault))
       → IsRefused d old new (refusal_of fault)
   refused old new faults.Device images passes cause reads finds = record { images = images; passes = passes; later = cause.0; refuses = cause.1 }
-  refused old new (faults.Corrupted offset) images passes cause reads finds = record { images = images; passes = passes; later = omega (arith, cause); refuses = record { bad = reads; no_store = finds } }
+  refused old new (faults.Corrupted offset) images passes cause reads finds = record { images = images; passes = passes; later = omega (arith, cause); refuses = record { bad = reads; same = cause; no_store = finds } }
   refused old new faults.Memory images passes cause reads finds = record { images = images; passes = passes; later = omega (arith, cause); refuses = cause }
 
   -- one that found no memory before it called the disk
   pub refused_early : (disk : D) → IsRefused d disk disk statuses.Memory
   refused_early disk = record { images = λ c image. image; passes = passes_none d disk (d.images disk); later = omega arith; refuses = refl }
 
--- ---- the status that tells a fault of the disk
+-- ---- what a status tells of the disk's faults
 
-pub fine : {before now : ℕ} (told : Bool) → told ≡ false → before ≤ now → IsCause before now told
-fine told e later = record { later = later; rises = λ f. absurd (let no : ◌≡◌ {A = Bool} true false = sym f ∙ e in cc) }
+pub fine : {before now : ℕ} (told : Option Bool) → told ≡ None → before ≤ now → IsCause before now told
+fine told e later = record {
+  later = later;
+  rises = λ t. absurd (let no : ◌≡◌ {A = Option Bool} (Some true) None = sym t ∙ e in cc);
+  same = λ t. absurd (let no : ◌≡◌ {A = Option Bool} (Some false) None = sym t ∙ e in cc);
+}
+
+-- a call failed
+failing : {before now : ℕ} → before ≤ now → Rises before now → IsCause before now (Some true)
+failing later rises = record { later = later; rises = λ t. rises; same = λ t. absurd (let no : ◌≡◌ {A = Option Bool} (Some true) (Some false) = t in cc) }
+
+-- none did
+faultless : {before now : ℕ} → now ≡ before → IsCause before now (Some false)
+faultless same = record { later = omega (arith, same); rises = λ t. absurd (let no : ◌≡◌ {A = Option Bool} (Some false) (Some true) = t in cc); same = λ t. same }
 
 module _ {S K D N : Type 0} (s : SourceGhosts S) (k : SinkGhosts K) (d : DiskGhosts D) (n : EntropyGhosts N) where
   -- what the end of a run says of the disk's faults
-  ends_cause : (setup : Setup) (old new : Outside S K D N) (status : Status) → Ends s k d n setup old new status → IsCause (d.fault_count old.disk) (d.fault_count new.disk) (is_disk_status status)
-  ends_cause setup old new statuses.Ok ends = fine false refl ends.served.keeps.later
-  ends_cause setup old new statuses.Memory ends = fine false refl ends.keeps.later
-  ends_cause setup old new statuses.ReadFault ends = fine false refl ends.amid.served.keeps.later
-  ends_cause setup old new statuses.WriteFault ends = fine false refl ends.keeps.later
-  ends_cause setup old new (statuses.LineTooLong line) ends = fine false refl ends.amid.served.keeps.later
-  ends_cause setup old new statuses.ScriptTooLong ends = fine false refl ends.amid.served.keeps.later
+  ends_cause : (setup : Setup) (old new : Outside S K D N) (status : Status) → Ends s k d n setup old new status → IsCause (d.fault_count old.disk) (d.fault_count new.disk) (disk_told status)
+  ends_cause setup old new statuses.Ok ends = fine None refl ends.served.keeps.later
+  ends_cause setup old new statuses.Memory ends = fine None refl ends.keeps.later
+  ends_cause setup old new statuses.ReadFault ends = fine None refl ends.amid.served.keeps.later
+  ends_cause setup old new statuses.WriteFault ends = fine None refl ends.keeps.later
+  ends_cause setup old new (statuses.LineTooLong line) ends = fine None refl ends.amid.served.keeps.later
+  ends_cause setup old new statuses.ScriptTooLong ends = fine None refl ends.amid.served.keeps.later
   ends_cause setup old new statuses.DiskFault ends = absurd ends
   ends_cause setup old new statuses.Usage ends = absurd ends
   ends_cause setup old new (statuses.Corrupted offset) ends = absurd ends
   ends_cause setup old new statuses.ListenFault ends = absurd ends
 
-  refuses_cause : (old new : D) (status : Status) → IsRefused d old new status → IsCause (d.fault_count old) (d.fault_count new) (is_disk_status status)
-  refuses_cause old new statuses.DiskFault refused = record { later = refused.later; rises = λ told. refused.refuses }
-  refuses_cause old new statuses.Ok refused = fine false refl refused.later
-  refuses_cause old new statuses.Memory refused = fine false refl refused.later
-  refuses_cause old new statuses.ReadFault refused = fine false refl refused.later
-  refuses_cause old new statuses.WriteFault refused = fine false refl refused.later
-  refuses_cause old new (statuses.LineTooLong line) refused = fine false refl refused.later
-  refuses_cause old new statuses.ScriptTooLong refused = fine false refl refused.later
-  refuses_cause old new statuses.Usage refused = fine false refl refused.later
-  refuses_cause old new (statuses.Corrupted offset) refused = fine false refl refused.later
-  refuses_cause old new statuses.ListenFault refused = fine false refl refused.later
+  refuses_cause : (old new : D) (status : Status) → IsRefused d old new status → IsCause (d.fault_count old) (d.fault_count new) (disk_told status)
+  refuses_cause old new statuses.DiskFault refused = failing refused.later refused.refuses
+  refuses_cause old new statuses.Ok refused = fine None refl refused.later
+  refuses_cause old new statuses.Memory refused = fine None refl refused.later
+  refuses_cause old new statuses.ReadFault refused = fine None refl refused.later
+  refuses_cause old new statuses.WriteFault refused = fine None refl refused.later
+  refuses_cause old new (statuses.LineTooLong line) refused = fine None refl refused.later
+  refuses_cause old new statuses.ScriptTooLong refused = fine None refl refused.later
+  refuses_cause old new statuses.Usage refused = absurd refused.refuses
+  refuses_cause old new (statuses.Corrupted offset) refused = faultless refused.refuses.same
+  refuses_cause old new statuses.ListenFault refused = fine None refl refused.later
 
   -- a cause since a moment before which no call failed
-  cause_since : (told : Bool) {before begin now : ℕ} → begin ≡ before → IsCause begin now told → IsCause before now told
+  cause_since : (told : Option Bool) {before begin now : ℕ} → begin ≡ before → IsCause begin now told → IsCause before now told
   cause_since told {now = now} same cause = subst (λ m. IsCause m now told) same cause
 
   pub runs_cause : (g : Given) (begin : D → D) (old new : Outside S K D N) (status : Status) → ((setup : Setup) (opened : D) → IsRead d setup old.disk opened → d.fault_count (begin opened) ≡ d.fault_count old.disk)
-      → Runs s k d n g begin old new status → IsCause (d.fault_count old.disk) (d.fault_count new.disk) (is_disk_status status)
+      → Runs s k d n g begin old new status → IsCause (d.fault_count old.disk) (d.fault_count new.disk) (disk_told status)
   runs_cause g begin old new status same (Opened opened runs) =
-      cause_since (is_disk_status status) (same runs.setup opened runs.read) (ends_cause runs.setup (record old { disk = begin opened }) new status runs.ends)
+      cause_since (disk_told status) (same runs.setup opened runs.read) (ends_cause runs.setup (record old { disk = begin opened }) new status runs.ends)
   runs_cause g begin old new status same (Refused untouched refused) = refuses_cause old.disk new.disk status refused
 
-  pub fresh_cause : (g : Given) (old new : Outside S K D N) (status : Status) → RunsFresh s k d n g old new status → IsCause (d.fault_count old.disk) (d.fault_count new.disk) (is_disk_status status)
+  pub fresh_cause : (g : Given) (old new : Outside S K D N) (status : Status) → RunsFresh s k d n g old new status → IsCause (d.fault_count old.disk) (d.fault_count new.disk) (disk_told status)
   fresh_cause g old new status (Formatted formatted is runs) =
-      cause_since (is_disk_status status) is.count (runs_cause g (λ opened. opened) (record old { disk = formatted }) new status (λ setup opened read. read.unwritten.count) runs)
-  fresh_cause g old new status (Unformatted untouched torn) = record { later = torn.later; rises = λ told. torn.rises }
+      cause_since (disk_told status) is.count (runs_cause g (λ opened. opened) (record old { disk = formatted }) new status (λ setup opened read. read.unwritten.count) runs)
+  fresh_cause g old new status (Unformatted untouched torn) =
+      subst (λ x. IsCause (d.fault_count old.disk) (d.fault_count new.disk) (disk_told x)) (sym torn.is_fault) (failing torn.later torn.rises)
 
   -- a run of a form never ends with the status of words that are none
   ends_usage : (setup : Setup) (old new : Outside S K D N) (status : Status) → Ends s k d n setup old new status → status ≡ statuses.Usage → ⊥
@@ -110,9 +124,9 @@ module _ {S K D N : Type 0} (s : SourceGhosts S) (k : SinkGhosts K) (d : DiskGho
   fresh_usage g old new status (Unformatted untouched torn) e = absurd (let no = sym torn.is_fault ∙ e in cc)
 
 -- what a formatting says of the disk's faults
-pub formats_cause : {D : Type 0} (d : DiskGhosts D) (old new : D) (status : Status) → Formats d old new status → IsCause (d.fault_count old) (d.fault_count new) (is_disk_status status)
-formats_cause d old new statuses.Ok is = fine false refl (omega (arith, is.count))
-formats_cause d old new statuses.DiskFault torn = record { later = torn.later; rises = λ told. torn.rises }
+pub formats_cause : {D : Type 0} (d : DiskGhosts D) (old new : D) (status : Status) → Formats d old new status → IsCause (d.fault_count old) (d.fault_count new) (disk_told status)
+formats_cause d old new statuses.Ok is = fine None refl (omega (arith, is.count))
+formats_cause d old new statuses.DiskFault torn = failing torn.later torn.rises
 formats_cause d old new statuses.Memory none = absurd none
 formats_cause d old new statuses.Usage none = absurd none
 formats_cause d old new statuses.ReadFault none = absurd none

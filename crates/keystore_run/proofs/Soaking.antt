@@ -41,7 +41,7 @@ use Rattle.keystore_run.specs.Ends.{is_read_fault}
 use Rattle.keystore_run.specs.Follows.{Follows}
 use Rattle.keystore_run.specs.Jobs.{JobsStand}
 use Rattle.keystore_run.specs.Loading.{IsEmptyDisk, IsLoadSession, IsLoaded}
-use Rattle.keystore_run.specs.Runs.{is_disk_status}
+use Rattle.keystore_run.specs.Runs.{disk_told}
 use Rattle.keystore_run.specs.Session.{Serves, StandsFor, devices, engine_of, jobs_of}
 use Rattle.keystore_run.specs.Soak.{AreLasting, IsLoadSetup, IsSummaryOf, Soaks, demo_device, demo_policy, is_failure, number_of, numbers_of, tells_failure, text_of}
 use Rattle.keystore_run.proofs.DrawLemmas.{drew_none, drew_on}
@@ -249,7 +249,7 @@ module _ {K : Type 0} (k : SinkGhosts K) where
   pub soak_usage : (seed lines : ℕ) (old new : K) (status : Status) → Soaks k seed lines old new status → status ≡ statuses.Usage → ⊥
   soak_usage seed lines old new status soaks e = subst (λ (s : Status). Soaks k seed lines old new s) e soaks
 
-  pub soak_disk : (seed lines : ℕ) (old new : K) (status : Status) → Soaks k seed lines old new status → is_disk_status status ≡ false
+  pub soak_disk : (seed lines : ℕ) (old new : K) (status : Status) → Soaks k seed lines old new status → disk_told status ≡ None
   soak_disk seed lines old new statuses.Ok soaks = refl
   soak_disk seed lines old new statuses.Memory soaks = refl
   soak_disk seed lines old new statuses.WriteFault soaks = refl

@@ -20,6 +20,10 @@ IsFront front later = (more : History) × (later ≡ more ++ front)
 abbrev pub AtSome : Setup → History → List ℕ → Type 0
 AtSome setup later image = (front : History) × IsFront front later × MayHold setup front image
 
+-- an image stands for a lasting part that may be kept after a history between an earlier one and a later one
+abbrev pub AtSomeSince : Setup → History → History → List ℕ → Type 0
+AtSomeSince setup past later image = (front : History) × IsFront past front × IsFront front later × MayHold setup front image
+
 -- an entry that was answered because a device call of the disk failed
 abbrev pub is_failed : Entry → Bool
 is_failed (Acted event drawn reply) = is_disk_fault reply
@@ -41,11 +45,11 @@ estranged_of [] = 0
 estranged_of (entry ∷ past) = if is_estranged entry then estranged_of past + 1 else estranged_of past
 
 -- A history went on over a disk, and a device call failed or none did. At each moment each image that came stands for what may be
--- kept after some front of the later history. One of its new entries was answered for a failed device call exactly where one
--- failed. Over a disk that tells its content none of them read another store.
+-- kept after a history between the earlier one and the later one. One of its new entries was answered for a failed device call
+-- exactly where one failed. Over a disk that tells its content none of them read another store.
 pub record KeepsMore {D : Type 0} (d : Ghosts D) (setup : Setup) (old new : D) (past later : History) (failed : Bool) : Type 0 where
   pub front : IsFront past later
-  pub passes : Passes d old new (AtSome setup later)
+  pub passes : Passes d old new (AtSomeSince setup past later)
   pub faults : CountsFaults (d.fault_count old) (d.fault_count new) failed
   pub failures : failed_of later ≡ (if failed then failed_of past + 1 else failed_of past)
   pub telling : tells d new ≡ tells d old

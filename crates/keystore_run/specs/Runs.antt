@@ -1,5 +1,5 @@
 -- What the words of a command line do: how a store is made and opened, and how the run over it ends.
-use Rattle.std.specs.Prelude.{◌≡◌, ℕ, ◌≤◌, Bool, true, false, List, Result, Ok, Err}
+use Rattle.std.specs.Prelude.{◌≡◌, ℕ, ◌≤◌, Bool, true, false, List, Option, Some, None, Result, Ok, Err}
 use Rattle.ks_outside.specs.Faults.{Rises}
 use Rattle.ks_outside.specs.Images.{AllImages, Passes, tells}
 use Rattle.ks_outside.specs.Shown.{Outside}
@@ -22,10 +22,11 @@ use Rattle.keystore_run.specs.declared.words.Form.TheVariants.{Init, Run, Soak}
 use Rattle.keystore_run.specs.Ends.{Ends}
 use Rattle.keystore_run.specs.Soak.{Soaks}
 
--- a count of faults never falls, and where this is told it rose
-pub record IsCause (before now : ℕ) (told : Bool) : Type 0 where
+-- a count of faults never falls; where it is told that a call failed it rose, and where it is told that none did it stayed
+pub record IsCause (before now : ℕ) (told : Option Bool) : Type 0 where
   pub later : before ≤ now
-  pub rises : told ≡ true → Rises before now
+  pub rises : told ≡ Some true → Rises before now
+  pub same : told ≡ Some false → now ≡ before
 
 -- what a run is given beside its script: the device's secrets, the policy, and the slots
 pub record Given : Type 0 where
@@ -47,10 +48,12 @@ abbrev pub formatted_as : {E : Type 0} → Result (Unit {0}) E → Status
 formatted_as (Ok u) = statuses.Ok
 formatted_as (Err e) = statuses.DiskFault
 
--- whether a status tells a fault of the disk
-abbrev pub is_disk_status : Status → Bool
-is_disk_status statuses.DiskFault = true
-is_disk_status _ = false
+-- what a status alone tells of the disk: that a call of it failed, or that none did
+abbrev pub disk_told : Status → Option Bool
+disk_told statuses.DiskFault = Some true
+disk_told (statuses.Corrupted offset) = Some false
+disk_told statuses.Usage = Some false
+disk_told _ = None
 
 module _ {D : Type 0} (d : DiskGhosts D) where
   -- the disk was formatted: each image stands for the empty lasting part
@@ -60,12 +63,14 @@ module _ {D : Type 0} (d : DiskGhosts D) where
     pub count : d.fault_count new ≡ d.fault_count old
     pub telling : tells d new ≡ tells d old
 
-  -- why a store was not opened: want of memory; a failed device call; or what each image then has wrong, at this place, which comes
-  -- over no disk that tells its content where all images stood for one lasting part
+  -- each image has this wrong, at this place, and no call failed; this comes over no disk that tells its content where all images
+  -- stood for one lasting part
   pub record IsBad (old new : D) (offset : ℕ) : Type 0 where
     pub bad : AllImages d new (λ image. IsBadStore image offset)
+    pub same : d.fault_count new ≡ d.fault_count old
     pub no_store : (part : Lasting) → AllImages d old (StandsFor part) → tells d old ≡ true → ⊥
 
+  -- why a store was not opened: want of memory, a failed device call, or bytes that are no store
   abbrev pub Refuses : D → D → Status → Type 0
   Refuses old new statuses.Memory = d.fault_count new ≡ d.fault_count old
   Refuses old new statuses.DiskFault = Rises (d.fault_count old) (d.fault_count new)

@@ -7,7 +7,7 @@ ghost use Rattle.rule_model.specs.Setup.{Setup};
 ghost use Rattle.keystore_run.specs.Complete.{AreFaultless, Completes, IsReady};
 ghost use Rattle.keystore_run.specs.Ends.{Ends, is_read_fault, is_write_fault, outside};
 ghost use Rattle.keystore_core.specs.Opening.{IsUnwritten};
-ghost use Rattle.keystore_run.specs.Runs.{Does, Formats, IsCause, Runs, RunsFresh, formatted_as, given, is_disk_status, refusal_of};
+ghost use Rattle.keystore_run.specs.Runs.{Does, Formats, IsCause, Runs, RunsFresh, disk_told, formatted_as, given, refusal_of};
 ghost use Rattle.keystore_run.specs.Session.{StandsFor, entries_in};
 ghost use Rattle.keystore_run.specs.Words.{form_of as form_said};
 
@@ -187,10 +187,11 @@ pub fn run_words<S: Source, K: Sink, D: Disk, N: Entropy>(
         Completes S.Source K.Sink D.Disk N.Entropy (given device.now policy.now slots) fresh start bytes
         (outside source.old sink.old disk.old entropy.old) (outside source.new sink.new disk.new entropy.new) result }
 
-    // A read failed exactly where the status says so, and so did a write. Where the status says that the disk failed it did.
+    // A read failed exactly where the status says so, and so did a write. With status 6 a call of the disk failed, and with 2 or 7
+    // none did.
     ensures source_faults { CountsFaults (S.fault_count source.old) (S.fault_count source.new) (is_read_fault result) }
     ensures sink_faults { CountsFaults (K.fault_count sink.old) (K.fault_count sink.new) (is_write_fault result) }
-    ensures disk_faults { IsCause (D.fault_count disk.old) (D.fault_count disk.new) (is_disk_status result) }
+    ensures disk_faults { IsCause (D.fault_count disk.old) (D.fault_count disk.new) (disk_told result) }
 {
     match form_of(words) {
         None => Status::Usage,

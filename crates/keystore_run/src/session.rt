@@ -214,8 +214,9 @@ impl Session {
     /// leave, with the leave's reply. Before it stands the settled line, where the first step settled an earlier change.
     /// After want of memory the session stands for the history with all of the line's entries, or with none of them. What the
     /// entropy gave was drawn for these entries. One of them is the reply to a failed draw exactly where a draw failed, or to
-    /// a failed call of the disk exactly where one failed, and one at most. What they change of what lasts is on the disk
-    /// before their text is given.
+    /// a failed call of the disk exactly where one failed, and one at most. At each moment since the line's start each image
+    /// stands for what may be kept of a history between the one before the line and the one after it, and when the text is
+    /// given of the one after it: what the line changes of what lasts is on the disk by then.
     pub fn answer<D: Disk, N: Entropy>(
         &mut self,
         alloc: Global,
