@@ -139,7 +139,7 @@ MADE = [
     {"c": 1, "do": "importKey", "key": {"domain": 0, "nspace": 0, "alias": "m"}, "params": HMAC_KEY, "format": 3, "material": "0b" * 32},
 ]
 COUNTED = {"c": 1, "do": "getNumberOfEntries", "domain": 0}
-IS_THERE, IS_ANOTHER, IS_AGAIN, IS_GONE = {"code": 0, "count": 1}, {"code": 8}, {"code": 0}, {"code": 6, "rule": "A1"}
+IS_THERE, IS_ANOTHER, IS_AGAIN, IS_GONE = {"code": 0, "count": 1}, {"code": 8}, {"code": 0}, {"code": 20, "rule": "A1"}
 
 
 def others(store):
