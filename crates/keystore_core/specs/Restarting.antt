@@ -2,10 +2,15 @@
 use Rattle.std.specs.Prelude.{◌≡◌, ℕ, Bool, true, false, List, [], Option, None}
 use Rattle.tags.specs.declared.code.Code.{Code}
 use Rattle.tags.specs.declared.code.Code.TheVariants.{ValueCorrupted}
+use Rattle.ks_outside.specs.Images.{AllImages}
+use Rattle.ks_outside.specs.declared.disk.Disk.{Ghosts}
+use Rattle.journal_records.specs.LastingPart.{Lasting}
+use Rattle.key_database.specs.Store.{StandsFor}
 use Rattle.operation_slots.specs.Table.{IsEmpty, IsLater, capacity_of}
 use Rattle.rule_model.specs.declared.reply.Reply.{Reply}
 use Rattle.rule_model.specs.declared.reply.Reply.TheVariants.{Done, Broken, Stopped}
 use Rattle.rule_model.specs.Clients.{AllGo}
+use Rattle.rule_model.specs.Entries.{is_done}
 use Rattle.rule_model.specs.Blobs.{root_given}
 use Rattle.rule_model.specs.declared.event.Act.TheVariants.{Restart}
 use Rattle.keystore_core.specs.declared.tables.Tables.{Tables}
@@ -38,3 +43,7 @@ abbrev pub is_other_store : Reply → Bool
 is_other_store (Done fields) = false
 is_other_store (Broken rule code) = false
 is_other_store (Stopped code) = is_other_code code
+
+-- a restart that is done has read the store: each image of the disk stands for this lasting part, which the engine keeps
+abbrev pub HasRead : {D : Type 0} → Ghosts D → D → Lasting → Reply → Type 0
+HasRead g disk kept reply = is_done reply ≡ true → AllImages g disk (StandsFor kept)

@@ -5,6 +5,7 @@ ghost use Rattle.cipher_ops.specs.Jobs.{ticket_of};
 ghost use Rattle.ks_outside.specs.Shown.{Drew};
 ghost use Rattle.tags.specs.declared.code.Code.TheVariants.{SystemError};
 ghost use Rattle.rule_model.specs.declared.reply.Reply.TheVariants as replies;
+ghost use Rattle.rule_model.specs.Acts.{is_restart};
 ghost use Rattle.rule_model.specs.Drawn.{is_entropy_fault};
 ghost use Rattle.rule_model.specs.Entries.{History, after_settling, after_step};
 ghost use Rattle.rule_model.specs.Jobs.{HasDone, HasJob, Stays};
@@ -17,7 +18,7 @@ ghost use Rattle.key_database.specs.Store.{StandsFor};
 ghost use Rattle.ks_outside.specs.Faults.{CountsFaults, HasCause};
 ghost use Rattle.ks_outside.specs.Images.{AllImages, Passes, TornFrom, tells};
 ghost use Rattle.keystore_core.specs.Complete.{GivesAnswer, HasNoFault};
-ghost use Rattle.keystore_core.specs.Restarting.{is_other_store};
+ghost use Rattle.keystore_core.specs.Restarting.{HasRead, is_other_store};
 ghost use Rattle.keystore_core.specs.Engine.{entries_made as made_by, fault_of};
 ghost use Rattle.keystore_core.specs.Outputs.{HasOutRoom};
 ghost use Rattle.keystore_core.specs.Tables.{IsTables};
@@ -95,7 +96,7 @@ fn root_is_whole(device: &DeviceSecrets)
 }
 
 impl Engine {
-    ghost use Rattle.keystore_core.specs.Engine.{IsOpened, MayHoldEither, MayTake, OpensFor, OpensStore, OpenFaults, Stands, StandsAtFirst, StandsForSome, StoreStands, entries_made, entries_of, tickets_of};
+    ghost use Rattle.keystore_core.specs.Engine.{IsOpened, MayHoldEither, MayTake, OpensFor, OpensStore, OpenFaults, Stands, StandsAtFirst, StandsForSome, StoreStands, entries_made, entries_of, lasting_of, tickets_of};
 
     /// Writes an empty store, and syncs. It takes no memory.
     pub fn format<D: Disk>(disk: &mut D) -> Result<(), Failed>
@@ -213,6 +214,7 @@ impl Engine {
             Passes D.Disk disk.old disk.new (MayHoldEither setup past (after_step result.settled event result.drawn result.reply past)) }
         ensures same { (setup : Setup) (past : History) → Stands setup self.old past → StoreStands D.Disk setup self.old disk.old past →
             tells D.Disk disk.old ≡ true → is_other_store result.reply ≡ false }
+        ensures reads { is_restart event.act ≡ true → HasRead D.Disk disk.new (lasting_of self.new) result.reply }
         ensures complete { (setup : Setup) (past : History) → Stands setup self.old past → HasDone setup past event.act done →
             HasNoFault (D.fault_count disk.old) (D.fault_count disk.new) → HasNoFault (N.fault_count entropy.old) (N.fault_count entropy.new) →
             GivesAnswer setup (after_settling result.settled past) event result.drawn result.reply }

@@ -3,11 +3,11 @@
 ghost use Rattle.std.specs.Prelude.{◌≡◌, true, false, None, IfOk};
 ghost use Rattle.ks_outside.specs.Images.{tells};
 ghost use Rattle.journal_records.specs.Holding.{Holding};
-ghost use Rattle.key_database.specs.Stands.{Holds};
+ghost use Rattle.key_database.specs.Stands.{Holds, lasting};
 ghost use Rattle.rule_model.specs.declared.event.Act.TheVariants as acts;
 ghost use Rattle.keystore_core.specs.Drawn.{IsUndrawn};
 ghost use Rattle.keystore_core.specs.Keys.{AreSettled};
-ghost use Rattle.keystore_core.specs.Restarting.{Forgets, is_other_store};
+ghost use Rattle.keystore_core.specs.Restarting.{Forgets, HasRead, is_other_store};
 ghost use Rattle.keystore_core.specs.Tables.{ServesAfter, event_by};
 ghost use Rattle.keystore_core.specs.Writing.{StoreGoesAfter};
 
@@ -49,6 +49,7 @@ impl Tables {
         ensures store { StoreGoesAfter D.Disk self.old self.new disk.old disk.new caller (acts.Restart root) result }
         ensures same { (held : Holding) → Holds D.Disk self.old.keys disk.old held → tells D.Disk disk.old ≡ true
             → IfOk result (λ answered. is_other_store answered.reply ≡ false) }
+        ensures reads { IfOk result (λ answered. HasRead D.Disk disk.new (lasting self.new.keys) answered.reply) }
     {
         match self.keys.read_again(alloc, disk) {
             Ok(true) => {

@@ -9,10 +9,10 @@ ghost use Rattle.keystore_core.specs.Drawn.{DrewFor, DrewForResult};
 ghost use Rattle.keystore_core.specs.Tables.{AnswersAt, IsAt, IsCaller, ServesAt, TablesStand, event_by};
 ghost use Rattle.ks_outside.specs.Images.{tells};
 ghost use Rattle.journal_records.specs.Holding.{Holding};
-ghost use Rattle.key_database.specs.Stands.{Holds, is_unsettled};
+ghost use Rattle.key_database.specs.Stands.{Holds, is_unsettled, lasting};
 ghost use Rattle.keystore_core.specs.Engine.{IsOver};
 ghost use Rattle.keystore_core.specs.Keys.{AreSettled};
-ghost use Rattle.keystore_core.specs.Restarting.{is_other_store};
+ghost use Rattle.keystore_core.specs.Restarting.{HasRead, is_other_store};
 ghost use Rattle.keystore_core.specs.Writing.{StoreAnswers, StoreGoesAfter};
 
 use crate::answered::Answered;
@@ -111,6 +111,7 @@ impl Tables {
         ensures store { StoreGoesAfter D.Disk self.old self.new disk.old disk.new caller act result }
         ensures same { (held : Holding) → Holds D.Disk self.old.keys disk.old held → tells D.Disk disk.old ≡ true
             → is_restart act ≡ true → IfOk result (λ answered. is_other_store answered.reply ≡ false) }
+        ensures reads { is_restart act ≡ true → IfOk result (λ answered. HasRead D.Disk disk.new (lasting self.new.keys) answered.reply) }
     {
         match act {
             Act::Connect { uid } => self.connect(alloc, caller, uid),
@@ -207,6 +208,7 @@ impl Tables {
         ensures store { StoreAnswers D.Disk self.old self.new disk.old disk.new event result }
         ensures same { (held : Holding) → Holds D.Disk self.old.keys disk.old held → tells D.Disk disk.old ≡ true
             → is_restart event.act ≡ true → is_other_store result.reply ≡ false }
+        ensures reads { is_restart event.act ≡ true → HasRead D.Disk disk.new (lasting self.new.keys) result.reply }
     {
         let Event {
             reading,

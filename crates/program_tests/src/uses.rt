@@ -213,6 +213,34 @@ fn a_use_whose_record_failed_is_kept_or_lost_as_it_is_told(rt: HostRuntime) {
     }
 }
 
+/// Which call fails of the three that a restart makes, to sync, to ask for the length and to read; nine came before it: formatting made
+/// two, the opening three, and the record four.
+static UNREAD: [&[u64]; 3] = [&[10], &[11], &[12]];
+
+/// A restart that could not read the store has not happened, and nothing waits: the client, its operation and the key are there, the next
+/// use is written, and the next restart is made.
+static NOT_RESTARTED: [&[Row]; 2] = [
+    &[
+        (CONNECT, CONNECTED),
+        (IMPORT_ONCE, IMPORTED),
+        (BEGIN, BEGUN),
+        (RESTART, FAILED),
+        (FINISH, MAC),
+        (BEGIN, NO_KEY),
+        (RESTART, DONE),
+        (CONNECT, SECOND_CONNECTED),
+    ],
+    GONE,
+];
+
+#[test]
+fn a_restart_that_could_not_read_the_store_has_not_happened(rt: HostRuntime) {
+    let alloc = rt.alloc();
+    for failing in &UNREAD {
+        check_runs(&rt, alloc, failing, &NOT_RESTARTED);
+    }
+}
+
 /// A begin count begins anew at a restart, and in the next run.
 static COUNTED: [&[Row]; 2] = [
     &[
