@@ -6,9 +6,10 @@ docs/PROTOCOL.md has its bytes back; a second service on its port ends with stat
 `tools/keystore_client.py` says what it should; bad frames end a connection behind the replies to what came before; a session that ends
 at each of its bytes gets the replies to its whole requests, and all of them where it comes in two pieces, wherever it is cut; sixteen
 clients make a thousand calls each. While a client that has sent
-half a frame stays silent, an app seals a file of two pieces and opens it (`examples/sealed_file.py`). Behind the last connection the
-service ends with status 0, and a run over its store finds what the clients left. A silent client keeps its own worker: where that is
-the only one, another client waits until it goes.
+half a frame stays silent, an app seals a file of two pieces and opens it (`examples/sealed_file.py`). Nobody listens at this port of
+127.0.0.2. Behind the last connection the service ends with status 0, and a run over its store finds what the clients left. A silent
+client keeps its own worker: where that is the only one, another client waits until it goes. A client that goes on sending behind a bad
+frame is stopped within seconds, though no other client comes.
 
     python3 tools/check_service.py [--program PATH] [--calls N]
 """
@@ -35,6 +36,9 @@ SAYS = b"sealed 1500000 bytes as 1500064\nopened as they were\na changed byte is
 PATIENCE = 120
 PAUSE = 0.005
 WORKERS, CLIENTS, FIRST_APP = 4, 16, 10100
+# What a client sends behind a bad frame, in pieces: more than the service throws away and the system keeps. It may take so many seconds,
+# and goes on when the other worker, in so many, has come to wait for a client.
+FLOOD, PIECE, STOPPED, TURN = 64 << 20, 1 << 16, 10, 0.3
 HALF_A_FRAME = b"\x00\x00\x00\x05\x01"
 NO_FORMS = [["serve"], ["serve", "65536", "1", "1"], ["serve", "1", "0", "1"], ["serve", "1", "1", "65"]]
 
@@ -169,6 +173,7 @@ def check_silent(port):
 
 def check_clients(program, port, folder, calls):
     once_it_listens(play, port, session_in(PAGE))
+    check_address(port)
     check("a second service on the port", ended(program, ["serve", str(port), "1", "1"], folder), (9, b"", [b"keystore2: listen fault"]))
     check("a second service on the store", ended(program, ["serve", "0", "1", "1"], folder), (6, b"", [b"keystore2: disk fault"]))
     check_commands(port, folder)
@@ -190,6 +195,38 @@ def check_only_worker(_program, port, _folder, _calls):
             silent.close()
         stream.settimeout(PATIENCE)
         check("a client that had to wait", stream.recv(19)[:11], CLIENT[:11])
+
+
+def is_stopped(stream):
+    """Whether a client that sends and sends is told soon that nobody reads."""
+    piece, end = bytes(PIECE), time.monotonic() + STOPPED
+    stream.settimeout(STOPPED)
+    try:
+        for _ in range(FLOOD // PIECE):
+            stream.sendall(piece)
+    except (ConnectionResetError, BrokenPipeError):
+        return time.monotonic() < end
+    except TimeoutError:
+        pass
+    return False
+
+
+def check_flood(_program, port, _folder, _calls):
+    """A client that sends many megabytes behind a bad frame, while no other comes, and then one that lets the service end."""
+    with once_it_listens(socket.create_connection, ("127.0.0.1", port)) as stream:
+        time.sleep(TURN)
+        stream.sendall(BAD_FRAMES[0])
+        check("a client that goes on sending is stopped", is_stopped(stream), True)
+    check("a client behind it", replies_to(port, CONNECT), CLIENT)
+
+
+def check_address(port):
+    """The service listens at 127.0.0.1 alone."""
+    try:
+        socket.create_connection(("127.0.0.2", port), PATIENCE).close()
+        check("127.0.0.2", "connected", "refused")
+    except ConnectionRefusedError:
+        pass
 
 
 def check_run(program, folder, connections, workers, clients, calls):
@@ -236,6 +273,7 @@ def main():
         check_run(program, folder, connections, WORKERS, check_clients, words.calls)
         check_store(program, folder)
         check_run(program, folder, 2, 1, check_only_worker, words.calls)
+        check_run(program, folder, 2, 2, check_flood, words.calls)
 
 
 if __name__ == "__main__":

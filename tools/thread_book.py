@@ -27,7 +27,7 @@ PROGRAM = pathlib.Path(__file__).resolve().parent.parent / "crates" / "keystore_
 SLOTS = 64
 LIMIT = 5
 SECONDS = 60
-ALL_USE = b"l"
+ALL_USE = b"us"
 MAC = "b0344c61d8db38535ca8afceaf0bf12b881dc200c9833da726e9376c2e32cff7"
 TOKEN = re.compile(r"\s*([A-Za-z_]\w*|\d+|[{}()\[\],:])")
 # What is changed in a reply: a number of a field, the first byte of a field, or the number of a rule.

@@ -3,4 +3,4 @@
 
 mod numbers;
 
-pub use numbers::number_in;
+pub use numbers::{number_in, threads_in};

@@ -3,10 +3,13 @@
 ghost use Rattle.std.specs.Prelude.{◌≡◌, ◌≤◌, ◌^◌, IfSome, min};
 ghost use Rattle.std.specs.List.{list_all};
 ghost use Rattle.command_words.specs.Numbers as spec;
-ghost use Rattle.command_words.specs.Numbers.{is_digit as is_decimal, value_on};
+ghost use Rattle.command_words.specs.Numbers.{IsThreadCount, is_digit as is_decimal, value_on};
 
 /// The most digits of a number.
 const DIGITS: usize = 20;
+
+/// The most threads that words may ask for.
+const MOST_THREADS: u64 = 64;
 
 fn is_digit(byte: u8) -> bool
     ensures { result ≡ is_decimal byte }
@@ -54,4 +57,13 @@ pub fn number_in(least: u64, most: u64, text: &[u8]) -> Option<u64>
     } else {
         None
     }
+}
+
+/// The number of threads that a word gives, where it is one from 1 to 64.
+pub fn threads_in(text: &[u8]) -> Option<u32>
+    ensures number { result ≡ spec.threads_in text.now }
+    ensures within { IfSome result IsThreadCount }
+{
+    let count = number_in(1, MOST_THREADS, text)?;
+    Some(count as u32)
 }

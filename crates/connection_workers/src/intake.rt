@@ -74,10 +74,13 @@ impl<B: Listener> Intake<B> {
         self.failed = true;
     }
 
-    /// Takes a connection back that was served.
-    pub(crate) fn give_back(&mut self, link: B::L)
+    /// Hands the listener what is left of a connection that was hung up, where something is.
+    pub(crate) fn give_back(&mut self, left: Option<B::L>)
         ensures goes_on { (start : Start B) → IsIntake B.Listener start self.old → IsIntake B.Listener start self.new }
     {
+        let Some(link) = left else {
+            return;
+        };
         self.listener.done(link);
     }
 }

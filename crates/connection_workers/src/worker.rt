@@ -54,28 +54,32 @@ fn take_next<R: Wait, B: HangsUp>(
     (lock.leave_seeing(turn, intake), link)
 }
 
-/// Hands a connection back, in a turn.
+/// Hands back what is left of a connection, in a turn. Where nothing is left none is taken: the turn may be with a worker that waits for
+/// the next client.
 fn hand_back<R: Wait, B: HangsUp>(
     rt: &R,
     lock: &IntakeLock<B>,
     pass: IntakePass<B>,
-    link: B::L,
+    left: Option<B::L>,
 ) -> IntakePass<B>
     requires ours { IsPassOf lock.now pass }
     ensures ours { IsPassOf lock.now result }
 {
+    let Some(link) = left else {
+        return pass;
+    };
     let (turn, mut intake) = lock.enter(rt, pass);
-    intake.give_back(link);
+    intake.give_back(Some(link));
     lock.leave_seeing(turn, intake)
 }
 
-/// Serves one connection, and ends it.
+/// Serves one connection, and ends it; what is left of it, where something is, is to be handed back.
 fn serve_one<R: Wait, B: HangsUp, A: Answerer>(
     rt: &R,
     alloc: Global,
     link: B::L,
     answerer: A,
-) -> (B::L, A)
+) -> (Option<B::L>, A)
     requires client { A.connected answerer ≡ false }
     ensures visits { ByVisits B.L.Link A.answers answerer result.1 }
     ensures client { A.connected result.1 ≡ false }
@@ -103,9 +107,9 @@ fn serve_until_shut<R: Wait, B: HangsUp, A: Answerer>(
         let Some(link) = taken else {
             return answerer;
         };
-        let (link, after) = serve_one::<R, B, A>(rt, alloc, link, answerer);
+        let (left, after) = serve_one::<R, B, A>(rt, alloc, link, answerer);
         answerer = after;
-        pass = hand_back(rt, lock, next, link);
+        pass = hand_back(rt, lock, next, left);
     }
     unreachable!()
 }
@@ -127,9 +131,9 @@ fn finish_all<R: Wait, B: HangsUp, A: Answerer>(
         let Some(link) = intake.take() else {
             return answerer;
         };
-        let (link, after) = serve_one::<R, B, A>(rt, alloc, link, answerer);
+        let (left, after) = serve_one::<R, B, A>(rt, alloc, link, answerer);
         answerer = after;
-        intake.give_back(link);
+        intake.give_back(left);
     }
     unreachable!()
 }

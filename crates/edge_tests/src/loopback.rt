@@ -33,8 +33,8 @@ fn greets_next(listener: &mut PortListener, client: &mut TcpStream) -> bool {
     };
     let greeted = greets(&mut link);
     let sent = client.write_all(&[7; 40000]).is_ok();
-    listener.done(PortListener::hang_up(link));
-    greeted && sent
+    let closed = PortListener::hang_up(link).is_none();
+    greeted && sent && closed
 }
 
 /// Whether a client is greeted, and hears `world` and then the end.

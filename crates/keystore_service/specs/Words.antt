@@ -2,7 +2,7 @@
 use Rattle.std.specs.Prelude.{ℕ, ◌<◌, ◌≤◌, List, [], ◌∷◌, Option, Some, None, if◌then◌else◌, codes, string_bytes}
 use Rattle.std.specs.declared.string.String.{String}
 use Rattle.std.specs.declared.alloc.Global.{Global}
-use Rattle.command_words.specs.Numbers.{is_word, number_in}
+use Rattle.command_words.specs.Numbers.{is_word, number_in, threads_in}
 use Rattle.keystore_service.specs.declared.words.ServeForm.{ServeForm}
 
 -- the form of a port, connections and workers, where there are all three
@@ -11,7 +11,7 @@ form_with (Some port) (Some connections) (Some workers) = Some (record { port = 
 form_with _ _ _ = None
 
 abbrev pub form_in : List ℕ → List ℕ → List ℕ → Option ServeForm
-form_in port connections workers = form_with (number_in 0 65535 port) (number_in 1 65536 connections) (number_in 1 64 workers)
+form_in port connections workers = form_with (number_in 0 65535 port) (number_in 1 65536 connections) (threads_in workers)
 
 -- `serve PORT CONNECTIONS WORKERS`; other words are no form of it
 abbrev pub form_of : List (String Global) → Option ServeForm

@@ -4,7 +4,7 @@ ghost use Rattle.std.specs.Prelude.{◌≡◌, IfSome};
 ghost use Rattle.keystore_service.specs.Words as spec;
 ghost use Rattle.keystore_service.specs.Words.{IsWithin};
 
-use command_words::number_in;
+use command_words::{number_in, threads_in};
 
 /// What the words of a service ask for.
 #[derive(Clone, Copy, Debug, PartialEq, Eq)]
@@ -24,11 +24,11 @@ fn form_in(port: &[u8], connections: &[u8], workers: &[u8]) -> Option<ServeForm>
 {
     let port = number_in(0, 65535, port)?;
     let connections = number_in(1, 65536, connections)?;
-    let workers = number_in(1, 64, workers)?;
+    let workers = threads_in(workers)?;
     Some(ServeForm {
         port: port as u16,
         connections: connections as u32,
-        workers: workers as u32,
+        workers,
     })
 }
 

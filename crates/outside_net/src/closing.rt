@@ -13,10 +13,11 @@ const PIECE: usize = 16384;
 /// How long a read waits, in milliseconds.
 const PATIENCE: u64 = 500;
 
-/// Ends a connection so that what was written still comes to the peer. A socket that is closed with bytes unread takes back what is on its
-/// way. So the writing side is shut down first; then what the peer still sends is read and thrown away, until its end, or a failure, or 64
-/// pieces of at most 16,384 bytes, for each of which is waited half a second at most. The socket may be closed behind it.
-pub(crate) fn close(stream: &mut TcpStream) {
+/// Makes a connection ready to be closed, so that what was written still comes to the peer. A socket that is closed with bytes unread takes
+/// back what is on its way. So the writing side is shut down first; then what the peer still sends is read and thrown away, until its end,
+/// or a failure, or 64 pieces of at most 16,384 bytes, for each of which is waited half a second at most. Then the socket is to be closed:
+/// a peer that still sends learns by that alone that nobody reads.
+pub(crate) fn read_out(stream: &mut TcpStream) {
     if stream.shutdown(Shutdown::Write).is_err() {
         return;
     }

@@ -89,7 +89,7 @@ impl Listener for PortListener {
         }
     }
 
-    /// Closes the connection.
+    /// Closes a connection that was not hung up.
     fn done(&mut self, link: StreamLink<TcpStream>)
         ensures gives { self.new.given ≡ self.old.given }
         ensures ends { self.new.ended ≡ self.old.ended }

@@ -1,7 +1,7 @@
 -- A load, as words ask for it.
 use Rattle.std.specs.Prelude.{◌≡◌, ℕ, List, codes, Option, Some, None, if◌then◌else◌}
 use Rattle.std.specs.Str.{bytes_eq}
-use Rattle.command_words.specs.Numbers.{number_in}
+use Rattle.command_words.specs.Numbers.{number_in, threads_in}
 use Rattle.service_load.specs.declared.load.Kind.{Kind}
 use Rattle.service_load.specs.declared.load.Kind.TheVariants.{Macs, Updates, Book}
 use Rattle.service_load.specs.declared.load.Load.{Load}
@@ -17,4 +17,4 @@ kind_named word =
 pub record AsksFor (kind rounds threads : List ℕ) (load : Load) : Type 0 where
   pub kind_is : kind_named kind ≡ Some load.kind
   pub rounds_are : number_in 0 4294967295 rounds ≡ Some load.rounds
-  pub threads_are : number_in 1 64 threads ≡ Some load.threads
+  pub threads_are : threads_in threads ≡ Some load.threads

@@ -1,6 +1,6 @@
 //! What the threads of a load do.
 
-/// A call of a thread. The key of its own is named by the number of its pass: m for the first, n for the second, and so on.
+/// A call of a thread. The key of its own is named by the number of its pass: a0 for the first, a1 for the second, b0 for the eleventh.
 #[derive(Clone, Copy, Debug, PartialEq, Eq)]
 pub enum Call {
     /// A client comes.

@@ -37,13 +37,16 @@ const LONG: usize = 16_384;
 
 const APP: u32 = 10_001;
 
-/// The alias of a thread's own key.
-fn own_alias(number: u64) -> [u8; 1] {
-    [b'm' + (number % 13) as u8]
+/// The alias of the key that all threads use, which is no thread's own.
+const SHARED_ALIAS: [u8; 2] = *b"us";
+
+/// The alias of a thread's own key, a letter and a digit: those of the first 260 threads differ.
+fn own_alias(number: u64) -> [u8; 2] {
+    [b'a' + (number / 10 % 26) as u8, b'0' + (number % 10) as u8]
 }
 
 /// The key of an alias in the caller's own domain.
-fn key_of(alloc: Global, alias: [u8; 1]) -> Result<Descriptor, NoMemory>
+fn key_of(alloc: Global, alias: [u8; 2]) -> Result<Descriptor, NoMemory>
     ensures short { IfOk result (λ key. length (Rattle.wire_frames.specs.Spelling.key_of key) ≤ 32) }
 {
     Ok(Descriptor {
@@ -55,7 +58,7 @@ fn key_of(alloc: Global, alias: [u8; 1]) -> Result<Descriptor, NoMemory>
 }
 
 /// A key is imported, with these parameters.
-fn import(alloc: Global, alias: [u8; 1], params: &[u8]) -> Result<Act, NoMemory>
+fn import(alloc: Global, alias: [u8; 2], params: &[u8]) -> Result<Act, NoMemory>
     requires few { length params.now ≤ 256 }
     ensures short { IfOk result (λ act. length (body_of act) < 2 ^ 32) }
 {
@@ -71,7 +74,7 @@ fn import(alloc: Global, alias: [u8; 1], params: &[u8]) -> Result<Act, NoMemory>
 }
 
 /// A mac is begun.
-fn begin(alloc: Global, alias: [u8; 1]) -> Result<Act, NoMemory>
+fn begin(alloc: Global, alias: [u8; 2]) -> Result<Act, NoMemory>
     ensures short { IfOk result (λ act. length (body_of act) < 2 ^ 32) }
 {
     let key = key_of(alloc, alias)?;
@@ -110,9 +113,9 @@ fn act_of(alloc: Global, call: Call, number: u64, op: u64) -> Result<Act, NoMemo
     match call {
         Call::Connect => Ok(Act::Connect { uid: APP }),
         Call::Import => import(alloc, own_alias(number), &OWN_KEY),
-        Call::ImportShared => import(alloc, *b"l", &SHARED_KEY),
+        Call::ImportShared => import(alloc, SHARED_ALIAS, &SHARED_KEY),
         Call::Begin => begin(alloc, own_alias(number)),
-        Call::BeginShared => begin(alloc, *b"l"),
+        Call::BeginShared => begin(alloc, SHARED_ALIAS),
         Call::Update => update(alloc, op),
         Call::Finish => finish(alloc, op),
         Call::Count => Ok(Act::GetNumberOfEntries {

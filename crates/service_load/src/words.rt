@@ -5,9 +5,7 @@ ghost use Rattle.service_load.specs.Loads.{AsksFor, kind_named};
 ghost use Rattle.service_load.specs.declared.load.Load.{Load};
 
 use crate::load::{Kind, Load};
-use command_words::number_in;
-
-const MOST_THREADS: u64 = 64;
+use command_words::{number_in, threads_in};
 
 impl Kind {
     /// The kind of this name.
@@ -34,11 +32,11 @@ impl Load {
     {
         let kind = Kind::named(kind)?;
         let rounds = number_in(0, u64::from(u32::MAX), rounds.as_bytes())?;
-        let threads = number_in(1, MOST_THREADS, threads.as_bytes())?;
+        let threads = threads_in(threads.as_bytes())?;
         Some(Load {
             kind,
             rounds: rounds as u32,
-            threads: threads as u32,
+            threads,
         })
     }
 }

@@ -1,12 +1,8 @@
 -- The words of the command line.
-use Rattle.std.specs.Prelude.{◌<◌, ◌≤◌, ℕ, List, codes, Option, Some, None, if◌then◌else◌}
+use Rattle.std.specs.Prelude.{ℕ, List, codes, Option, Some, None, if◌then◌else◌}
 use Rattle.std.specs.Str.{bytes_eq}
 use Rattle.turn_list.specs.declared.words.Kind.{Kind}
 use Rattle.turn_list.specs.declared.words.Kind.TheVariants.{Lock, Mutex}
 
 abbrev pub kind_named : List ℕ → Option Kind
 kind_named word = if bytes_eq word (codes "lock") then Some Lock else if bytes_eq word (codes "mutex") then Some Mutex else None
-
--- so many threads may be asked for
-abbrev pub IsCount : ℕ → Type 0
-IsCount n = (0 < n) × (n ≤ 64)

@@ -1,8 +1,9 @@
 //! The words of the command line.
 ghost use Rattle.std.specs.Prelude.{◌≡◌, ◌<◌, ◌≤◌, All, IfOk, IfSome};
-ghost use Rattle.turn_list.specs.Words.{kind_named, IsCount};
+ghost use Rattle.command_words.specs.Numbers.{IsThreadCount};
+ghost use Rattle.turn_list.specs.Words.{kind_named};
 
-use command_words::number_in;
+use command_words::{number_in, threads_in};
 use std::{env, io};
 
 /// What the list lies behind.
@@ -20,8 +21,6 @@ pub struct Words {
     pub threads: Vec<u32>,
 }
 
-const MOST_THREADS: u64 = 64;
-
 fn kind_of(word: &str) -> Option<Kind>
     ensures { result ≡ kind_named word.now }
 {
@@ -34,18 +33,10 @@ fn kind_of(word: &str) -> Option<Kind>
     }
 }
 
-/// A number of threads.
-fn count_of(word: &str) -> Option<u32>
-    ensures { IfSome result IsCount }
-{
-    let count = number_in(1, MOST_THREADS, word.as_bytes())?;
-    Some(count as u32)
-}
-
 impl Words {
     /// The words behind the program's name, where they are of this form.
     pub fn read(rt: &HostRuntime) -> io::Result<Option<Words>>
-        ensures counts { IfOk result (λ o. IfSome o (λ words. All IsCount words.threads.items)) }
+        ensures counts { IfOk result (λ o. IfSome o (λ words. All IsThreadCount words.threads.items)) }
     {
         let mut args = env::args(rt)?.skip(1);
         let Some(first) = args.next() else {
@@ -62,7 +53,7 @@ impl Words {
         };
         let mut threads = Vec::new(rt.alloc());
         for word in args {
-            let Some(count) = count_of(&word) else {
+            let Some(count) = threads_in(word.as_bytes()) else {
                 return Ok(None);
             };
             threads.push(count)?;
