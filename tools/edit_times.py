@@ -1,13 +1,16 @@
 #!/usr/bin/env python3
 """Tries a crate's edits over the libraries that `rt ci` left in a clone, and says what each took and where it was refused.
 
-    python3 tools/edit_times.py CLONE CRATE [EDIT..] [--most N]
+    python3 tools/edit_times.py CLONE CRATE [EDIT..] [--start FOLDER] [--in-turn] [--most N]
 
-As the gate does, it tries them in the order of their names, on copies, each over what the checks before it kept: so the first proves the
-bodies too, and the last check is the crate as it stands. Edits that are named are tried alone, in that order. It writes the processor
-seconds of each check, the first line that says why it was refused, and the N modules that took longest, told by when they were written:
-what is loaded for a module counts with it, and what passes before the first one with none. Two shapes of a crate compare by two of it
-side by side, from two clones of the repository. It is for the work on what edits cost, and gives no verdict: that is the gate's."""
+As the gate of kit 13f does, it checks the crate as it stands first, and then each edit over a copy of what that check kept; with
+--in-turn, as that of kit 13b: one over another in the order of their names, of which the first proves the bodies too, and the crate as
+it stands last. An EDIT is the name of an edit of the crate, or the path of a file that is none yet; those that are named are tried
+alone, in that order. The check begins with what a folder has, `crates/CRATE/out/over` say, where tools/check_over.py leaves its work;
+without --start with nothing. It writes the processor seconds of each check, the first line that says why it was refused, and the N
+modules that took longest, told by when they were written: what is loaded for a module counts with it, and what passes before the first
+one with none. Two shapes of a crate compare by two of it side by side, from two clones of the repository. It is for the work on what
+edits cost, and gives no verdict: that is the gate's."""
 import argparse
 import os
 import pathlib
@@ -52,38 +55,85 @@ def reason(said):
     return next((line for line in said.splitlines() if "error: " in line or "is not proved" in line or "no proof" in line), "")
 
 
+def linked(folder, to):
+    """Copies what a check kept, the modules by links: a check replaces their files and writes into none."""
+
+    def copy(one, other):
+        return os.link(one, other) if one.endswith(".oantt") else shutil.copy2(one, other)
+
+    shutil.copytree(folder, to, symlinks=True, copy_function=copy)
+
+
+class Trial:
+    """The edits of a crate, tried over the libraries of a clone in a folder of their own."""
+
+    def __init__(self, clone, crate, most, top):
+        self.clone, self.crate, self.most, self.top = clone, crate, most, top
+        self.folder = check_over.TOP / "crates" / crate
+
+    def tell(self, name, edit, kept):
+        """Checks the crate with an edit, or as it stands, over what was kept; writes what came, and gives the seconds and whether it is
+        right."""
+        words = check_over.command(self.clone, self.crate, kept)
+        with tempfile.TemporaryDirectory(dir=self.top) as folder:
+            for part in PARTS:
+                if (self.folder / part).exists():
+                    shutil.copytree(self.folder / part, f"{folder}/{part}")
+            if edit:
+                change(pathlib.Path(folder), edit)
+            start = time.time()
+            seconds, answer, said = check(words, folder)
+        is_right = answer == (REFUSED if edit else PROVED)
+        print(f"{seconds:7.1f}  {name}{'' if is_right else ': NOT AS IT MUST BE'}  {reason(said)[:160]}", flush=True)
+        for spent, what in sorted(times(kept, start), reverse=True)[: self.most]:
+            print(f"{'':9}{spent:7.1f}  {what}", flush=True)
+        return seconds, is_right
+
+    def tell_over_copy(self, name, edit, kept):
+        over = pathlib.Path(tempfile.mkdtemp(dir=self.top)) / "kept"
+        linked(kept, over)
+        told = self.tell(name, edit, over)
+        shutil.rmtree(over.parent)
+        return told
+
+    def tell_all(self, edits, kept, in_turn):
+        """Tries the edits; gives what each came to, and what the crate as it stands did."""
+        if in_turn:
+            return [self.tell(name, edit, kept) for name, edit in edits], self.tell(AS_IT_STANDS, None, kept)
+        stands = self.tell(AS_IT_STANDS, None, kept)
+        return [self.tell_over_copy(name, edit, kept) for name, edit in edits] if stands[1] else [], stands
+
+
+def chosen(crate, names):
+    """The edits of these names, of a crate or in files of their own; all of the crate's where no name is given."""
+    own = {it.stem: it for it in sorted((check_over.TOP / "crates" / crate).glob("must-fail/*.edit"))}
+    found = [(name, own.get(name, pathlib.Path(name))) for name in names or own]
+    missing = [name for name, edit in found if not edit.is_file()]
+    return found if not missing else sys.exit(f"{crate} has no edit {', '.join(missing)}, and there is no such file")
+
+
 def main():
     parser = argparse.ArgumentParser(description=__doc__.split("\n\n", maxsplit=1)[0])
     parser.add_argument("clone", type=pathlib.Path)
     parser.add_argument("crate")
     parser.add_argument("edit", nargs="*")
-    parser.add_argument("--most", type=int, default=0)
+    parser.add_argument("--start", type=pathlib.Path, metavar="FOLDER", help="what an earlier check kept")
+    parser.add_argument("--in-turn", action="store_true", help="one edit over another")
+    parser.add_argument("--most", type=int, default=0, metavar="N")
     given = parser.parse_args()
     if given.crate not in build.listed():
         parser.error(f"crates.txt lists no {given.crate}")
-    crate = check_over.TOP / "crates" / given.crate
-    edits = {it.stem: it for it in sorted(crate.glob("must-fail/*.edit"))}
-    if strange := set(given.edit) - set(edits):
-        parser.error(f"{given.crate} has no edit {', '.join(sorted(strange))}")
-    status = 0
+    edits = chosen(given.crate, given.edit)
     with tempfile.TemporaryDirectory(prefix="keystore2-edits-") as top:
-        words = check_over.command(given.clone.resolve(), given.crate, f"{top}/kept")
-        pathlib.Path(top, "kept").mkdir()
-        for name in [*(given.edit or edits), AS_IT_STANDS]:
-            with tempfile.TemporaryDirectory(dir=top) as folder:
-                for part in PARTS:
-                    if (crate / part).exists():
-                        shutil.copytree(crate / part, f"{folder}/{part}")
-                if name != AS_IT_STANDS:
-                    change(pathlib.Path(folder), edits[name])
-                start = time.time()
-                seconds, answer, said = check(words, folder)
-            is_right = answer == (PROVED if name == AS_IT_STANDS else REFUSED)
-            print(f"{seconds:7.1f}  {name}{'' if is_right else ': NOT AS IT MUST BE'}  {reason(said)[:160]}", flush=True)
-            for spent, what in sorted(times(pathlib.Path(top, "kept"), start), reverse=True)[: given.most]:
-                print(f"{'':9}{spent:7.1f}  {what}", flush=True)
-            status = status if is_right else 1
-    return status
+        kept = pathlib.Path(top, "kept")
+        if given.start:
+            shutil.copytree(given.start, kept, symlinks=True)
+        else:
+            kept.mkdir()
+        tried, stands = Trial(given.clone.resolve(), given.crate, given.most, top).tell_all(edits, kept, given.in_turn)
+    if tried and not given.in_turn:
+        print(f"{sum(seconds for seconds, _ in tried) / len(tried):7.1f}  an edit, on the average of {len(tried)}")
+    return 0 if tried and all(is_right for _, is_right in [*tried, stands]) else 1
 
 
 if __name__ == "__main__":
