@@ -18,6 +18,7 @@ import sys
 from cryptography.exceptions import InvalidTag
 from cryptography.hazmat.primitives.ciphers.aead import AESGCM
 
+from harness import parser_of
 from script_events import BOOL, BYTES, TAGS, ListFault, read_list, write_list
 
 MAGIC = bytes.fromhex("4b534231")
@@ -121,7 +122,7 @@ def device_of(path):
 
 
 def words():
-    parser = argparse.ArgumentParser(description="Makes sealed blobs and opens them.")
+    parser = parser_of(__doc__)
     parser.add_argument("--device", type=device_of, default=DEMO_DEVICE, metavar="FILE", help="the demo device where it is not said")
     acts = parser.add_subparsers(dest="act", required=True)
     make = acts.add_parser("make")

@@ -18,6 +18,8 @@ import sys
 import tempfile
 import time
 
+from harness import parser_of
+
 PROGRAM = "keystore_program"
 TOP = os.path.dirname(os.path.dirname(os.path.realpath(__file__)))
 BUILT = f"crates/{PROGRAM}/out/{PROGRAM}"
@@ -169,6 +171,7 @@ def held(folder):
 
 
 def main():
+    parser_of(__doc__).parse_args()
     if not shutil.which("rt"):
         sys.exit("keystore2: the Rattle toolchain's command rt is not on the PATH")
     # What is at work ends with this.

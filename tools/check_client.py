@@ -4,10 +4,8 @@ writes, and what it reads of each reply. It needs no service.
 
     python3 tools/check_client.py
 """
-import argparse
-
 import frames
-from harness import check
+from harness import check, parser_of
 from keystore_client import Client, Key, ServiceError, counted, read_reply
 
 
@@ -61,7 +59,7 @@ def refusal(body):
 
 
 def main():
-    argparse.ArgumentParser(description=__doc__.split("\n\n", maxsplit=1)[0]).parse_args()
+    parser_of(__doc__).parse_args()
     stream = Canned()
     one_of_each(Client(stream))
     check("the requests", stream.sent, [frame for frame, _ in frames.REQUESTS])

@@ -7,14 +7,13 @@ Where the Python package `cryptography` is there, the blobs that the program mak
 bytes, and blobs and tokens of other devices are handed in. It says nothing where all is well, and ends with status 1 at the first
 difference. It builds the program first where it is not built.
 """
-import argparse
 import importlib.util
 import json
 import pathlib
 import subprocess
 
 from check_lines import ASKED, BLOB, MAC_LIST, OK, PARAMS, begin, broken, call, connect, made, named, sealed, text_of
-from harness import COMMAND, add_program, check
+from harness import COMMAND, add_program, check, parser_of
 from make_token import mac_of
 from scratch import scratch_folder
 
@@ -170,7 +169,7 @@ def check_all(program):
 
 
 def main():
-    parser = argparse.ArgumentParser(description="Runs the program in folders with devices and policies.")
+    parser = parser_of(__doc__)
     add_program(parser, COMMAND)
     check_all(parser.parse_args().program)
 

@@ -5,11 +5,10 @@
 
 It says nothing where all is well, and ends with status 1 at the first difference. It builds the program first where it is not built.
 """
-import argparse
 import shlex
 import subprocess
 
-from harness import COMMAND, TOP, add_program, check
+from harness import COMMAND, TOP, add_program, check, parser_of
 from scratch import scratch_folder
 
 WORDS = ["init", "run", "soak", "serve"]
@@ -70,7 +69,7 @@ def check_all(program):
 
 
 def main():
-    parser = argparse.ArgumentParser(description=__doc__.split("\n\n", maxsplit=1)[0])
+    parser = parser_of(__doc__)
     add_program(parser, COMMAND)
     check_all(parser.parse_args().program)
 

@@ -7,13 +7,13 @@
 CRATE` has run, the functions of a path (`--only CRATE::MODULE`) are checked within a minute or two, and again only where they
 changed. With `--test` the tests are checked too; N modules are listed. What was checked stays in the crate's `out/over`. It is for the
 work on proofs and on what they cost, and gives no verdict: that is the gate's."""
-import argparse
 import pathlib
 import subprocess
 import sys
 import time
 
 import build
+from harness import parser_of
 from slow_functions import times
 
 TOP = pathlib.Path(__file__).resolve().parent.parent
@@ -35,7 +35,7 @@ def command(clone, name, kept):
 
 
 def main():
-    parser = argparse.ArgumentParser(description=__doc__.split("\n\n", maxsplit=1)[0])
+    parser = parser_of(__doc__)
     parser.add_argument("clone", type=pathlib.Path)
     parser.add_argument("crate")
     parser.add_argument("--test", action="store_true")

@@ -6,7 +6,6 @@
 Without words it needs no service: `tools/keystore_client.py` has to write the page's requests and to read from its replies what the
 page says, and the mac is that of Python's own library. With --second it plays the session to `tools/second_server.py`, which needs the
 Python package `cryptography`; with --port to the service on a port of this machine, which has an empty store and had no client yet."""
-import argparse
 import hashlib
 import hmac
 import pathlib
@@ -14,7 +13,7 @@ import socket
 import subprocess
 import sys
 
-from harness import check
+from harness import check, parser_of
 from keystore_client import Client, Key, ServiceError, parameters
 
 TOP = pathlib.Path(__file__).resolve().parent.parent
@@ -96,7 +95,7 @@ def play(port, turns):
 
 
 def main():
-    parser = argparse.ArgumentParser(description="Looks at the session of docs/PROTOCOL.md.")
+    parser = parser_of(__doc__)
     parser.add_argument("--second", action="store_true", help="play it to tools/second_server.py")
     parser.add_argument("--port", type=int, metavar="N", help="play it to the service on this port")
     words, turns = parser.parse_args(), session_in(PAGE)

@@ -7,7 +7,6 @@ must differ there, so that a program whose random bytes are none is seen. A scri
 Python package `cryptography` is there, the replies of the second model are compared too. It says nothing where all is well, and ends
 with status 1 at the first script that is answered otherwise. It builds the program first where it is not built.
 """
-import argparse
 import importlib.util
 import os
 import pathlib
@@ -16,6 +15,7 @@ import subprocess
 import sys
 
 from dialog import OPEN, replies_of
+from harness import parser_of
 from scratch import scratch_folder
 
 TOP = pathlib.Path(__file__).resolve().parent.parent
@@ -63,7 +63,7 @@ def fault_of(script):
 
 
 def main():
-    argparse.ArgumentParser(description=__doc__.split("\n\n", maxsplit=1)[0]).parse_args()
+    parser_of(__doc__).parse_args()
     with scratch_folder() as folder:
         # where no device.key and no policy.json stand
         os.chdir(folder)

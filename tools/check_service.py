@@ -13,7 +13,6 @@ frame is stopped within seconds, though no other client comes.
 
     python3 tools/check_service.py [--program PATH] [--calls N]
 """
-import argparse
 import concurrent.futures
 import hashlib
 import hmac
@@ -25,7 +24,7 @@ import sys
 import time
 
 from check_protocol import PAGE, play, session_in
-from harness import TOP, add_program, check
+from harness import TOP, add_program, check, parser_of
 from keystore_client import KINDS, Client, Key, counted, optional, parameters, u32, u64
 from scratch import scratch_folder
 
@@ -257,7 +256,7 @@ def check_store(program, folder):
 
 
 def main():
-    ask = argparse.ArgumentParser(description="Runs the service and clients of it.")
+    ask = parser_of(__doc__)
     add_program(ask)
     ask.add_argument("--calls", type=int, default=1000, metavar="N", help="how many calls each client of a crowd makes")
     words = ask.parse_args()

@@ -13,6 +13,8 @@ import subprocess
 import sys
 import tempfile
 
+from harness import parser_of
+
 TOP = os.path.dirname(os.path.dirname(os.path.realpath(__file__)))
 CRATES = ["tags", "byte_strings", "aes_core", "aes_wide", "block_modes", "ghash", "gcm_mode", "hmac_core"]
 # bits 33 and 57 of the processor's words: carry-less products and AES
@@ -62,7 +64,9 @@ def theirs(words, size):
 
 
 def main():
-    rounds = int(sys.argv[1]) if len(sys.argv) > 1 else 5
+    parser = parser_of(__doc__)
+    parser.add_argument("rounds", nargs="?", type=int, default=5, metavar="ROUNDS")
+    rounds = parser.parse_args().rounds
     with open("/proc/cpuinfo", encoding="utf-8") as lines:
         print(next((line.split(":")[1].strip() for line in lines if line.startswith("model name")), "processor not told"))
     print(f"{'part':<12} {'MB/s':>7} {'OpenSSL':>8} {'ratio':>6}   least to greatest")

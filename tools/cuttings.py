@@ -15,6 +15,8 @@ from cryptography.hazmat.primitives import padding
 from cryptography.hazmat.primitives.ciphers import Cipher, algorithms, modes
 from cryptography.hazmat.primitives.ciphers.aead import AESGCM
 
+from harness import parser_of
+
 TOP = pathlib.Path(__file__).resolve().parent.parent
 KEYS = {16: bytes(range(16)), 24: bytes(range(24)), 32: bytes(range(32))}
 # of all 128 bits, so that the sum that CTR counts by carries over 64
@@ -144,5 +146,6 @@ def write(name, lines):
 
 
 if __name__ == "__main__":
+    parser_of(__doc__).parse_args()
     write("cuttings", cuttings())
     write("many-blocks", many_blocks())

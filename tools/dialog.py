@@ -9,12 +9,14 @@ line may have "line N" as the blob of its key: it gets the one that the reply to
 or of the blob, is turned. So a line is sent once the reply to the one before is there. The replies are printed as they come.
 It builds the program first where it is not built.
 """
+import argparse
 import json
 import re
 import subprocess
 import sys
 from pathlib import Path
 
+from harness import parser_of
 from make_token import DEMO_KEY, mac_of
 
 TOP = Path(__file__).resolve().parent.parent
@@ -78,7 +80,9 @@ def replies_of(process, lines):
 
 
 def main():
-    words = sys.argv[1:] or ["run", "--fresh"]
+    parser = parser_of(__doc__)
+    parser.add_argument("words", nargs=argparse.REMAINDER, metavar="WORDS", help="the program's words, from its act on; else run --fresh")
+    words = parser.parse_args().words or ["run", "--fresh"]
     lines = sys.stdin.buffer.read().splitlines()
     with subprocess.Popen([TOP / "keystore2", *words], stdin=subprocess.PIPE, stdout=subprocess.PIPE) as process:
         for reply in replies_of(process, lines):

@@ -11,7 +11,6 @@ without --start with nothing. It writes the processor seconds of each check, the
 modules that took longest, told by when they were written: what is loaded for a module counts with it, and what passes before the first
 one with none. Two shapes of a crate compare by two of it side by side, from two clones of the repository. It is for the work on what
 edits cost, and gives no verdict: that is the gate's."""
-import argparse
 import os
 import pathlib
 import shutil
@@ -22,6 +21,7 @@ import time
 
 import build
 import check_over
+from harness import parser_of
 from slow_functions import times
 
 PARTS = ("src", "specs", "proofs")
@@ -113,7 +113,7 @@ def chosen(crate, names):
 
 
 def main():
-    parser = argparse.ArgumentParser(description=__doc__.split("\n\n", maxsplit=1)[0])
+    parser = parser_of(__doc__)
     parser.add_argument("clone", type=pathlib.Path)
     parser.add_argument("crate")
     parser.add_argument("edit", nargs="*")

@@ -8,12 +8,11 @@ wrap, so too; each GCM vector with tags of 12 to 16 bytes, and with each byte of
 bytes in each mode and under an HMAC key in three pieces, also under keys with a use limit, which give all output at the finish. An
 update tells the front of the output that its mode gives by then, less what came before. Outputs that no standard prints are those
 of the Python package `cryptography`. It says nothing where all is well, and ends with status 1 at the first reply that differs."""
-import argparse
 import itertools
 import sys
 
 from check_lines import OK, Rows, begin, broken, call, named
-from harness import add_program
+from harness import add_program, parser_of
 from long_inputs import fault_of
 from vectors import AES_LIST, CBC, CTR, ECB, GCM, KEYS, MACS, NO_PADDING, PKCS7, gcm_cases, mac_list, vectors
 
@@ -210,7 +209,7 @@ def least(params, bits):
 
 
 def main():
-    parser = argparse.ArgumentParser(description=__doc__.split("\n\n", maxsplit=1)[0])
+    parser = parser_of(__doc__)
     add_program(parser)
     given = parser.parse_args()
     for make in (published, lengths_and_counters, tags, macs, works):

@@ -13,7 +13,6 @@ than leave and disconnect where something waits, and nowhere else.
 
 Then read_store.py reads the store that is left: its keys and grants are the model's, with the change that waits or without it. It
 needs a C compiler, `cc`. The exit status is 1 where a script differs."""
-import argparse
 import collections
 import os
 import subprocess
@@ -23,7 +22,7 @@ import threading
 from pathlib import Path
 
 from dialog import Told
-from harness import add_program
+from harness import add_program, parser_of
 from random_scripts import MOST_SECONDS, shown
 from read_store import Lasting, read_journal
 from scratch import scratch_folder
@@ -210,7 +209,7 @@ def left_in(store):
 
 
 def main():
-    parser = argparse.ArgumentParser(description="Compares the program's replies over a failing disk with those of the second model.")
+    parser = parser_of(__doc__)
     parser.add_argument("seed", type=int, metavar="SEED")
     parser.add_argument("count", type=int, metavar="COUNT")
     add_program(parser)

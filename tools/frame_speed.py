@@ -12,6 +12,8 @@ import subprocess
 import sys
 import tempfile
 
+from harness import parser_of
+
 TOP = pathlib.Path(__file__).resolve().parent.parent
 HERE = TOP / "tools" / "frame_speed"
 
@@ -49,6 +51,7 @@ def built(place):
 
 
 def main():
+    parser_of(__doc__).parse_args()
     with tempfile.TemporaryDirectory(prefix="frame-speed-") as place:
         program = built(pathlib.Path(place))
         said = subprocess.run([program], capture_output=True, text=True, check=True).stdout

@@ -5,6 +5,7 @@
 
 prints the tables that stand in `crates/frame_tests/src/frames.rt`: beside each frame its act, as Rust's `Debug` writes it. It
 shares no code with the crate: it is the independent writer that the tests of `wire_frames` compare with."""
+from harness import parser_of
 
 
 def number(value, size):
@@ -129,6 +130,7 @@ def literal(text):
 
 
 def main():
+    parser_of(__doc__).parse_args()
     print(f"static FRAMES: [(&[u8], &str); {len(REQUESTS)}] = [")
     for row, words in REQUESTS:
         print(f"    ({literal(row)}, \"{words}\"),")

@@ -6,12 +6,11 @@
 At 65,536 live keys a new name is answered 1002, and a name that a key has is bound anew; at 65,536 grants a new pair of key and
 uid is answered 1002, and a pair that has a grant gets other bits under its number. Ends make place again, and the end of a key
 ends all its grants. It says nothing where all is well, and ends with status 1 at the first reply that differs."""
-import argparse
 import itertools
 import subprocess
 import sys
 
-from harness import add_program
+from harness import add_program, parser_of
 from scratch import scratch_folder
 
 MOST = 65_536
@@ -73,7 +72,7 @@ def grants():
 
 
 def main():
-    parser = argparse.ArgumentParser(description=__doc__.split("\n\n", maxsplit=1)[0])
+    parser = parser_of(__doc__)
     add_program(parser)
     given = parser.parse_args()
     asked, wanted = zip(*itertools.chain(keys(), grants()))

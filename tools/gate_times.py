@@ -29,6 +29,7 @@ import threading
 import time
 
 import build
+from harness import parser_of
 
 TICKS = os.sysconf("SC_CLK_TCK")
 PARTS = ("bodies", "tests", "again", "edits", "runs")
@@ -154,7 +155,7 @@ def by_edit(works):
 
 
 def main():
-    parser = argparse.ArgumentParser(description=__doc__.split("\n\n", maxsplit=1)[0])
+    parser = parser_of(__doc__)
     parser.add_argument("file", nargs="?")
     parser.add_argument("words", nargs=argparse.REMAINDER)
     given = parser.parse_args()

@@ -1,4 +1,4 @@
-"""What the tools that run the built program share: which program it is, the processor time of a run, and how a difference is told."""
+"""What the tools share: their help, which program they run, the processor time of a run, and how a difference is told."""
 import argparse
 import os
 import pathlib
@@ -11,10 +11,22 @@ TOP = pathlib.Path(__file__).resolve().parent.parent
 PROGRAM, COMMAND = TOP / "crates/keystore_program/out/keystore_program", TOP / "keystore2"
 
 
+def parser_of(text):
+    """What reads a tool's words, by the text at the tool's head, whose first part is its help."""
+    return argparse.ArgumentParser(description=text.split("\n\n", maxsplit=1)[0])
+
+
 def program_at(path):
     found = pathlib.Path(path).resolve()
     if not os.access(found, os.X_OK):
         raise argparse.ArgumentTypeError(f"{found} is no program; ./keystore2 builds it")
+    return found
+
+
+def folder_at(path):
+    found = pathlib.Path(path)
+    if not found.is_dir():
+        raise argparse.ArgumentTypeError(f"{found} is no folder")
     return found
 
 

@@ -8,12 +8,11 @@ taken once, with another of the 720 ways in which the operations can stand for t
 ways, which are 7,484,400 orders and some half an hour. The second client's texts are those of the first one, cut otherwise: a
 sealing and an opening by the second test case of the GCM specification, and the first mac of RFC 4231. It says nothing where
 all is well, and ends with status 1 at the first reply that differs."""
-import argparse
 import itertools
 import subprocess
 import sys
 
-from harness import add_program
+from harness import add_program, parser_of
 from scratch import scratch_folder
 
 START = '{"t":[0,1000],'
@@ -102,7 +101,7 @@ def fault_of(program, orders):
 
 
 def main():
-    parser = argparse.ArgumentParser(description=__doc__.split("\n\n", maxsplit=1)[0])
+    parser = parser_of(__doc__)
     parser.add_argument("--all", action="store_true")
     add_program(parser)
     given = parser.parse_args()

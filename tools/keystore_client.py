@@ -479,7 +479,7 @@ def words_of(words):
     common.add_argument("--host", default="127.0.0.1")
     common.add_argument("--port", type=number(16), default=PORT, help=f"the service's port ({PORT})")
     common.add_argument("--json", action="store_true", help="write one JSON object")
-    parser = argparse.ArgumentParser(description="A client of the key service.")
+    parser = argparse.ArgumentParser(description=__doc__.split("\n\n", maxsplit=1)[0])
     commands = parser.add_subparsers(dest="command", required=True, metavar="COMMAND")
 
     def command(name, does, text, *places):

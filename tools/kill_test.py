@@ -11,7 +11,6 @@ empty store. The store is a file in memory, which outlives the process and no lo
 names, most of a change is waiting for the disk, so that far more of them are under way at a kill. The seed fixes what is asked and when the
 run is killed, but not how far it is by then. The figures are printed; at the first thing lost it ends with status 1.
 """
-import argparse
 import json
 import random
 import subprocess
@@ -19,7 +18,7 @@ import sys
 import tempfile
 from pathlib import Path
 
-from harness import add_program
+from harness import add_program, parser_of
 from scratch import scratch_folder
 
 KILLS_PER_STORE = 100
@@ -266,7 +265,7 @@ class Client:
 
 
 def main():
-    parser = argparse.ArgumentParser(description="Kills the program at random moments, and looks for what was acknowledged.")
+    parser = parser_of(__doc__)
     parser.add_argument("--seed", type=int, default=7, metavar="N")
     parser.add_argument("--kills", type=int, default=1000, metavar="N")
     # Some runs are killed while their store is read, most amid their lines.

@@ -7,7 +7,6 @@ An input and a signature have at most 32,768 bytes: a longer one is refused and 
 where the operation is not the client's own or its key has ended, that is told. All input of an operation has at most 1,048,576
 bytes, additional data with the text: what passes them ends the operation. It says nothing where all is well, and ends with
 status 1 at the first reply that differs."""
-import argparse
 import hmac
 import itertools
 import json
@@ -15,7 +14,7 @@ import subprocess
 import sys
 
 from check_lines import OK, Rows, begin, broken, call, named
-from harness import add_program
+from harness import add_program, parser_of
 from scratch import scratch_folder
 from vectors import AES_LIST, mac_list
 
@@ -98,7 +97,7 @@ def fault_of(program, rows):
 
 
 def main():
-    parser = argparse.ArgumentParser(description=__doc__.split("\n\n", maxsplit=1)[0])
+    parser = parser_of(__doc__)
     add_program(parser)
     given = parser.parse_args()
     for rows in (single_inputs(), whole_operations()):

@@ -1,7 +1,8 @@
 #!/usr/bin/env python3
 """Writes a script of N lines: a connect, an import, and then begins and finishes in turn."""
 import json
-import sys
+
+from harness import parser_of
 
 IMPORT_LIST = [["PURPOSE", 2], ["PURPOSE", 3], ["ALGORITHM", 128], ["DIGEST", 4], ["MIN_MAC_LENGTH", 64], ["NO_AUTH_REQUIRED", True]]
 
@@ -17,6 +18,12 @@ def lines(count):
             yield {"t": [i, i], "c": 1, "do": "finish", "op": i // 2 + 1, "input": "4869205468657265"}
 
 
-if __name__ == "__main__":
-    for line in lines(int(sys.argv[1])):
+def main():
+    parser = parser_of(__doc__)
+    parser.add_argument("count", type=int, metavar="N")
+    for line in lines(parser.parse_args().count):
         print(json.dumps(line, separators=(",", ":")))
+
+
+if __name__ == "__main__":
+    main()

@@ -8,6 +8,7 @@ The draws are those of the test (`crates/library_tests/src/lists.rt`): a xorshif
 then another type, short values, a byte too few or too many. The digest is FNV-1a of 64 bits over, for each byte string, a 0
 and the canonical spelling, or the number of the fault (1 cut, 2 unknown tag, 3 wrong kind, 4 repeated, 5 trailing) and its
 offset as eight bytes."""
+from harness import parser_of
 
 # The format's tags: the 28 low bits and the type.
 TAGS = [
@@ -110,6 +111,7 @@ def digest(total, data):
 
 
 def main():
+    parser_of(__doc__).parse_args()
     draws, total, lists = Draws(88172645463325252), 0xCBF29CE484222325, 0
     for number in range(1, 4001):
         try:

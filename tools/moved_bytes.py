@@ -6,12 +6,13 @@
 A function clears its locals when it is entered and copies what goes by value, so a large value that goes through many functions
 costs its size at each. With `--per N` the bytes are given for each of N calls. A row is a function with what it does, the size of the
 piece, how often, and the bytes of it. It needs a C compiler, `cc`, and `nm`; the counts come with a run to its end."""
-import argparse
 import bisect
 import os
 import subprocess
 import sys
 import tempfile
+
+from harness import parser_of
 
 LIBRARY = r"""
 #include <stddef.h>
@@ -79,7 +80,7 @@ def names_in(program):
 
 
 def main():
-    parser = argparse.ArgumentParser(description=__doc__.split("\n\n", maxsplit=1)[0])
+    parser = parser_of(__doc__)
     parser.add_argument("--per", type=int, default=1)
     parser.add_argument("--most", type=int, default=20)
     parser.add_argument("program")

@@ -11,7 +11,6 @@ filled in as the program told them, so the program gets each line once the one b
 differs the first line that differs is printed, with the reply that the program gave and the one that the model wants;
 then how often each code was wanted, and how many scripts differ. The exit status is 1 where one differs.
 """
-import argparse
 import collections
 import itertools
 import json
@@ -21,7 +20,7 @@ import tempfile
 import threading
 
 from dialog import replies_of
-from harness import add_program
+from harness import add_program, parser_of
 from script_maker import Maker, without_drawn
 from scratch import scratch_folder
 
@@ -100,7 +99,7 @@ def compare(program, seed, count, runs):
 
 
 def main():
-    parser = argparse.ArgumentParser(description="Compares the program's replies with those of the second model.")
+    parser = parser_of(__doc__)
     parser.add_argument("seed", type=int, metavar="SEED")
     parser.add_argument("count", type=int, metavar="COUNT")
     add_program(parser)

@@ -13,6 +13,8 @@ The exit status is 0 where the bytes stand for a lasting part, and 7 where they 
 import json
 import sys
 
+from harness import parser_of
+
 HEADER = b"KSJRNL01"
 END = 268_435_456
 GATE = 0x4B
@@ -262,23 +264,27 @@ def print_damage():
     print("cut", "".join(letter(store[:size], gates) for size in range(len(store) + 1)))
 
 
-def main(words):
-    if words == ["--stores"]:
+def main():
+    parser = parser_of(__doc__)
+    ways = parser.add_mutually_exclusive_group(required=True)
+    ways.add_argument("file", nargs="?", metavar="FILE", help="a store, whose records are printed")
+    ways.add_argument("--stores", action="store_true", help="print the digest of 1,000 stores")
+    ways.add_argument("--damage", action="store_true", help="print the tables of damaged stores")
+    ways.add_argument("--records", action="store_true", help="print a record of each kind")
+    given = parser.parse_args()
+    if given.stores:
         print(f"{random_stores():016x}")
-    elif words == ["--damage"]:
+    elif given.damage:
         print_damage()
-    elif words == ["--records"]:
+    elif given.records:
         draws = Draws(7)
         for kind, (name, fields) in KINDS.items():
             print(name, framed(kind, [draws.value(form) for _, form in fields]).hex())
-    elif len(words) == 1:
-        with open(words[0], "rb") as file:
-            return print_store(file.read())
     else:
-        print(__doc__, file=sys.stderr)
-        return 2
+        with open(given.file, "rb") as file:
+            return print_store(file.read())
     return 0
 
 
 if __name__ == "__main__":
-    sys.exit(main(sys.argv[1:]))
+    sys.exit(main())

@@ -14,7 +14,6 @@ Then it refuses each growth of a line that enters an operation, one of two that 
 line is answered -41, the operation is idle with the stamp of its begin: so the begin prunes it, and else the other one.
 
 It needs a C compiler, `cc`, for the library that refuses. The exit status is 1 where a run does otherwise."""
-import argparse
 import json
 import os
 import subprocess
@@ -23,7 +22,7 @@ from pathlib import Path
 
 from check_scripts import fits, words_of
 from dialog import Told
-from harness import TOP, add_program
+from harness import TOP, add_program, parser_of
 from scratch import scratch_folder
 
 MOST_LINES, MOST_GROWTHS = 60, 20_000
@@ -172,7 +171,7 @@ def check_enter(program, library, members, reply, begun):
 
 
 def main():
-    parser = argparse.ArgumentParser(description=__doc__.split("\n\n", maxsplit=1)[0])
+    parser = parser_of(__doc__)
     parser.add_argument("scripts", nargs="*", type=Path)
     add_program(parser)
     asked = parser.parse_args()

@@ -7,13 +7,12 @@ Each need of a change broken alone, and met at its bound; one key and one grant 
 its bytes changed, and cut at each byte. `tools/read_store.py` reads them all besides. Then a run whose store is changed beside it: a
 restart reads it again, so it is answered 8 over other bytes, which leaves all as it was, and goes through once they are back. It says
 nothing where all is well, and ends with status 1 at the first store that is opened otherwise."""
-import argparse
 import json
 import pathlib
 import subprocess
 import sys
 
-from harness import add_program
+from harness import add_program, parser_of
 from read_store import HEADER, THREE, Lasting, framed, read_journal
 from scratch import scratch_folder
 
@@ -185,7 +184,7 @@ def rows():
 
 
 def main():
-    parser = argparse.ArgumentParser(description=__doc__.split("\n\n", maxsplit=1)[0])
+    parser = parser_of(__doc__)
     add_program(parser)
     program = parser.parse_args().program
     with scratch_folder() as folder:

@@ -14,13 +14,12 @@ scripts differ in how far a line's text goes:
 
 What is between two rows is the part that the second lacks. Between seal and hex lie the cipher and the reply: the part of the
 cipher is what tools/cipher_speed.py tells of GCM, 32 KiB a line."""
-import argparse
 import os
 import statistics
 import sys
 from pathlib import Path
 
-from harness import add_program, processor_seconds
+from harness import add_program, parser_of, processor_seconds
 from scratch import scratch_folder
 
 OPERATIONS = 12
@@ -57,7 +56,7 @@ def script_of(name):
 
 
 def main():
-    ask = argparse.ArgumentParser()
+    ask = parser_of(__doc__)
     ask.add_argument("rounds", nargs="?", type=int, default=7)
     add_program(ask)
     ask = ask.parse_args()

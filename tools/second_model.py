@@ -11,12 +11,12 @@ model_rules.py has the rules of lists and lengths, model_keys.py the keys and gr
 model_tokens.py the tokens, and model_outputs.py the outputs. Each reply is written before the next line is read. No disk
 stands behind it: failing_disk.py tells it which changes failed, and what the settled lines say of them.
 """
-import argparse
 import collections
 import copy
 import json
 import sys
 
+from harness import parser_of
 from model_blobs import NONCE_BYTES as BLOB_NONCE_BYTES, Sealed, opened_blob, sealed_blob
 from model_keys import KeyStore, kept_list, owner_of
 from model_outputs import front, raw_output, whole_output
@@ -488,7 +488,7 @@ def numbers_of(text):
 
 
 def main():
-    parser = argparse.ArgumentParser(description="Writes the reply lines of the script on standard input.")
+    parser = parser_of(__doc__)
     parser.add_argument("--fail", type=numbers_of, default=set(), metavar="N,N,..", help="draws that fail, from 1")
     parser.add_argument("--slots", type=int, default=16, metavar="N", help="how many operations may be open")
     words = parser.parse_args()

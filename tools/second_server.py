@@ -6,9 +6,9 @@ clients can be tried on it, and what the service answers can be compared with wh
 
 It listens on 127.0.0.1, prints its port, and serves one connection after another. The clocks stand at (0, 1000) and what is drawn
 counts up from 00, so that it answers the same at each run. It needs the Python package `cryptography`."""
-import argparse
 import socket
 
+from harness import parser_of
 from second_model import Service
 
 MOST_BODY = 262144
@@ -173,7 +173,7 @@ class Connection:
 
 
 def main():
-    parser = argparse.ArgumentParser(description="Serves the protocol over the second model.")
+    parser = parser_of(__doc__)
     parser.add_argument("--port", type=int, default=0, metavar="N", help="the port; one that is free where none is given")
     parser.add_argument("--connections", type=int, metavar="N", help="end after so many")
     words = parser.parse_args()

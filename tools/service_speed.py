@@ -8,7 +8,6 @@ swtpm makes a mac by one TPM2_HMAC over a connection, of which it has one; SoftH
 that no socket is between. A peer that is not installed is left out. Each client is a process of its own, on the same machine, and
 asks when it has the answer to what it asked before; a client in Python takes a good part of the time. All are measured by turns in
 one run. It prints the middle round: frames and macs a second, and how many times as many macs as one connection of the service."""
-import argparse
 import contextlib
 import functools
 import hashlib
@@ -20,7 +19,7 @@ import sys
 import time
 
 from check_service import free_port
-from harness import add_program
+from harness import add_program, parser_of
 from keystore_client import KINDS, Client, Key, counted, parameters, u32
 from mac_peers import KEY, SoftHsm, Token, Tpm, TpmServer, connected, exactly
 from scratch import scratch_folder
@@ -123,7 +122,7 @@ def measured(program, folder, rounds, seconds):
 
 
 def main():
-    ask = argparse.ArgumentParser(description="Measures the service over sockets, beside other makers of a mac.")
+    ask = parser_of(__doc__)
     ask.add_argument("rounds", nargs="?", type=int, default=3)
     ask.add_argument("--seconds", type=float, default=3.0, metavar="S")
     add_program(ask)

@@ -4,9 +4,10 @@
 A check writes a file of what it checked for each module, one after the other; what lies between two of them is the later one's
 time. So it speaks of a check from nothing by one job; what a second job did beside it is counted too. `Lts` is the code of a
 function with every way out of it, `Proof` its contract's proof, `decls` a file of specs/ or proofs/."""
-import argparse
 import sys
 from pathlib import Path
+
+from harness import parser_of
 
 TOP = Path(__file__).resolve().parent.parent
 
@@ -18,7 +19,7 @@ def times(folder, start=0):
 
 
 def main():
-    parser = argparse.ArgumentParser(description=__doc__.split("\n\n", maxsplit=1)[0])
+    parser = parser_of(__doc__)
     parser.add_argument("crates", nargs="*")
     parser.add_argument("--most", type=int, default=20)
     given = parser.parse_args()

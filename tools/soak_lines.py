@@ -3,7 +3,7 @@
 
 The words are those of ChaCha with 20 rounds (RFC 8439, section 2.3), as `rand_chacha` gives them: block after block of stream 0.
 """
-import sys
+from harness import parser_of
 
 IMPORT = ('{{"t":[{n},{w}],"c":1,"do":"importKey","key":{{"domain":0,"alias":"{alias}"}},"params":[{params}],"format":3,"material":"{material}"}}')
 MAC = '["PURPOSE",2],["PURPOSE",3],["ALGORITHM",128],["DIGEST",4],["MIN_MAC_LENGTH",64],["NO_AUTH_REQUIRED",true]'
@@ -72,7 +72,11 @@ def lines(seed, count):
 
 
 def main():
-    for line in lines(int(sys.argv[1]), int(sys.argv[2])):
+    parser = parser_of(__doc__)
+    parser.add_argument("seed", type=int, metavar="SEED")
+    parser.add_argument("count", type=int, metavar="N")
+    given = parser.parse_args()
+    for line in lines(given.seed, given.count):
         print(line)
 
 

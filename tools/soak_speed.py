@@ -7,20 +7,19 @@
 and writes each reply. Both count the time of the program's own processor, by turns. It prints lines a second for each, of the
 middle round, and the ratio; the file lies in memory, where the machine has such a place.
 """
-import argparse
 import os
 import statistics
 import sys
 from pathlib import Path
 
-from harness import add_program, processor_seconds
+from harness import add_program, parser_of, processor_seconds
 from scratch import scratch_folder
 from soak_lines import lines
 
 
 
 def main():
-    ask = argparse.ArgumentParser(description=__doc__.split("\n\n", maxsplit=1)[0])
+    ask = parser_of(__doc__)
     ask.add_argument("rounds", nargs="?", type=int, default=5)
     ask.add_argument("--seed", type=int, default=7)
     ask.add_argument("--lines", type=int, default=100_000)

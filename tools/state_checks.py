@@ -8,6 +8,7 @@ import itertools
 from check_lines import (
     ASKED, GRANT, KEY_ID, MAC_LIST, OK, PARAMS, SELINUX, Rows, at, begin, broken, call, made, named, numbered, write,
 )
+from harness import parser_of
 from script_events import encoded_list, read_list, write_list
 
 MAC, AES = "mac", "aes"
@@ -339,6 +340,7 @@ def kept_lists():
 
 
 if __name__ == "__main__":
+    parser_of(__doc__).parse_args()
     write("kept-lists", kept_lists())
     write("dates", dates())
     write("restriction-order", order())

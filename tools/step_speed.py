@@ -7,12 +7,11 @@ For each kind of step a script makes the keys and then so many steps, each on an
 own processor, without that of a run that only makes the keys. It prints microseconds a line for both, with the reading and
 the spelling of the line, and their ratio: of the least of all rounds, which are taken by turns. A listing is of another
 owner, who has 64 keys in both, and a clearing ends one key."""
-import argparse
 import os
 import sys
 from pathlib import Path
 
-from harness import add_program, processor_seconds
+from harness import add_program, parser_of, processor_seconds
 from scratch import scratch_folder
 
 # The first app's keys; with the second's, and the one that a clearing ends, the greater number makes 65,536 in all.
@@ -79,7 +78,7 @@ def taken(program, script, folder):
 
 
 def main():
-    ask = argparse.ArgumentParser(description=__doc__.split("\n\n", maxsplit=1)[0])
+    ask = parser_of(__doc__)
     ask.add_argument("rounds", nargs="?", type=int, default=5)
     add_program(ask)
     ask = ask.parse_args()

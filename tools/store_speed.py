@@ -16,6 +16,8 @@ import subprocess
 import sys
 import tempfile
 
+from harness import folder_at, parser_of
+
 TOP = os.path.dirname(os.path.dirname(os.path.realpath(__file__)))
 USED = "ks_outside tags grants journal_records use_journal key_database"
 
@@ -53,7 +55,9 @@ PARTS = ("by_name", "by_id", "next_name", "count", "use", "rebind", "open", "ope
 
 
 def main():
-    folder = sys.argv[1] if len(sys.argv) == 2 else None
+    parser = parser_of(__doc__)
+    parser.add_argument("folder", nargs="?", type=folder_at, metavar="FOLDER", help="where the files of the synced parts stand")
+    folder = parser.parse_args().folder
     with tempfile.TemporaryDirectory(prefix="store-speed-", dir=folder) as place:
         rows = [line.split() for line in said(place).splitlines()]
     times = {}

@@ -4,6 +4,8 @@ other indexes. `proofs/TurnLemmas.antt` says what each row is after three rounds
 turn made twice is nothing. Both stand on `proofs/SwapLemmas.antt`, which is written by hand."""
 import pathlib
 
+from harness import parser_of
+
 FOLDER = pathlib.Path(__file__).resolve().parent.parent / "crates/aes_wide/proofs"
 EIGHT = range(8)
 SIDES = ("low", "high")
@@ -123,5 +125,6 @@ def write(name, head, parts):
 
 
 if __name__ == "__main__":
+    parser_of(__doc__).parse_args()
     write("TurnLemmas.antt", TURN, [row(k) for k in EIGHT] + ["pub " + plane(k) for k in EIGHT])
     write("TwiceLemmas.antt", TWICE, [part(k) for k in EIGHT for part in (twice, back)])

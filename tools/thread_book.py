@@ -10,12 +10,12 @@ have to be as many as its limit, or as the tries where these are fewer, and all 
 Then each reply of the first book is changed, one at a time, and no such book may pass. It says nothing where all is well, and ends with
 status 1 where a book differs or a changed one does not. With --book it looks at the book that a file has, as the program wrote it, in
 place of runs. Where the Python package `cryptography` is not there, it replays none and says so."""
-import argparse
 import pathlib
 import re
 import subprocess
 import sys
 
+from harness import parser_of
 from keystore_client import NAMES
 
 try:
@@ -192,7 +192,7 @@ def lines_of_run(rounds, threads):
 
 
 def main():
-    parser = argparse.ArgumentParser(description=__doc__.split("\n\n", maxsplit=1)[0])
+    parser = parser_of(__doc__)
     parser.add_argument("runs", nargs="?", type=int, default=1, metavar="RUNS")
     parser.add_argument("--rounds", type=int, default=3, metavar="N")
     parser.add_argument("--threads", type=int, default=8, metavar="N")

@@ -7,12 +7,13 @@ The program of `crates/keystore_threads`, which `rt run` leaves there, lets 1, 2
 mac of eight bytes, and updates of 16 KiB, all over one service in memory. Each load is run five times, the numbers of threads by turns,
 with N rounds in all (96,000 pairs, and 1,600 times 16 updates without the word: the book takes 512 MiB of texts and no more). It prints,
 as Markdown, the calls a second of the middle run, and their ratio to one thread's. The time of a run without a round is taken off."""
-import argparse
 import pathlib
 import statistics
 import subprocess
 import sys
 import time
+
+from harness import parser_of
 
 PROGRAM = pathlib.Path(__file__).resolve().parent.parent / "crates" / "keystore_threads" / "out" / "keystore_threads"
 THREADS = (1, 2, 4)
@@ -43,7 +44,7 @@ def rates(kind, rounds, calls):
 
 
 def main():
-    parser = argparse.ArgumentParser(description=__doc__.split("\n\n", maxsplit=1)[0])
+    parser = parser_of(__doc__)
     parser.add_argument("--rounds", type=int, metavar="N")
     words = parser.parse_args()
     if not PROGRAM.exists():

@@ -7,6 +7,7 @@ the script is run (`tools/dialog.py`).
 from check_lines import (
     GRANT, MAC_LIST, OK, PARAMS, SELINUX, Rows, at, begin, broken, call, made, named, numbered, write,
 )
+from harness import parser_of
 from make_token import DEMO_KEY, mac_of
 
 SYSTEM, APP = 1, 2
@@ -343,6 +344,7 @@ def shown_operations():
 
 
 if __name__ == "__main__":
+    parser_of(__doc__).parse_args()
     write("token-macs", macs())
     write("malformed-tokens", malformed())
     write("token-timeouts", timeouts())

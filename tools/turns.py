@@ -12,6 +12,8 @@ import subprocess
 import sys
 import time
 
+from harness import parser_of
+
 PROGRAM = pathlib.Path(__file__).resolve().parent.parent / "crates" / "turn_list" / "out" / "turn_list"
 THREADS = (1, 2, 4, 8)
 RUNS = 5
@@ -25,7 +27,9 @@ def seconds(kind, items, threads):
 
 
 def main():
-    turns = int(sys.argv[1]) if len(sys.argv) > 1 else 4_000_000
+    parser = parser_of(__doc__)
+    parser.add_argument("turns", nargs="?", type=int, default=4_000_000, metavar="TURNS")
+    turns = parser.parse_args().turns
     if not PROGRAM.exists():
         sys.exit("tools/turns.py: there is no program yet: run `rt run` in crates/turn_list")
     print("| Threads | Turn lock | Mutex | Ratio |")

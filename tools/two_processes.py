@@ -6,13 +6,12 @@ change no byte of the store. Once the first has ended, the next run finds the ke
 
     python3 tools/two_processes.py [--program PATH]
 """
-import argparse
 import pathlib
 import subprocess
 import sys
 import tempfile
 
-from harness import TOP, add_program, check
+from harness import TOP, add_program, check, parser_of
 
 CONNECT, IMPORT, BEGIN, FINISH = (TOP / "examples/hmac.jsonl").read_bytes().splitlines(keepends=True)
 REPLIES = (TOP / "examples/hmac.expected").read_bytes().splitlines(keepends=True)
@@ -42,7 +41,7 @@ def check_second(program, folder):
 
 
 def main():
-    parser = argparse.ArgumentParser(description="Runs two processes on one store.")
+    parser = parser_of(__doc__)
     add_program(parser)
     program = parser.parse_args().program
     with tempfile.TemporaryDirectory() as name:

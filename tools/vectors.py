@@ -7,6 +7,7 @@ appendix B (cases 1 to 4, 7 to 10 and 13 to 16, and case 4 with a tag of 96 bits
 keys of the others have fewer than 64 bits, or more than 512). What an update tells is the front of the output that its mode gives
 by then, less what came before."""
 from check_lines import OK, Rows, begin, call, named, write
+from harness import parser_of
 
 ECB, CBC, CTR, GCM = 1, 2, 3, 32
 NO_PADDING, PKCS7 = 1, 64
@@ -232,6 +233,7 @@ def paddings():
 
 
 if __name__ == "__main__":
+    parser_of(__doc__).parse_args()
     write("vectors", both_ways())
     write("macs", macs())
     write("paddings", paddings())

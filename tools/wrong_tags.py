@@ -7,6 +7,8 @@ ends in bytes that are no tag of what stands before them, and the whole opens. N
 import json
 import pathlib
 
+from harness import parser_of
+
 FOLDER = pathlib.Path(__file__).resolve().parent.parent / "checks"
 KEY = "feffe9928665731c6d6a8f9467308308"
 NONCE = "cafebabefacedbaddecaf888"
@@ -64,5 +66,6 @@ def write(name, values):
 
 
 if __name__ == "__main__":
+    parser_of(__doc__).parse_args()
     write("wrong-tags.jsonl", (line for line, _ in rows()))
     write("wrong-tags.expected", (reply for _, reply in rows()))
