@@ -8,9 +8,9 @@ import itertools
 
 from blobs import DEMO_DEVICE, blob_of, list_of, seal, text_of
 from check_lines import (
-    APP, ASKED, BLOB, GRANT, MAC_LIST, OK, PARAMS, SELINUX, Rows, at, begin, broken, call, made, named, numbered, sealed, write,
+    APP, ASKED, BLOB, GRANT, MAC_LIST, OK, PARAMS, SELINUX, Rows, at, begin, broken, call, folder_of, made, named, numbered, sealed,
+    write,
 )
-from harness import parser_of
 from script_events import encoded_list
 
 SYSTEM, OWN = 1, 2
@@ -333,8 +333,8 @@ def ends_of_keys(begun):
 
 
 if __name__ == "__main__":
-    parser_of(__doc__).parse_args()
-    write("application-ids", ids_of_stored_keys())
-    write("blob-domain", domain())
-    write("blob-faults", faults())
-    write("foreign-blobs", foreign_lists())
+    into = folder_of(__doc__)
+    write(into, "application-ids", ids_of_stored_keys())
+    write(into, "blob-domain", domain())
+    write(into, "blob-faults", faults())
+    write(into, "foreign-blobs", foreign_lists())

@@ -1,8 +1,9 @@
 """The lines and replies of which the makers of checks/ put their scripts together."""
 import json
-import pathlib
 
-FOLDER = pathlib.Path(__file__).resolve().parent.parent / "checks"
+from harness import TOP, folder_at, parser_of
+
+FOLDER = TOP / "checks"
 APP, GRANT, SELINUX, BLOB, KEY_ID = range(5)
 MAC_LIST = [["PURPOSE", 2], ["PURPOSE", 3], ["ALGORITHM", 128], ["DIGEST", 4], ["MIN_MAC_LENGTH", 64]]
 PARAMS = [*MAC_LIST, ["NO_AUTH_REQUIRED", True]]
@@ -88,9 +89,16 @@ def text_of(members, order=False):
     return text.replace('"challenge":"?"', '"challenge":?') + "\n"
 
 
-def write(name, rows, words=None):
+def folder_of(text):
+    """The folder into which a maker writes, by its words; checks/ where they name none."""
+    parser = parser_of(text)
+    parser.add_argument("--folder", type=folder_at, default=FOLDER, help="where it writes in place of checks/")
+    return parser.parse_args().folder
+
+
+def write(folder, name, rows, words=None):
     rows = list(rows)
     for suffix, place, order in [(".jsonl", 0, False), (".expected", 1, True)]:
-        (FOLDER / (name + suffix)).write_text("".join(text_of(row[place], order) for row in rows), encoding="utf-8")
+        (folder / (name + suffix)).write_text("".join(text_of(row[place], order) for row in rows), encoding="utf-8")
     if words is not None:
-        (FOLDER / (name + ".words")).write_text(words + "\n", encoding="utf-8")
+        (folder / (name + ".words")).write_text(words + "\n", encoding="utf-8")

@@ -7,7 +7,6 @@ ECB both ways under each size of key, and in GCM, whose additional data and text
 The cipher texts are made by the Python package `cryptography`, and the replies by `tools/second_model.py`, which calls it too."""
 import hmac
 import json
-import pathlib
 import subprocess
 import sys
 
@@ -15,9 +14,9 @@ from cryptography.hazmat.primitives import padding
 from cryptography.hazmat.primitives.ciphers import Cipher, algorithms, modes
 from cryptography.hazmat.primitives.ciphers.aead import AESGCM
 
-from harness import parser_of
+from check_lines import folder_of
+from harness import TOP
 
-TOP = pathlib.Path(__file__).resolve().parent.parent
 KEYS = {16: bytes(range(16)), 24: bytes(range(24)), 32: bytes(range(32))}
 # of all 128 bits, so that the sum that CTR counts by carries over 64
 VECTOR = bytes([7] * 8 + [255] * 8)
@@ -138,14 +137,14 @@ def many_blocks():
         yield from at_once(number, *case)
 
 
-def write(name, lines):
+def write(folder, name, lines):
     script = "".join(json.dumps(line, separators=(",", ":")) + "\n" for line in lines)
-    (TOP / f"checks/{name}.jsonl").write_text(script, encoding="utf-8")
+    (folder / f"{name}.jsonl").write_text(script, encoding="utf-8")
     replies = subprocess.run([sys.executable, TOP / "tools/second_model.py"], input=script, capture_output=True, text=True, check=True).stdout
-    (TOP / f"checks/{name}.expected").write_text(replies, encoding="utf-8")
+    (folder / f"{name}.expected").write_text(replies, encoding="utf-8")
 
 
 if __name__ == "__main__":
-    parser_of(__doc__).parse_args()
-    write("cuttings", cuttings())
-    write("many-blocks", many_blocks())
+    into = folder_of(__doc__)
+    write(into, "cuttings", cuttings())
+    write(into, "many-blocks", many_blocks())

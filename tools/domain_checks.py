@@ -5,9 +5,8 @@ The replies stand here as the rules of docs/RULES.md give them, each at its line
 in a file .words.
 """
 from check_lines import (
-    APP, BLOB, GRANT, KEY_ID, OK, SELINUX, begin, broken, call, clients, connect, made, named, numbered, write,
+    APP, BLOB, GRANT, KEY_ID, OK, SELINUX, begin, broken, call, clients, connect, folder_of, made, named, numbered, write,
 )
-from harness import parser_of
 
 # What is kept of PARAMS: a count, and each tag with its value, by the tags' numbers.
 KEPT = "0009" + "2000000100000002" + "2000000100000003" + "1000000200000080" + "30000003000000a0" + "2000000500000004"
@@ -260,9 +259,9 @@ def listing():
 
 
 if __name__ == "__main__":
-    parser_of(__doc__).parse_args()
-    write("domain-rules", rules())
-    write("grants", grants())
-    write("owners", owners())
-    write("listing", listing())
-    write("forced", forced(), "--slots 1")
+    into = folder_of(__doc__)
+    write(into, "domain-rules", rules())
+    write(into, "grants", grants())
+    write(into, "owners", owners())
+    write(into, "listing", listing())
+    write(into, "forced", forced(), "--slots 1")

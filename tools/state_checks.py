@@ -6,9 +6,9 @@ The replies stand here as the rules of docs/RULES.md give them, each at its line
 import itertools
 
 from check_lines import (
-    ASKED, GRANT, KEY_ID, MAC_LIST, OK, PARAMS, SELINUX, Rows, at, begin, broken, call, made, named, numbered, write,
+    ASKED, GRANT, KEY_ID, MAC_LIST, OK, PARAMS, SELINUX, Rows, at, begin, broken, call, folder_of, made, named, numbered,
+    write,
 )
-from harness import parser_of
 from script_events import encoded_list, read_list, write_list
 
 MAC, AES = "mac", "aes"
@@ -340,12 +340,12 @@ def kept_lists():
 
 
 if __name__ == "__main__":
-    parser_of(__doc__).parse_args()
-    write("kept-lists", kept_lists())
-    write("dates", dates())
-    write("restriction-order", order())
-    write("device-locks", locks())
-    write("user-ids", users())
-    write("early-boot", early_boot())
-    write("begins-per-boot", begins_per_boot())
-    write("begins-in-one-slot", one_slot(), "--slots 1")
+    into = folder_of(__doc__)
+    write(into, "kept-lists", kept_lists())
+    write(into, "dates", dates())
+    write(into, "restriction-order", order())
+    write(into, "device-locks", locks())
+    write(into, "user-ids", users())
+    write(into, "early-boot", early_boot())
+    write(into, "begins-per-boot", begins_per_boot())
+    write(into, "begins-in-one-slot", one_slot(), "--slots 1")

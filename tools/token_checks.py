@@ -5,9 +5,8 @@ The replies stand here as the rules of docs/RULES.md give them, each at its line
 the script is run (`tools/dialog.py`).
 """
 from check_lines import (
-    GRANT, MAC_LIST, OK, PARAMS, SELINUX, Rows, at, begin, broken, call, made, named, numbered, write,
+    GRANT, MAC_LIST, OK, PARAMS, SELINUX, Rows, at, begin, broken, call, folder_of, made, named, numbered, write,
 )
-from harness import parser_of
 from make_token import DEMO_KEY, mac_of
 
 SYSTEM, APP = 1, 2
@@ -344,10 +343,10 @@ def shown_operations():
 
 
 if __name__ == "__main__":
-    parser_of(__doc__).parse_args()
-    write("token-macs", macs())
-    write("malformed-tokens", malformed())
-    write("token-timeouts", timeouts())
-    write("fitting-tokens", fitting())
-    write("token-room", room())
-    write("shown-operations", shown_operations())
+    into = folder_of(__doc__)
+    write(into, "token-macs", macs())
+    write(into, "malformed-tokens", malformed())
+    write(into, "token-timeouts", timeouts())
+    write(into, "fitting-tokens", fitting())
+    write(into, "token-room", room())
+    write(into, "shown-operations", shown_operations())

@@ -6,8 +6,7 @@ The vectors are those of SP 800-38A, appendix F (ECB, CBC and CTR), of the Galoi
 appendix B (cases 1 to 4, 7 to 10 and 13 to 16, and case 4 with a tag of 96 bits), and of RFC 4231 (cases 1, 3, 4 and 5, since the
 keys of the others have fewer than 64 bits, or more than 512). What an update tells is the front of the output that its mode gives
 by then, less what came before."""
-from check_lines import OK, Rows, begin, call, named, write
-from harness import parser_of
+from check_lines import OK, Rows, begin, call, folder_of, named, write
 
 ECB, CBC, CTR, GCM = 1, 2, 3, 32
 NO_PADDING, PKCS7 = 1, 64
@@ -233,7 +232,7 @@ def paddings():
 
 
 if __name__ == "__main__":
-    parser_of(__doc__).parse_args()
-    write("vectors", both_ways())
-    write("macs", macs())
-    write("paddings", paddings())
+    into = folder_of(__doc__)
+    write(into, "vectors", both_ways())
+    write(into, "macs", macs())
+    write(into, "paddings", paddings())

@@ -5,11 +5,9 @@ Each front of the ciphertext with its tag is opened in two pieces. A front short
 ends in bytes that are no tag of what stands before them, and the whole opens. No operation goes on behind its finish.
 """
 import json
-import pathlib
 
-from harness import parser_of
+from check_lines import folder_of
 
-FOLDER = pathlib.Path(__file__).resolve().parent.parent / "checks"
 KEY = "feffe9928665731c6d6a8f9467308308"
 NONCE = "cafebabefacedbaddecaf888"
 DATA = "feedfacedeadbeeffeedfacedeadbeefabaddad2"
@@ -60,12 +58,12 @@ def rows():
         yield from opening(length + 1, length)
 
 
-def write(name, values):
+def write(folder, name, values):
     lines = (json.dumps(value, separators=(",", ":")) + "\n" for value in values)
-    (FOLDER / name).write_text("".join(lines), encoding="utf-8")
+    (folder / name).write_text("".join(lines), encoding="utf-8")
 
 
 if __name__ == "__main__":
-    parser_of(__doc__).parse_args()
-    write("wrong-tags.jsonl", (line for line, _ in rows()))
-    write("wrong-tags.expected", (reply for _, reply in rows()))
+    into = folder_of(__doc__)
+    write(into, "wrong-tags.jsonl", (line for line, _ in rows()))
+    write(into, "wrong-tags.expected", (reply for _, reply in rows()))
