@@ -55,13 +55,18 @@ def is_built(names):
     return os.path.exists(f"{TOP}/{BUILT}") and max(map(os.path.getmtime, sources)) <= os.path.getmtime(f"{TOP}/{BUILT}")
 
 
-def copy_crates(names, folder):
-    """Makes a folder a repository that has these crates' sources and nothing else."""
+def copy_crates(names, folder, left_out=()):
+    """Copies these crates into a folder, without what has one of these names, and the lines that crates.txt has of them."""
     for name in names:
-        shutil.copytree(f"{TOP}/crates/{name}", f"{folder}/crates/{name}", ignore=shutil.ignore_patterns("out", "must-fail"))
-    shutil.copy(f"{TOP}/HANDLES", folder)
+        shutil.copytree(f"{TOP}/crates/{name}", f"{folder}/crates/{name}", symlinks=True, ignore=shutil.ignore_patterns(*left_out))
     with open(f"{TOP}/crates.txt", encoding="utf-8") as lines, open(f"{folder}/crates.txt", "w", encoding="utf-8") as kept:
         kept.writelines(line for line in lines if line.split("#")[0].split(":")[0].split()[:1] in [[it] for it in names])
+
+
+def make_repository(names, folder):
+    """Makes a folder a repository that has these crates' sources and nothing else."""
+    copy_crates(names, folder, ("out", "must-fail"))
+    shutil.copy(f"{TOP}/HANDLES", folder)
     # A repository begins where a folder .git is.
     os.mkdir(f"{folder}/.git")
 
@@ -125,7 +130,7 @@ def build(names):
     """Builds the program; the status is 0, or 2 where it was not built."""
     start = time.time()
     with tempfile.TemporaryDirectory(prefix=f"{PREFIX}{os.getpid()}-") as folder:
-        copy_crates(names, folder)
+        make_repository(names, folder)
         log = f"{folder}/log"
 
         def told(at_work):

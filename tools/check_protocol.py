@@ -74,7 +74,8 @@ def read_page(turns):
     check("what is left of the page", page.turns, [])
 
 
-def exactly(stream, count):
+def received(stream, count):
+    """So many bytes of a stream, or what came before its end."""
     data = b""
     while len(data) < count and (piece := stream.recv(count - len(data))):
         data += piece
@@ -87,7 +88,7 @@ def play(port, turns):
         for number, (way, data) in enumerate(turns, 1):
             if way == "->":
                 stream.sendall(data)
-            elif (found := exactly(stream, len(data))) != data:
+            elif (found := received(stream, len(data))) != data:
                 sys.exit(f"check_protocol: turn {number} gave {found.hex()} and not {data.hex()}")
         stream.shutdown(socket.SHUT_WR)
         if (more := stream.recv(1)) != b"":

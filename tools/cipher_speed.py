@@ -7,15 +7,14 @@ the machine slows both. With one round more the median is steadier; the default 
 import os
 import re
 import resource
-import shutil
 import statistics
 import subprocess
 import sys
 import tempfile
 
 from harness import parser_of
+from own_program import run_over
 
-TOP = os.path.dirname(os.path.dirname(os.path.realpath(__file__)))
 CRATES = ["tags", "byte_strings", "aes_core", "aes_wide", "block_modes", "ghash", "gcm_mode", "hmac_core"]
 # bits 33 and 57 of the processor's words: carry-less products and AES
 PORTABLE = dict(os.environ, OPENSSL_ia32cap="~0x200000200000000")
@@ -32,22 +31,6 @@ ROWS = [
     ("hmac", ["-hmac", "sha256"], 16),
 ]
 ALONE = ["ghash-768", "ghash-512", "ghash-256", "ghash-new", "lanes", "plain", "new-key"]
-
-
-def built(place):
-    """Builds the program in a folder."""
-    os.mkdir(f"{place}/crates")
-    for name in CRATES:
-        shutil.copytree(f"{TOP}/crates/{name}", f"{place}/crates/{name}", symlinks=True)
-    with open(f"{TOP}/crates.txt", encoding="utf-8") as lines:
-        kept = [line for line in lines if line.split(":")[0].split(" ")[0] in CRATES]
-    with open(f"{place}/crates.txt", "w", encoding="utf-8") as out:
-        out.writelines(kept + [f"cipher_speed: {' '.join(CRATES)}\n"])
-    crate = f"{place}/crates/cipher_speed"
-    os.makedirs(f"{crate}/src")
-    shutil.copy(f"{TOP}/tools/cipher_speed/main.rt.in", f"{crate}/src/main.rt")
-    subprocess.run(["rt", "run"], cwd=crate, stdin=subprocess.DEVNULL, stdout=subprocess.DEVNULL, stderr=subprocess.DEVNULL, check=False)
-    return f"{crate}/out/cipher_speed"
 
 
 def ours(program, part):
@@ -71,7 +54,7 @@ def main():
         print(next((line.split(":")[1].strip() for line in lines if line.startswith("model name")), "processor not told"))
     print(f"{'part':<12} {'MB/s':>7} {'OpenSSL':>8} {'ratio':>6}   least to greatest")
     with tempfile.TemporaryDirectory(prefix="cipher-speed-") as place:
-        program = built(place)
+        program, _ = run_over(CRATES, "cipher_speed", {"src/main.rt": "main.rt.in"}, place)
         if not os.access(program, os.X_OK):
             sys.exit("cipher_speed.py: the program was not built: run `rt check` in the crates that it copies")
         for part, words, size in ROWS:

@@ -14,7 +14,7 @@ from cryptography.hazmat.primitives import padding
 from cryptography.hazmat.primitives.ciphers import Cipher, algorithms, modes
 from cryptography.hazmat.primitives.ciphers.aead import AESGCM
 
-from check_lines import folder_of
+from check_lines import begin, call, connect, folder_of, made, named, text_of, write
 from harness import TOP
 
 KEYS = {16: bytes(range(16)), 24: bytes(range(24)), 32: bytes(range(32))}
@@ -30,7 +30,7 @@ SINGLE = [1] * 40
 DIGESTS = {3: "sha224", 4: "sha256", 5: "sha384", 6: "sha512"}
 
 
-def text_of(size):
+def bytes_of(size):
     return bytes((i * i + 5 * i) % 251 for i in range(size))
 
 
@@ -45,29 +45,25 @@ def sealed(key, mode, padded, text):
     return maker.update(text) + maker.finalize()
 
 
-def call(name, **fields):
-    return {"t": [0, 1000], "c": 1, "do": name, **fields}
-
-
 def operation(number, size, mode, padded, opens, cuts):
     """The lines of one operation: the pieces, and behind them what is left of the text to whole blocks, with the finish."""
     whole = sum(cuts) + 40
-    text = text_of(whole if mode in (CTR, GCM) or padded == PKCS7 else whole // 16 * 16)
+    text = bytes_of(whole if mode in (CTR, GCM) or padded == PKCS7 else whole // 16 * 16)
     given = sealed(KEYS[size], mode, padded, text) if opens else text
     params = [["PURPOSE", int(opens)], ["BLOCK_MODE", mode], ["PADDING", padded]]
     if mode == GCM:
         params += [["MAC_LENGTH", 128], ["NONCE", NONCE.hex()]]
     elif mode != ECB:
         params += [["NONCE", VECTOR.hex()]]
-    yield call("createOperation", key={"domain": 0, "alias": f"k{size}"}, params=params)
+    yield begin(1, named(f"k{size}"), params)
     if mode == GCM:
         for start, end in [(0, 15), (15, 1100), (1100, len(DATA))]:
-            yield call("updateAad", op=number, input=DATA[start:end].hex())
+            yield call(1, "updateAad", op=number, input=DATA[start:end].hex())
     at = 0
     for size_of_piece in cuts:
-        yield call("update", op=number, input=given[at : at + size_of_piece].hex())
+        yield call(1, "update", op=number, input=given[at : at + size_of_piece].hex())
         at += size_of_piece
-    yield call("finish", op=number, input=given[at:].hex())
+    yield call(1, "finish", op=number, input=given[at:].hex())
 
 
 def cases():
@@ -87,27 +83,27 @@ def macs(number):
     """The lines of the macs, whose operations are numbered from here on."""
     for digest, name in DIGESTS.items():
         params = [["PURPOSE", 2], ["PURPOSE", 3], ["ALGORITHM", 128], ["DIGEST", digest], ["MIN_MAC_LENGTH", 128], ["NO_AUTH_REQUIRED", True]]
-        key = {"domain": 0, "alias": f"m{digest}"}
-        yield call("importKey", key=key, params=params, format=3, material=KEYS[32].hex())
+        key = named(f"m{digest}")
+        yield made(1, key, params, KEYS[32].hex())
         for size in (0, 1, 15, 16, 17, 33, 200):
-            text = text_of(size)
+            text = bytes_of(size)
             mac = hmac.digest(KEYS[32], text, name)[:28]
             signatures = [None] if size != 17 else [None, *(mac[:end] for end in range(29)), mac[:27] + bytes([mac[27] ^ 1])]
             for purpose, signature in [(2, None), *((3, it) for it in signatures)]:
                 asked = [["PURPOSE", purpose]] + ([["MAC_LENGTH", 224]] if purpose == 2 else [])
-                yield call("createOperation", key=key, params=asked)
-                yield call("update", op=number, input=text[: size // 2].hex())
+                yield begin(1, key, asked)
+                yield call(1, "update", op=number, input=text[: size // 2].hex())
                 given = {} if signature is None else {"signature": signature.hex()}
-                yield call("finish", op=number, input=text[size // 2 :].hex(), **given)
+                yield call(1, "finish", op=number, input=text[size // 2 :].hex(), **given)
                 number += 1
 
 
 def keys():
-    yield {"t": [0, 1000], "do": "connect", "uid": 10001}
+    yield connect(10001)
     for size, key in KEYS.items():
         params = [["PURPOSE", 0], ["PURPOSE", 1], ["ALGORITHM", 32], *[["BLOCK_MODE", mode] for mode in (ECB, CBC, CTR, GCM)]]
         params += [["PADDING", NO_PADDING], ["PADDING", PKCS7], ["MIN_MAC_LENGTH", 128], ["CALLER_NONCE", True], ["NO_AUTH_REQUIRED", True]]
-        yield call("importKey", key={"domain": 0, "alias": f"k{size}"}, params=params, format=3, material=key.hex())
+        yield made(1, named(f"k{size}"), params, key.hex())
 
 
 def cuttings():
@@ -123,28 +119,29 @@ def at_once(number, size, mode, opens, text):
     params = [["PURPOSE", int(opens)], ["BLOCK_MODE", mode], ["PADDING", NO_PADDING]]
     if mode == GCM:
         params += [["MAC_LENGTH", 128], ["NONCE", NONCE.hex()]]
-    yield call("createOperation", key={"domain": 0, "alias": f"k{size}"}, params=params)
+    yield begin(1, named(f"k{size}"), params)
     if mode == GCM:
-        yield call("updateAad", op=number, input=DATA.hex())
-    yield call("finish", op=number, input=given.hex())
+        yield call(1, "updateAad", op=number, input=DATA.hex())
+    yield call(1, "finish", op=number, input=given.hex())
 
 
 def many_blocks():
     yield from keys()
-    blocks = [(size, ECB, opens, text_of(16 * count)) for size in KEYS for opens in (False, True) for count in range(34)]
-    blocks += [(16, GCM, opens, text_of(16 * count)) for opens in (False, True) for count in (*range(34), 100)]
+    blocks = [(size, ECB, opens, bytes_of(16 * count)) for size in KEYS for opens in (False, True) for count in range(34)]
+    blocks += [(16, GCM, opens, bytes_of(16 * count)) for opens in (False, True) for count in (*range(34), 100)]
     for number, case in enumerate(blocks, 1):
         yield from at_once(number, *case)
 
 
-def write(folder, name, lines):
-    script = "".join(json.dumps(line, separators=(",", ":")) + "\n" for line in lines)
-    (folder / f"{name}.jsonl").write_text(script, encoding="utf-8")
-    replies = subprocess.run([sys.executable, TOP / "tools/second_model.py"], input=script, capture_output=True, text=True, check=True).stdout
-    (folder / f"{name}.expected").write_text(replies, encoding="utf-8")
+def answered(lines):
+    """Lines with the second model's replies."""
+    lines = list(lines)
+    script = "".join(map(text_of, lines))
+    said = subprocess.run([sys.executable, TOP / "tools/second_model.py"], input=script, capture_output=True, text=True, check=True).stdout
+    return zip(lines, map(json.loads, said.splitlines()), strict=True)
 
 
 if __name__ == "__main__":
     into = folder_of(__doc__)
-    write(into, "cuttings", cuttings())
-    write(into, "many-blocks", many_blocks())
+    write(into, "cuttings", answered(cuttings()))
+    write(into, "many-blocks", answered(many_blocks()))

@@ -170,6 +170,17 @@ def read_reply(body):
     return Reply(fields)
 
 
+def exactly(stream, count):
+    """So many bytes of a stream; a ConnectionError where it ends before."""
+    parts = bytearray()
+    while len(parts) < count:
+        piece = stream.recv(count - len(parts))
+        if not piece:
+            raise ConnectionResetError("the peer has gone")
+        parts += piece
+    return bytes(parts)
+
+
 class Client:
     """A connection. Its methods are the acts, under the names that keystore2 and KeyMint give them."""
 
@@ -201,15 +212,6 @@ class Client:
             self.stream.close()
             self.stream = None
 
-    def exactly(self, count):
-        parts = bytearray()
-        while len(parts) < count:
-            piece = self.stream.recv(count - len(parts))
-            if not piece:
-                raise ConnectionResetError()
-            parts += piece
-        return bytes(parts)
-
     def exchange(self, body):
         """Sends the body of a request and gives that of its reply. Where that fails or takes too long, the connection ends: a reply
         that comes later would be taken for that of the next request."""
@@ -217,7 +219,7 @@ class Client:
             raise ConnectionEnded()
         try:
             self.stream.sendall(counted(body))
-            return self.exactly(int.from_bytes(self.exactly(4), "big"))
+            return exactly(self.stream, int.from_bytes(exactly(self.stream, 4), "big"))
         except ConnectionError as error:
             self.close()
             raise ConnectionEnded() from error

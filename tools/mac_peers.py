@@ -12,6 +12,8 @@ import socket
 import subprocess
 import time
 
+from keystore_client import exactly
+
 # SoftHSM takes no key of HMAC-SHA256 that is shorter.
 KEY = b"\x0b" * 32
 PATIENCE = 10.0
@@ -34,16 +36,6 @@ SECRET_KEY, GENERIC_SECRET, SHA256_HMAC = 4, 0x10, 0x251
 
 def counted(data):
     return len(data).to_bytes(2, "big") + data
-
-
-def exactly(stream, count):
-    parts = bytearray()
-    while len(parts) < count:
-        piece = stream.recv(count - len(parts))
-        if not piece:
-            raise ConnectionError("the peer has gone")
-        parts += piece
-    return bytes(parts)
 
 
 def connected(port):

@@ -20,8 +20,8 @@ import time
 
 from check_service import free_port
 from harness import add_program, parser_of
-from keystore_client import KINDS, Client, Key, counted, parameters, u32
-from mac_peers import KEY, SoftHsm, Token, Tpm, TpmServer, connected, exactly
+from keystore_client import KINDS, Client, Key, counted, exactly, parameters, u32
+from mac_peers import KEY, SoftHsm, Token, Tpm, TpmServer, connected
 from scratch import scratch_folder
 
 APP, MOST, TEXT = 10001, 4, b"Hi There"

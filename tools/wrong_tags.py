@@ -4,9 +4,7 @@
 Each front of the ciphertext with its tag is opened in two pieces. A front shorter than a tag has no length that may be opened, each longer one
 ends in bytes that are no tag of what stands before them, and the whole opens. No operation goes on behind its finish.
 """
-import json
-
-from check_lines import folder_of
+from check_lines import OK, Rows, begin, broken, call, folder_of, named, write
 
 KEY = "feffe9928665731c6d6a8f9467308308"
 NONCE = "cafebabefacedbaddecaf888"
@@ -23,47 +21,36 @@ PARAMS = [["PURPOSE", 1], ["ALGORITHM", 32], ["BLOCK_MODE", 32], ["PADDING", 1],
 ASKED = [["PURPOSE", 1], ["BLOCK_MODE", 32], ["PADDING", 1], ["MAC_LENGTH", 128], ["NONCE", NONCE]]
 
 
-def call(name, **fields):
-    return {"t": [0, 1000], "c": 1, "do": name, **fields}
-
-
 def out(start, end):
     return {"code": 0, "out": TEXT[start:end].hex()}
 
 
 def ending(length, given):
     if length < TAG:
-        return {"code": -21, "rule": "S8"}
+        return broken(-21, "S8")
     if length < len(SEALED):
         return {"code": -30}
     return out(given, len(TEXT))
 
 
-def opening(number, length):
-    """An opening of the first bytes: each line with its reply."""
+def opening(rows, length):
+    """An opening of the first bytes."""
     half = length // 2
     given = max(0, half - TAG)
-    yield call("createOperation", key={"domain": 0, "alias": "k"}, params=ASKED), {"code": 0, "op": number}
-    yield call("updateAad", op=number, input=DATA), {"code": 0}
-    yield call("update", op=number, input=SEALED[:half].hex()), out(0, given)
-    yield call("finish", op=number, input=SEALED[half:length].hex()), ending(length, given)
-    yield call("update", op=number), {"code": -28, "rule": "S1"}
+    number = rows.begins(begin(1, named("k"), ASKED))
+    rows.put(call(1, "updateAad", op=number, input=DATA), OK)
+    rows.put(call(1, "update", op=number, input=SEALED[:half].hex()), out(0, given))
+    rows.put(call(1, "finish", op=number, input=SEALED[half:length].hex()), ending(length, given))
+    rows.put(call(1, "update", op=number), broken(-28, "S1"))
 
 
-def rows():
-    yield {"t": [0, 1000], "do": "connect", "uid": 10001}, {"client": 1, "code": 0}
-    key = call("importKey", key={"domain": 0, "alias": "k"}, params=PARAMS, format=3, material=KEY)
-    yield key, {"code": 0, "key": 1}
+def wrong_tags():
+    rows = Rows([10001])
+    rows.key(1, "k", PARAMS, material=KEY)
     for length in range(len(SEALED) + 1):
-        yield from opening(length + 1, length)
-
-
-def write(folder, name, values):
-    lines = (json.dumps(value, separators=(",", ":")) + "\n" for value in values)
-    (folder / name).write_text("".join(lines), encoding="utf-8")
+        opening(rows, length)
+    return rows.rows
 
 
 if __name__ == "__main__":
-    into = folder_of(__doc__)
-    write(into, "wrong-tags.jsonl", (line for line, _ in rows()))
-    write(into, "wrong-tags.expected", (reply for _, reply in rows()))
+    write(folder_of(__doc__), "wrong-tags", wrong_tags())
