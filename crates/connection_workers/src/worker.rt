@@ -65,12 +65,14 @@ fn hand_back<R: Wait, B: HangsUp>(
     requires ours { IsPassOf lock.now pass }
     ensures ours { IsPassOf lock.now result }
 {
-    let Some(link) = left else {
-        return pass;
-    };
-    let (turn, mut intake) = lock.enter(rt, pass);
-    intake.give_back(Some(link));
-    lock.leave_seeing(turn, intake)
+    match left {
+        None => pass,
+        left => {
+            let (turn, mut intake) = lock.enter(rt, pass);
+            intake.give_back(left);
+            lock.leave_seeing(turn, intake)
+        }
+    }
 }
 
 /// Serves one connection, and ends it; what is left of it, where something is, is to be handed back.
