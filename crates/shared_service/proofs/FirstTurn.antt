@@ -36,7 +36,6 @@ use Rattle.shared_service.specs.Owning.{by, client_for, event_for, is_connected,
 use Rattle.shared_service.specs.Requests.{AreNumbers, GoesOut, IsCaller, IsLeaveRoom, IsRequested}
 use Rattle.shared_service.specs.Sending.{sent}
 use Rattle.shared_service.proofs.Entries.{enter_asked, enter_no_leave}
-use Rattle.shared_service.proofs.Logs.{same_connected}
 use Rattle.shared_service.proofs.Naming.{caller_prop}
 use Rattle.shared_service.proofs.ReplyLengths.{body_few, small_sizes}
 use Rattle.shared_service.proofs.Seeing.{caller_after, caller_on, idle_after, out_after, seen_of}
@@ -57,17 +56,12 @@ call_full pass reading act front book served begins passes stays is = Full (reco
   none_last = ap (λ (s : Served). s.last) is;
 })
 
-parting_same : (act : Act) (pass : ℕ) (f g : List BookEntry) → lock.own by pass f ≡ lock.own by pass g → is_parting act pass (log_of g) ≡ false → is_parting act pass (log_of f) ≡ false
-parting_same act pass f g same stays = ap (λ (b : Bool). is_disconnect act && b) (same_connected pass f g same) ∙ stays
-
-pub call_poor : (pass : ℕ) (reading : Reading) (act : Act) (front book next : List BookEntry) (served : Served) → IsFrontOf by pass front book → next ≡ front → passes_limit act (log_of book) ≡ false → is_parting act pass (log_of book) ≡ false
-    → served ≡ Refused MemoryAllocationFailed → IsCall pass reading act front next served
-call_poor pass reading act front book next served begins same within stays is = Poor (record {
-  log = book;
+pub call_poor : (pass : ℕ) (reading : Reading) (act : Act) (front book : List BookEntry) (served : Served) → IsFrontOf by pass front book → passes_limit act (log_of book) ≡ false → is_parting act pass (log_of book) ≡ false
+    → served ≡ Refused MemoryAllocationFailed → IsCall pass reading act front book served
+call_poor pass reading act front book served begins within stays is = Poor (record {
   begins = begins;
   within = within;
-  same = same;
-  stays = ap (λ (l : List BookEntry). is_parting act pass (log_of l)) same ∙ parting_same act pass front book begins.owned stays;
+  stays = stays;
   is_want = ap (λ (s : Served). s.reply) is;
   none_first = ap (λ (s : Served). s.first) is;
   none_last = ap (λ (s : Served). s.last) is;
@@ -252,9 +246,6 @@ seen_after {D} {N} d n name named engine disk entropy book front number m client
     let seen : IsDesk d n name engine disk entropy book → HasSeen named m front client connected = λ t.
     subst (λ (z : Name × ℕ × List BookEntry). HasSeen z.0 z.1 z.2 client connected) (λ i. (p i, sym q i, sym r i)) (seen_of d n name engine disk entropy book number client connected t caller) in
     ∥∥₁_map desk seen
-
-pub seen_same : (name : Name) (number m client : ℕ) (connected : Bool) (front f : List BookEntry) → m ≡ number → f ≡ front → ∥ HasSeen name number front client connected ∥₁ → ∥ HasSeen name m f client connected ∥₁
-seen_same name number m client connected front f p q seen = subst (λ (z : ℕ × List BookEntry). ∥ HasSeen name z.0 z.1 client connected ∥₁) (λ i. (sym p i, sym q i)) seen
 
 pub seen_made : {D N : Type 0} (d : DiskGhosts D) (n : EntropyGhosts N) (old name named : Name) (engine : Engine) (disk : D) (entropy : N) (log book front : List BookEntry) (pass m client : ℕ) (connected : Bool) (next : ℕ × Bool) (reading : Reading) (act : Act) (reply : Reply)
     (job : Option Job) (leave : Option FieldSizes) → ∥ IsDesk d n name engine disk entropy book ∥₁ → ∥ IsRequested old pass (event_for reading act pass (log_of log)) log book reply job leave ∥₁ → IsCaller pass client connected (log_of log)

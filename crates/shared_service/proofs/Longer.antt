@@ -1,5 +1,5 @@
 -- How a step makes the book longer.
-use Rattle.std.proofs.Common.{◌≡◌, ℕ, ◌+◌, ◌-◌, ◌<◌, List, [], ◌∷◌, ◌++◌, length, Option, Some, None, refl, sym, ap, ◌∙◌, arith, length-append}
+use Rattle.std.proofs.Common.{◌≡◌, ℕ, ◌+◌, ◌-◌, ◌<◌, List, [], ◌∷◌, ◌++◌, length, Option, Some, None, refl, ap, ◌∙◌, arith, length-append}
 use Rattle.tags.specs.declared.settled.Settled.{Settled}
 use Rattle.turn_lock.specs.Fronts.{AllMade, Appends}
 use Rattle.service_book.specs.declared.entry.BookEntry.{BookEntry}
@@ -38,10 +38,6 @@ pub appends_one : (pass : ℕ) (old new : List BookEntry) → GrowsBy pass old n
 appends_one pass old new grows one =
     let long : length new ≡ length old + length grows.more = ap length grows.grown ∙ length-append old grows.more in
     record { more = grows.more; grown = grows.grown; long = omega arith; made = grows.made }
-
--- as many as none
-pub appends_none : (pass : ℕ) (old new : List BookEntry) → new ≡ old → Appends by pass 0 old new
-appends_none pass old new same = record { more = []; grown = same ∙ sym (Rattle.std.proofs.lemmas.List.append-nil old); long = refl; made = tt }
 
 pub added_some : (first last : ℕ) (old new : List BookEntry) → length old < length new → AreNumbers old new first last → 0 < last + 1 - first
 added_some first last old new longer numbers =

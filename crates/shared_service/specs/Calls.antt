@@ -84,12 +84,10 @@ pub record IsFull (pass : ℕ) (act : Act) (old new : List BookEntry) (served : 
   pub none_first : served.first ≡ 0
   pub none_last : served.last ≡ 0
 
--- a call for which memory is wanting before its step passes no limit over the book as it is then; it adds nothing, and its front stays
+-- a call for which memory is wanting before its step adds nothing, and its front is the whole book, over which it passes no limit
 pub record IsPoor (pass : ℕ) (act : Act) (old new : List BookEntry) (served : Served) : Type 0 where
-  pub log : List BookEntry
-  pub begins : IsFrontOf by pass old log
-  pub within : passes_limit act (log_of log) ≡ false
-  pub same : new ≡ old
+  pub begins : IsFrontOf by pass old new
+  pub within : passes_limit act (log_of new) ≡ false
   pub stays : is_parting act pass (log_of new) ≡ false
   pub is_want : served.reply ≡ Stopped MemoryAllocationFailed
   pub none_first : served.first ≡ 0

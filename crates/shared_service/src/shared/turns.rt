@@ -129,7 +129,7 @@ impl<D: Disk, N: Entropy> Shared<D, N> {
                 Asked::Answered(self.seated(pass, kept), refused(Code::RunFull))
             }
             Requested::Poor => {
-                let pass = self.lock.rest(self.lock.leave(turn, desk, 0));
+                let pass = self.lock.rest(self.lock.leave_seeing(turn, desk));
                 let kept = Kept {
                     client,
                     connected,

@@ -18,8 +18,8 @@ use Rattle.shared_service.specs.declared.made.Requested.TheVariants.{Full, Made,
 use Rattle.shared_service.specs.declared.shared.turns.Kind.{Kind}
 use Rattle.shared_service.specs.declared.shared.away.Sent.{Sent}
 use Rattle.shared_service.proofs.Calling.{recorded_once}
-use Rattle.shared_service.proofs.FirstTurn.{after_connected, call_at, call_full, call_poor, enter_after, entered_at, entered_made, extends_at, first_caller, front_at, job_at, job_away, refused_connected, refused_parts, refused_told, requested_parts, seen_after, seen_made, seen_same, sent_none, sent_some}
-use Rattle.shared_service.proofs.Longer.{added_some, appends_none, longer_by}
+use Rattle.shared_service.proofs.FirstTurn.{after_connected, call_at, call_full, call_poor, enter_after, entered_at, entered_made, extends_at, first_caller, front_at, job_at, job_away, refused_connected, refused_parts, refused_told, requested_parts, seen_after, seen_made, sent_none, sent_some}
+use Rattle.shared_service.proofs.Longer.{added_some, longer_by}
 use Rattle.shared_service.proofs.Preparing.{comes_of, told_of}
 use Rattle.shared_service.proofs.shared.Shared.ask.Goals as goal
 
@@ -79,17 +79,23 @@ returns-in-Full g c =
       };
     }
 
-pub leave-requires-clause-grown : goal.leave-requires-clause-grown
-leave-requires-clause-grown g c = appends_none (turn_number c.enter-turn.result.0) (seen c.enter-turn.result.0) (desk_book c.request.new.self) (c.in-Poor.ensures.requests.0 ∙ sym c.enter-turn.ensures.value)
-
 pub seated-requires-in-Poor-clause-seen : goal.seated-requires-in-Poor-clause-seen
 seated-requires-in-Poor-clause-seen g c =
     let self = c.args.self.now in
     let mine = c.args.pass in
-    seen_same (service_name self) (resting_number mine.pass) (resting_number c.rest-pass-in-Poor.result) mine.client mine.connected (resting_front mine.pass) (resting_front c.rest-pass-in-Poor.result)
-    (c.rest-pass-in-Poor.ensures.same.0 ∙ (c.leave.ensures.number ∙ (c.enter-turn.ensures.number ∙ c.wake.ensures.same.0)))
-    (c.rest-pass-in-Poor.ensures.same.1 ∙ (c.leave.ensures.same refl ∙ (c.enter-turn.ensures.front ∙ c.wake.ensures.same.1)))
-    (mine.seen (service_lock self) (service_name self) c.requires.ours.resting)
+    let n = c.number-number.result in
+    let old = c.enter-turn.result.1 in
+    let new = c.request.new.self in
+    let before : List BookEntry = desk_book old in
+    let number : resting_number mine.pass ≡ n = sym c.number-number.ensures in
+    let begins = front_at _ n _ (resting_front mine.pass) before (c.wake.ensures.same.0 ∙ number) c.wake.ensures.same.1 c.enter-turn.ensures.later in
+    let caller : IsCaller n mine.client mine.connected (log_of before) =
+    first_caller (service_name self) (resting_number mine.pass) n mine.client mine.connected (resting_front mine.pass) before number (mine.seen (service_lock self) (service_name self) c.requires.ours.resting) begins.owned in
+    let same : desk_book new ≡ before = c.in-Poor.ensures.requests.0 in
+    seen_after g.D.Disk g.N.Entropy new.name (service_name self) new.engine new.disk new.entropy (desk_book new) (resting_front c.rest-pass-in-Poor.result) n (resting_number c.rest-pass-in-Poor.result) mine.client mine.connected new.stands
+    (subst (λ (b : List BookEntry). IsCaller n mine.client mine.connected (log_of b)) (sym same) caller) (c.request.ensures.name ∙ c.enter-turn.ensures.fits)
+    (c.rest-pass-in-Poor.ensures.same.0 ∙ (c.leave_seeing-in-Poor.ensures.number ∙ (c.enter-turn.ensures.number ∙ (c.wake.ensures.same.0 ∙ number))))
+    (c.rest-pass-in-Poor.ensures.same.1 ∙ (c.leave_seeing-in-Poor.ensures.front ∙ (c.enter-turn.ensures.value ∙ sym same)))
 
 pub returns-in-Poor : goal.returns-in-Poor
 returns-in-Poor g c =
@@ -104,15 +110,14 @@ returns-in-Poor g c =
     let caller : IsCaller n mine.client mine.connected (log_of before) =
     first_caller (service_name self) (resting_number mine.pass) n mine.client mine.connected (resting_front mine.pass) before number (mine.seen (service_lock self) (service_name self) c.requires.ours.resting) begins.owned in
     let requests = told_of (desk_name old) n c.args.reading (act_in c.of-coming.result) c.args.request before (desk_book new) Poor c.of-coming.ensures.act c.in-Poor.ensures.requests in
-    let rested : resting_number c.rest-pass-in-Poor.result ≡ resting_number mine.pass = c.rest-pass-in-Poor.ensures.same.0 ∙ (c.leave.ensures.number ∙ (c.enter-turn.ensures.number ∙ c.wake.ensures.same.0)) in
-    let fronted : front_of c.seated-in-Poor.result ≡ front_of mine =
-    c.seated-in-Poor.ensures.front ∙ (c.rest-pass-in-Poor.ensures.same.1 ∙ (c.leave.ensures.same refl ∙ (c.enter-turn.ensures.front ∙ c.wake.ensures.same.1))) in
+    let rested : resting_number c.rest-pass-in-Poor.result ≡ n = c.rest-pass-in-Poor.ensures.same.0 ∙ (c.leave_seeing-in-Poor.ensures.number ∙ (c.enter-turn.ensures.number ∙ (c.wake.ensures.same.0 ∙ number))) in
+    let fronted : front_of c.seated-in-Poor.result ≡ before = c.seated-in-Poor.ensures.front ∙ (c.rest-pass-in-Poor.ensures.same.1 ∙ (c.leave_seeing-in-Poor.ensures.front ∙ c.enter-turn.ensures.value)) in
     record {
       asks = record {
         ours = c.seated-in-Poor.ensures.ours;
-        number_is = c.seated-in-Poor.ensures.number ∙ rested;
-        calls = ∣ call_at (number_of mine) n c.args.reading c.args.request (front_of mine) (front_of mine) (front_of c.seated-in-Poor.result) c.refused-in-Poor.result (sym number) fronted
-            (call_poor n c.args.reading c.args.request (front_of mine) before (front_of mine) c.refused-in-Poor.result begins refl requests.1 requests.2 c.refused-in-Poor.ensures) ∣₁;
+        number_is = c.seated-in-Poor.ensures.number ∙ (rested ∙ sym number);
+        calls = ∣ call_at (number_of mine) n c.args.reading c.args.request (front_of mine) before (front_of c.seated-in-Poor.result) c.refused-in-Poor.result (sym number) fronted
+            (call_poor n c.args.reading c.args.request (front_of mine) before c.refused-in-Poor.result begins requests.1 requests.2 c.refused-in-Poor.ensures) ∣₁;
         connected_is = c.seated-in-Poor.ensures.connected ∙ refused_connected c.args.request MemoryAllocationFailed c.refused-in-Poor.result mine.connected c.refused-in-Poor.ensures;
         parts = refused_parts c.args.request n (log_of before) mine.connected c.refused-in-Poor.result.reply caller.connected_is requests.2;
         told = refused_told MemoryAllocationFailed c.refused-in-Poor.result c.refused-in-Poor.ensures;
@@ -137,10 +142,10 @@ seated-requires-in-None-clause-seen g c =
     let is : next ≡ client_after (kind_of c.args.request) made.reply (mine.client, mine.connected) =
     c.client_after-client.ensures ∙ ap (λ (k : Kind). client_after k made.reply (mine.client, mine.connected)) (c.kind_of-kind.ensures ∙ ap kind_of c.act.ensures.act) in
     let turned : turn_number c.enter-turn.result.0 ≡ n = c.enter-turn.ensures.number ∙ (c.wake.ensures.same.0 ∙ number) in
-    let rested : resting_number c.rest-pass-in-Made.result ≡ n = c.rest-pass-in-Made.ensures.same.0 ∙ (c.leave-in-Made.ensures.number ∙ turned) in
-    let left = c.leave-in-Made.ensures.front (added_some made.first made.last (desk_book old) (desk_book new) (longer_by n (desk_book old) (desk_book new) told.2) told.1) in
+    let rested : resting_number c.rest-pass-in-Made.result ≡ n = c.rest-pass-in-Made.ensures.same.0 ∙ (c.leave.ensures.number ∙ turned) in
+    let left = c.leave.ensures.front (added_some made.first made.last (desk_book old) (desk_book new) (longer_by n (desk_book old) (desk_book new) told.2) told.1) in
     let fronted : resting_front c.rest-pass-in-Made.result ≡ desk_book new = c.rest-pass-in-Made.ensures.same.1 ∙ left in
-    let extends = extends_at _ n _ (resting_front mine.pass) _ (desk_book new) (desk_book new) before (seen c.enter-turn.result.0) turned (c.enter-turn.ensures.front ∙ c.wake.ensures.same.1) left c.enter-turn.ensures.value c.leave-in-Made.ensures.own in
+    let extends = extends_at _ n _ (resting_front mine.pass) _ (desk_book new) (desk_book new) before (seen c.enter-turn.result.0) turned (c.enter-turn.ensures.front ∙ c.wake.ensures.same.1) left c.enter-turn.ensures.value c.leave.ensures.own in
     seen_made g.D.Disk g.N.Entropy (desk_name old) new.name (service_name self) new.engine new.disk new.entropy before (desk_book new) (resting_front c.rest-pass-in-Made.result) n (resting_number c.rest-pass-in-Made.result) mine.client mine.connected next
     c.args.reading c.args.request made.reply made.job made.leave new.stands told.0 caller is (sym c.sent_with.ensures ∙ c.in-None.is) (c.request.ensures.name ∙ c.enter-turn.ensures.fits) rested fronted
 
@@ -162,10 +167,10 @@ returns-in-None g c =
     let is : next ≡ client_after (kind_of c.args.request) made.reply (mine.client, mine.connected) =
     c.client_after-client.ensures ∙ ap (λ (k : Kind). client_after k made.reply (mine.client, mine.connected)) (c.kind_of-kind.ensures ∙ ap kind_of c.act.ensures.act) in
     let turned : turn_number c.enter-turn.result.0 ≡ n = c.enter-turn.ensures.number ∙ (c.wake.ensures.same.0 ∙ number) in
-    let rested : resting_number c.rest-pass-in-Made.result ≡ n = c.rest-pass-in-Made.ensures.same.0 ∙ (c.leave-in-Made.ensures.number ∙ turned) in
-    let left = c.leave-in-Made.ensures.front (added_some made.first made.last (desk_book old) (desk_book new) (longer_by n (desk_book old) (desk_book new) told.2) told.1) in
+    let rested : resting_number c.rest-pass-in-Made.result ≡ n = c.rest-pass-in-Made.ensures.same.0 ∙ (c.leave.ensures.number ∙ turned) in
+    let left = c.leave.ensures.front (added_some made.first made.last (desk_book old) (desk_book new) (longer_by n (desk_book old) (desk_book new) told.2) told.1) in
     let fronted : resting_front c.rest-pass-in-Made.result ≡ desk_book new = c.rest-pass-in-Made.ensures.same.1 ∙ left in
-    let extends = extends_at _ n _ (resting_front mine.pass) _ (desk_book new) (desk_book new) before (seen c.enter-turn.result.0) turned (c.enter-turn.ensures.front ∙ c.wake.ensures.same.1) left c.enter-turn.ensures.value c.leave-in-Made.ensures.own in
+    let extends = extends_at _ n _ (resting_front mine.pass) _ (desk_book new) (desk_book new) before (seen c.enter-turn.result.0) turned (c.enter-turn.ensures.front ∙ c.wake.ensures.same.1) left c.enter-turn.ensures.value c.leave.ensures.own in
     let none : IsRequested (desk_name old) n (event_for c.args.reading c.args.request n (log_of before)) before (desk_book new) made.reply made.job made.leave → ticket_in made.reply ≡ None = λ asked.
     sent_none (desk_name old) (desk_book new) (ticket_in made.reply) made.job made.leave asked.goes (sym c.sent_with.ensures ∙ c.in-None.is) in
     let call : IsRequested (desk_name old) n (event_for c.args.reading c.args.request n (log_of before)) before (desk_book new) made.reply made.job made.leave
@@ -201,10 +206,10 @@ returns-in-Some g c =
     let is : next ≡ client_after (kind_of c.args.request) made.reply (mine.client, mine.connected) =
     c.client_after-client.ensures ∙ ap (λ (k : Kind). client_after k made.reply (mine.client, mine.connected)) (c.kind_of-kind.ensures ∙ ap kind_of c.act.ensures.act) in
     let turned : turn_number c.enter-turn.result.0 ≡ n = c.enter-turn.ensures.number ∙ (c.wake.ensures.same.0 ∙ number) in
-    let rested : resting_number c.rest-pass-in-Made.result ≡ n = c.rest-pass-in-Made.ensures.same.0 ∙ (c.leave-in-Made.ensures.number ∙ turned) in
-    let left = c.leave-in-Made.ensures.front (added_some made.first made.last (desk_book old) (desk_book new) (longer_by n (desk_book old) (desk_book new) told.2) told.1) in
+    let rested : resting_number c.rest-pass-in-Made.result ≡ n = c.rest-pass-in-Made.ensures.same.0 ∙ (c.leave.ensures.number ∙ turned) in
+    let left = c.leave.ensures.front (added_some made.first made.last (desk_book old) (desk_book new) (longer_by n (desk_book old) (desk_book new) told.2) told.1) in
     let fronted : resting_front c.rest-pass-in-Made.result ≡ desk_book new = c.rest-pass-in-Made.ensures.same.1 ∙ left in
-    let extends = extends_at _ n _ (resting_front mine.pass) _ (desk_book new) (desk_book new) before (seen c.enter-turn.result.0) turned (c.enter-turn.ensures.front ∙ c.wake.ensures.same.1) left c.enter-turn.ensures.value c.leave-in-Made.ensures.own in
+    let extends = extends_at _ n _ (resting_front mine.pass) _ (desk_book new) (desk_book new) before (seen c.enter-turn.result.0) turned (c.enter-turn.ensures.front ∙ c.wake.ensures.same.1) left c.enter-turn.ensures.value c.leave.ensures.own in
     let x : Sent = c.in-Some.field-0 in
     let goes = sent_some (ticket_in made.reply) made.job made.leave x (sym c.sent_with.ensures ∙ c.in-Some.is) in
     let enters : Rattle.rule_model.specs.Acts.is_enter c.args.request ≡ true = ∥∥₁_elim told.0 (Bool-set _ _) (λ asked. asked.enters x.ticket goes.0) in
