@@ -75,7 +75,8 @@ pub record IsRecorded (pass : ℕ) (reading : Reading) (act : Act) (old new : Li
   pub has_ticket : served.reply ≢ Stopped NoTicket
   pub parts : is_parting act pass (log_of log) ≡ true → is_done served.reply ≡ true
 
--- a call that passes a limit adds nothing, and its front is the whole book, over which it does
+-- A call that passes a limit adds nothing. It does so over the front that its pass leaves with, which the lock makes the whole book at
+-- the call's turn; no clause of a call can name that book.
 pub record IsFull (pass : ℕ) (act : Act) (old new : List BookEntry) (served : Served) : Type 0 where
   pub begins : IsFrontOf by pass old new
   pub passes : passes_limit act (log_of new) ≡ true
@@ -84,7 +85,8 @@ pub record IsFull (pass : ℕ) (act : Act) (old new : List BookEntry) (served : 
   pub none_first : served.first ≡ 0
   pub none_last : served.last ≡ 0
 
--- a call for which memory is wanting before its step adds nothing, and its front is the whole book, over which it passes no limit
+-- A call for which memory is wanting before its step adds nothing. Over the front that its pass leaves with, as above, it passes no
+-- limit.
 pub record IsPoor (pass : ℕ) (act : Act) (old new : List BookEntry) (served : Served) : Type 0 where
   pub begins : IsFrontOf by pass old new
   pub within : passes_limit act (log_of new) ≡ false
