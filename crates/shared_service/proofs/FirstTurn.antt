@@ -26,13 +26,19 @@ use Rattle.service_book.specs.Book.{client_of, history_of, log_of, ticket_in}
 use Rattle.service_book.specs.Limits.{passes_limit}
 use Rattle.wire_frames.specs.Replies.{reply_body}
 use Rattle.shared_service.specs.declared.name.Name.{Name}
+use Rattle.shared_service.specs.declared.pass.Pass.{Pass}
 use Rattle.shared_service.specs.declared.served.Served.{Served}
+use Rattle.shared_service.specs.declared.shared.Shared.{Shared}
+use Rattle.shared_service.specs.declared.shared.away.Asked.{Asked}
+use Rattle.shared_service.specs.declared.shared.away.Asked.TheVariants.{Answered, Out}
 use Rattle.shared_service.specs.declared.shared.away.Sent.{Sent}
+use Rattle.shared_service.specs.Asking.{Asks, TurnedAway}
 use Rattle.shared_service.specs.Away.{IsEntered, IsJobAway}
 use Rattle.shared_service.specs.Calls.{Full, IsCall, OneStep, Poor, entries_of}
 use Rattle.shared_service.specs.Desks.{HasMade, HasSeen, IsDesk}
 use Rattle.shared_service.specs.Kinds.{client_after, connected_after, kind_of}
 use Rattle.shared_service.specs.Owning.{by, client_for, event_for, is_connected, is_parting}
+use Rattle.shared_service.specs.Passes.{connected_of, front_of, number_of}
 use Rattle.shared_service.specs.Requests.{AreNumbers, GoesOut, IsCaller, IsLeaveRoom, IsRequested}
 use Rattle.shared_service.specs.Sending.{sent}
 use Rattle.shared_service.proofs.Entries.{enter_asked, enter_no_leave}
@@ -45,27 +51,13 @@ Refused code = record { first = 0; last = 0; reply = Stopped code }
 
 -- ---- calls that add nothing
 
-pub call_full : (pass : ℕ) (reading : Reading) (act : Act) (front book : List BookEntry) (served : Served) → IsFrontOf by pass front book → passes_limit act (log_of book) ≡ true → is_parting act pass (log_of book) ≡ false
-    → served ≡ Refused RunFull → IsCall pass reading act front book served
-call_full pass reading act front book served begins passes stays is = Full (record {
-  begins = begins;
-  passes = passes;
-  stays = stays;
-  is_full = ap (λ (s : Served). s.reply) is;
-  none_first = ap (λ (s : Served). s.first) is;
-  none_last = ap (λ (s : Served). s.last) is;
-})
+pub call_full : (pass : ℕ) (reading : Reading) (act : Act) (front book : List BookEntry) → IsFrontOf by pass front book → passes_limit act (log_of book) ≡ true → is_parting act pass (log_of book) ≡ false
+    → IsCall pass reading act front book (Refused RunFull)
+call_full pass reading act front book begins passes stays = Full (record { begins = begins; passes = passes; stays = stays; is_full = refl; none_first = refl; none_last = refl })
 
-pub call_poor : (pass : ℕ) (reading : Reading) (act : Act) (front book : List BookEntry) (served : Served) → IsFrontOf by pass front book → passes_limit act (log_of book) ≡ false → is_parting act pass (log_of book) ≡ false
-    → served ≡ Refused MemoryAllocationFailed → IsCall pass reading act front book served
-call_poor pass reading act front book served begins within stays is = Poor (record {
-  begins = begins;
-  within = within;
-  stays = stays;
-  is_want = ap (λ (s : Served). s.reply) is;
-  none_first = ap (λ (s : Served). s.first) is;
-  none_last = ap (λ (s : Served). s.last) is;
-})
+pub call_poor : (pass : ℕ) (reading : Reading) (act : Act) (front book : List BookEntry) → IsFrontOf by pass front book → passes_limit act (log_of book) ≡ false → is_parting act pass (log_of book) ≡ false
+    → IsCall pass reading act front book (Refused MemoryAllocationFailed)
+call_poor pass reading act front book begins within stays = Poor (record { begins = begins; within = within; stays = stays; is_want = refl; none_first = refl; none_last = refl })
 
 pub refused_told : (code : Code) (served : Served) → served ≡ Refused code → length (reply_body served.reply) < 2 ^ 32
 refused_told code served is = subst (λ (r : Reply). length (reply_body r) < 2 ^ 32) (sym (ap (λ (s : Served). s.reply) is)) (body_few _ (Stopped code) (small_sizes Disconnect 0 (omega arith)) tt)
@@ -270,3 +262,19 @@ entered_at name named n m client connected reading act old new now first ticket 
 
 pub job_at : (name named : Name) (new now : List BookEntry) (ticket : ℕ) (job : Job) → name ≡ named → now ≡ new → IsJobAway name new ticket job → IsJobAway named now ticket job
 job_at name named new now ticket job p q away = subst (λ (z : Name × List BookEntry). IsJobAway z.0 z.1 ticket job) (λ i. (p i, sym q i)) away
+
+pub caller_at : (m n client : ℕ) (connected : Bool) (book now : List BookEntry) → m ≡ n → now ≡ book → IsCaller n client connected (log_of book) → IsCaller m client connected (log_of now)
+caller_at m n client connected book now p q caller = subst (λ (z : ℕ × List BookEntry). IsCaller z.0 client connected (log_of z.1)) (λ i. (sym p i, sym q i)) caller
+
+-- a call that adds nothing
+pub turned_asks : {D N : Type 0} {d : DiskGhosts D} {n : EntropyGhosts N} (shared : Shared D N d n) (pass : Pass) (reading : Reading) (act : Act) (number m client : ℕ) (book now : List BookEntry) (code : Code) (asked : Asked) → number_of pass ≡ number → m ≡ number → now ≡ book
+    → IsCaller number client (connected_of pass) (log_of book) → is_parting act number (log_of book) ≡ false → IsCall number reading act (front_of pass) book (Refused code) → TurnedAway shared m now (connected_of pass) code asked → Asks shared pass reading act asked
+turned_asks shared pass reading act number m client book now code (Answered next served) mine turned same caller stays call away = record {
+  ours = away.ours;
+  number_is = away.number_is ∙ (turned ∙ sym mine);
+  calls = ∣ subst (λ (s : Served). IsCall (number_of pass) reading act (front_of pass) (front_of next) s) (sym away.served_is) (call_at (number_of pass) number reading act (front_of pass) book (front_of next) (Refused code) (sym mine) (away.front_is ∙ same) call) ∣₁;
+  connected_is = away.connected_is ∙ refused_connected act code served (connected_of pass) away.served_is;
+  parts = refused_parts act number (log_of book) (connected_of pass) served.reply caller.connected_is stays;
+  told = refused_told code served away.served_is;
+}
+turned_asks shared pass reading act number m client book now code (Out away job) mine turned same caller stays call none = absurd none

@@ -1,13 +1,16 @@
 -- What the turns of a call come to.
-use Rattle.std.specs.Prelude.{◌≡◌, ◌<◌, ◌^◌, true, length}
+use Rattle.std.specs.Prelude.{◌≡◌, ◌<◌, ◌^◌, ℕ, Bool, true, List, length}
 use Rattle.ks_outside.specs.declared.disk.Disk.{Ghosts as DiskGhosts}
 use Rattle.ks_outside.specs.declared.entropy.Entropy.{Ghosts as EntropyGhosts}
 use Rattle.ks_outside.specs.declared.clock.Reading.{Reading}
+use Rattle.tags.specs.declared.code.Code.{Code}
 use Rattle.turn_lock.specs.Resting.{IsRestingPassAt, resting_front, resting_number}
 use Rattle.rule_model.specs.declared.event.Act.{Act}
 use Rattle.rule_model.specs.declared.event.Act.TheVariants.{Disconnect}
+use Rattle.rule_model.specs.declared.reply.Reply.TheVariants.{Stopped}
 use Rattle.rule_model.specs.Acts.{is_enter}
 use Rattle.rule_model.specs.Entries.{is_done}
+use Rattle.service_book.specs.declared.entry.BookEntry.{BookEntry}
 use Rattle.wire_frames.specs.Replies.{reply_body}
 use Rattle.shared_service.specs.declared.pass.Pass.{Pass}
 use Rattle.shared_service.specs.declared.served.Served.{Served}
@@ -43,6 +46,18 @@ module _ {D N : Type 0} {d : DiskGhosts D} {n : EntropyGhosts N} where
   abbrev pub Asks : Shared D N d n → Pass → Reading → Act → Asked → Type 0
   Asks shared pass reading act (Answered next served) = IsAnswered shared pass reading act next served
   Asks shared pass reading act (Out away job) = IsAwayOf shared pass reading act away × ∥ IsJobAway (service_name shared) (resting_front away.pass) away.ticket job ∥₁
+
+  -- a call that adds nothing and is answered with a code, with its pass, which has then seen this book
+  pub record IsTurnedAway (shared : Shared D N d n) (number : ℕ) (book : List BookEntry) (connected : Bool) (code : Code) (next : Pass) (served : Served) : Type 0 where
+    pub ours : IsOurs shared next
+    pub number_is : number_of next ≡ number
+    pub front_is : front_of next ≡ book
+    pub connected_is : connected_of next ≡ connected
+    pub served_is : served ≡ record { first = 0; last = 0; reply = Stopped code }
+
+  abbrev pub TurnedAway : Shared D N d n → ℕ → List BookEntry → Bool → Code → Asked → Type 0
+  TurnedAway shared number book connected code (Answered next served) = IsTurnedAway shared number book connected code next served
+  TurnedAway shared number book connected code (Out away job) = ⊥
 
   -- a call that is away
   pub record IsOut (shared : Shared D N d n) (away : Away) : Type 0 where

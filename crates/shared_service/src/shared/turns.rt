@@ -5,17 +5,23 @@ ghost use Rattle.rule_model.specs.declared.event.Act.{Act};
 ghost use Rattle.rule_model.specs.declared.reply.Reply.TheVariants as replies;
 ghost use Rattle.wire_frames.specs.Spelling.{body_of};
 ghost use Rattle.ks_outside.specs.declared.clock.Reading.{Reading};
+ghost use Rattle.turn_lock.specs.Passes.{IsTurnAt, seen, turn_number};
 ghost use Rattle.turn_lock.specs.Resting.{IsRestingPassAt, resting_front, resting_number};
+ghost use Rattle.service_book.specs.Book.{log_of};
 ghost use Rattle.shared_service.specs.declared.pass.Pass.{Pass};
-ghost use Rattle.shared_service.specs.Asking.{Asks, IsAnswered, IsAwayOf, IsOut};
+ghost use Rattle.shared_service.specs.Asking.{Asks, IsAnswered, IsAwayOf, IsOut, TurnedAway};
 ghost use Rattle.shared_service.specs.Away.{IsBack};
+ghost use Rattle.shared_service.specs.DeskWords.{desk_book, desk_name};
 ghost use Rattle.shared_service.specs.Desks.{HasSeen};
 ghost use Rattle.shared_service.specs.Kinds.{client_after, kind_of};
+ghost use Rattle.shared_service.specs.Owning.{by};
 ghost use Rattle.shared_service.specs.Passes.{HoldsMaker, IsOurs, connected_of, front_of, number_of, passes_of, service_lock, service_name};
+ghost use Rattle.shared_service.specs.Requests.{IsCaller};
 
 use super::Shared;
 use super::away::{Asked, Away, Kept, Sent, sent_with};
 use crate::coming::Coming;
+use crate::desk::Desk;
 use crate::made::{Made, Requested};
 use crate::name::Name;
 use crate::pass::Pass;
@@ -26,7 +32,7 @@ use rule_model::{Act, Reading, Reply};
 use service_book::BookEntry;
 use std::sync::Wait;
 use tags::Code;
-use turn_lock::RestingPass;
+use turn_lock::{RestingPass, Turn};
 use wire_frames::Request;
 
 /// What a call changes of its pass's client.
@@ -96,6 +102,25 @@ impl<D: Disk, N: Entropy> Shared<D, N> {
         }
     }
 
+    /// The end of a call that adds nothing: it gives its turn back, and its pass has then seen the whole book.
+    fn turned_away(
+        &self,
+        turn: Turn<Desk<D, N>, BookEntry, Name>,
+        desk: Desk<D, N>,
+        kept: Kept,
+        code: Code,
+    ) -> Asked
+        requires turn { IsTurnAt by (service_lock self.now) (service_name self.now) turn }
+        requires same { desk_book desk ≡ seen turn }
+        requires fits { desk_name desk ≡ service_name self.now }
+        requires caller { IsCaller (turn_number turn) kept.client kept.connected (log_of (desk_book desk)) }
+        requires maker { HoldsMaker (service_lock self.now) (service_name self.now) (passes_of self.now) (turn_number turn) kept.maker }
+        ensures turned { TurnedAway self.now (turn_number turn) (desk_book desk) kept.connected code result }
+    {
+        let pass = self.lock.rest(self.lock.leave_seeing(turn, desk));
+        Asked::Answered(self.seated(pass, kept), refused(code))
+    }
+
     /// The first turn of a call: its step, or its enter. What memory the desk need not take is taken before.
     pub(super) fn ask<R: Wait>(
         &self,
@@ -114,32 +139,18 @@ impl<D: Disk, N: Entropy> Shared<D, N> {
             connected,
             maker,
         } = pass;
+        let kept = Kept {
+            client,
+            connected,
+            maker,
+        };
         let kind = kind_of(request.act());
         let number = pass.number();
         let coming = Coming::of(self.alloc, reading, client, connected, request);
         let (turn, mut desk) = self.lock.enter(rt, self.lock.wake(pass));
         match desk.request(number, client, reading, coming) {
-            Requested::Full => {
-                let pass = self.lock.rest(self.lock.leave_seeing(turn, desk));
-                let kept = Kept {
-                    client,
-                    connected,
-                    maker,
-                };
-                Asked::Answered(self.seated(pass, kept), refused(Code::RunFull))
-            }
-            Requested::Poor => {
-                let pass = self.lock.rest(self.lock.leave_seeing(turn, desk));
-                let kept = Kept {
-                    client,
-                    connected,
-                    maker,
-                };
-                Asked::Answered(
-                    self.seated(pass, kept),
-                    refused(Code::MemoryAllocationFailed),
-                )
-            }
+            Requested::Full => self.turned_away(turn, desk, kept, Code::RunFull),
+            Requested::Poor => self.turned_away(turn, desk, kept, Code::MemoryAllocationFailed),
             Requested::Made(made) => {
                 let Made {
                     first,
@@ -154,7 +165,7 @@ impl<D: Disk, N: Entropy> Shared<D, N> {
                 let kept = Kept {
                     client,
                     connected,
-                    maker,
+                    ..kept
                 };
                 match sent_with(&reply, job, leave) {
                     Some(Sent { ticket, job, room }) => {

@@ -1,4 +1,4 @@
-use Rattle.std.proofs.Common.{◌≡◌, ℕ, Bool, true, List, None, refl, sym, ap, ◌∙◌, subst}
+use Rattle.std.proofs.Common.{◌≡◌, ℕ, Bool, true, List, None, refl, sym, ap, ◌∙◌}
 use Rattle.std.proofs.Math.Logic.{∥∥₁_elim, ∥∥₁_map}
 use Rattle.std.proofs.Math.Bool.{Bool-set}
 use Rattle.tags.specs.declared.code.Code.TheVariants.{MemoryAllocationFailed, RunFull}
@@ -18,7 +18,7 @@ use Rattle.shared_service.specs.declared.made.Requested.TheVariants.{Full, Made,
 use Rattle.shared_service.specs.declared.shared.turns.Kind.{Kind}
 use Rattle.shared_service.specs.declared.shared.away.Sent.{Sent}
 use Rattle.shared_service.proofs.Calling.{recorded_once}
-use Rattle.shared_service.proofs.FirstTurn.{after_connected, call_at, call_full, call_poor, enter_after, entered_at, entered_made, extends_at, first_caller, front_at, job_at, job_away, refused_connected, refused_parts, refused_told, requested_parts, seen_after, seen_made, sent_none, sent_some}
+use Rattle.shared_service.proofs.FirstTurn.{after_connected, call_at, call_full, call_poor, caller_at, enter_after, entered_at, entered_made, extends_at, first_caller, front_at, job_at, job_away, requested_parts, seen_made, sent_none, sent_some, turned_asks}
 use Rattle.shared_service.proofs.Longer.{added_some, longer_by}
 use Rattle.shared_service.proofs.Preparing.{comes_of, told_of}
 use Rattle.shared_service.proofs.shared.Shared.ask.Goals as goal
@@ -34,23 +34,17 @@ request-requires-clause-comes g c =
     (mine.seen (service_lock self) (service_name self) c.requires.ours.resting) begins.owned)
     c.of-coming.ensures.coming
 
-pub seated-requires-clause-seen : goal.seated-requires-clause-seen
-seated-requires-clause-seen g c =
+pub turned_away-requires-clause-caller : goal.turned_away-requires-clause-caller
+turned_away-requires-clause-caller g c =
     let self = c.args.self.now in
     let mine = c.args.pass in
     let n = c.number-number.result in
-    let old = c.enter-turn.result.1 in
-    let new = c.request.new.self in
-    let before : List BookEntry = desk_book old in
+    let before : List BookEntry = desk_book c.enter-turn.result.1 in
     let number : resting_number mine.pass ≡ n = sym c.number-number.ensures in
     let begins = front_at _ n _ (resting_front mine.pass) before (c.wake.ensures.same.0 ∙ number) c.wake.ensures.same.1 c.enter-turn.ensures.later in
     let caller : IsCaller n mine.client mine.connected (log_of before) =
     first_caller (service_name self) (resting_number mine.pass) n mine.client mine.connected (resting_front mine.pass) before number (mine.seen (service_lock self) (service_name self) c.requires.ours.resting) begins.owned in
-    let same : desk_book new ≡ before = c.in-Full.ensures.requests.0 in
-    seen_after g.D.Disk g.N.Entropy new.name (service_name self) new.engine new.disk new.entropy (desk_book new) (resting_front c.rest-pass.result) n (resting_number c.rest-pass.result) mine.client mine.connected new.stands
-    (subst (λ (b : List BookEntry). IsCaller n mine.client mine.connected (log_of b)) (sym same) caller) (c.request.ensures.name ∙ c.enter-turn.ensures.fits)
-    (c.rest-pass.ensures.same.0 ∙ (c.leave_seeing.ensures.number ∙ (c.enter-turn.ensures.number ∙ (c.wake.ensures.same.0 ∙ number))))
-    (c.rest-pass.ensures.same.1 ∙ (c.leave_seeing.ensures.front ∙ (c.enter-turn.ensures.value ∙ sym same)))
+    caller_at (turn_number c.enter-turn.result.0) n mine.client mine.connected before (desk_book c.request.new.self) (c.enter-turn.ensures.number ∙ (c.wake.ensures.same.0 ∙ number)) c.in-Full.ensures.requests.0 caller
 
 pub returns-in-Full : goal.returns-in-Full
 returns-in-Full g c =
@@ -65,37 +59,22 @@ returns-in-Full g c =
     let caller : IsCaller n mine.client mine.connected (log_of before) =
     first_caller (service_name self) (resting_number mine.pass) n mine.client mine.connected (resting_front mine.pass) before number (mine.seen (service_lock self) (service_name self) c.requires.ours.resting) begins.owned in
     let requests = told_of (desk_name old) n c.args.reading (act_in c.of-coming.result) c.args.request before (desk_book new) Full c.of-coming.ensures.act c.in-Full.ensures.requests in
-    let rested : resting_number c.rest-pass.result ≡ n = c.rest-pass.ensures.same.0 ∙ (c.leave_seeing.ensures.number ∙ (c.enter-turn.ensures.number ∙ (c.wake.ensures.same.0 ∙ number))) in
-    let fronted : front_of c.seated.result ≡ before = c.seated.ensures.front ∙ (c.rest-pass.ensures.same.1 ∙ (c.leave_seeing.ensures.front ∙ c.enter-turn.ensures.value)) in
     record {
-      asks = record {
-        ours = c.seated.ensures.ours;
-        number_is = c.seated.ensures.number ∙ (rested ∙ sym number);
-        calls = ∣ call_at (number_of mine) n c.args.reading c.args.request (front_of mine) before (front_of c.seated.result) c.refused.result (sym number) fronted
-            (call_full n c.args.reading c.args.request (front_of mine) before c.refused.result begins requests.1 requests.2 c.refused.ensures) ∣₁;
-        connected_is = c.seated.ensures.connected ∙ refused_connected c.args.request RunFull c.refused.result mine.connected c.refused.ensures;
-        parts = refused_parts c.args.request n (log_of before) mine.connected c.refused.result.reply caller.connected_is requests.2;
-        told = refused_told RunFull c.refused.result c.refused.ensures;
-      };
+      asks = turned_asks self mine c.args.reading c.args.request n (turn_number c.enter-turn.result.0) mine.client before (desk_book new) RunFull c.turned_away.result number (c.enter-turn.ensures.number ∙ (c.wake.ensures.same.0 ∙ number)) requests.0 caller requests.2
+          (call_full n c.args.reading c.args.request (front_of mine) before begins requests.1 requests.2) c.turned_away.ensures.turned;
     }
 
-pub seated-requires-in-Poor-clause-seen : goal.seated-requires-in-Poor-clause-seen
-seated-requires-in-Poor-clause-seen g c =
+pub turned_away-requires-in-Poor-clause-caller : goal.turned_away-requires-in-Poor-clause-caller
+turned_away-requires-in-Poor-clause-caller g c =
     let self = c.args.self.now in
     let mine = c.args.pass in
     let n = c.number-number.result in
-    let old = c.enter-turn.result.1 in
-    let new = c.request.new.self in
-    let before : List BookEntry = desk_book old in
+    let before : List BookEntry = desk_book c.enter-turn.result.1 in
     let number : resting_number mine.pass ≡ n = sym c.number-number.ensures in
     let begins = front_at _ n _ (resting_front mine.pass) before (c.wake.ensures.same.0 ∙ number) c.wake.ensures.same.1 c.enter-turn.ensures.later in
     let caller : IsCaller n mine.client mine.connected (log_of before) =
     first_caller (service_name self) (resting_number mine.pass) n mine.client mine.connected (resting_front mine.pass) before number (mine.seen (service_lock self) (service_name self) c.requires.ours.resting) begins.owned in
-    let same : desk_book new ≡ before = c.in-Poor.ensures.requests.0 in
-    seen_after g.D.Disk g.N.Entropy new.name (service_name self) new.engine new.disk new.entropy (desk_book new) (resting_front c.rest-pass-in-Poor.result) n (resting_number c.rest-pass-in-Poor.result) mine.client mine.connected new.stands
-    (subst (λ (b : List BookEntry). IsCaller n mine.client mine.connected (log_of b)) (sym same) caller) (c.request.ensures.name ∙ c.enter-turn.ensures.fits)
-    (c.rest-pass-in-Poor.ensures.same.0 ∙ (c.leave_seeing-in-Poor.ensures.number ∙ (c.enter-turn.ensures.number ∙ (c.wake.ensures.same.0 ∙ number))))
-    (c.rest-pass-in-Poor.ensures.same.1 ∙ (c.leave_seeing-in-Poor.ensures.front ∙ (c.enter-turn.ensures.value ∙ sym same)))
+    caller_at (turn_number c.enter-turn.result.0) n mine.client mine.connected before (desk_book c.request.new.self) (c.enter-turn.ensures.number ∙ (c.wake.ensures.same.0 ∙ number)) c.in-Poor.ensures.requests.0 caller
 
 pub returns-in-Poor : goal.returns-in-Poor
 returns-in-Poor g c =
@@ -110,22 +89,13 @@ returns-in-Poor g c =
     let caller : IsCaller n mine.client mine.connected (log_of before) =
     first_caller (service_name self) (resting_number mine.pass) n mine.client mine.connected (resting_front mine.pass) before number (mine.seen (service_lock self) (service_name self) c.requires.ours.resting) begins.owned in
     let requests = told_of (desk_name old) n c.args.reading (act_in c.of-coming.result) c.args.request before (desk_book new) Poor c.of-coming.ensures.act c.in-Poor.ensures.requests in
-    let rested : resting_number c.rest-pass-in-Poor.result ≡ n = c.rest-pass-in-Poor.ensures.same.0 ∙ (c.leave_seeing-in-Poor.ensures.number ∙ (c.enter-turn.ensures.number ∙ (c.wake.ensures.same.0 ∙ number))) in
-    let fronted : front_of c.seated-in-Poor.result ≡ before = c.seated-in-Poor.ensures.front ∙ (c.rest-pass-in-Poor.ensures.same.1 ∙ (c.leave_seeing-in-Poor.ensures.front ∙ c.enter-turn.ensures.value)) in
     record {
-      asks = record {
-        ours = c.seated-in-Poor.ensures.ours;
-        number_is = c.seated-in-Poor.ensures.number ∙ (rested ∙ sym number);
-        calls = ∣ call_at (number_of mine) n c.args.reading c.args.request (front_of mine) before (front_of c.seated-in-Poor.result) c.refused-in-Poor.result (sym number) fronted
-            (call_poor n c.args.reading c.args.request (front_of mine) before c.refused-in-Poor.result begins requests.1 requests.2 c.refused-in-Poor.ensures) ∣₁;
-        connected_is = c.seated-in-Poor.ensures.connected ∙ refused_connected c.args.request MemoryAllocationFailed c.refused-in-Poor.result mine.connected c.refused-in-Poor.ensures;
-        parts = refused_parts c.args.request n (log_of before) mine.connected c.refused-in-Poor.result.reply caller.connected_is requests.2;
-        told = refused_told MemoryAllocationFailed c.refused-in-Poor.result c.refused-in-Poor.ensures;
-      };
+      asks = turned_asks self mine c.args.reading c.args.request n (turn_number c.enter-turn.result.0) mine.client before (desk_book new) MemoryAllocationFailed c.turned_away-in-Poor.result number (c.enter-turn.ensures.number ∙ (c.wake.ensures.same.0 ∙ number)) requests.0 caller requests.2
+          (call_poor n c.args.reading c.args.request (front_of mine) before begins requests.1 requests.2) c.turned_away-in-Poor.ensures.turned;
     }
 
-pub seated-requires-in-None-clause-seen : goal.seated-requires-in-None-clause-seen
-seated-requires-in-None-clause-seen g c =
+pub seated-requires-clause-seen : goal.seated-requires-clause-seen
+seated-requires-clause-seen g c =
     let self = c.args.self.now in
     let mine = c.args.pass in
     let n = c.number-number.result in
@@ -142,11 +112,11 @@ seated-requires-in-None-clause-seen g c =
     let is : next ≡ client_after (kind_of c.args.request) made.reply (mine.client, mine.connected) =
     c.client_after-client.ensures ∙ ap (λ (k : Kind). client_after k made.reply (mine.client, mine.connected)) (c.kind_of-kind.ensures ∙ ap kind_of c.act.ensures.act) in
     let turned : turn_number c.enter-turn.result.0 ≡ n = c.enter-turn.ensures.number ∙ (c.wake.ensures.same.0 ∙ number) in
-    let rested : resting_number c.rest-pass-in-Made.result ≡ n = c.rest-pass-in-Made.ensures.same.0 ∙ (c.leave.ensures.number ∙ turned) in
+    let rested : resting_number c.rest-pass.result ≡ n = c.rest-pass.ensures.same.0 ∙ (c.leave.ensures.number ∙ turned) in
     let left = c.leave.ensures.front (added_some made.first made.last (desk_book old) (desk_book new) (longer_by n (desk_book old) (desk_book new) told.2) told.1) in
-    let fronted : resting_front c.rest-pass-in-Made.result ≡ desk_book new = c.rest-pass-in-Made.ensures.same.1 ∙ left in
+    let fronted : resting_front c.rest-pass.result ≡ desk_book new = c.rest-pass.ensures.same.1 ∙ left in
     let extends = extends_at _ n _ (resting_front mine.pass) _ (desk_book new) (desk_book new) before (seen c.enter-turn.result.0) turned (c.enter-turn.ensures.front ∙ c.wake.ensures.same.1) left c.enter-turn.ensures.value c.leave.ensures.own in
-    seen_made g.D.Disk g.N.Entropy (desk_name old) new.name (service_name self) new.engine new.disk new.entropy before (desk_book new) (resting_front c.rest-pass-in-Made.result) n (resting_number c.rest-pass-in-Made.result) mine.client mine.connected next
+    seen_made g.D.Disk g.N.Entropy (desk_name old) new.name (service_name self) new.engine new.disk new.entropy before (desk_book new) (resting_front c.rest-pass.result) n (resting_number c.rest-pass.result) mine.client mine.connected next
     c.args.reading c.args.request made.reply made.job made.leave new.stands told.0 caller is (sym c.sent_with.ensures ∙ c.in-None.is) (c.request.ensures.name ∙ c.enter-turn.ensures.fits) rested fronted
 
 pub returns-in-None : goal.returns-in-None
@@ -167,22 +137,22 @@ returns-in-None g c =
     let is : next ≡ client_after (kind_of c.args.request) made.reply (mine.client, mine.connected) =
     c.client_after-client.ensures ∙ ap (λ (k : Kind). client_after k made.reply (mine.client, mine.connected)) (c.kind_of-kind.ensures ∙ ap kind_of c.act.ensures.act) in
     let turned : turn_number c.enter-turn.result.0 ≡ n = c.enter-turn.ensures.number ∙ (c.wake.ensures.same.0 ∙ number) in
-    let rested : resting_number c.rest-pass-in-Made.result ≡ n = c.rest-pass-in-Made.ensures.same.0 ∙ (c.leave.ensures.number ∙ turned) in
+    let rested : resting_number c.rest-pass.result ≡ n = c.rest-pass.ensures.same.0 ∙ (c.leave.ensures.number ∙ turned) in
     let left = c.leave.ensures.front (added_some made.first made.last (desk_book old) (desk_book new) (longer_by n (desk_book old) (desk_book new) told.2) told.1) in
-    let fronted : resting_front c.rest-pass-in-Made.result ≡ desk_book new = c.rest-pass-in-Made.ensures.same.1 ∙ left in
+    let fronted : resting_front c.rest-pass.result ≡ desk_book new = c.rest-pass.ensures.same.1 ∙ left in
     let extends = extends_at _ n _ (resting_front mine.pass) _ (desk_book new) (desk_book new) before (seen c.enter-turn.result.0) turned (c.enter-turn.ensures.front ∙ c.wake.ensures.same.1) left c.enter-turn.ensures.value c.leave.ensures.own in
     let none : IsRequested (desk_name old) n (event_for c.args.reading c.args.request n (log_of before)) before (desk_book new) made.reply made.job made.leave → ticket_in made.reply ≡ None = λ asked.
     sent_none (desk_name old) (desk_book new) (ticket_in made.reply) made.job made.leave asked.goes (sym c.sent_with.ensures ∙ c.in-None.is) in
     let call : IsRequested (desk_name old) n (event_for c.args.reading c.args.request n (log_of before)) before (desk_book new) made.reply made.job made.leave
-    → IsCall (number_of mine) c.args.reading c.args.request (front_of mine) (front_of c.seated-in-None.result) (record { first = made.first; last = made.last; reply = made.reply }) = λ asked.
-    call_at (number_of mine) n c.args.reading c.args.request (front_of mine) (desk_book new) (front_of c.seated-in-None.result) (record { first = made.first; last = made.last; reply = made.reply }) (sym number) (c.seated-in-None.ensures.front ∙ fronted)
+    → IsCall (number_of mine) c.args.reading c.args.request (front_of mine) (front_of c.seated.result) (record { first = made.first; last = made.last; reply = made.reply }) = λ asked.
+    call_at (number_of mine) n c.args.reading c.args.request (front_of mine) (desk_book new) (front_of c.seated.result) (record { first = made.first; last = made.last; reply = made.reply }) (sym number) (c.seated.ensures.front ∙ fronted)
     (recorded_once (desk_name old) n c.args.reading c.args.request (front_of mine) before (desk_book new) (record { first = made.first; last = made.last; reply = made.reply }) made.job made.leave begins extends asked (none asked) told.1) in
     record {
       asks = record {
-        ours = c.seated-in-None.ensures.ours;
-        number_is = c.seated-in-None.ensures.number ∙ (rested ∙ sym number);
+        ours = c.seated.ensures.ours;
+        number_is = c.seated.ensures.number ∙ (rested ∙ sym number);
         calls = ∥∥₁_map told.0 call;
-        connected_is = c.seated-in-None.ensures.connected ∙ after_connected c.args.request made.reply mine.client mine.connected next is;
+        connected_is = c.seated.ensures.connected ∙ after_connected c.args.request made.reply mine.client mine.connected next is;
         parts = λ p on. ∥∥₁_elim told.0 (Bool-set _ _) (λ asked. requested_parts c.args.request n (log_of before) mine.connected made.reply caller.connected_is asked.parts p on);
         told = told.3;
       };
@@ -206,24 +176,24 @@ returns-in-Some g c =
     let is : next ≡ client_after (kind_of c.args.request) made.reply (mine.client, mine.connected) =
     c.client_after-client.ensures ∙ ap (λ (k : Kind). client_after k made.reply (mine.client, mine.connected)) (c.kind_of-kind.ensures ∙ ap kind_of c.act.ensures.act) in
     let turned : turn_number c.enter-turn.result.0 ≡ n = c.enter-turn.ensures.number ∙ (c.wake.ensures.same.0 ∙ number) in
-    let rested : resting_number c.rest-pass-in-Made.result ≡ n = c.rest-pass-in-Made.ensures.same.0 ∙ (c.leave.ensures.number ∙ turned) in
+    let rested : resting_number c.rest-pass.result ≡ n = c.rest-pass.ensures.same.0 ∙ (c.leave.ensures.number ∙ turned) in
     let left = c.leave.ensures.front (added_some made.first made.last (desk_book old) (desk_book new) (longer_by n (desk_book old) (desk_book new) told.2) told.1) in
-    let fronted : resting_front c.rest-pass-in-Made.result ≡ desk_book new = c.rest-pass-in-Made.ensures.same.1 ∙ left in
+    let fronted : resting_front c.rest-pass.result ≡ desk_book new = c.rest-pass.ensures.same.1 ∙ left in
     let extends = extends_at _ n _ (resting_front mine.pass) _ (desk_book new) (desk_book new) before (seen c.enter-turn.result.0) turned (c.enter-turn.ensures.front ∙ c.wake.ensures.same.1) left c.enter-turn.ensures.value c.leave.ensures.own in
     let x : Sent = c.in-Some.field-0 in
     let goes = sent_some (ticket_in made.reply) made.job made.leave x (sym c.sent_with.ensures ∙ c.in-Some.is) in
     let enters : Rattle.rule_model.specs.Acts.is_enter c.args.request ≡ true = ∥∥₁_elim told.0 (Bool-set _ _) (λ asked. asked.enters x.ticket goes.0) in
     let entered : IsRequested (desk_name old) n (event_for c.args.reading c.args.request n (log_of before)) before (desk_book new) made.reply made.job made.leave
-    → IsEntered (service_name self) (number_of mine) next.0 next.1 c.args.reading c.args.request (front_of mine) (resting_front c.rest-pass-in-Made.result) made.first x.ticket x.room = λ asked.
-    entered_at (desk_name old) (service_name self) n (number_of mine) next.0 next.1 c.args.reading c.args.request (front_of mine) (desk_book new) (resting_front c.rest-pass-in-Made.result) made.first x.ticket x.room c.enter-turn.ensures.fits (sym number) fronted
+    → IsEntered (service_name self) (number_of mine) next.0 next.1 c.args.reading c.args.request (front_of mine) (resting_front c.rest-pass.result) made.first x.ticket x.room = λ asked.
+    entered_at (desk_name old) (service_name self) n (number_of mine) next.0 next.1 c.args.reading c.args.request (front_of mine) (desk_book new) (resting_front c.rest-pass.result) made.first x.ticket x.room c.enter-turn.ensures.fits (sym number) fronted
     (entered_made (desk_name old) n mine.client mine.connected next c.args.reading c.args.request (front_of mine) before (desk_book new) made.reply made.job made.leave made.first made.last x begins extends asked told.1 caller is goes) in
-    let away : IsRequested (desk_name old) n (event_for c.args.reading c.args.request n (log_of before)) before (desk_book new) made.reply made.job made.leave → IsJobAway (service_name self) (resting_front c.rest-pass-in-Made.result) x.ticket x.job = λ asked.
-    job_at (desk_name old) (service_name self) (desk_book new) (resting_front c.rest-pass-in-Made.result) x.ticket x.job c.enter-turn.ensures.fits fronted
+    let away : IsRequested (desk_name old) n (event_for c.args.reading c.args.request n (log_of before)) before (desk_book new) made.reply made.job made.leave → IsJobAway (service_name self) (resting_front c.rest-pass.result) x.ticket x.job = λ asked.
+    job_at (desk_name old) (service_name self) (desk_book new) (resting_front c.rest-pass.result) x.ticket x.job c.enter-turn.ensures.fits fronted
     (job_away (desk_name old) n (event_for c.args.reading c.args.request n (log_of before)) before (desk_book new) made.reply made.job x asked.made goes.0 goes.1) in
     record {
       asks = (
         record {
-          resting = c.rest-pass-in-Made.ensures.ours;
+          resting = c.rest-pass.ensures.ours;
           maker_is = c.requires.ours.maker_is;
           number_is = rested ∙ sym number;
           reading_is = refl;
