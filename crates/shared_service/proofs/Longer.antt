@@ -26,14 +26,6 @@ longer_by pass old new grows =
     let long : length new ≡ length old + length grows.more = ap length grows.grown ∙ length-append old grows.more in
     omega arith
 
--- as many as its numbers say
-pub appends_of : (pass first last : ℕ) (old new : List BookEntry) → GrowsBy pass old new → AreNumbers old new first last → Appends by pass (last + 1 - first) old new
-appends_of pass first last old new grows numbers =
-    let long : length new ≡ length old + length grows.more = ap length grows.grown ∙ length-append old grows.more in
-    let from = numbers.first_is in
-    let to = numbers.last_is in
-    record { more = grows.more; grown = grows.grown; long = omega arith; made = grows.made }
-
 pub appends_one : (pass : ℕ) (old new : List BookEntry) → GrowsBy pass old new → length new ≡ length old + 1 → Appends by pass 1 old new
 appends_one pass old new grows one =
     let long : length new ≡ length old + length grows.more = ap length grows.grown ∙ length-append old grows.more in
