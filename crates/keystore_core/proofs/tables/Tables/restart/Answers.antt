@@ -1,3 +1,4 @@
+use Rattle.std.proofs.Common.{rules}
 use Rattle.keystore_core.proofs.Restarted.{other_store, unread_store}
 use Rattle.keystore_core.proofs.tables.Tables.restart.Goals as goal
 
@@ -14,3 +15,6 @@ pub returns-in-Err-Device-clause-serves : goal.returns-in-Err-Device-clause-serv
 returns-in-Err-Device-clause-serves g c = λ setup past stands.
     rw (c.stopped-in-Err-Device.ensures.reply, c.stopped-in-Err-Device.ensures.job, c.stopped-in-Err-Device.ensures.drawn)
     (unread_store setup past c.args.self.now c.args.caller c.args.root stands)
+
+pub returns-in-Ok-true-clause-reads : goal.returns-in-Ok-true-clause-reads
+returns-in-Ok-true-clause-reads g c = search rules

@@ -1,4 +1,4 @@
-use Rattle.std.proofs.Common.{◌≡◌, Bool, true, false, not, refl, sym, ◌∙◌}
+use Rattle.std.proofs.Common.{◌≡◌, Bool, true, false, not, refl, sym, ◌∙◌, rules}
 use Rattle.key_database.specs.Stands.{is_unsettled}
 use Rattle.keystore_core.proofs.Settled.{settled_tables}
 use Rattle.keystore_core.proofs.tables.Tables.settle_first.Goals as goal
@@ -6,6 +6,9 @@ use Rattle.keystore_core.proofs.tables.Tables.settle_first.Goals as goal
 not_false : (b : Bool) → false ≡ not b → b ≡ true
 not_false true e = refl
 not_false false e = cc
+
+pub returns-then-is_settled-clause-cause : goal.returns-then-is_settled-clause-cause
+returns-then-is_settled-clause-cause g c = record { later = search rules; rises = tt; same = refl }
 
 pub returns-in-Ok-clause-stands : goal.returns-in-Ok-clause-stands
 returns-in-Ok-clause-stands g c = λ setup past stands.
