@@ -4,3 +4,6 @@ use Rattle.service_load.proofs.running.run.Goals as goal
 
 pub perform_all-requires-sync-T : goal.perform_all-requires-sync-T
 perform_all-requires-sync-T g c κs within = search (calls_shown, sendable) depth 60 fits 20000
+
+pub close-requires-clause-numbers : goal.close-requires-clause-numbers
+close-requires-clause-numbers g c = c.in-Ok.ensures.numbers

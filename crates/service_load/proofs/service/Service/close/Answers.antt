@@ -4,3 +4,6 @@ use Rattle.service_load.proofs.service.Service.close.Goals as goal
 
 pub close-engine-requires-clause-all : goal.close-engine-requires-clause-all
 close-engine-requires-clause-all g c = all_numbered c.args.passes.items (count_of c.args.self) c.requires.count c.requires.numbers
+
+pub returns-clause-own : goal.returns-clause-own
+returns-clause-own g c = c.close-engine.ensures.own
