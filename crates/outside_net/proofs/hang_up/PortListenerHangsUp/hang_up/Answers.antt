@@ -1,0 +1,5 @@
+use Rattle.std.proofs.Common.{refl}
+use Rattle.outside_net.proofs.hang_up.PortListenerHangsUp.hang_up.Goals as goal
+
+pub returns : goal.returns
+returns c = record { closed = refl }
