@@ -1,7 +1,6 @@
 use Rattle.std.proofs.Common.{◌≡◌, ℕ, ◌+◌, ◌<◌, List, length, take, get_or, flat_map, arith, refl}
 use Rattle.std.proofs.lemmas.Grind.{common_steps}
 use Rattle.wire_frames.specs.Replies.{entry_of}
-use Rattle.wire_frames.specs.Sizes.{IsSize}
 use Rattle.wire_frames.specs.Spelling.{counted}
 use Rattle.wire_frames.proofs.Adding.{size_sum, size_exact, size_capped}
 use Rattle.wire_frames.proofs.writing.reply_sizes.entries_size.Goals as goal
