@@ -17,3 +17,6 @@ returns-clause-served g c =
 pub returns-clause-unserved : goal.returns-clause-unserved
 returns-clause-unserved g c = λ wanting.
     take_at c.serve_all.new.workers _ c.args.workers.now.len (omega (arith, c.serve_all.auto.workers, c.as_mut_slice.ensures.len)) ∙ (c.serve_all.ensures.unserved wanting ∙ c.as_mut_slice.ensures.value)
+
+pub returns-clause-attended : goal.returns-clause-attended
+returns-clause-attended g c = c.serve_all.ensures.attended
