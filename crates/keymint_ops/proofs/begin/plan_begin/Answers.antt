@@ -1,4 +1,4 @@
-use Rattle.std.proofs.Common.{length, ◌∙◌}
+use Rattle.std.proofs.Common.{length, ◌∙◌, rules}
 use Rattle.use_rules.specs.Plans.{nonce_given, nonce_wanted}
 use Rattle.use_rules.specs.Table.{asked_of, key_of}
 use Rattle.keymint_ops.proofs.Fitting.{plan_fits}
@@ -12,3 +12,9 @@ returns-clause-fits c drawn e =
     rw (c.in_ok-nonce.ensures ∙ c.nonce_given.ensures)
     (plan_fits c.in-Ok.plan c.args.material.now drawn (nonce_given (asked_of facts) (key_of facts)) (nonce_wanted (asked_of facts) (key_of facts))
     (c.in-Ok.ensures.workable size key) (c.in-Ok.ensures.takes size key) c.in-Ok.ensures.nonce (e ∙ c.nonce_wanted-wanted.ensures))
+
+pub returns-in-Err-clause-gives : goal.returns-in-Err-clause-gives
+returns-in-Err-clause-gives c = search rules
+
+pub returns-clause-gives : goal.returns-clause-gives
+returns-clause-gives c = search rules
