@@ -1,4 +1,4 @@
-use Rattle.std.proofs.Common.{length, ◌∙◌, rules}
+use Rattle.std.proofs.Common.{length, sym, ◌∙◌, rules}
 use Rattle.use_rules.specs.Plans.{nonce_given, nonce_wanted}
 use Rattle.use_rules.specs.Table.{asked_of, key_of}
 use Rattle.keymint_ops.proofs.Fitting.{plan_fits}
@@ -14,7 +14,7 @@ returns-clause-fits c drawn e =
     (c.in-Ok.ensures.workable size key) (c.in-Ok.ensures.takes size key) c.in-Ok.ensures.nonce (e ∙ c.nonce_wanted-wanted.ensures))
 
 pub returns-in-Err-clause-gives : goal.returns-in-Err-clause-gives
-returns-in-Err-clause-gives c = search rules
+returns-in-Err-clause-gives c = sym c.in-Err.ensures.first
 
 pub returns-clause-gives : goal.returns-clause-gives
 returns-clause-gives c = search rules
