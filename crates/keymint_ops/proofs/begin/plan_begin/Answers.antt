@@ -1,4 +1,4 @@
-use Rattle.std.proofs.Common.{length, sym, ◌∙◌, rules}
+use Rattle.std.proofs.Common.{length, sym, ◌∙◌}
 use Rattle.use_rules.specs.Plans.{nonce_given, nonce_wanted}
 use Rattle.use_rules.specs.Table.{asked_of, key_of}
 use Rattle.keymint_ops.proofs.Fitting.{plan_fits}
@@ -15,6 +15,3 @@ returns-clause-fits c drawn e =
 
 pub returns-in-Err-clause-gives : goal.returns-in-Err-clause-gives
 returns-in-Err-clause-gives c = sym c.in-Err.ensures.first
-
-pub returns-clause-gives : goal.returns-clause-gives
-returns-clause-gives c = search rules
