@@ -1,15 +1,16 @@
 #!/usr/bin/env python3
 """Tries a crate's edits over the libraries that `rt ci` left in a clone, and says what each took and where it was refused.
 
-    python3 tools/edit_times.py CLONE CRATE [EDIT..] [--start FOLDER] [--in-turn] [--most N]
+    python3 tools/edit_times.py CLONE CRATE [EDIT..] [--only PATH].. [--start FOLDER] [--in-turn] [--most N]
 
 As the gate of kit 13f does, it checks the crate as it stands first, and then each edit over a copy of what that check kept; with
 --in-turn, as that of kit 13b: one over another in the order of their names, of which the first proves the bodies too, and the crate as
 it stands last. An EDIT is the name of an edit of the crate, or the path of a file that is none yet; those that are named are tried
-alone, in that order. The check begins with what a folder has, `crates/CRATE/out/over` say, where tools/check_over.py leaves its work;
-without --start with nothing. It writes the processor seconds of each check, the first line that says why it was refused, and the N
-modules that took longest, told by when they were written: what is loaded for a module counts with it, and what passes before the first
-one with none. Two shapes of a crate compare by two of it side by side, from two clones of the repository. It is for the work on what
+alone, in that order. With --only the functions of a path alone are checked, which needs no check of the whole crate before it: the
+figures are smaller than the gate's, and the refusal is the same. The check begins with what a folder has, `crates/CRATE/out/over` say, where tools/check_over.py leaves its work;
+without --start with nothing. It writes the processor seconds of each check, the seconds by the clock in which it offered proof files
+(none where a written answer was refused), the first line that says why it was refused, and the N modules that took longest, told by
+when they were written: what is loaded for a module counts with it, and what passes before the first one with none. Two shapes of a crate compare by two of it side by side, from two clones of the repository. It is for the work on what
 edits cost, and gives no verdict: that is the gate's."""
 import os
 import pathlib
@@ -50,6 +51,12 @@ def check(words, folder):
     return after.children_user + after.children_system - before.children_user - before.children_system, said.returncode, said.stdout
 
 
+def offered(file):
+    """The seconds in which a check offered proof files, which it does where a refused goal has no written answer."""
+    stages = [line.split() for line in file.read_text(encoding="utf-8").splitlines()] if file.exists() else []
+    return sum(float(words[2]) for words in stages if words[:2] == ["stage", "offers"])
+
+
 def reason(said):
     """The first line of a check that refuses something."""
     return next((line for line in said.splitlines() if "error: " in line or "is not proved" in line or "no proof" in line), "")
@@ -67,14 +74,16 @@ def linked(folder, to):
 class Trial:
     """The edits of a crate, tried over the libraries of a clone in a folder of their own."""
 
-    def __init__(self, clone, crate, most, top):
-        self.clone, self.crate, self.most, self.top = clone, crate, most, top
+    def __init__(self, clone, crate, only, most, top):
+        self.clone, self.crate, self.only, self.most, self.top = clone, crate, only, most, top
         self.folder = check_over.TOP / "crates" / crate
 
     def tell(self, name, edit, kept):
         """Checks the crate with an edit, or as it stands, over what was kept; writes what came, and gives the seconds and whether it is
         right."""
-        words = check_over.command(self.clone, self.crate, kept)
+        stages = pathlib.Path(self.top, "stages")
+        words = [*check_over.command(self.clone, self.crate, kept), "--stage-times", stages]
+        words += [word for path in self.only for word in ("--only", path)]
         with tempfile.TemporaryDirectory(dir=self.top) as folder:
             for part in PARTS:
                 if (self.folder / part).exists():
@@ -84,7 +93,7 @@ class Trial:
             start = time.time()
             seconds, answer, said = check(words, folder)
         is_right = answer == (REFUSED if edit else PROVED)
-        print(f"{seconds:7.1f}  {name}{'' if is_right else ': NOT AS IT MUST BE'}  {reason(said)[:160]}", flush=True)
+        print(f"{seconds:7.1f} {offered(stages):6.1f}  {name}{'' if is_right else ': NOT AS IT MUST BE'}  {reason(said)[:160]}", flush=True)
         for spent, what in sorted(times(kept, start), reverse=True)[: self.most]:
             print(f"{'':9}{spent:7.1f}  {what}", flush=True)
         return seconds, is_right
@@ -117,6 +126,7 @@ def main():
     parser.add_argument("clone", type=pathlib.Path)
     parser.add_argument("crate")
     parser.add_argument("edit", nargs="*")
+    parser.add_argument("--only", action="append", default=[], metavar="PATH", help="check these functions alone")
     parser.add_argument("--start", type=pathlib.Path, metavar="FOLDER", help="what an earlier check kept")
     parser.add_argument("--in-turn", action="store_true", help="one edit over another")
     parser.add_argument("--most", type=int, default=0, metavar="N")
@@ -130,9 +140,9 @@ def main():
             shutil.copytree(given.start, kept, symlinks=True)
         else:
             kept.mkdir()
-        tried, stands = Trial(given.clone.resolve(), given.crate, given.most, top).tell_all(edits, kept, given.in_turn)
+        tried, stands = Trial(given.clone.resolve(), given.crate, given.only, given.most, top).tell_all(edits, kept, given.in_turn)
     if tried and not given.in_turn:
-        print(f"{sum(seconds for seconds, _ in tried) / len(tried):7.1f}  an edit, on the average of {len(tried)}")
+        print(f"{sum(seconds for seconds, _ in tried) / len(tried):7.1f} {'':6}  an edit, on the average of {len(tried)}")
     return 0 if tried and all(is_right for _, is_right in [*tried, stands]) else 1
 
 
