@@ -7,11 +7,12 @@ As the gate of kit 13f does, it checks the crate as it stands first, and then ea
 --in-turn, as that of kit 13b: one over another in the order of their names, of which the first proves the bodies too, and the crate as
 it stands last. An EDIT is the name of an edit of the crate, or the path of a file that is none yet; those that are named are tried
 alone, in that order. With --only the functions of a path alone are checked, which needs no check of the whole crate before it: the
-figures are smaller than the gate's, and the refusal is the same. The check begins with what a folder has, `crates/CRATE/out/over` say, where tools/check_over.py leaves its work;
-without --start with nothing. It writes the processor seconds of each check, the seconds by the clock in which it offered proof files
-(none where a written answer was refused), the first line that says why it was refused, and the N modules that took longest, told by
-when they were written: what is loaded for a module counts with it, and what passes before the first one with none. Two shapes of a crate compare by two of it side by side, from two clones of the repository. It is for the work on what
-edits cost, and gives no verdict: that is the gate's."""
+figures are smaller than the gate's, and the refusal is the same. The check begins with what a folder has, `crates/CRATE/out/over`
+say, where tools/check_over.py leaves its work; without --start with nothing. It writes the processor seconds of each check, the
+seconds by the clock in which it offered proof files (none where a written answer was refused), the first line that says why it was
+refused, and the N modules that took longest, told by when they were written: what is loaded for a module counts with it, and what
+passes before the first one with none. Two shapes of a crate compare by two of it side by side, from two clones of the repository. It
+is for the work on what edits cost, and gives no verdict: that is the gate's."""
 import os
 import pathlib
 import shutil
@@ -82,6 +83,7 @@ class Trial:
         """Checks the crate with an edit, or as it stands, over what was kept; writes what came, and gives the seconds and whether it is
         right."""
         stages = pathlib.Path(self.top, "stages")
+        stages.unlink(missing_ok=True)
         words = [*check_over.command(self.clone, self.crate, kept), "--stage-times", stages]
         words += [word for path in self.only for word in ("--only", path)]
         with tempfile.TemporaryDirectory(dir=self.top) as folder:
