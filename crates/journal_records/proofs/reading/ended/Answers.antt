@@ -1,5 +1,4 @@
-use Rattle.std.proofs.Common.{rules}
 use Rattle.journal_records.proofs.reading.ended.Goals as goal
 
 pub returns : goal.returns
-returns c = search rules
+returns c = rw (← c.is_empty.ensures, c.if-not-is_empty.false)

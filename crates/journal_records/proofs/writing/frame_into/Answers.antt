@@ -1,0 +1,7 @@
+use Rattle.journal_records.specs.Spelling.{tail_of}
+use Rattle.journal_records.proofs.writing.frame_into.Goals as goal
+
+pub returns-clause-front : goal.returns-clause-front
+unfolding tail_of
+returns-clause-front c =
+    rw (c.put.ensures.front, c.put_body-at.ensures.front, c.put_short-at.ensures.front, c.put-at.ensures.front, c.body_length.ensures.length)
