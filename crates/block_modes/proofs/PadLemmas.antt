@@ -3,7 +3,7 @@ use Rattle.std.proofs.Common.{◌≡◌, ℕ, ◌+◌, ◌-◌, ◌<◌, ◌≤�
 use Rattle.std.specs.List.{list_all, concat}
 use Rattle.std.specs.Option.{option_map}
 use Rattle.std.proofs.Math.Seq.{drop-append-add, take-append-add}
-use Rattle.std.proofs.lemmas.List.{length-replicate, get_or-append-add}
+use Rattle.std.proofs.lemmas.List.{length-drop, length-replicate, get_or-append-add, take_all}
 use Rattle.std.proofs.lemmas.Bool.{cases_lt, lt-leb, le-leb, and_left, and_right}
 use Rattle.block_modes.specs.Texts.{AreBlocks}
 use Rattle.block_modes.specs.Padding.{padding_size, pad, is_padding, unpad_by, unpad}
@@ -54,3 +54,10 @@ unpad-append xs block whole =
     ap (λ k. unpad_by (get_or (xs ++ block) k 0) (xs ++ block)) e
     ∙ ap (λ k. unpad_by k (xs ++ block)) (get_or-append-add xs block (length block - 1) 0)
     ∙ unpad_by-append (get_or block (length block - 1) 0) xs block whole
+
+-- a last block without the padding that its last byte tells, where the bytes from there on tell whether it is one
+pub unpad_last : (block : List ℕ) (n : ℕ) (right : Bool) → length block ≡ 16 → n ≡ get_or block 15 0 → 1 ≤ n → n ≤ 16
+    → right ≡ list_all (λ byte. byte == n) (take (16 - (16 - n)) (drop (16 - n) block)) → unpad block ≡ cond right (Some (take (16 - n) block)) None
+unpad_last block n right whole is some few all =
+    let rest : take (16 - (16 - n)) (drop (16 - n) block) ≡ drop (16 - n) block = take_all (16 - (16 - n)) (drop (16 - n) block) (omega (arith, whole, length-drop (16 - n) block)) in
+    rw (whole, ← is, le-leb 1 n some, le-leb n 16 few, all, rest) refl
