@@ -1,5 +1,5 @@
 -- Two bytes are equal where no bit of theirs differs, and two strings where no byte does.
-use Rattle.std.proofs.Common.{◌≡◌, ℕ, ◌+◌, ◌<◌, ◌≤◌, ◌==◌, List, take, length, get_or, bit_or, bit_xor, ap, sym, ◌∙◌, ◌↔◌, arith}
+use Rattle.std.proofs.Common.{◌≡◌, ℕ, ◌+◌, ◌<◌, ◌≤◌, ◌==◌, List, take, length, get_or, bit_or, bit_xor, false, ap, sym, ◌∙◌, ◌↔◌, arith}
 use Rattle.std.proofs.lemmas.Nat.{le_or_l, le_or_r}
 use Rattle.std.specs.Int.Bits.{xor_assoc, xor_self, xor_zero_l, xor_zero_r}
 use Rattle.std.specs.Str.{bytes_eq}
@@ -40,3 +40,7 @@ pub all_looked_at : (a b : List ℕ) (i d : ℕ) → length a ≤ i → length b
 all_looked_at a b i d whole_a whole_b so_far =
     let same : (d ≡ 0) ↔ (a ≡ b) = rw (take_all i a whole_a, take_all i b whole_b) at so_far in
     same_from_decides (d == 0) (bytes_eq a b) (λ none. same.0 ((Decides-eqb d 0).0 none), λ e. (Decides-eqb d 0).1 (same.1 e)) (bytes_eq-Decides a b)
+
+-- strings of two lengths are not the same
+pub lengths_differ : (a b : List ℕ) → (length a ≡ length b → ⊥) → false ≡ bytes_eq a b
+lengths_differ a b differ = same_from_decides false (bytes_eq a b) (λ e. absurd cc, λ e. absurd (differ (ap length e))) (bytes_eq-Decides a b)
