@@ -1,2 +1,3 @@
 mod Texts
 mod Found
+pub mod Rulings
