@@ -1,5 +1,4 @@
-use Rattle.std.proofs.Common.{rules}
 use Rattle.keymint_ops.proofs.creation.spelled.Goals as goal
 
 pub returns : goal.returns
-returns c = search rules
+returns c = rw c.in_ok-list.ensures.spells
