@@ -43,7 +43,7 @@ module _ {T : Type 0} where
   compared table now o = record { number = o.number; malus = slots.open_of table o.uid + binary_digits (now - o.stamp); touched = o.stamp }
 
   -- the facts count what the slots count
-  counts : (table : SlotTable T) (uid : ℕ) → open_of (open_facts table) uid ≡ slots.open_of table uid
+  pub counts : (table : SlotTable T) (uid : ℕ) → open_of (open_facts table) uid ≡ slots.open_of table uid
   counts table uid = fold-map (λ n o. n + cond (o.uid == uid) 1 0) facts 0 (operations_of table)
 
   candidate_is : (table : SlotTable T) (now : ℕ) (o : Operation T) → is_idle o ≡ true → candidate (open_facts table) now (facts o) ≡ Some (compared table now o)

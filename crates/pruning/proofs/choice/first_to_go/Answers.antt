@@ -1,4 +1,4 @@
-use Rattle.std.proofs.Common.{arith, ◌+◌, ◌*◌, ◌≤◌, ℕ, add-mul}
+use Rattle.std.proofs.Common.{arith, refl, ◌+◌, ◌*◌, ◌≤◌, ℕ, add-mul}
 use Rattle.pruning.proofs.Going.{one_more, first_of_all, first_is_idle}
 use Rattle.pruning.proofs.choice.first_to_go.Goals as goal
 
@@ -20,3 +20,6 @@ loop-place-preserved g c = record {
 pub returns-clause-idle : goal.returns-clause-idle
 returns-clause-idle g c =
     first_is_idle c.args.slots.now c.args.now c.loop-place.place c.loop-place.first c.idle_owners-place-end.ensures.sound c.loop-place.invariant.first_is
+
+pub loop-place-init : goal.loop-place-init
+loop-place-init g c = record { first_is = refl; later = omega arith; few = omega arith }

@@ -11,3 +11,11 @@ unreachable-requires-in_default-oldest_idle g c =
 pub overflow_sub-now : goal.overflow_sub-now
 overflow_sub-now g c =
     omega (arith, oldest_is_earlier c.args.slots.now c.args.now c.in-Some.uid c.in-Some-oldest_idle.number c.in-Some-oldest_idle.touched c.requires.later c.in-Some-oldest_idle.ensures.some)
+
+pub returns-clause-oldest : goal.returns-clause-oldest
+returns-clause-oldest g c = record {
+  uid = c.in-Some.uid;
+  owner = sym c.in-Some.ensures;
+  oldest = c.in-Some-oldest_idle.ensures.some;
+  malus_is = rw (c.open_of.ensures.count, c.count_digits.ensures.digits);
+}
