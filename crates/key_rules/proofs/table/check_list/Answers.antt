@@ -15,4 +15,4 @@ returns-in_err-check-2-clause-first c =
     let first = rw (c.rule-2.ensures, c.takes_format.ensures) at c.in_err-check-2.ensures.first in
     let later = cipher_rules c.args.import c.args.list.now ++ last_rules c.args.domain c.args.early_ended c.args.list.now in
     rw (fault.1, fault.2, ← c.names_algorithm.ensures, c.in_ok-check.ensures.holds)
-      (sym (stops K (check 6 UnsupportedKeyFormat (takes_format c.args.import) ∷ []) later _ (sym first)))
+    (sym (stops K (check 6 UnsupportedKeyFormat (takes_format c.args.import) ∷ []) later _ (sym first)))
