@@ -1,0 +1,70 @@
+#!/usr/bin/env python3
+"""Before a gate, in seconds: brings the crates into the layout that the gate asks for, and looks at their must-fail edits.
+
+    python3 tools/before_gate.py [CRATE ..]
+
+`rt ci` refuses a crate with a file that `rt fmt` would change, and then all above it, once everything is proved; `rt check` does not say
+so. This runs `rt fmt` in each crate and names the files that it changed, then the edits that are bad: an `old:` that does not stand in
+its file once, and more of them in a crate than the budget has. It ends with 1 where it names something."""
+import pathlib
+import subprocess
+import sys
+
+import build
+from harness import parser_of
+
+TOP = pathlib.Path(__file__).resolve().parent.parent
+MOST_EDITS = 6
+
+
+def moved(crate):
+    """The files of a crate that its layout changed."""
+    folder = TOP / "crates" / crate
+    files = [it for part in ("src", "specs", "proofs") for it in sorted((folder / part).rglob("*")) if it.suffix in (".rt", ".antt")]
+    before = {it: it.read_bytes() for it in files}
+    subprocess.run(["rt", "fmt"], cwd=folder, stdout=subprocess.DEVNULL, check=True)
+    return [f"{it.relative_to(TOP)} was not in the layout" for it in files if it.read_bytes() != before[it]]
+
+
+def bad_changes(edit):
+    """What is wrong with the changes of an edit, each made behind the one before."""
+    texts, file, old = {}, None, None
+    for line in edit.read_text(encoding="utf-8").splitlines():
+        word, _, rest = line.partition(":")
+        rest = rest.removeprefix(" ")
+        if word == "file":
+            file = edit.parent.parent / rest.strip()
+        elif word == "old":
+            old = rest
+        elif word == "new" and file and old:
+            text = texts.get(file) or file.read_text(encoding="utf-8")
+            if text.count(old) != 1:
+                yield f"{edit.relative_to(TOP)}: {old!r} stands in its file {text.count(old)} times"
+            texts[file] = text.replace(old, rest)
+        elif line:
+            yield f"{edit.relative_to(TOP)}: {line!r} is not read"
+
+
+def bad_edits(crate):
+    edits = sorted((TOP / "crates" / crate / "must-fail").glob("*.edit"))
+    if len(edits) > MOST_EDITS:
+        yield f"{crate} has {len(edits)} edits, and {MOST_EDITS} are the most"
+    for edit in edits:
+        yield from bad_changes(edit)
+
+
+def main():
+    parser = parser_of(__doc__)
+    parser.add_argument("crates", nargs="*")
+    given = parser.parse_args()
+    own = list(build.libraries())
+    unknown = [it for it in given.crates if it not in own]
+    if unknown:
+        parser.error(f"crates.txt lists no {', '.join(unknown)}")
+    told = [line for crate in given.crates or own for line in (*moved(crate), *bad_edits(crate))]
+    print("\n".join(told) or "all in the layout, and each edit can be applied")
+    return 1 if told else 0
+
+
+if __name__ == "__main__":
+    sys.exit(main())
