@@ -11,6 +11,7 @@ import subprocess
 import sys
 
 import build
+import edit_times
 from harness import parser_of
 
 TOP = pathlib.Path(__file__).resolve().parent.parent
@@ -26,31 +27,14 @@ def moved(crate):
     return [f"{it.relative_to(TOP)} was not in the layout" for it in files if it.read_bytes() != before[it]]
 
 
-def bad_changes(edit):
-    """What is wrong with the changes of an edit, each made behind the one before."""
-    texts, file, old = {}, None, None
-    for line in edit.read_text(encoding="utf-8").splitlines():
-        word, _, rest = line.partition(":")
-        rest = rest.removeprefix(" ")
-        if word == "file":
-            file = edit.parent.parent / rest.strip()
-        elif word == "old":
-            old = rest
-        elif word == "new" and file and old:
-            text = texts.get(file) or file.read_text(encoding="utf-8")
-            if text.count(old) != 1:
-                yield f"{edit.relative_to(TOP)}: {old!r} stands in its file {text.count(old)} times"
-            texts[file] = text.replace(old, rest)
-        elif line:
-            yield f"{edit.relative_to(TOP)}: {line!r} is not read"
-
-
 def bad_edits(crate):
-    edits = sorted((TOP / "crates" / crate / "must-fail").glob("*.edit"))
+    folder = TOP / "crates" / crate
+    edits = sorted((folder / "must-fail").glob("*.edit"))
     if len(edits) > MOST_EDITS:
         yield f"{crate} has {len(edits)} edits, and {MOST_EDITS} are the most"
     for edit in edits:
-        yield from bad_changes(edit)
+        _, faults = edit_times.changed(folder, edit)
+        yield from (f"{edit.relative_to(TOP)}: {fault}" for fault in faults)
 
 
 def main():

@@ -31,17 +31,35 @@ AS_IT_STANDS = "as it stands"
 PROVED, REFUSED = 0, 1
 
 
+def changed(folder, edit):
+    """The texts of the files that an edit changes in a crate's folder, by their paths in it, each change made behind the one before;
+    and what is wrong with the edit: an `old: TEXT` that does not stand in its file once, and lines that are not read."""
+    texts, faults, path, old = {}, [], None, None
+    for line in edit.read_text(encoding="utf-8").splitlines():
+        word, _, rest = line.partition(":")
+        rest = rest.removeprefix(" ")
+        if word == "file":
+            path = rest.strip()
+            texts.setdefault(path, (folder / path).read_text(encoding="utf-8"))
+        elif word == "old":
+            old = rest
+        elif word == "new" and path and old:
+            count = texts[path].count(old)
+            if count != 1:
+                faults.append(f"{old!r} stands in {path} {count} times")
+            texts[path] = texts[path].replace(old, rest)
+        elif line:
+            faults.append(f"{line!r} is not read")
+    return texts, faults
+
+
 def change(folder, edit):
-    """Makes the change of an edit in a copy: its lines `old: TEXT` and `new: TEXT` come in pairs, and each TEXT stands there once."""
-    name, *pairs = edit.read_text(encoding="utf-8").splitlines()
-    file = folder / name.removeprefix("file: ")
-    text = file.read_text(encoding="utf-8")
-    for old, new in zip(pairs[::2], pairs[1::2]):
-        old = old.removeprefix("old: ")
-        if text.count(old) != 1:
-            sys.exit(f"{edit}: {old!r} does not stand in {name.removeprefix('file: ')} once")
-        text = text.replace(old, new.removeprefix("new: "))
-    file.write_text(text, encoding="utf-8")
+    """Makes the changes of an edit in a copy of its crate."""
+    texts, faults = changed(folder, edit)
+    if faults:
+        sys.exit(f"{edit}: {faults[0]}")
+    for path, text in texts.items():
+        (folder / path).write_text(text, encoding="utf-8")
 
 
 def check(words, folder):
