@@ -1,7 +1,7 @@
 use Rattle.std.proofs.Common.{◌≡◌, ℕ, List, [], ◌++◌, length, take, arith, sym, ap, ◌∙◌}
 use Rattle.std.proofs.lemmas.List.{take_at}
 use Rattle.cipher_ops.specs.Standing.{given}
-use Rattle.cipher_ops.proofs.Pieces.{kept_all, piece_out}
+use Rattle.cipher_ops.proofs.Pieces.{kept_all, nothing_out, piece_out}
 use Rattle.cipher_ops.proofs.state.CipherState.text.Goals as goal
 
 pub returns-then-self-clause-stands : goal.returns-then-self-clause-stands
@@ -26,3 +26,7 @@ returns-else-self-clause-output c = λ plan limited key nonce aad text stands.
     bytes ∙ piece_out plan limited key nonce text (text ++ c.args.input.now) c.args.self.now.held (take c.advance-end.result c.advance-end.new.out)
     (sym stands.limited_is ∙ c.if-self.false) stands.transform.within stands.held_is
     (λ joined. c.advance-end.ensures.joined plan key nonce aad text now holds (ap (λ (l : List ℕ). now ++ l) c.as_slice.ensures ∙ joined))
+
+pub returns-then-self-clause-output : goal.returns-then-self-clause-output
+returns-then-self-clause-output c = λ plan limited key nonce aad text stands.
+    c.requires.nothing ∙ nothing_out plan limited key nonce text (text ++ c.args.input.now) (sym stands.limited_is ∙ c.if-self.true)
