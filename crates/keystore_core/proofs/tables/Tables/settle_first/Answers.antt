@@ -20,3 +20,6 @@ returns-in-Ok-clause-stands g c = λ setup past stands.
       waits = λ told e. waiting;
       settles = λ told e. sym c.if-not-settles.ensures;
     }
+
+pub returns-then-is_settled-clause-stands : goal.returns-then-is_settled-clause-stands
+returns-then-is_settled-clause-stands g c = λ setup past stands. record { stands = stands; ready = search rules; waits = λ told e. cc; settles = λ told e. cc }
