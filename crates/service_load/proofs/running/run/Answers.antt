@@ -7,3 +7,6 @@ perform_all-requires-sync-T g c κs within = search (calls_shown, sendable) dept
 
 pub close-requires-clause-numbers : goal.close-requires-clause-numbers
 close-requires-clause-numbers g c = c.in-Ok.ensures.numbers
+
+pub close-requires-clause-ours : goal.close-requires-clause-ours
+close-requires-clause-ours g c = c.in-Ok.ensures.ours

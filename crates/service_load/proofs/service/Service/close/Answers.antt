@@ -7,3 +7,6 @@ close-engine-requires-clause-all g c = all_numbered c.args.passes.items (count_o
 
 pub returns-clause-own : goal.returns-clause-own
 returns-clause-own g c = c.close-engine.ensures.own
+
+pub returns-clause-book : goal.returns-clause-book
+returns-clause-book g c = record { legal = c.close-engine.ensures.legal; caused = c.close-engine.ensures.caused; others = c.close-engine.ensures.none }
