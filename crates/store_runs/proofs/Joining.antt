@@ -1,17 +1,12 @@
 -- What a run reads is what may be kept of the one before it.
-use Rattle.std.proofs.Common.{◌≡◌, inl, inr, ℕ, Bool, true, false, if◌then◌else◌, List, [], ◌∷◌}
-use Rattle.journal_records.specs.Holding.{Sure, Unsure}
+use Rattle.std.proofs.Common.{◌≡◌, inl, inr, ℕ, List, [], ◌∷◌}
+use Rattle.journal_records.specs.Holding.{Holding, IsMember, Sure, Unsure}
 use Rattle.journal_records.specs.LastingPart.{Lasting}
 use Rattle.key_database.specs.Store.{MayBe, StandsFor}
-use Rattle.tags.specs.declared.settled.Settled.TheVariants.{Kept, Lost}
-use Rattle.rule_model.specs.declared.entry.Entry.TheVariants.{Settling}
-use Rattle.rule_model.specs.Entries.{History}
-use Rattle.rule_model.specs.Kept.{kept}
-use Rattle.rule_model.specs.Settling.{is_unsettled}
 use Rattle.rule_model.specs.Setup.{Setup}
-use Rattle.rule_model.specs.Stored.{May, MayWhere}
+use Rattle.rule_model.specs.Stored.{holding_of}
 use Rattle.rule_model.specs.Uses.{AreRuns, BeginsAfter, UsesLaw}
-use Rattle.keystore_core.specs.Engine.{MayHold}
+use Rattle.rule_model.proofs.Kept.{may_is}
 use Rattle.keystore_core.specs.Opening.{IsStart}
 use Rattle.store_runs.specs.Runs.{AreStoredRuns, Reads, StoredRun, StoredUsesLaw, runs_of}
 
@@ -22,16 +17,15 @@ OnePart = (part other : Lasting) (image : List ℕ) → StandsFor part image →
 stands_for : (setup : Setup) (image : List ℕ) → IsStart setup image → StandsFor setup.start image
 stands_for setup image is = record { past = is.past; changes = is.changes; journal = is.journal; lasting = is.lasting }
 
-may_be : OnePart → (setup : Setup) (past : History) (part : Lasting) (image : List ℕ) → StandsFor part image → MayHold setup past image → May setup past part
-may_be one setup past part image stands holds = by_waiting (is_unsettled past) holds where
-  by_waiting : (b : Bool) → MayBe (if b then Unsure (kept setup (Settling Lost ∷ past)) (kept setup (Settling Kept ∷ past)) else Sure (kept setup past)) image → MayWhere b setup past part
-  by_waiting true (inl lost) = inl (one part _ image stands lost)
-  by_waiting true (inr found) = inr (one part _ image stands found)
-  by_waiting false is = one part _ image stands is
+member : OnePart → (held : Holding) (part : Lasting) (image : List ℕ) → StandsFor part image → MayBe held image → IsMember held part
+member one (Sure known) part image stands is = one part known image stands is
+member one (Unsure known later) part image stands (inl is) = inl (one part known image stands is)
+member one (Unsure known later) part image stands (inr is) = inr (one part later image stands is)
 
 begins_after : OnePart → (earlier : List StoredRun) (setup : Setup) → AreStoredRuns earlier → Reads earlier setup → BeginsAfter (runs_of earlier) setup.start
 begins_after one [] setup are read = (read.1.past, read.1.lasting)
-begins_after one (before ∷ earlier) setup are read = may_be one before.run.setup before.run.past setup.start before.image (stands_for setup before.image read) are.1
+begins_after one (before ∷ earlier) setup are read =
+    rw (may_is before.run.setup before.run.past setup.start) (member one (holding_of before.run.setup before.run.past) setup.start before.image (stands_for setup before.image read) are.1)
 
 are_runs : OnePart → (stored : List StoredRun) → AreStoredRuns stored → AreRuns (runs_of stored)
 are_runs one [] are = are
