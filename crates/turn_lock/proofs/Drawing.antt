@@ -1,14 +1,17 @@
 -- Numbers and turns are drawn.
-use Rattle.std.proofs.Common.{◌≡◌, ℕ, ◌+◌, ◌%◌, ◌^◌, ◌<◌, List, [], ◌∷◌, get_or, sym, refl, ap, ◌∙◌, subst, arith, Option, Some, None, length-set, get_or-set_other, get_or-set_same}
+use Rattle.std.proofs.Common.{◌≡◌, ℕ, eqb, set, ◌+◌, ◌%◌, ◌^◌, ◌<◌, List, [], ◌∷◌, get_or, sym, refl, ap, ◌∙◌, subst, arith, Option, Some, None, length-set, get_or-set_other, get_or-set_same}
 use Rattle.std.proofs.Math.Nat.{mod-add-mod}
 use mathlib.Core.Option.{none, some}
 use lib.ListN.{get_elem?}
-use Rattle.atomic_table.specs.Table.{Me, step, keeps, Allows}
+use lib.Seq.{set-get_or}
+use prog.Atomic.{either}
+use Rattle.atomic_table.specs.Table.{Me, Act, step, keeps, stepped, carried_after, Valid, Allows}
+use Rattle.atomic_table.proofs.Lists.{exchanged, set_again}
 use Rattle.turn_lock.specs.declared.view.Stage.TheVariants.{Idle, Makes, Waits}
 use Rattle.turn_lock.specs.declared.view.View.{View}
 use Rattle.turn_lock.specs.Views.{turns_of, IsServing, made_in, hand, view, numbers_in, turns, number_to}
 use Rattle.turn_lock.specs.Rule.{own, Tally, IsSound}
-use Rattle.turn_lock.specs.Steps.{numbered, drew}
+use Rattle.turn_lock.specs.Steps.{numbered, drew, drew_if}
 use Rattle.turn_lock.proofs.Prefixes.{own_none}
 use Rattle.turn_lock.proofs.Sums.{put, put_here, put_else}
 use Rattle.turn_lock.proofs.Standing.{stands_by, holds_by, views_set, kept_by}
@@ -104,3 +107,24 @@ module _ {T E K : Type 0} (entries : T → List E) (maker : E → ℕ) (fits : K
         },
         (t, r.words.next_is, refl),
       )
+
+  -- a turn is drawn where the word of the next one is the number that was asked for
+  pub draws_free : (slots id : ℕ) (me : Me (Option T) (View E K)) (old new : ℕ) → new ≡ (old + 1) % 18446744073709551616 → me.0.stage ≡ Idle → 0 < numbers_in me.0.hands
+      → Allows (IsSound entries maker fits name) slots id me 1 (λ n. either (eqb n old) new n) (drew_if (step slots 1 old new none) me)
+  draws_free slots id me old new next is some_number s r deep at small =
+      let n : ℕ = get_or s.words 1 0 in
+      exchanged n old new
+      (λ y. (w : View E K) × (a : Act (Option T)) × Valid s.homes me.1 a × IsSound entries maker fits name (stepped s 1 y id me.1 w a) × drew_if (step slots 1 old new none) me n (w, carried_after me.1 a))
+      (λ hit.
+      let d = draws_turn slots id me is some_number s r deep at small in
+      let path : (n + 1) % 18446744073709551616 ≡ new = ap (λ (z : ℕ). (z + 1) % 18446744073709551616) hit ∙ sym next in (
+        d.0,
+        d.1,
+        d.2,
+        subst (λ (y : ℕ). IsSound entries maker fits name (stepped s 1 y id me.1 d.0 d.1)) path d.3,
+        ((λ _. d.4), λ miss. absurd (miss hit)),
+      ))
+      (λ miss.
+      let same : s ≡ record { words = set s.words 1 n; homes = s.homes; views = set s.views id me.0 } =
+      λ k. record { words = sym (set-get_or s.words 1 0) k; homes = s.homes; views = sym (set_again s.views id me.0 at) k } in
+      (me.0, keeps, tt, subst (IsSound entries maker fits name) same r, ((λ hit. absurd (miss hit)), λ _. refl)))

@@ -92,6 +92,10 @@ module _ {T E K : Type 0} where
   abbrev pub drew : At T → Sat T E K → ℕ → Sat T E K → Type 0
   drew st m n m' = (t : ℕ) × (n ≡ t % 2 ^ 64) × (m' ≡ (view (Waits t) m.0.hands, m.1))
 
+  -- where the number found is the word that was asked for, the seat has drawn that turn; else all is as it was
+  abbrev pub drew_if : At T → Sat T E K → ℕ → Sat T E K → Type 0
+  drew_if st m n m' = (n ≡ st.first → drew st m n m') × (n ≢ st.first → m' ≡ m)
+
   -- where the number found is the seat's turn, the seat has the slot with the value; else all is as it was
   abbrev pub looked : (T → List E) → (E → ℕ) → (K → T → Type 0) → At T → Sat T E K → ℕ → Sat T E K → Type 0
   looked entries maker fits st m n m' =

@@ -1,4 +1,4 @@
-//! A ticket lock over a value with a history, where each thread knows a front of that history.
+//! A lock over a value with a history, where each thread knows a front of that history.
 //!
 //! Its one contract: the history of the value behind the lock is one list of entries, to which the holder of a turn
 //! adds at the end. A `Pass` has a number and has seen a front of that history, with all that the pass itself made.
@@ -9,7 +9,8 @@
 //! rule of the lock's words in `specs/Rule.antt`. What entries mean is no matter of the lock: the type of the value
 //! keeps it.
 //!
-//! A thread that waits gives its processor away. No clause says that a turn comes.
+//! A turn goes to whoever looks first once none is out, so that nobody waits for a thread that does not run. A thread that
+//! waits gives its processor away, and sleeps after some looks. No clause says that a turn comes.
 #![tactic(auto)]
 
 mod history;

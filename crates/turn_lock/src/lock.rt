@@ -7,6 +7,7 @@ use crate::rule::{Place, Turns};
 use crate::view::View;
 use atomic_table::{Badge, Seat, Table, TableRule};
 use std::alloc::Global;
+use std::sync::atomic::AtomicU64;
 
 mod ending;
 mod making;
@@ -14,7 +15,7 @@ mod notes;
 mod resting;
 mod turns;
 
-/// A ticket lock over a value of type `T`, whose history has entries `E` and whose name is a `K`.
+/// A lock over a value of type `T`, whose history has entries `E` and whose name is a `K`.
 pub type TurnLock<T, E, K> = Locked<Option<T>, View<E, K>, K, Turns>;
 
 /// A table with the name that it was made with. Its type names the slots, the views and the rule and not the value, so
@@ -23,6 +24,9 @@ pub type TurnLock<T, E, K> = Locked<Option<T>, View<E, K>, K, Turns>;
 pub struct Locked<S, V, K, P: TableRule<S, V, K>> {
     table: Table<S, V, K, P, Global>,
     name: K,
+    /// The mark of those that sleep until a turn is passed, on which they sleep: 1 where whoever passes one has to wake one of
+    /// them.
+    asleep: AtomicU64,
     ghost sized: { (table.shared.table_id.words ≡ 4) × (table.shared.table_id.slots ≡ 1) },
     ghost named: { table.shared.key ≡ name },
 }

@@ -1,5 +1,5 @@
 //! What each step on the table tells the seat that makes it.
-ghost use Rattle.turn_lock.specs.Steps.{numbered, drew, looked, counted, left, left_seeing, closed, kept_part, heir_part, note_part, gathered, completed, compared, nobody};
+ghost use Rattle.turn_lock.specs.Steps.{numbered, drew_if, looked, counted, left, left_seeing, closed, kept_part, heir_part, note_part, gathered, completed, compared, nobody};
 
 use crate::history::History;
 use crate::view::View;
@@ -12,11 +12,11 @@ impl<T, E, K> Play<Option<T>, View<E, K>> for DrawNumber {
     ghost then = { numbered };
 }
 
-/// Draws a turn.
-pub(crate) struct DrawTurn;
+/// Draws a turn where none is out.
+pub(crate) struct DrawFree;
 
-impl<T, E, K> Play<Option<T>, View<E, K>> for DrawTurn {
-    ghost then = { drew };
+impl<T, E, K> Play<Option<T>, View<E, K>> for DrawFree {
+    ghost then = { drew_if };
 }
 
 /// Looks which turn is served.

@@ -58,7 +58,11 @@ impl<S, V, K: Drop, P: EndRule<S, V, K>> Locked<S, V, K, P> {
         requires last { P.may_end (view_of closing) }
         ensures { P.ended (name_of self) (view_of closing) result.1 result.0 }
     {
-        let Locked { table, name: _ } = self;
+        let Locked {
+            table,
+            name: _,
+            asleep: _,
+        } = self;
         let LastTurn { seat } = closing;
         let mut closed = table.close_with(seat);
         let made = closed.word(0);

@@ -8,6 +8,7 @@ use crate::plays::{DrawNumber, Heir};
 use atomic_table::{Refused, Table};
 use std::alloc::{AllocFailed, Global};
 use std::mem;
+use std::sync::atomic::AtomicU64;
 
 impl<T: History<E, K>, E, K: Drop> TurnLock<T, E, K> {
     /// A lock over a value with no entry yet, and what makes its passes. Where memory is wanting the value comes back.
@@ -26,7 +27,17 @@ impl<T: History<E, K>, E, K: Drop> TurnLock<T, E, K> {
             return Err(value);
         }
         match Table::new(alloc, &[0, 0, 0, 0], slots, &name) {
-            Ok((table, seat)) => Ok((Locked { table, name }, Maker { seat, made: 0 })),
+            Ok((table, seat)) => {
+                let asleep = AtomicU64::new(0);
+                Ok((
+                    Locked {
+                        table,
+                        name,
+                        asleep,
+                    },
+                    Maker { seat, made: 0 },
+                ))
+            }
             Err(refused) => {
                 let Refused { mut slots } = refused;
                 let last = slots.pop();

@@ -1,47 +1,83 @@
 //! Taking a turn and passing it on.
-ghost use Rattle.std.specs.Prelude.{◌≡◌, ◌^◌, ◌<◌, ◌++◌, List, length};
+ghost use Rattle.std.specs.Prelude.{◌≡◌, ℕ, ◌%◌, ◌^◌, ◌<◌, ◌++◌, List, length};
+ghost use Rattle.turn_lock.specs.declared.view.Stage.TheVariants.{Idle, Waits};
+ghost use Rattle.turn_lock.specs.Views.{view, numbers_in};
 ghost use Rattle.turn_lock.specs.Passes.{front, front_before, seen, number_of, turn_number, lock_id, name_of, IsPassOf, IsTurnOf, HasPutBack};
 ghost use Rattle.turn_lock.specs.Fronts.{IsFrontOf, Extends, Appends};
 
 use super::{Pass, Turn, TurnLock};
 use crate::history::History;
-use crate::plays::{Count, DrawTurn, Leave, LeaveSeeing, Look};
+use crate::plays::{Count, DrawFree, Leave, LeaveSeeing, Look};
 use crate::rule::Place;
 use std::sync::Wait;
+use std::sync::atomic::Ordering::SeqCst;
 use std::thread;
 
 /// The word of the next turn.
 const NEXT: usize = 1;
 
-/// The word of the turn that is served, on which a thread that waits sleeps.
+/// The word of the turn that is served.
 const SERVED: usize = 2;
 
 /// The word that counts the entries.
 const ENTRIES: usize = 3;
 
-/// How often a thread that waits lets others run before it sleeps: longer than some turns take, since waking a thread takes longer
-/// than a turn.
-const YIELDS: u32 = 1024;
+/// How often a thread that waits looks, and lets others run, before it sleeps: about as long as it takes to be woken, while
+/// processors are idle. On busy ones a thread that lets others run waits for their time to pass, so they are few.
+const LOOKS: u32 = 32;
 
 impl<T: History<E, K>, E, K> TurnLock<T, E, K> {
-    /// Gives the processor away while this turn is served.
-    fn pause<R: Wait>(&self, rt: &R, served: u64, rounds: u32) {
-        if rounds < YIELDS {
-            thread::yield_now();
-        } else {
-            self.table
-                .shared
-                .park(rt, SERVED, (served % (1 << 32)) as u32);
+    /// Sleeps while this turn is served. The mark is set before the look, so whoever passes that turn behind the look
+    /// finds it; and where the mark is taken away before the sleep, the sleep ends at once.
+    fn sleep<R: Wait>(&self, rt: &R, served: u64) {
+        self.asleep.store(1, SeqCst);
+        if self.table.shared.peek(SERVED) == served {
+            self.asleep.park(rt, 1);
         }
     }
 
-    /// Wakes the threads that sleep, where a turn behind the one that was served is drawn. A thread that draws its turn
-    /// later reads the word after it has changed.
-    fn wake_others(&self, served: u64) {
-        let shared = &self.table.shared;
-        if shared.peek(NEXT) != served.wrapping_add(1) {
-            shared.wake_all(SERVED);
+    /// Wakes one thread that sleeps, where the mark is set. The woken one sets it again, for the others that sleep: by
+    /// `sleep`, or where it takes a turn.
+    fn wake_another(&self) {
+        if self.asleep.load(SeqCst) != 0 {
+            self.asleep.store(0, SeqCst);
+            self.asleep.wake_one();
         }
+    }
+
+    /// Draws a turn once none is out. Whoever looks first has it.
+    fn draw<R: Wait>(&self, rt: &R, seat: &mut Place<T, E, K>) -> u64
+        requires here { seat.old.table_id ≡ lock_id self.now }
+        requires idle { seat.old.me.0.stage ≡ Idle }
+        requires number { 0 < numbers_in seat.old.me.0.hands }
+        ensures here { seat.new.table_id ≡ seat.old.table_id }
+        ensures same { seat.new.id ≡ seat.old.id }
+        ensures drawn { (t : ℕ) × (result ≡ t % 2 ^ 64) × (seat.new.me ≡ (view (Waits t) seat.old.me.0.hands, seat.old.me.1)) }
+    {
+        let shared = &self.table.shared;
+        let mut looks = 0u32;
+        let mut slept = false;
+        for _ in rt.forever() {
+            let served = shared.peek(SERVED);
+            if shared.peek(NEXT) == served {
+                let next = served.wrapping_add(1);
+                let found = shared.compare_exchange::<DrawFree>(seat, NEXT, served, next);
+                if found == served {
+                    if slept {
+                        self.asleep.store(1, SeqCst);
+                    }
+                    return served;
+                }
+            }
+            if looks < LOOKS {
+                looks += 1;
+                thread::yield_now();
+            } else {
+                slept = true;
+                self.sleep(rt, served);
+            }
+        }
+        unreachable!()
     }
 
     /// Waits for a turn, and takes the value. Its history begins with the pass's front, and has no more of the pass's
@@ -57,16 +93,14 @@ impl<T: History<E, K>, E, K> TurnLock<T, E, K> {
     {
         let Pass { mut seat, number } = pass;
         let shared = &self.table.shared;
-        let mine = shared.fetch_add::<DrawTurn>(&mut seat, NEXT, 1);
-        let mut rounds = 0u32;
+        let mine = self.draw(rt, &mut seat);
+        // the first look is the last: no other turn was out when this one was drawn
         for _ in rt.forever() {
             let served = shared.load::<Look>(&mut seat, SERVED);
             if served == mine {
                 let value = shared.exchange(&mut seat, 0, None).unwrap();
                 return (Turn { seat, number }, value);
             }
-            self.pause(rt, served, rounds);
-            rounds = rounds.saturating_add(1);
         }
         unreachable!()
     }
@@ -106,8 +140,8 @@ impl<T: History<E, K>, E, K> TurnLock<T, E, K> {
         for _counted in 0..added {
             shared.fetch_add::<Count>(&mut seat, ENTRIES, 1);
         }
-        let served = shared.fetch_add::<Leave>(&mut seat, SERVED, 1);
-        self.wake_others(served);
+        shared.fetch_add::<Leave>(&mut seat, SERVED, 1);
+        self.wake_another();
         Pass { seat, number }
     }
 
@@ -124,8 +158,8 @@ impl<T: History<E, K>, E, K> TurnLock<T, E, K> {
         let number = turn.number;
         let mut seat = self.put_back(turn, value);
         let shared = &self.table.shared;
-        let served = shared.fetch_add::<LeaveSeeing>(&mut seat, SERVED, 1);
-        self.wake_others(served);
+        shared.fetch_add::<LeaveSeeing>(&mut seat, SERVED, 1);
+        self.wake_another();
         Pass { seat, number }
     }
 }

@@ -42,8 +42,8 @@ loop-counted-preserved g c =
       counting = counts_on g.T.History.entries g.T.History.maker name c.args.turn.number (turn_in u.stage) (log_in u.stage) (front_in u.hands) c.args.value c.args.added c.loop-counted._counted _ _ c.loop-counted-test.true inv.counting c.fetch_add.ensures.2;
     }
 
-pub fetch_add-served-requires : goal.fetch_add-served-requires
-fetch_add-served-requires g c =
+pub fetch_add-requires-2 : goal.fetch_add-requires-2
+fetch_add-requires-2 g c =
     let u = c.args.turn.seat.me.0 in
     let name = c.args.self.now.name in
     let n = c.args.turn.number in
@@ -63,7 +63,7 @@ invariant_of-result g c =
     let n = c.args.turn.number in
     let done = c.loop-counted.invariant.counting in
     let after = front_after (front_in u.hands) (log_in u.stage) done.past in
-    let end = c.fetch_add-served.ensures.2 ∙ (λ i. (view Idle (done.posed i).0.hands, rest (done.posed i).1)) in
+    let end = c.fetch_add-2.ensures.2 ∙ (λ i. (view Idle (done.posed i).0.hands, rest (done.posed i).1)) in
     record { rests = pose_pass _ name n after end; single = single _ Idle (hand name (Some n) after) [] end }
 
 pub returns-clause-front : goal.returns-clause-front
@@ -78,7 +78,7 @@ returns-clause-front g c some =
     let done = k.invariant.counting in
     let le : c.args.added ≤ k._counted = omega arith in
     let whole = all_counted g.T.History.entries g.T.History.maker name n t log front c.args.value c.args.added k._counted _ le done in
-    let end = c.fetch_add-served.ensures.2 ∙ (λ i. (view Idle (done.posed i).0.hands, rest (done.posed i).1)) in
+    let end = c.fetch_add-2.ensures.2 ∙ (λ i. (view Idle (done.posed i).0.hands, rest (done.posed i).1)) in
     let counted = done.counted in
     ap (λ m. front_in m.0.hands) end ∙ (after_some front log done.past (omega arith) ∙ sym whole)
 
@@ -86,7 +86,7 @@ pub returns-clause-same : goal.returns-clause-same
 returns-clause-same g c none =
     let u = c.args.turn.seat.me.0 in
     let done = c.loop-counted.invariant.counting in
-    let end = c.fetch_add-served.ensures.2 ∙ (λ i. (view Idle (done.posed i).0.hands, rest (done.posed i).1)) in
+    let end = c.fetch_add-2.ensures.2 ∙ (λ i. (view Idle (done.posed i).0.hands, rest (done.posed i).1)) in
     let counted = done.counted in
     let le = c.loop-counted.auto in
     ap (λ m. front_in m.0.hands) end ∙ after_none (front_in u.hands) (log_in u.stage) done.past (omega arith)
@@ -103,7 +103,7 @@ returns-clause-own g c more is =
     let done = k.invariant.counting in
     let le : c.args.added ≤ k._counted = omega arith in
     let whole = all_counted g.T.History.entries g.T.History.maker name n t log front c.args.value c.args.added k._counted _ le done in
-    let end = c.fetch_add-served.ensures.2 ∙ (λ i. (view Idle (done.posed i).0.hands, rest (done.posed i).1)) in
+    let end = c.fetch_add-2.ensures.2 ∙ (λ i. (view Idle (done.posed i).0.hands, rest (done.posed i).1)) in
     let grown = c.requires.grown in
     subst (λ m. Extends g.T.History.maker n front (front_in m.0.hands) more) (sym end)
     (goes_on g.T.History.maker n log front done.past grown.more more c.requires.ours.before grown.made (sym whole ∙ grown.grown) (sym whole ∙ is))

@@ -6,8 +6,8 @@ use Rattle.turn_lock.proofs.Posing.{pose_pass, single}
 use Rattle.turn_lock.proofs.Passing.{passes_turn_seeing}
 use Rattle.turn_lock.proofs.lock.turns.TurnLock+T+E+K.leave_seeing.Goals as goal
 
-pub fetch_add-served-requires : goal.fetch_add-served-requires
-fetch_add-served-requires g c =
+pub fetch_add-requires : goal.fetch_add-requires
+fetch_add-requires g c =
     let u = c.args.turn.seat.me.0 in
     let name = c.args.self.now.name in
     let n = c.args.turn.number in
@@ -20,5 +20,5 @@ invariant_of-result g c =
     let name = c.args.self.now.name in
     let n = c.args.turn.number in
     let now = c.put_back-seat.ensures.full in
-    let end = c.fetch_add-served.ensures.2 ∙ (λ i. (view Idle (front_to (log_in (now i).0.stage) (now i).0.hands), rest (now i).1)) in
+    let end = c.fetch_add.ensures.2 ∙ (λ i. (view Idle (front_to (log_in (now i).0.stage) (now i).0.hands), rest (now i).1)) in
     record { rests = pose_pass _ name n (log_in u.stage) end; single = single _ Idle (hand name (Some n) (log_in u.stage)) [] end }
