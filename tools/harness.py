@@ -1,5 +1,7 @@
-"""What the tools share: their help, which program they run, the processor time of a run, and how a difference is told."""
+"""What the tools share: their help, which program they run, busy loops beside it, the processor time of a run, and how a difference is
+told."""
 import argparse
+import contextlib
 import os
 import pathlib
 import resource
@@ -33,6 +35,31 @@ def folder_at(path):
 def add_program(parser, default=PROGRAM):
     """Gives a tool the option --program: which program it runs."""
     parser.add_argument("--program", type=program_at, default=str(default), metavar="PATH")
+
+
+# It ends with the tool that started it, also where that is killed.
+BUSY_LOOP = """
+import os
+while os.getppid() == %d:
+    for _ in range(1_000_000):
+        pass
+"""
+
+
+def add_busy(parser, default=0):
+    """Gives a tool the option --busy: how many busy loops run beside what it runs."""
+    parser.add_argument("--busy", type=int, default=default, metavar="N")
+
+
+@contextlib.contextmanager
+def busy_loops(count):
+    """Runs so many processes that do nothing but keep a processor busy, and ends each by its id."""
+    with contextlib.ExitStack() as stack:
+        for _loop in range(count):
+            loop = subprocess.Popen([sys.executable, "-c", BUSY_LOOP % os.getpid()])
+            stack.callback(loop.wait)
+            stack.callback(loop.kill)
+        yield
 
 
 def processor_seconds(words, script, folder):

@@ -2,16 +2,19 @@
 """Measures `keystore2 serve`: pairs of a begin and a finish of a short mac, over one connection and over four at once, beside other makers of
 such a mac.
 
-    python3 tools/service_speed.py [ROUNDS] [--seconds S] [--program PATH]
+    python3 tools/service_speed.py [ROUNDS] [--seconds S] [--busy N] [--program PATH] [--beside PATH]
 
 swtpm makes a mac by one TPM2_HMAC over a connection, of which it has one; SoftHSM by C_SignInit and C_Sign, in the caller's process, so
 that no socket is between. A peer that is not installed is left out. Each client is a process of its own, on the same machine, and
 asks when it has the answer to what it asked before; a client in Python takes a good part of the time. All are measured by turns in
-one run. It prints the middle round: frames and macs a second, and how many times as many macs as one connection of the service."""
+one run. With --busy so many loops that do nothing else keep the processors busy meanwhile, and are ended with the tool. With --beside the
+program at that path, of another commit say, serves by turns with this one. It prints the middle round: frames and macs a second, and how
+many times as many macs as one connection of the service."""
 import contextlib
 import functools
 import hashlib
 import hmac
+import itertools
 import multiprocessing
 import statistics
 import subprocess
@@ -19,7 +22,7 @@ import sys
 import time
 
 from check_service import free_port
-from harness import add_program, parser_of
+from harness import add_busy, add_program, busy_loops, parser_of, program_at
 from keystore_client import KINDS, Client, Key, counted, exactly, parameters, u32
 from mac_peers import KEY, SoftHsm, Token, Tpm, TpmServer, connected
 from scratch import scratch_folder
@@ -98,7 +101,7 @@ class Started:
         self.process.wait()
 
 
-def measured(program, folder, rounds, seconds):
+def measured(programs, folder, rounds, seconds):
     """Macs a second of each maker in each round, by its name. Each round has a service of its own, since the book of one has an end."""
     with contextlib.ExitStack() as stack:
         makers = {}
@@ -109,13 +112,14 @@ def measured(program, folder, rounds, seconds):
             stack.enter_context(Token(folder))
             makers["SoftHSM, C_Sign"] = (SoftHsm, 1)
             makers[f"SoftHSM, {MOST} processes"] = (SoftHsm, MOST)
-        one, many = "service", f"service, {MOST} connections"
-        found = {name: [] for name in [one, many, *makers]}
+        many = {one: f"{one}, {MOST} connections" for one in programs}
+        found = {name: [] for name in [*itertools.chain(*many.items()), *makers]}
         for _ in range(rounds):
-            with Started(program, folder, 1 + MOST) as port:
-                service = functools.partial(Service, port)
-                found[one].append(macs_a_second(service, 1, seconds))
-                found[many].append(macs_a_second(service, MOST, seconds))
+            for one, program in programs.items():
+                with Started(program, folder, 1 + MOST) as port:
+                    service = functools.partial(Service, port)
+                    found[one].append(macs_a_second(service, 1, seconds))
+                    found[many[one]].append(macs_a_second(service, MOST, seconds))
             for name, (maker, count) in makers.items():
                 found[name].append(macs_a_second(maker, count, seconds))
     return found
@@ -125,14 +129,17 @@ def main():
     ask = parser_of(__doc__)
     ask.add_argument("rounds", nargs="?", type=int, default=3)
     ask.add_argument("--seconds", type=float, default=3.0, metavar="S")
+    add_busy(ask)
     add_program(ask)
+    ask.add_argument("--beside", type=program_at, metavar="PATH")
     words = ask.parse_args()
-    with scratch_folder() as folder:
-        found = measured(words.program, folder, words.rounds, words.seconds)
+    programs = {"service": words.program, **({"service beside": words.beside} if words.beside else {})}
+    with scratch_folder() as folder, busy_loops(words.busy):
+        found = measured(programs, folder, words.rounds, words.seconds)
     middle = {name: statistics.median(macs) for name, macs in found.items()}
     for name, macs in middle.items():
         frames = f"{2 * macs:9,.0f} frames a second" if name.startswith("service") else " " * 25
-        print(f"{name:<24}{macs:9,.0f} macs a second {frames} {macs / middle['service']:6.2f}")
+        print(f"{name:<32}{macs:9,.0f} macs a second {frames} {macs / middle['service']:6.2f}")
 
 
 if __name__ == "__main__":

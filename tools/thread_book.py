@@ -1,21 +1,22 @@
 #!/usr/bin/env python3
 """Lets threads call one service, and replays its book by the second model of the rules.
 
-    python3 tools/thread_book.py [RUNS] [--rounds N] [--threads N] [--book FILE]
+    python3 tools/thread_book.py [RUNS] [--rounds N] [--threads N] [--busy N] [--book FILE]
 
 The program of `crates/keystore_threads`, which `rt run` leaves there, has N threads (8 without the word) make macs with a key of their
 own and with one that all use and that five uses end, and writes its book as it stands in memory. The events of that book, in its order,
 go to second_model.py, which has to give the same replies and to draw the same bytes. Counted are the macs of the key that all use, which
 have to be as many as its limit, or as the tries where these are fewer, and all macs, which have to be those that the threads were given.
 Then each reply of the first book is changed, one at a time, and no such book may pass. It says nothing where all is well, and ends with
-status 1 where a book differs or a changed one does not. With --book it looks at the book that a file has, as the program wrote it, in
+status 1 where a book differs or a changed one does not. With --busy so many loops that do nothing else keep the processors busy beside
+the runs, and are ended with the tool. With --book it looks at the book that a file has, as the program wrote it, in
 place of runs. Where the Python package `cryptography` is not there, it replays none and says so."""
 import pathlib
 import re
 import subprocess
 import sys
 
-from harness import parser_of
+from harness import add_busy, busy_loops, parser_of
 from keystore_client import NAMES
 
 try:
@@ -196,6 +197,7 @@ def main():
     parser.add_argument("runs", nargs="?", type=int, default=1, metavar="RUNS")
     parser.add_argument("--rounds", type=int, default=3, metavar="N")
     parser.add_argument("--threads", type=int, default=8, metavar="N")
+    add_busy(parser)
     parser.add_argument("--book", type=pathlib.Path, metavar="FILE")
     words = parser.parse_args()
     if words.book is None and not PROGRAM.exists():
@@ -204,11 +206,12 @@ def main():
         print("tools/thread_book.py: without the package `cryptography` no book is replayed")
         return
     try:
-        for run in range(words.runs):
-            lines = words.book.read_text().splitlines() if words.book else lines_of_run(words.rounds, words.threads)
-            check_book(lines, words.rounds, words.threads)
-            if run == 0:
-                check_changed(lines[:-1])
+        with busy_loops(words.busy):
+            for run in range(words.runs):
+                lines = words.book.read_text().splitlines() if words.book else lines_of_run(words.rounds, words.threads)
+                check_book(lines, words.rounds, words.threads)
+                if run == 0:
+                    check_changed(lines[:-1])
     except Differs as differs:
         sys.exit(f"tools/thread_book.py: {differs}")
 
