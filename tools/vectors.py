@@ -5,8 +5,15 @@ texts are handed in as pieces of one byte, of fifteen, of a block and of more th
 The vectors are those of SP 800-38A, appendix F (ECB, CBC and CTR), of the Galois/Counter Mode of Operation (McGrew and Viega),
 appendix B (cases 1 to 4, 7 to 10 and 13 to 16, and case 4 with a tag of 96 bits), and of RFC 4231 (cases 1, 3, 4 and 5, since the
 keys of the others have fewer than 64 bits, or more than 512). What an update tells is the front of the output that its mode gives
-by then, less what came before."""
-from check_lines import OK, Rows, begin, call, folder_of, named, write
+by then, less what came before.
+
+With --wrapped it writes no file and prints, by the program `openssl`, the table of wrapped keys that stands in
+crates/library_tests/src/wrapped.rt: the vectors of RFC 3394 section 4, which it holds against those that are published, and
+every other length of a key and of a text."""
+import subprocess
+
+from check_lines import FOLDER, OK, Rows, begin, call, named, write
+from harness import check, folder_at, parser_of
 
 ECB, CBC, CTR, GCM = 1, 2, 3, 32
 NO_PADDING, PKCS7 = 1, 64
@@ -124,6 +131,18 @@ PADDED = [
     ("954f64f2e4e86e9eee82d20216684899", ""),
 ]
 
+# RFC 3394 sections 4.1 to 4.6: the bytes of the key, which is 00 01 02 .., and of the text, which is a front of WRAPPABLE; and what is
+# wrapped so.
+WRAPPABLE = bytes.fromhex("00112233445566778899aabbccddeeff") + bytes(range(16)) + bytes(range(0xf0, 0x100)) + bytes(range(0x20, 0x30))
+WRAPPED = {
+    (16, 16): "1fa68b0a8112b447aef34bd8fb5a7b829d3e862371d2cfe5",
+    (24, 16): "96778b25ae6ca435f92b5b97c050aed2468ab8a17ad84e5d",
+    (32, 16): "64e8c3f9ce0f5ba263e9777905818a2a93c8191e7d6e8ae7",
+    (24, 24): "031d33264e15d33268f24ec260743edce1c6c7ddee725a936ba814915c6762d2",
+    (32, 24): "a8f9bc1612c68b3ff6e6f4fbe30e71e4769c8b80a32cb8958cd5d17d6b254da1",
+    (32, 32): "28c9f404c4b810f4cbccb35cfb87f8263f5786e2d80ed326cbc7f0e71a99f43bfb988b9b7a02dd21",
+}
+
 
 def out(hex_digits):
     return {"code": 0, "out": hex_digits}
@@ -231,8 +250,34 @@ def paddings():
     return rows.rows
 
 
+def wrapped(key_size, text_size):
+    """A front of the text under the key of so many bytes, by openssl."""
+    words = ["openssl", "enc", f"-id-aes{8 * key_size}-wrap", "-iv", "a6" * 8, "-K", bytes(range(key_size)).hex()]
+    return subprocess.run(words, input=WRAPPABLE[:text_size], capture_output=True, check=True).stdout.hex()
+
+
+def wrapped_rows():
+    """The rows of the table, those of the RFC first and in its order."""
+    sizes = [(key, text) for key in (16, 24, 32) for text in range(16, 65, 8)]
+    for key, text in [*WRAPPED, *(pair for pair in sizes if pair not in WRAPPED)]:
+        made = wrapped(key, text)
+        check(f"openssl, {text} bytes under {key}", made, WRAPPED.get((key, text), made))
+        spelled = "".join(rf"\x{byte:02x}" for byte in bytes.fromhex(made))
+        yield f'({key}, {text}, b"{spelled}"),'
+
+
+def main():
+    parser = parser_of(__doc__)
+    parser.add_argument("--folder", type=folder_at, default=FOLDER, help="where it writes in place of checks/")
+    parser.add_argument("--wrapped", action="store_true", help="print the table of wrapped keys in place of all that")
+    asked = parser.parse_args()
+    if asked.wrapped:
+        print("\n".join(wrapped_rows()))
+        return
+    write(asked.folder, "vectors", both_ways())
+    write(asked.folder, "macs", macs())
+    write(asked.folder, "paddings", paddings())
+
+
 if __name__ == "__main__":
-    into = folder_of(__doc__)
-    write(into, "vectors", both_ways())
-    write(into, "macs", macs())
-    write(into, "paddings", paddings())
+    main()

@@ -44,3 +44,5 @@ mod steps;
 mod token_macs;
 #[cfg(test)]
 mod victims;
+#[cfg(test)]
+mod wrapped;

@@ -1,0 +1,7 @@
+mod ByteLists
+mod Numbers
+mod StateLemmas
+mod Undoing
+mod InPlace
+mod Turns
+mod Opening
