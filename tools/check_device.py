@@ -3,17 +3,20 @@
 
     python3 tools/check_device.py [--program PATH]
 
-Where the Python package `cryptography` is there, the blobs that the program makes are opened by tools/blobs.py and sealed again to the same
+A device or a policy of gigabytes is told as a bad file at once, and takes no memory. Where the Python package `cryptography` is there, the blobs that the program makes are opened by tools/blobs.py and sealed again to the same
 bytes, and blobs and tokens of other devices are handed in. It says nothing where all is well, and ends with status 1 at the first
 difference. It builds the program first where it is not built.
 """
 import importlib.util
 import json
+import os
 import pathlib
+import resource
 import subprocess
+import time
 
 from check_lines import ASKED, BLOB, MAC_LIST, OK, PARAMS, begin, broken, call, connect, made, named, sealed, text_of
-from harness import COMMAND, add_program, check, parser_of
+from harness import COMMAND, add_program, check, parser_of, without_notices
 from make_token import mac_of
 from scratch import scratch_folder
 
@@ -39,7 +42,7 @@ def ended_run(program, files, words, lines):
             else:
                 (pathlib.Path(name) / file).write_bytes(content)
         ended = subprocess.run([program, *words], input=script_of(lines), cwd=name, capture_output=True, text=True, check=False)
-    return ended.stdout, ended.returncode, ended.stderr.split("\n")[0]
+    return ended.stdout, ended.returncode, without_notices(ended.stderr).split("\n")[0]
 
 
 # The two files, right and wrong, whatever the words are.
@@ -76,6 +79,48 @@ def check_files(program):
         for rows in WRONG_POLICIES:
             for files in [{"policy.json": rows}, {"device.key": DEVICE, "policy.json": rows}]:
                 check(f"policy {rows if rows is FOLDER else rows[-60:]}", ended_run(program, files, words, lines), NO_POLICY)
+
+
+# The longest files: a policy of 1 MiB with its blanks is read, one of a byte more is not; and files of holes, which take no disk.
+
+MOST_POLICY, VAST = 1 << 20, 2 << 30
+# What a refusal of a vast file may take: bytes of memory, of which most are the program's text and its stack, and seconds. A run that
+# takes more of a processor than the last figure is ended.
+MOST_MEMORY, MOST_SECONDS, END = 128 << 20, 5, 20
+
+
+def check_longest(program):
+    lines = [connect(1000)]
+    rows = policy(*MANY)
+    longest = rows[:-1] + b" " * (MOST_POLICY - len(rows)) + b"]"
+    check("the longest policy", ended_run(program, {"policy.json": longest}, RUN, lines), ('{"client":1,"code":0}\n', 0, ""))
+    for longer in (b" " + longest, longest + b" ", longest + b"\n"):
+        check("a policy of a byte more", ended_run(program, {"policy.json": longer}, RUN, lines), NO_POLICY)
+
+
+def vast_run(program, name, front):
+    """What the program tells of a file of holes behind a front: its status, its text, and what of memory and time it took too much."""
+    with scratch_folder() as folder:
+        with open(pathlib.Path(folder) / name, "wb") as file:
+            file.write(front)
+            file.truncate(VAST)
+        begun = time.monotonic()
+        pipes = {"stdin": subprocess.DEVNULL, "stdout": subprocess.DEVNULL, "stderr": subprocess.PIPE}
+        limit = lambda: resource.setrlimit(resource.RLIMIT_CPU, (END, END))
+        with subprocess.Popen([program, *RUN], **pipes, cwd=folder, preexec_fn=limit) as run:
+            text = run.stderr.read().decode()
+            _, status, used = os.wait4(run.pid, 0)
+            run.returncode = os.waitstatus_to_exitcode(status)
+        seconds, memory = time.monotonic() - begun, used.ru_maxrss << 10
+    return run.returncode, text.split("\n")[0], [f"{memory} bytes"] * (memory > MOST_MEMORY) + [f"{seconds:.1f} s"] * (seconds > MOST_SECONDS)
+
+
+def check_vast(program):
+    for name, front, (_, status, fault) in [
+        ("device.key", b"", NO_DEVICE), ("device.key", DEVICE, NO_DEVICE), ("policy.json", b"", NO_POLICY), ("policy.json", policy(), NO_POLICY),
+        ("policy.json", b" " * MOST_POLICY, NO_POLICY),
+    ]:
+        check(f"a vast {name}", vast_run(program, name, front), (status, fault, []))
 
 
 # What a policy says is what holds: of two rows with one uid and one namespace the first.
@@ -159,6 +204,8 @@ def check_tokens(program, device, files):
 
 def check_all(program):
     check_files(program)
+    check_longest(program)
+    check_vast(program)
     check_rows(program)
     demo = b"\1" * 32 + b"\2" * 32 + b"\3" * 32
     for device, files in [(DEVICE, {"device.key": DEVICE}), (demo, {})]:

@@ -117,7 +117,7 @@ def served(program, maker, folder, library, seed):
     environment = {**os.environ, "LD_PRELOAD": str(library), "FAILING_SEED": str(seed)}
     words = [program, "run", "--fresh", "--slots", str(maker.slots)]
     told, rows = Told(), []
-    with subprocess.Popen(words, stdin=subprocess.PIPE, stdout=subprocess.PIPE, cwd=folder, env=environment) as run:
+    with subprocess.Popen(words, stdin=subprocess.PIPE, stdout=subprocess.PIPE, stderr=subprocess.DEVNULL, cwd=folder, env=environment) as run:
         timer = threading.Timer(MOST_SECONDS, run.kill)
         timer.start()
         for line in maker.lines:

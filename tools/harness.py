@@ -71,6 +71,17 @@ def processor_seconds(words, script, folder):
     return after.ru_utime + after.ru_stime - before.ru_utime - before.ru_stime, said
 
 
+# What the program says of a run and of a service beside the status: of the device, of its replies, and where it listens.
+NOTICES = ("keystore2: device.key: ", "keystore2: replies ", "keystore2: listening on ")
+
+
+def without_notices(fault):
+    """What a run told on standard error, a text or bytes, without its notices: the status with its cause in words."""
+    if isinstance(fault, bytes):
+        return without_notices(fault.decode()).encode()
+    return "".join(line for line in fault.splitlines(keepends=True) if not line.startswith(NOTICES))
+
+
 def check(name, found, wanted):
     """Ends the tool where something is otherwise than wanted, and says what."""
     if found != wanted:

@@ -12,7 +12,7 @@ import pathlib
 import subprocess
 import sys
 
-from harness import add_program, parser_of
+from harness import add_program, parser_of, without_notices
 from read_store import HEADER, THREE, Lasting, framed, read_journal
 from scratch import scratch_folder
 
@@ -126,10 +126,11 @@ def opened(program, store, folder):
     path = pathlib.Path(folder) / "store.ks"
     path.write_bytes(store)
     run = subprocess.run([program, "run"], stdin=subprocess.DEVNULL, cwd=folder, capture_output=True, text=True, check=False)
-    if (run.returncode, run.stdout, run.stderr) == (0, "", ""):
+    fault = without_notices(run.stderr)
+    if (run.returncode, run.stdout, fault) == (0, "", ""):
         return None
-    text, _, offset = run.stderr.strip().rpartition(" ")
-    return int(offset) if (run.returncode, text) == (7, "keystore2: store corrupted at") else f"status {run.returncode}: {run.stderr}"
+    text, _, offset = fault.partition("\n")[0].rpartition(" ")
+    return int(offset) if (run.returncode, text) == (7, "keystore2: store corrupted at") else f"status {run.returncode}: {fault}"
 
 
 # A client with a key; what tells that both are there.
@@ -152,7 +153,7 @@ def others(store):
 def restarts_otherwise(program, folder):
     """What a run over a store that is changed beside it answers otherwise than it must, or None."""
     path = pathlib.Path(folder) / "store.ks"
-    with subprocess.Popen([program, "run", "--fresh"], stdin=subprocess.PIPE, stdout=subprocess.PIPE, cwd=folder) as run:
+    with subprocess.Popen([program, "run", "--fresh"], stdin=subprocess.PIPE, stdout=subprocess.PIPE, stderr=subprocess.DEVNULL, cwd=folder) as run:
 
         def reply(line):
             run.stdin.write(json.dumps({"t": [0, 1000], **line}).encode() + b"\n")

@@ -11,23 +11,24 @@ import subprocess
 import sys
 import tempfile
 
-from harness import TOP, add_program, check, parser_of
+from harness import TOP, add_program, check, parser_of, without_notices
 
 CONNECT, IMPORT, BEGIN, FINISH = (TOP / "examples/hmac.jsonl").read_bytes().splitlines(keepends=True)
 REPLIES = (TOP / "examples/hmac.expected").read_bytes().splitlines(keepends=True)
-DISK_FAULT = b"keystore2: disk fault\n"
+DISK_FAULT = b"keystore2: disk fault\nkeystore2: store.ks: it is in use by another process\n"
+NO_STORE = b"keystore2: store corrupted at 0\nkeystore2: store.ks: it is not in this folder; 'keystore2 init' makes an empty one\n"
 
 
 def ended(program, words, script, folder):
     """How a run over a script ended: its status, and what it wrote."""
     done = subprocess.run([program, *words], input=script, cwd=folder, capture_output=True, check=False)
-    return done.returncode, done.stdout, done.stderr
+    return done.returncode, done.stdout, without_notices(done.stderr)
 
 
 def check_second(program, folder):
     """While one run waits for its next line, no other touches its store."""
     words = [program, "run", "--fresh"]
-    with subprocess.Popen(words, stdin=subprocess.PIPE, stdout=subprocess.PIPE, cwd=folder) as first:
+    with subprocess.Popen(words, stdin=subprocess.PIPE, stdout=subprocess.PIPE, stderr=subprocess.DEVNULL, cwd=folder) as first:
         for line, reply in zip([CONNECT, IMPORT], REPLIES):
             first.stdin.write(line)
             first.stdin.flush()
@@ -46,7 +47,8 @@ def main():
     program = parser.parse_args().program
     with tempfile.TemporaryDirectory() as name:
         folder = pathlib.Path(name)
-        check("a run without a store", ended(program, ["run"], CONNECT, folder), (7, b"", b"keystore2: store corrupted at 0\n"))
+        check("a run without a store", ended(program, ["run"], CONNECT, folder), (7, b"", NO_STORE))
+        check("what a run without a store leaves", list(folder.iterdir()), [])
         check("init", ended(program, ["init"], b"", folder), (0, b"", b""))
         check("the empty store", (folder / "store.ks").read_bytes(), b"KSJRNL01\0")
         check_second(program, folder)

@@ -1,41 +1,105 @@
-//! The edge: the two files of the current folder, or the demo values where they are not there.
+//! The edge: the two files of the current folder. What a real file holds no clause says.
 
+use crate::policy::{PolicyFault, policy_fault};
 use crate::{FileFault, device_in, policy_in};
-use std::io::{Error, ErrorKind};
+use std::fmt::{Display, Formatter};
+use std::io::{Error, ErrorKind, Read};
 use std::rt::Files;
-use std::{fs, io};
+use std::{fmt, fs, io};
 use tags::{DeviceSecrets, Policy};
 
-/// Why a file that is there was not read: a folder is no such file either.
-fn fault_of(error: Error) -> FileFault {
-    if error.kind() == ErrorKind::OutOfMemory {
-        FileFault::Memory
-    } else {
-        FileFault::Malformed
+/// The most bytes of a device file.
+const DEVICE_BYTES: u64 = 96;
+
+/// The most bytes of a policy file: 256 rows take some eleven thousand, and the rest is for blanks.
+const POLICY_BYTES: u64 = 1 << 20;
+
+/// Why a file that is there was not taken.
+#[derive(Debug, Drop)]
+pub enum FileTrouble {
+    /// it was not read, for this
+    Unread(Error),
+    /// it has more bytes than the file can have
+    TooLong { most: u64 },
+    /// a device file has so many bytes, and not as many as it must
+    Short { bytes: u64, wanted: u64 },
+    /// this is wrong in a policy
+    Policy(PolicyFault),
+    /// want of memory, and nothing else
+    Memory,
+}
+
+impl From<Error> for FileTrouble {
+    fn from(error: Error) -> FileTrouble {
+        if error.kind() == ErrorKind::OutOfMemory {
+            FileTrouble::Memory
+        } else {
+            FileTrouble::Unread(error)
+        }
     }
 }
 
-/// The bytes of a file; `None` where it is not there.
-fn bytes_of<R: Files + AllocGlobal>(rt: &R, path: &str) -> Result<Option<Vec<u8>>, FileFault> {
-    match fs::read(rt, path) {
-        Ok(bytes) => Ok(Some(bytes)),
-        Err(error) if error.kind() == ErrorKind::NotFound => Ok(None),
-        Err(error) => Err(fault_of(error)),
+impl Display for FileTrouble {
+    fn fmt<W: fmt::Write>(&self, f: &mut Formatter<W>) -> fmt::Result {
+        match self {
+            FileTrouble::Unread(error) => Display::fmt(error, f),
+            FileTrouble::TooLong { most } => write!(f, "it has more than {most} bytes"),
+            FileTrouble::Short { bytes, wanted } => {
+                write!(f, "it has {bytes} bytes, and must have {wanted}")
+            }
+            FileTrouble::Policy(fault) => Display::fmt(fault, f),
+            FileTrouble::Memory => f.write_str("want of memory"),
+        }
     }
 }
 
-/// The device of a file, and the demo device where the file is not there.
-pub fn read_device<R: Files + AllocGlobal>(rt: &R, path: &str) -> Result<DeviceSecrets, FileFault> {
-    match bytes_of(rt, path)? {
-        Some(bytes) => device_in(&bytes).ok_or(FileFault::Malformed),
-        None => Ok(DeviceSecrets::demo()),
+/// The bytes of a file, of which it may have `most`; `None` where it is not there. No more than one byte beyond the most is read.
+fn bytes_of<R: Files + AllocGlobal>(
+    rt: &R,
+    path: &str,
+    most: u64,
+) -> Result<Option<Vec<u8>>, FileTrouble> {
+    let file = match fs::open(rt, path) {
+        Ok(file) => file,
+        Err(error) if error.kind() == ErrorKind::NotFound => return Ok(None),
+        Err(error) => return Err(FileTrouble::from(error)),
+    };
+    let mut bytes = Vec::new(rt.alloc());
+    let count = file.take(most.saturating_add(1)).read_to_end(&mut bytes)?;
+    if count as u64 > most {
+        return Err(FileTrouble::TooLong { most });
+    }
+    Ok(Some(bytes))
+}
+
+/// The device of a file; `None` where the file is not there.
+pub fn read_device<R: Files + AllocGlobal>(
+    rt: &R,
+    path: &str,
+) -> Result<Option<DeviceSecrets>, FileTrouble> {
+    let Some(bytes) = bytes_of(rt, path, DEVICE_BYTES)? else {
+        return Ok(None);
+    };
+    match device_in(&bytes) {
+        Some(device) => Ok(Some(device)),
+        None => Err(FileTrouble::Short {
+            bytes: bytes.len() as u64,
+            wanted: DEVICE_BYTES,
+        }),
     }
 }
 
-/// The policy of a file, and the demo policy where the file is not there.
-pub fn read_policy<R: Files + AllocGlobal>(rt: &R, path: &str) -> Result<Policy, FileFault> {
-    match bytes_of(rt, path)? {
-        Some(bytes) => policy_in(rt.alloc(), &bytes),
-        None => Ok(Policy::demo(rt.alloc())?),
+/// The policy of a file; `None` where the file is not there.
+pub fn read_policy<R: Files + AllocGlobal>(
+    rt: &R,
+    path: &str,
+) -> Result<Option<Policy>, FileTrouble> {
+    let Some(bytes) = bytes_of(rt, path, POLICY_BYTES)? else {
+        return Ok(None);
+    };
+    match policy_in(rt.alloc(), &bytes) {
+        Ok(policy) => Ok(Some(policy)),
+        Err(FileFault::Memory) => Err(FileTrouble::Memory),
+        Err(FileFault::Malformed) => Err(FileTrouble::Policy(policy_fault(rt.alloc(), &bytes))),
     }
 }

@@ -12,5 +12,5 @@ mod policy;
 
 pub use device::device_in;
 pub use fault::FileFault;
-pub use files::{read_device, read_policy};
-pub use policy::policy_in;
+pub use files::{FileTrouble, read_device, read_policy};
+pub use policy::{PolicyFault, policy_fault, policy_in};

@@ -8,7 +8,8 @@ ghost use Rattle.device_files.specs.Reads.{GivesView};
 use crate::FileFault;
 use serde_json::Value;
 use std::alloc::Global;
-use std::str;
+use std::fmt::{Display, Formatter};
+use std::{fmt, str};
 use tags::{Policy, PolicyRow};
 
 /// A whole number of at most 64 bits.
@@ -78,4 +79,52 @@ pub fn policy_in(alloc: Global, bytes: &[u8]) -> Result<Policy, FileFault>
     };
     let rows = rows_in(alloc, rows.as_slice())?;
     Policy::of(rows).ok_or(FileFault::Malformed)
+}
+
+/// What is wrong first in a text that spells no policy, for whoever is to mend it.
+#[derive(Clone, Copy, Debug, PartialEq, Eq)]
+pub enum PolicyFault {
+    /// it is no JSON text (RFC 8259) in UTF-8
+    NoJson,
+    /// it is no array
+    NoArray,
+    /// the row of this number, counted from 1, is no array of exactly a uid, a namespace and permission bits
+    Row { number: u64 },
+    /// it has more than 256 rows
+    TooManyRows,
+    /// want of memory, and nothing else
+    Memory,
+}
+
+impl Display for PolicyFault {
+    fn fmt<W: fmt::Write>(&self, f: &mut Formatter<W>) -> fmt::Result {
+        match self {
+            PolicyFault::NoJson => f.write_str("it is no JSON text"),
+            PolicyFault::NoArray => f.write_str("it is no array of rows"),
+            PolicyFault::Row { number } => write!(
+                f,
+                "row {number} is no array of exactly a uid, a namespace and permission bits, as [1000, 100, 509]"
+            ),
+            PolicyFault::TooManyRows => f.write_str("it has more than 256 rows"),
+            PolicyFault::Memory => f.write_str("want of memory"),
+        }
+    }
+}
+
+/// What is wrong first in these bytes, of which `policy_in` says that they are malformed.
+pub fn policy_fault(alloc: Global, bytes: &[u8]) -> PolicyFault {
+    let value = match parsed(alloc, bytes) {
+        Ok(value) => value,
+        Err(FileFault::Malformed) => return PolicyFault::NoJson,
+        Err(FileFault::Memory) => return PolicyFault::Memory,
+    };
+    let Some(rows) = value.as_array() else {
+        return PolicyFault::NoArray;
+    };
+    match rows.as_slice().iter().position(|row| row_of(row).is_none()) {
+        Some(place) => PolicyFault::Row {
+            number: place as u64 + 1,
+        },
+        None => PolicyFault::TooManyRows,
+    }
 }

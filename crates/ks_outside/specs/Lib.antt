@@ -6,7 +6,6 @@ pub mod Faults
 pub mod Images
 pub mod Listening
 pub mod Moments
-pub mod Places
 pub mod Plans
 pub mod Ranges
 pub mod Seeded

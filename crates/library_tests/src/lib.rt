@@ -15,6 +15,8 @@ mod broken;
 #[cfg(test)]
 mod descriptors;
 #[cfg(test)]
+mod files;
+#[cfg(test)]
 mod foreign_blobs;
 #[cfg(test)]
 mod hashes;

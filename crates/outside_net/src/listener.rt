@@ -5,6 +5,7 @@ ghost use Rattle.ks_outside.specs.Faults.{HasCause, count_after};
 ghost use Rattle.ks_outside.specs.Listening.{given_after, ended_after};
 
 use ks_outside::{Failed, FaultCount, Listener, StreamLink};
+use std::io::{Error, ErrorKind};
 use std::net::{Ipv4Addr, Net, TcpListener, TcpStream};
 
 /// Connections to a port of this machine. Each connection that cannot be taken is one fault, and so is each call where the port could not be
@@ -12,6 +13,7 @@ use std::net::{Ipv4Addr, Net, TcpListener, TcpStream};
 #[derive(Drop)]
 pub struct PortListener {
     listener: Option<TcpListener>,
+    trouble: Option<Error>,
     faults: FaultCount,
     given: u64,
     ended: u64,
@@ -24,8 +26,13 @@ pub fn listen<R: Net<Listener = TcpListener, Stream = TcpStream>>(rt: &R, port: 
     ensures given { result.given ≡ 0 }
     ensures ended { result.ended ≡ 0 }
 {
+    let (listener, trouble) = match TcpListener::bind(rt, (Ipv4Addr::LOCALHOST, port)) {
+        Ok(listener) => (Some(listener), None),
+        Err(error) => (None, Some(error)),
+    };
     PortListener {
-        listener: TcpListener::bind(rt, (Ipv4Addr::LOCALHOST, port)).ok(),
+        listener,
+        trouble,
         faults: FaultCount::new(),
         given: 0,
         ended: 0,
@@ -39,6 +46,11 @@ impl PortListener {
         Some(address.port())
     }
 
+    /// The system's word on the port that could not be had, or on the last connection that could not be taken.
+    pub fn trouble(&self) -> Option<&Error> {
+        self.trouble.as_ref()
+    }
+
     /// How many calls of `next` failed.
     pub fn faults(&self) -> u64
         ensures { result ≡ self.now.faults.count }
@@ -47,16 +59,12 @@ impl PortListener {
     }
 
     /// The next connection, which sends each piece at once.
-    fn accept(&self) -> Result<StreamLink<TcpStream>, Failed> {
+    fn accept(&self) -> Result<StreamLink<TcpStream>, Error> {
         let Some(listener) = &self.listener else {
-            return Err(Failed);
+            return Err(Error::from(ErrorKind::NotConnected));
         };
-        let Ok((stream, _)) = listener.accept() else {
-            return Err(Failed);
-        };
-        let Ok(()) = stream.set_nodelay(true) else {
-            return Err(Failed);
-        };
+        let (stream, _) = listener.accept()?;
+        stream.set_nodelay(true)?;
         Ok(StreamLink::new(stream))
     }
 }
@@ -82,7 +90,8 @@ impl Listener for PortListener {
                 self.given = self.given.saturating_add(1);
                 Ok(Some(link))
             }
-            Err(Failed) => {
+            Err(error) => {
+                self.trouble = Some(error);
                 self.faults.rise();
                 Err(Failed)
             }
