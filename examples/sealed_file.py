@@ -12,10 +12,10 @@ import pathlib
 import sys
 
 sys.path.insert(0, str(pathlib.Path(__file__).resolve().parent.parent / "tools"))
-from keystore_client import KINDS, NONCE, PIECE, PORT, TAG, Client, Key, ServiceError, parameters, seal, unseal
+from keystore_client import FRONT, KINDS, NONCE, PIECE, PORT, TAG, Client, Key, ServiceError, parameters, seal, unseal
 
 LENGTH = 1_500_000
-FIRST_PIECE = 4 + NONCE + PIECE + TAG
+FIRST_PIECE = len(FRONT) + 4 + NONCE + PIECE + TAG
 APP = 10001
 
 

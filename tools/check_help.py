@@ -8,7 +8,7 @@ It says nothing where all is well, and ends with status 1 at the first differenc
 import shlex
 import subprocess
 
-from harness import COMMAND, TOP, add_program, check, parser_of
+from harness import COMMAND, TOP, add_program, check, parser_of, without_notices
 from scratch import scratch_folder
 
 WORDS = ["init", "run", "soak", "serve"]
@@ -18,9 +18,10 @@ SUMMARY_OF_7 = (
     "code 0 count 541\n"
     "sha256 d502d8cafd43b8c8f032620c78e28bd5aa96b2d2f19097d0bc92d6160f212f9d\n"
 )
+HELPS = [["--help"], ["-h"], ["help"], ["run", "--help"], ["run", "--fresh", "--help"], ["serve", "1", "--help"], ["init", "--help"]]
 NO_FORMS = [
     [], ["soak"], ["soak", "7"], ["soak", "7", "0"], ["soak", "7", "100001"], ["soak", "+7", "1"], ["soak", "7", "1", "1"],
-    ["soak", "18446744073709551616", "1"], ["soak", "000000000000000000007", "1"], ["soak", "", "1"], ["help"], ["--help", "init"],
+    ["soak", "18446744073709551616", "1"], ["soak", "000000000000000000007", "1"], ["soak", "", "1"], ["--help", "init"],
     ["serve"], ["serve", "1", "1"], ["serve", "65536", "1", "1"], ["serve", "1", "0", "1"], ["serve", "1", "65537", "1"], ["serve", "1", "1", "0"],
     ["serve", "1", "1", "65"], ["serve", "1", "1", "1", "1"], ["serve", "-1", "1", "1"],
 ]
@@ -30,7 +31,7 @@ def ended_run(program, words, folder, script=None):
     """What the program writes, its status, and what it tells on standard error."""
     with open(script or "/dev/null", "rb") as source:
         ended = subprocess.run([program, *words], stdin=source, cwd=folder, capture_output=True, text=True, check=False)
-    return ended.stdout, ended.returncode, ended.stderr
+    return ended.stdout, ended.returncode, without_notices(ended.stderr)
 
 
 def examples_in(text):
@@ -60,8 +61,13 @@ def check_all(program):
             run_example(program, words, folder)
         output, status, fault = ended_run(program, ["--version"], folder)
         check("--version", (output.split()[0], status, fault), ("keystore2", 0, ""))
+        check("-V", ended_run(program, ["-V"], folder), (output, 0, ""))
+        for words in HELPS:
+            check(" ".join(words), ended_run(program, words, folder), (text, 0, ""))
         for words in NO_FORMS:
-            check(" ".join(words), ended_run(program, words, folder), ("", 2, "keystore2: usage\n" + text))
+            said, status, fault = ended_run(program, words, folder)
+            usage, misuse, rest = fault.split("\n", 2)
+            check(" ".join(words), (said, status, usage, misuse[:11], rest), ("", 2, "keystore2: usage", "keystore2: ", text))
         for _ in range(2):
             check("soak 7 1000", ended_run(program, ["soak", "7", "1000"], folder), (SUMMARY_OF_7, 0, ""))
         leading = ended_run(program, ["soak", "00000000000000000007", "0001000"], folder)

@@ -71,7 +71,24 @@ def read_page(turns):
     check("the step behind it", refusal(client.update, 1, b""), (-28, "S1"))
     check("the listing", client.listEntriesBatched().entries, [(b"m", 1)])
     check("the end of the key", client.deleteKey(key).fields, {})
+    read_sealing(client)
     check("what is left of the page", page.turns, [])
+
+
+def read_sealing(client):
+    """What the page says of GCM: test case 2 of its specification."""
+    key, sealed = Key(alias="g"), bytes.fromhex("0388dace60b6a392f328c2b971b2fe78ab6e47d42cec13bdf53a67b21257bddf")
+    common = {"BLOCK_MODE": [32], "PADDING": [1]}
+    params = parameters(PURPOSE=[0, 1], ALGORITHM=32, CALLER_NONCE=True, MIN_MAC_LENGTH=128, NO_AUTH_REQUIRED=True, **common)
+    seal, opening = (parameters(PURPOSE=[it], NONCE=bytes(12), MAC_LENGTH=128, **common) for it in (0, 1))
+    check("the AES key", client.importKey(key, params, bytes(16)).fields, {"key": 2})
+    check("the sealing", client.createOperation(key, seal).fields, {"op": 2})
+    check("the sealed text", (client.update(2, bytes(16)).out, client.finish(2).out), (sealed[:16], sealed[16:]))
+    check("the opening", client.createOperation(key, opening).fields, {"op": 3})
+    check("the opened text", (client.update(3, sealed).out, client.finish(3).out), (bytes(16), b""))
+    check("the second opening", client.createOperation(key, opening).fields, {"op": 4})
+    check("a changed tag", refusal(client.finish, 4, sealed[:-1] + b"\xde"), (-30, None))
+    check("the end of the AES key", client.deleteKey(key).fields, {})
 
 
 def received(stream, count):

@@ -18,19 +18,21 @@ import hashlib
 import hmac
 import json
 import pathlib
+import re
 import socket
 import subprocess
 import sys
 import time
 
 from check_protocol import PAGE, play, session_in
-from harness import TOP, add_program, check, parser_of
-from keystore_client import KINDS, Client, Key, counted, optional, parameters, u32, u64
+from harness import TOP, add_program, check, parser_of, without_notices
+from keystore_client import FRONT, KINDS, MOST_OPERATION, NONCE, TAG, Client, Key, counted, optional, parameters, u32, u64
+from make_token import DEMO_KEY, mac_of
 from scratch import scratch_folder
 
 EXAMPLE = TOP / "examples/sealed_file.py"
 COMMANDS = TOP / "tools/keystore_client.py"
-SAYS = b"sealed 1500000 bytes as 1500064\nopened as they were\na changed byte is told\npieces of two files are told\n"
+SAYS = b"sealed 1500000 bytes as 1500068\nopened as they were\na changed byte is told\npieces of two files are told\n"
 # No step takes as long, in seconds.
 PATIENCE = 120
 PAUSE = 0.005
@@ -54,22 +56,57 @@ JUNK = bytes(200_000)
 BAD_FRAMES = [bytes(4), u32(262145), counted(b"\x02"), counted(b"\x0e" + u32(0)), CONNECT]
 BAD_SESSIONS = [(CONNECT + bad + JUNK, CLIENT) for bad in BAD_FRAMES] + [(SESSION[1][0] + JUNK, b"")]
 
-# Words of the client behind a store in which one key was made and has ended, what they write, and their status. The mac is that of
+# Words of the client behind a store in which two keys were made and have ended, what they write, and their status. The mac is that of
 # "Hi There" under twenty bytes 0b.
 MAC = "b0344c61d8db38535ca8afceaf0bf12b881dc200c9833da726e9376c2e32cff7"
+KEY_IS_THERE = "m is there, key 3: with --replace it ends, and all that is sealed under it with it"
+NOT_FOUND = '{"code": 7, "rule": "B4", "name": "KEY_NOT_FOUND"}\n'
+# What the client refuses before it calls.
+UNCALLED = {
+    "this is no sealed file", "a sealed file that is cut or changed", "letter has no line of a token",
+    "[Errno 2] No such file or directory: 'no-such-file'", "too-long has 1048577 bytes, and an operation takes 1048576: the key was not used",
+}
+ENTRY = (
+    "key 3\ndomain 0\nnspace 10001\nalias m\nlist PURPOSE 2, PURPOSE 3, ALGORITHM 128, KEY_SIZE 160, DIGEST 4, MIN_MAC_LENGTH 64, "
+    "NO_AUTH_REQUIRED, CREATION_DATETIME ?, ORIGIN 2\n"
+)
 TURNS = [
-    (["import", "m", "--kind", "hmac", "--material", "0b" * 20], "key 2\n", 0),
+    (["import", "m", "--kind", "hmac", "--material", "0b" * 20], "key 3\n", 0),
     (["mac", "m", "letter"], f"{MAC}\n", 0),
     (["mac", "m", "letter", "--verify", MAC, "--json"], '{"verified": true}\n', 0),
-    (["mac", "m", "letter", "--verify", MAC[::-1], "--json"], '{"code": -30, "rule": null, "name": "VERIFICATION_FAILED"}\n', 1),
+    (["mac", "m", "letter", "--verify", MAC[::-1], "--json"], '{"code": -30, "rule": null, "name": "VERIFICATION_FAILED"}\n', 4),
+    (["import", "m", "--kind", "hmac", "--material", "0b" * 20], "", 1, KEY_IS_THERE),
+    (["generate", "m", "--kind", "aes"], "", 1, KEY_IS_THERE),
     (["grant", "m", "10002", "--json"], '{"grant": 1}\n', 0),
-    (["mac", "-", "letter", "--granted", "1", "--uid", "10002", "--json"], f'{{"mac": "{MAC}"}}\n', 0),
-    (["generate", "letters", "--kind", "aes", "--uses", "2", "--json"], '{"key": 3}\n', 0),
-    (["seal", "letters", "letter", "sealed"], "sealed 40\n", 0),
+    (["--uid", "10002", "--json", "mac", "-", "letter", "--granted", "1"], f'{{"mac": "{MAC}"}}\n', 0),
+    (["--uid", "10002", "entry", "m", "--granted", "1"], "", 1, "PERMISSION_DENIED (6) by rule A6: the caller may not do this"),
+    (["ungrant", "m", "10002", "--json"], "{}\n", 0),
+    (["ungrant", "m", "10002", "--json"], '{"code": 7, "rule": "A9", "name": "KEY_NOT_FOUND"}\n', 1),
+    (["generate", "letters", "--kind", "aes", "--uses", "2", "--json"], '{"key": 4}\n', 0),
+    (["seal", "letters", "two-pieces", "sealed"], "sealed 1048644\n", 0),
+    (["open", "letters", "sealed", "-"], "", 1, "KEY_NOT_FOUND (7) by rule B4: no such key, or no such grant"),
+    (["generate", "letters", "--kind", "aes", "--uses", "2", "--replace", "--json"], '{"key": 5}\n', 0),
+    (["seal", "letters", "letter", "sealed"], "sealed 44\n", 0),
+    (["seal", "letters", "two-pieces", "sealed"], "", 1, "2 uses are wanted, one for each piece, and the key has 1 left: none was used"),
+    (["open", "letters", "letter", "opened"], "", 4, "this is no sealed file"),
+    (["open", "letters", "cut", "opened"], "", 4, "a sealed file that is cut or changed"),
     (["open", "letters", "sealed", "-"], "Hi There", 0),
-    (["list", "--json"], '{"entries": [["m", 2]]}\n', 0),
+    (["list", "--json"], '{"entries": [["m", 3]]}\n', 0),
+    (["count"], "count 1\n", 0),
+    (["entry", "m"], ENTRY, 0),
+    (["unlock", "0", "--json"], "{}\n", 0),
+    (["lock", "0", "--uid", "10001"], "", 1, "PERMISSION_DENIED (6) by rule A3: the caller may not do this"),
+    (["lock", "0", "--json"], "{}\n", 0),
+    (["token", "token", "--json"], "{}\n", 0),
+    (["token", "letter"], "", 2, "letter has no line of a token"),
+    (["mac", "m", "no-such-file"], "", 2, "[Errno 2] No such file or directory: 'no-such-file'"),
+    (["mac", "m", "too-long"], "", 1, "too-long has 1048577 bytes, and an operation takes 1048576: the key was not used"),
     (["delete", "m", "--json"], "{}\n", 0),
-    (["mac", "m", "letter", "--json"], '{"code": 7, "rule": "B4", "name": "KEY_NOT_FOUND"}\n', 1),
+    (["entry", "m", "--json"], '{"code": 7, "rule": "A5", "name": "KEY_NOT_FOUND"}\n', 1),
+    (["mac", "m", "letter", "--json"], NOT_FOUND, 1),
+    (["import", "m", "--kind", "hmac", "--material-file", "material"], "key 6\n", 0),
+    (["mac", "m", "letter"], f"{MAC}\n", 0),
+    (["delete", "m"], "", 0),
 ]
 
 
@@ -81,7 +118,7 @@ def free_port():
 def ended(program, words, folder, script=b""):
     """How the program ended: its status, what it wrote, and the first line of its fault."""
     done = subprocess.run([program, *words], cwd=folder, input=script, capture_output=True, timeout=PATIENCE, check=False)
-    return done.returncode, done.stdout, done.stderr.splitlines()[:1]
+    return done.returncode, done.stdout, without_notices(done.stderr).splitlines()[:1]
 
 
 def once_it_listens(call, *words):
@@ -144,14 +181,30 @@ def make_calls(port, number, calls):
     return wrong
 
 
+def files_of_turns():
+    """The files that the client's commands read."""
+    yield "letter", b"Hi There"
+    yield "two-pieces", bytes(MOST_OPERATION)
+    yield "too-long", bytes(MOST_OPERATION + 1)
+    yield "cut", FRONT + u32(TAG + 8) + bytes(NONCE + TAG)
+    yield "material", b"\x0b" * 20
+    token = {"challenge": 0, "user": 7, "authenticator": 0, "kind": 1, "time": 5000}
+    yield "token", json.dumps({**token, "mac": mac_of(DEMO_KEY, token).hex()}).encode()
+
+
 def check_commands(port, folder):
     """The client's command line."""
-    (pathlib.Path(folder) / "letter").write_bytes(b"Hi There")
-    for words, wrote, status in TURNS:
+    for name, data in files_of_turns():
+        (pathlib.Path(folder) / name).write_bytes(data)
+    for words, wrote, status, *fault in TURNS:
         done = subprocess.run(
             [sys.executable, COMMANDS, *words, "--port", str(port)], cwd=folder, capture_output=True, text=True, timeout=PATIENCE, check=False
         )
-        check(" ".join(words), (done.stdout, done.returncode), (wrote, status))
+        said = re.sub("CREATION_DATETIME [0-9]+", "CREATION_DATETIME ?", done.stdout)
+        check(" ".join(words), (said, done.returncode), (wrote, status))
+        if fault:
+            check(" ".join(words), done.stderr, f"keystore_client: {fault[0]}\n")
+    check("the files of the turns", sorted(it.name for it in pathlib.Path(folder).iterdir() if it.name.startswith((".", "opened"))), [])
 
 
 def check_crowd(port, calls):
@@ -235,8 +288,8 @@ def check_run(program, folder, connections, workers, clients, calls):
     service = subprocess.Popen(words, cwd=folder, stdout=subprocess.PIPE, stderr=subprocess.PIPE)
     try:
         clients(program, port, folder, calls)
-        wrote = service.communicate(timeout=PATIENCE)
-        check("the service", (service.returncode, *wrote), (0, b"", b""))
+        said, fault = service.communicate(timeout=PATIENCE)
+        check("the service", (service.returncode, said, without_notices(fault)), (0, b"", b""))
     finally:
         service.kill()
         service.wait()
@@ -262,7 +315,7 @@ def main():
     words = ask.parse_args()
     program = words.program
     session = sum(len(request) for request, _ in SESSION)
-    connections = 1 + len(TURNS) + len(BAD_SESSIONS) + session + 1 + session - 1 + CLIENTS + 2
+    connections = 1 + sum(UNCALLED.isdisjoint(turn[3:]) for turn in TURNS) + len(BAD_SESSIONS) + session + 1 + session - 1 + CLIENTS + 2
     with scratch_folder() as folder:
         for form in NO_FORMS:
             check(" ".join(form), ended(program, form, folder), (2, b"", [b"keystore2: usage"]))

@@ -10,44 +10,111 @@ line over it. It needs no package. docs/PROTOCOL.md tells the protocol.
         op = client.createOperation(key, parameters(PURPOSE=[2], MAC_LENGTH=256)).op
         mac = client.finish(op, b"a text").out
 
-A refused call raises `ServiceError`, which has the code, the rule that was broken (None where it was none) and AOSP's name of the
-code. Where the service ends the connection, `ConnectionEnded` is raised. The command line:
+A refused call raises `ServiceError`, which has the code, the rule that was broken (None where it was none), AOSP's name of the code and
+what it means. Where the service ends the connection, or another program answers, `ConnectionEnded` is raised. The command line:
 
     python3 tools/keystore_client.py connect --uid 10001
     python3 tools/keystore_client.py generate files --kind aes
-    python3 tools/keystore_client.py import m --kind hmac --material 0b0b0b0b0b0b0b0b0b0b0b0b0b0b0b0b0b0b0b0b
+    python3 tools/keystore_client.py import m --kind hmac --material-file secret.bin
+    python3 tools/keystore_client.py entry m
     python3 tools/keystore_client.py mac m letter.txt
     python3 tools/keystore_client.py seal files letter.txt letter.sealed
     python3 tools/keystore_client.py open files letter.sealed letter.txt
     python3 tools/keystore_client.py list
+    python3 tools/keystore_client.py count
     python3 tools/keystore_client.py grant m 10002
+    python3 tools/keystore_client.py ungrant m 10002
     python3 tools/keystore_client.py delete m --json
-"""
-import argparse
-import json
-import socket
-import sys
+    python3 tools/keystore_client.py unlock 0
+    python3 tools/make_token.py 7 --time 5000 | python3 tools/keystore_client.py token -
 
-from script_events import BOOL, BYTES, DATE, REPEATING, TAGS, ULONG, ULONG_REP
+A file goes through in pieces, whatever its size, in less than 20 MB of memory, or 24 under a key with a use limit, whose output comes
+at the end of each piece. Standard input is read before the service is called. What comes of it is written
+beside its place and takes it once it is whole and right. A name that is there is not made anew but with --replace, which ends the key
+that has it; and a key with a use limit is not used where it has fewer uses left than the file has pieces. Options may stand before or behind
+the command. The exit status is 0 where all was done, 1 where the call or the client refused, 2 for wrong words and files that are not to
+be had, 3 where no service answers, 4 where a mac is wrong or a file is not as it was sealed."""
+import argparse
+import contextlib
+import io
+import json
+import os
+import signal
+import socket
+import stat
+import sys
+import tempfile
+import time
 
 PORT = 7878
 MOST_INPUT = 32768
 
-# The codes that Keystore2 and KeyMint name; those from 1001 on are the service's own.
-NAMES = {
-    -2: "UNSUPPORTED_PURPOSE", -3: "INCOMPATIBLE_PURPOSE", -4: "UNSUPPORTED_ALGORITHM", -6: "UNSUPPORTED_KEY_SIZE",
-    -7: "UNSUPPORTED_BLOCK_MODE", -8: "INCOMPATIBLE_BLOCK_MODE", -9: "UNSUPPORTED_MAC_LENGTH",
-    -10: "UNSUPPORTED_PADDING_MODE", -11: "INCOMPATIBLE_PADDING_MODE", -12: "UNSUPPORTED_DIGEST",
-    -13: "INCOMPATIBLE_DIGEST", -15: "INVALID_USER_ID", -17: "UNSUPPORTED_KEY_FORMAT", -21: "INVALID_INPUT_LENGTH",
-    -24: "KEY_NOT_YET_VALID", -25: "KEY_EXPIRED", -26: "KEY_USER_NOT_AUTHENTICATED", -28: "INVALID_OPERATION_HANDLE",
-    -30: "VERIFICATION_FAILED", -33: "INVALID_KEY_BLOB", -38: "INVALID_ARGUMENT", -39: "UNSUPPORTED_TAG",
-    -40: "INVALID_TAG", -41: "MEMORY_ALLOCATION_FAILED", -44: "IMPORT_PARAMETER_MISMATCH", -51: "MISSING_NONCE",
-    -52: "INVALID_NONCE", -53: "MISSING_MAC_LENGTH", -55: "CALLER_NONCE_PROHIBITED", -56: "KEY_MAX_OPS_EXCEEDED",
-    -57: "INVALID_MAC_LENGTH", -58: "MISSING_MIN_MAC_LENGTH", -59: "UNSUPPORTED_MIN_MAC_LENGTH",
-    -62: "KEY_REQUIRES_UPGRADE", -72: "DEVICE_LOCKED", -73: "EARLY_BOOT_ENDED", 4: "SYSTEM_ERROR",
-    6: "PERMISSION_DENIED", 7: "KEY_NOT_FOUND", 8: "VALUE_CORRUPTED", 18: "BACKEND_BUSY", 19: "OPERATION_BUSY",
-    20: "INVALID_ARGUMENT", 21: "TOO_MUCH_DATA", 1001: "RUN_FULL", 1002: "STORE_FULL", 1003: "JOURNAL_FULL",
-    1004: "TOKENS_FULL", 1005: "ENTROPY_FAULT", 1006: "NO_TICKET",
+# The codes that Keystore2 and KeyMint name, with what they mean; those from 1001 on are the service's own.
+CODES = {
+    -2: ("UNSUPPORTED_PURPOSE", "a purpose is not one of the key's algorithm, or there is not exactly one"),
+    -3: ("INCOMPATIBLE_PURPOSE", "the key does not have the purpose"),
+    -4: ("UNSUPPORTED_ALGORITHM", "the key is neither for AES nor for HMAC"),
+    -6: ("UNSUPPORTED_KEY_SIZE", "the size is not one of the algorithm's"),
+    -7: ("UNSUPPORTED_BLOCK_MODE", "the mode is not known, or there is not exactly one"),
+    -8: ("INCOMPATIBLE_BLOCK_MODE", "the key does not have the mode"),
+    -9: ("UNSUPPORTED_MAC_LENGTH", "the mac or tag cannot have this length"),
+    -10: ("UNSUPPORTED_PADDING_MODE", "the padding is not known, or there is not exactly one"),
+    -11: ("INCOMPATIBLE_PADDING_MODE", "the key does not have the padding, or the mode takes none"),
+    -12: ("UNSUPPORTED_DIGEST", "the digest is not known, or a new key's list has not exactly one, or an operation's more than one"),
+    -13: ("INCOMPATIBLE_DIGEST", "the digest is not the key's"),
+    -15: ("INVALID_USER_ID", "the key is another user's"),
+    -17: ("UNSUPPORTED_KEY_FORMAT", "the format of an import is not RAW"),
+    -21: ("INVALID_INPUT_LENGTH", "a list or an id is too long; all input is too long, or the text's length does not suit the mode"),
+    -24: ("KEY_NOT_YET_VALID", "the key is not active yet"),
+    -25: ("KEY_EXPIRED", "the key has expired for this purpose"),
+    -26: ("KEY_USER_NOT_AUTHENTICATED", "no token lets the user in"),
+    -28: ("INVALID_OPERATION_HANDLE", "the operation is not open, or another client's"),
+    -30: ("VERIFICATION_FAILED", "a token's mac is wrong; at a finish, without a rule, the tag or the signature is wrong"),
+    -33: ("INVALID_KEY_BLOB", "the blob does not open, or not for this device and these ids; the operation's key has ended"),
+    -38: ("INVALID_ARGUMENT", "KeyMint's: a tag that does not repeat stands twice; tags that do not go together, or a limit of 0; at a finish, without a rule, the padding is none"),
+    -39: ("UNSUPPORTED_TAG", "a key of domain 3 has a count that only stored keys have"),
+    -40: ("INVALID_TAG", "the list does not read; additional data comes where none is taken"),
+    -41: ("MEMORY_ALLOCATION_FAILED", "memory was wanting; the call changed nothing"),
+    -44: ("IMPORT_PARAMETER_MISMATCH", "the material does not have the size that the list names"),
+    -51: ("MISSING_NONCE", "a decryption needs a nonce"),
+    -52: ("INVALID_NONCE", "the nonce does not have the mode's length"),
+    -53: ("MISSING_MAC_LENGTH", "a mac or tag needs a length"),
+    -55: ("CALLER_NONCE_PROHIBITED", "the key lets no caller choose the nonce"),
+    -56: ("KEY_MAX_OPS_EXCEEDED", "the key has no begins left until the next restart"),
+    -57: ("INVALID_MAC_LENGTH", "the mac or tag is shorter than the key allows"),
+    -58: ("MISSING_MIN_MAC_LENGTH", "the key needs a least length of its macs or tags"),
+    -59: ("UNSUPPORTED_MIN_MAC_LENGTH", "that least length is none that the digest or GCM has"),
+    -62: ("KEY_REQUIRES_UPGRADE", "no call answers it here"),
+    -72: ("DEVICE_LOCKED", "the caller's user is locked"),
+    -73: ("EARLY_BOOT_ENDED", "early boot has ended"),
+    4: ("SYSTEM_ERROR", "a call of the disk failed; a later call tells what became of a change"),
+    6: ("PERMISSION_DENIED", "the caller may not do this"),
+    7: ("KEY_NOT_FOUND", "no such key, or no such grant"),
+    8: ("VALUE_CORRUPTED", "the bytes of the store are not those that are kept"),
+    18: ("BACKEND_BUSY", "no slot is free, and no operation gives way"),
+    19: ("OPERATION_BUSY", "a step of the operation is out"),
+    20: ("INVALID_ARGUMENT", "Keystore2's: not connected, or not the call's form; a script's line is no event"),
+    21: ("TOO_MUCH_DATA", "an input or a signature is too long"),
+    1001: ("RUN_FULL", "the service's run is full, and the call added nothing: it has to be started again"),
+    1002: ("STORE_FULL", "there is no place for one more key or grant, or no number for it"),
+    1003: ("JOURNAL_FULL", "the record does not fit into the journal; nothing is changed"),
+    1004: ("TOKENS_FULL", "there is no place for one more triple of user, authenticator and kind"),
+    1005: ("ENTROPY_FAULT", "a draw of random bytes failed; the call changed nothing"),
+    1006: ("NO_TICKET", "no step is out under the ticket"),
+}
+NAMES = {code: name for code, (name, _) in CODES.items()}
+
+# Tags: the type and the number of each.
+ENUM, ENUM_REP, UINT, UINT_REP, ULONG, DATE, BOOL, BIGNUM, BYTES, ULONG_REP = range(1, 11)
+REPEATING = {ENUM_REP, UINT_REP, ULONG_REP}
+TAGS = {
+    "PURPOSE": (ENUM_REP, 1), "ALGORITHM": (ENUM, 2), "KEY_SIZE": (UINT, 3), "BLOCK_MODE": (ENUM_REP, 4), "DIGEST": (ENUM_REP, 5),
+    "PADDING": (ENUM_REP, 6), "CALLER_NONCE": (BOOL, 7), "MIN_MAC_LENGTH": (UINT, 8), "EARLY_BOOT_ONLY": (BOOL, 305), "ACTIVE_DATETIME":
+    (DATE, 400), "ORIGINATION_EXPIRE_DATETIME": (DATE, 401), "USAGE_EXPIRE_DATETIME": (DATE, 402), "MAX_USES_PER_BOOT": (UINT, 404),
+    "USAGE_COUNT_LIMIT": (UINT, 405), "USER_ID": (UINT, 501), "USER_SECURE_ID": (ULONG_REP, 502), "NO_AUTH_REQUIRED": (BOOL, 503),
+    "USER_AUTH_TYPE": (ENUM, 504), "AUTH_TIMEOUT": (UINT, 505), "UNLOCKED_DEVICE_REQUIRED": (BOOL, 509), "APPLICATION_ID": (BYTES, 601),
+    "APPLICATION_DATA": (BYTES, 700), "CREATION_DATETIME": (DATE, 701), "ORIGIN": (ENUM, 702), "OS_VERSION": (UINT, 705),
+    "OS_PATCHLEVEL": (UINT, 706), "NONCE": (BYTES, 1001), "MAC_LENGTH": (UINT, 1003),
 }
 
 # The fields of a reply: name, and bytes of a number; None for counted bytes.
@@ -58,18 +125,33 @@ FIELDS = {
 }
 ENTRIES = 17
 MOST_BODY = 262144
+# The greatest body of a reply: all output of an operation under a use limit, at its finish (docs/PROTOCOL.md).
+MOST_REPLY = 1_048_603
+WRONG, RUN_FULL, DENIED, NOT_FOUND = -30, 1001, 6, 7
+FOREIGN = "what answers there is no such service"
 
 
 class ServiceError(Exception):
     """A call that was refused."""
 
     def __init__(self, code, rule=None):
-        self.code, self.rule, self.name = code, rule, NAMES.get(code, "UNKNOWN")
-        super().__init__(f"{self.name} ({code})" + (f" by rule {rule}" if rule else ""))
+        self.code, self.rule, (self.name, self.meaning) = code, rule, CODES.get(code, ("UNKNOWN", "no code of this client"))
+        super().__init__(f"{self.name} ({code})" + (f" by rule {rule}" if rule else "") + f": {self.meaning}")
 
 
 class ConnectionEnded(Exception):
-    """The service ended the connection."""
+    """The service ended the connection, or what answers is no such service."""
+
+    def __init__(self, text="the service ended the connection"):
+        super().__init__(text)
+
+
+class Refused(Exception):
+    """What the client does not ask for."""
+
+
+class Changed(Exception):
+    """A file that is not as it was sealed."""
 
 
 def u32(value):
@@ -172,13 +254,14 @@ def read_reply(body):
 
 def exactly(stream, count):
     """So many bytes of a stream; a ConnectionError where it ends before."""
-    parts = bytearray()
-    while len(parts) < count:
-        piece = stream.recv(count - len(parts))
+    data, place = bytearray(count), 0
+    while place < count:
+        piece = stream.recv(min(count - place, 1 << 16))
         if not piece:
             raise ConnectionResetError("the peer has gone")
-        parts += piece
-    return bytes(parts)
+        data[place:place + len(piece)] = piece
+        place += len(piece)
+    return bytes(data)
 
 
 class Client:
@@ -219,7 +302,10 @@ class Client:
             raise ConnectionEnded()
         try:
             self.stream.sendall(counted(body))
-            return exactly(self.stream, int.from_bytes(exactly(self.stream, 4), "big"))
+            size = int.from_bytes(exactly(self.stream, 4), "big")
+            if size > MOST_REPLY:
+                raise ConnectionEnded(FOREIGN)
+            return exactly(self.stream, size)
         except ConnectionError as error:
             self.close()
             raise ConnectionEnded() from error
@@ -232,7 +318,11 @@ class Client:
         body = bytes([act]) + b"".join(fields)
         if len(body) > MOST_BODY:
             raise ValueError(f"a request of more than {MOST_BODY} bytes")
-        return read_reply(self.exchange(body))
+        try:
+            return read_reply(self.exchange(body))
+        except ValueError as error:
+            self.close()
+            raise ConnectionEnded(FOREIGN) from error
 
     def connect_as(self, uid):
         return self.call(1, u32(uid))
@@ -307,21 +397,30 @@ class Client:
 
 # ---- a file under a key
 
-# A sealed file is a row of pieces. Each is four bytes of its length, twelve of its nonce, and the ciphertext with the tag of sixteen
-# bytes behind it. The additional data of a piece is its number, whether it is the last one, and, behind the first piece, the first
-# one's nonce, which no other file under the key has: so none can be moved, dropped, cut off or taken from another file unseen. A
-# piece has as many bytes as one operation may take, with its additional data and its tag.
+# A sealed file is four bytes that name its form, and a row of pieces. Each is four bytes of its length, twelve of its nonce, and the
+# ciphertext with the tag of sixteen bytes behind it. The additional data of a piece is its number, whether it is the last one, and, behind
+# the first piece, the first one's nonce, which no other file under the key has: so none can be moved, dropped, cut off or taken from another
+# file unseen. A piece has as many bytes as one operation may take, with its additional data and its tag.
+FRONT = b"KSF1"
 NONCE, TAG = 12, 16
-PIECE = 1048576 - 9 - NONCE - TAG
+MOST_OPERATION = 1048576
+PIECE = MOST_OPERATION - 9 - NONCE - TAG
 SEALING = {"BLOCK_MODE": [32], "PADDING": [1], "MAC_LENGTH": 8 * TAG}
 
 
-def worked(client, op, data):
-    """All output of an operation on a text."""
-    out = bytearray()
-    for place in range(0, len(data), MOST_INPUT):
-        out += client.update(op, data[place:place + MOST_INPUT]).out
-    return bytes(out + client.finish(op).out)
+def taken(source, count):
+    """So many bytes of a file, which is not to end before."""
+    data = source.read(count)
+    if len(data) != count:
+        raise Changed("the file ends within a piece, or while it is read")
+    return data
+
+
+def worked(client, op, source, size, sink):
+    """Puts all output of an operation on so many bytes of a file into another one."""
+    for place in range(0, size, MOST_INPUT):
+        sink.write(client.update(op, taken(source, min(MOST_INPUT, size - place))).out)
+    sink.write(client.finish(op).out)
 
 
 def place_of(first, number, last):
@@ -329,29 +428,77 @@ def place_of(first, number, last):
     return u64(number) + bytes([last]) + first
 
 
+def at_once(client):
+    """What makes each piece over one client, once."""
+    return lambda work, source, sink: work(client)
+
+
+def pieces_of(size):
+    """In how many pieces a text of so many bytes is sealed."""
+    return max(1, -(-size // PIECE))
+
+
+def seal_file(each, key, source, size, sink):
+    """Seals so many bytes of a file into another one; `each` makes the work on a piece, with a client."""
+    first = b""
+    sink.write(FRONT)
+
+    def work(client):
+        length = min(PIECE, size - number * PIECE)
+        begun = client.createOperation(key, parameters(PURPOSE=[0], **SEALING))
+        client.updateAad(begun.op, place_of(first, number, number + 1 == pieces_of(size)))
+        sink.write(u32(length + TAG) + begun.nonce)
+        worked(client, begun.op, source, length, sink)
+        return begun.nonce
+
+    for number in range(pieces_of(size)):
+        nonce = each(work, source, sink)
+        first = first or nonce
+
+
+def pieces_in(source, size):
+    """The sizes of a sealed file's pieces; it stands at their front then."""
+    if source.read(len(FRONT)) != FRONT:
+        raise Changed("this is no sealed file")
+    sizes, place = [], len(FRONT)
+    while place < size or not sizes:
+        source.seek(place)
+        sizes.append(int.from_bytes(taken(source, 4), "big"))
+        place += 4 + NONCE + sizes[-1]
+        if not TAG <= sizes[-1] <= PIECE + TAG or place > size:
+            raise Changed("a sealed file that is cut or changed")
+    source.seek(len(FRONT))
+    return sizes
+
+
+def open_file(each, key, source, sizes, sink):
+    """Opens a sealed file of such pieces into another one, which is right where no error comes."""
+    first = b""
+
+    def work(client):
+        nonce = taken(source, 4 + NONCE)[4:]
+        op = client.createOperation(key, parameters(PURPOSE=[1], NONCE=nonce, **SEALING)).op
+        client.updateAad(op, place_of(first, number, number + 1 == len(sizes)))
+        worked(client, op, source, sizes[number], sink)
+        return nonce
+
+    for number in range(len(sizes)):
+        nonce = each(work, source, sink)
+        first = first or nonce
+
+
 def seal(client, key, text):
     """A text as a sealed file."""
-    sealed, first = bytearray(), b""
-    for number, place in enumerate(range(0, max(len(text), 1), PIECE)):
-        begun = client.createOperation(key, parameters(PURPOSE=[0], **SEALING))
-        client.updateAad(begun.op, place_of(first, number, place + PIECE >= len(text)))
-        out = worked(client, begun.op, text[place:place + PIECE])
-        sealed += u32(len(out)) + begun.nonce + out
-        first = first or begun.nonce
-    return bytes(sealed)
+    sink = io.BytesIO()
+    seal_file(at_once(client), key, io.BytesIO(text), len(text), sink)
+    return sink.getvalue()
 
 
 def unseal(client, key, sealed):
-    """The text of a sealed file. A ServiceError -30 says that it is not what was sealed under this key."""
-    reader, text, number, first = Reader(sealed, "a sealed file"), bytearray(), 0, b""
-    while reader.place < len(sealed) or number == 0:
-        size, nonce = reader.number(4), reader.take(NONCE)
-        data = reader.take(size)
-        op = client.createOperation(key, parameters(PURPOSE=[1], NONCE=nonce, **SEALING)).op
-        client.updateAad(op, place_of(first, number, reader.place == len(sealed)))
-        text += worked(client, op, data)
-        number, first = number + 1, first or nonce
-    return bytes(text)
+    """The text of a sealed file. A ServiceError -30 says that it is not what was sealed under this key, and so does `Changed`."""
+    source, sink = io.BytesIO(sealed), io.BytesIO()
+    open_file(at_once(client), key, source, pieces_in(source, len(sealed)), sink)
+    return sink.getvalue()
 
 
 # ---- the command line
@@ -361,21 +508,106 @@ KINDS = {
     "hmac": {"ALGORITHM": 128, "PURPOSE": [2, 3], "DIGEST": [4], "MIN_MAC_LENGTH": 64, "NO_AUTH_REQUIRED": True},
 }
 USE = 256
+OWN, SYSTEM = 10001, 1000
+STATUS_REFUSED, STATUS_USAGE, STATUS_NO_SERVICE, STATUS_WRONG = 1, 2, 3, 4
+PAUSE = 0.2
 
 
-def read_file(name):
-    if name == "-":
-        return sys.stdin.buffer.read()
-    with open(name, "rb") as file:
-        return file.read()
+class Service:
+    """The connection of a command, which is made when it is first wanted."""
+
+    def __init__(self, words):
+        self.words, self.client = words, None
+
+    def connected(self):
+        if self.client is None:
+            words = self.words
+            uid = words.uid if words.uid is not None else SYSTEM if words.of_system else OWN
+            try:
+                self.client = Client.connect(uid, words.host, words.port, words.timeout)
+            except OSError as error:
+                raise ConnectionEnded(f"no service at {words.host} port {words.port}: {error}") from error
+        return self.client
+
+    def close(self):
+        if self.client is not None:
+            self.client.close()
+            self.client = None
+
+    def each(self, limited):
+        """What makes the work on a piece. Where the run is full, or the service gone, it waits for the next one for as long as the words
+        say, and makes the piece anew; under a key with a use limit, whose use may have counted, only where the run is full."""
+        def work_on(work, source, sink):
+            places, end = (source.tell(), sink.tell()), time.monotonic() + self.words.wait
+            while True:
+                try:
+                    return work(self.connected())
+                except (ServiceError, ConnectionEnded) as error:
+                    is_full = isinstance(error, ServiceError) and error.code == RUN_FULL
+                    may_go_on = is_full or not limited and isinstance(error, ConnectionEnded)
+                    if not may_go_on or time.monotonic() > end:
+                        raise
+                self.close()
+                time.sleep(PAUSE)
+                source.seek(places[0])
+                sink.seek(places[1])
+                sink.truncate()
+        return work_on
 
 
-def write_file(name, data):
-    if name == "-":
-        sys.stdout.buffer.write(data)
-    else:
-        with open(name, "wb") as file:
-            file.write(data)
+@contextlib.contextmanager
+def opened(name):
+    """A file and its size. What is no file of a disk, as standard input, is read to its end first, and kept in one."""
+    with sys.stdin.buffer if name == "-" else open(name, "rb") as file:
+        if stat.S_ISREG(os.fstat(file.fileno()).st_mode) and name != "-":
+            yield file, os.fstat(file.fileno()).st_size
+            return
+        with tempfile.TemporaryFile() as kept:
+            while piece := file.read(MOST_INPUT):
+                kept.write(piece)
+            size = kept.tell()
+            kept.seek(0)
+            yield kept, size
+
+
+def copied(source, sink):
+    source.seek(0)
+    while piece := source.read(MOST_INPUT):
+        sink.write(piece)
+    sink.flush()
+
+
+@contextlib.contextmanager
+def whole(name):
+    """A file that takes its place under a name when what is done with it is done, and else is gone."""
+    place = os.path.realpath(name)
+    if name == "-" or os.path.exists(place) and not os.path.isfile(place):
+        with tempfile.TemporaryFile() as file:
+            yield file
+            if name == "-":
+                copied(file, sys.stdout.buffer)
+            else:
+                with open(place, "wb") as sink:
+                    copied(file, sink)
+        return
+    file = tempfile.NamedTemporaryFile(dir=os.path.dirname(place), prefix=f".{os.path.basename(place)[:200]}.", delete=False)
+    try:
+        with file:
+            yield file
+            file.flush()
+            os.fchmod(file.fileno(), stat.S_IMODE(os.stat(place).st_mode) if os.path.exists(place) else 0o666 & ~current_mask())
+            os.fsync(file.fileno())
+        os.replace(file.name, place)
+    except BaseException:
+        with contextlib.suppress(FileNotFoundError):
+            os.unlink(file.name)
+        raise
+
+
+def current_mask():
+    mask = os.umask(0)
+    os.umask(mask)
+    return mask
 
 
 def named_key(words):
@@ -383,62 +615,156 @@ def named_key(words):
     return Key(domain=1, nspace=words.granted) if words.granted is not None else Key(alias=words.key)
 
 
-def do_connect(client, _):
-    return {"client": client.number}
+def entry_of(client, key):
+    """What the service tells of a key; None where there is none, or where the caller may not know."""
+    try:
+        return client.getKeyEntry(key)
+    except ServiceError as error:
+        if error.code in (NOT_FOUND, DENIED):
+            return None
+        raise
+
+
+def check_uses(client, key, wanted):
+    """Whether a key has a use limit; refused where it has fewer uses left than are wanted."""
+    entry = entry_of(client, key)
+    if entry is None or entry.uses is None:
+        return False
+    if entry.uses < wanted:
+        raise Refused(f"{wanted} uses are wanted, one for each piece, and the key has {entry.uses} left: none was used")
+    return True
+
+
+def do_connect(service, _):
+    return {"client": service.connected().number}
 
 
 def limits(words):
     return {} if words.uses is None else {"USAGE_COUNT_LIMIT": words.uses}
 
 
-def do_generate(client, words):
-    params = parameters(KEY_SIZE=words.bits, **KINDS[words.kind], **limits(words))
+def check_name(client, words):
+    """A name that is there is not made anew unasked."""
+    entry = None if words.replace else entry_of(client, Key(alias=words.key))
+    if entry is not None:
+        raise Refused(f"{words.key} is there, key {entry.key}: with --replace it ends, and all that is sealed under it with it")
+
+
+def do_generate(service, words):
+    params, client = parameters(KEY_SIZE=words.bits, **KINDS[words.kind], **limits(words)), service.connected()
+    check_name(client, words)
     return client.generateKey(Key(alias=words.key), params).fields
 
 
-def do_import(client, words):
-    params = parameters(**KINDS[words.kind], **limits(words))
-    return client.importKey(Key(alias=words.key), params, bytes.fromhex(words.material)).fields
+def material_of(words):
+    if words.material is not None:
+        return words.material
+    with opened(words.material_file) as (file, _):
+        return file.read(MOST_INPUT)
 
 
-def do_mac(client, words):
-    data, key = read_file(words.file), named_key(words)
-    if words.verify is None:
-        op = client.createOperation(key, parameters(PURPOSE=[2], DIGEST=[4], MAC_LENGTH=words.bits)).op
-        return {"mac": worked(client, op, data)}
-    op = client.createOperation(key, parameters(PURPOSE=[3], DIGEST=[4])).op
-    for place in range(0, len(data), MOST_INPUT):
-        client.update(op, data[place:place + MOST_INPUT])
-    client.finish(op, signature=bytes.fromhex(words.verify))
-    return {"verified": True}
+def do_import(service, words):
+    material, params = material_of(words), parameters(**KINDS[words.kind], **limits(words))
+    client = service.connected()
+    check_name(client, words)
+    return client.importKey(Key(alias=words.key), params, material).fields
 
 
-def do_seal(client, words):
-    sealed = seal(client, named_key(words), read_file(words.file))
-    write_file(words.out, sealed)
-    return None if words.out == "-" else {"sealed": len(sealed)}
+def do_mac(service, words):
+    key = named_key(words)
+    with opened(words.file) as (source, size):
+        if size > MOST_OPERATION:
+            raise Refused(f"{words.file} has {size} bytes, and an operation takes {MOST_OPERATION}: the key was not used")
+        client, out = service.connected(), io.BytesIO()
+        check_uses(client, key, 1)
+        if words.verify is None:
+            op = client.createOperation(key, parameters(PURPOSE=[2], DIGEST=[4], MAC_LENGTH=words.bits)).op
+            worked(client, op, source, size, out)
+            return {"mac": out.getvalue()}
+        op = client.createOperation(key, parameters(PURPOSE=[3], DIGEST=[4])).op
+        for place in range(0, size, MOST_INPUT):
+            client.update(op, taken(source, min(MOST_INPUT, size - place)))
+        client.finish(op, signature=words.verify)
+        return {"verified": True}
 
 
-def do_open(client, words):
-    text = unseal(client, named_key(words), read_file(words.file))
-    write_file(words.out, text)
-    return None if words.out == "-" else {"opened": len(text)}
+def do_seal(service, words):
+    key = named_key(words)
+    with opened(words.file) as (source, size), whole(words.out) as sink:
+        limited = check_uses(service.connected(), key, pieces_of(size))
+        seal_file(service.each(limited), key, source, size, sink)
+        return None if words.out == "-" else {"sealed": sink.tell()}
 
 
-def do_list(client, _):
-    entries, more = [], [None]
+def do_open(service, words):
+    key = named_key(words)
+    with opened(words.file) as (source, size), whole(words.out) as sink:
+        sizes = pieces_in(source, size)
+        limited = check_uses(service.connected(), key, len(sizes))
+        open_file(service.each(limited), key, source, sizes, sink)
+        return None if words.out == "-" else {"opened": sink.tell()}
+
+
+def do_list(service, _):
+    client, entries, more = service.connected(), [], [None]
     while more:
         more = client.listEntriesBatched(past=entries[-1][0] if entries else None).entries
         entries += more
     return {"entries": entries}
 
 
-def do_grant(client, words):
-    return client.grant(Key(alias=words.key), words.grantee, words.bits).fields
+def do_entry(service, words):
+    return service.connected().getKeyEntry(named_key(words)).fields
 
 
-def do_delete(client, words):
-    return client.deleteKey(Key(alias=words.key)).fields
+def do_count(service, _):
+    return service.connected().getNumberOfEntries().fields
+
+
+def do_grant(service, words):
+    return service.connected().grant(Key(alias=words.key), words.grantee, words.bits).fields
+
+
+def do_ungrant(service, words):
+    return service.connected().ungrant(Key(alias=words.key), words.grantee).fields
+
+
+def do_delete(service, words):
+    return service.connected().deleteKey(Key(alias=words.key)).fields
+
+
+def do_token(service, words):
+    """Brings the token of a line, as tools/make_token.py prints it."""
+    with opened(words.file) as (source, _):
+        try:
+            line = json.loads(source.read(MOST_INPUT))
+            token = [line[it] for it in ("challenge", "user", "authenticator", "kind", "time")] + [bytes.fromhex(line["mac"])]
+        except (ValueError, KeyError, TypeError):
+            raise ValueError(f"{words.file} has no line of a token") from None
+    return service.connected().addAuthToken(*token).fields
+
+
+def do_lock(service, words):
+    return service.connected().deviceLocked(words.user).fields
+
+
+def do_unlock(service, words):
+    return service.connected().deviceUnlocked(words.user).fields
+
+
+def tags_in(data):
+    """An encoded authorization list in words."""
+    reader, words, names = Reader(data, "a list"), [], {number: (name, kind) for name, (kind, number) in TAGS.items()}
+    for _ in range(reader.number(2)):
+        name, kind = names[reader.number(4) & 0x0FFFFFFF]
+        if kind == BYTES:
+            words.append(f"{name} {reader.take(reader.number(2)).hex()}")
+        elif kind == BOOL:
+            reader.take(1)
+            words.append(name)
+        else:
+            words.append(f"{name} {reader.number(8 if kind in (ULONG, ULONG_REP, DATE) else 4)}")
+    return ", ".join(words)
 
 
 def plain(value):
@@ -453,15 +779,17 @@ def plain(value):
 def show(result, as_json):
     if result is None:
         return
+    spelled = {"alias": lambda it: it.decode(errors="replace"), "list": plain if as_json else tags_in}
+    result = {name: spelled.get(name, plain)(value) for name, value in result.items()}
     if as_json:
-        print(json.dumps({name: plain(value) for name, value in result.items()}))
+        print(json.dumps(result))
         return
     for name, value in result.items():
         if name == "entries":
-            for alias, key in plain(value):
+            for alias, key in value:
                 print(f"{key}\t{alias}")
         else:
-            print(plain(value) if name == "mac" else f"{name} {plain(value)}")
+            print(value if name == "mac" else f"{name} {value}")
 
 
 def number(bits):
@@ -475,20 +803,44 @@ def number(bits):
     return read
 
 
+def hex_bytes(word):
+    return bytes.fromhex(word)
+
+
+def seconds(word):
+    value = float(word)
+    if not 0 <= value < 1e9:
+        raise ValueError
+    return value
+
+
+hex_bytes.__name__, seconds.__name__ = "hex text", "number of seconds"
+
+
+def options(parser, absent):
+    """The options that each command has; they may stand before it too."""
+    def add(name, default, **form):
+        parser.add_argument(name, default=default if absent is None else absent, **form)
+    add("--uid", None, type=number(32), help=f"the uid that calls ({OWN}; {SYSTEM}, the system, for token, lock and unlock)")
+    add("--host", "127.0.0.1", help="the service's machine (this one)")
+    add("--port", PORT, type=number(16), help=f"the service's port ({PORT})")
+    add("--timeout", 60.0, type=seconds, metavar="SECONDS", help="how long a call may take (60)")
+    add("--wait", 0.0, type=seconds, metavar="SECONDS", help="how long a piece waits for the next run of a service that is full or gone (0)")
+    add("--json", False, action="store_true", help="write one JSON object")
+
+
 def words_of(words):
     common = argparse.ArgumentParser(add_help=False)
-    common.add_argument("--uid", type=number(32), default=10001, help="the uid that calls (10001)")
-    common.add_argument("--host", default="127.0.0.1")
-    common.add_argument("--port", type=number(16), default=PORT, help=f"the service's port ({PORT})")
-    common.add_argument("--json", action="store_true", help="write one JSON object")
+    options(common, argparse.SUPPRESS)
     parser = argparse.ArgumentParser(description=__doc__.split("\n\n", maxsplit=1)[0])
+    options(parser, None)
     commands = parser.add_subparsers(dest="command", required=True, metavar="COMMAND")
 
-    def command(name, does, text, *places):
-        one = commands.add_parser(name, help=text, parents=[common])
+    def command(name, does, text, *places, of_system=False):
+        one = commands.add_parser(name, help=text, description=text, parents=[common])
         for place in places:
             one.add_argument(place)
-        one.set_defaults(does=does)
+        one.set_defaults(does=does, of_system=of_system)
         return one
 
     command("connect", do_connect, "connect, and tell the client's number")
@@ -497,40 +849,77 @@ def words_of(words):
         command("import", do_import, "bring a key's bytes", "key"),
     ]
     made[0].add_argument("--bits", type=number(32), default=256, help="the key's size (256)")
-    made[1].add_argument("--material", required=True, metavar="HEX", help="the key's bytes")
+    material = made[1].add_mutually_exclusive_group(required=True)
+    material.add_argument("--material", type=hex_bytes, metavar="HEX", help="the key's bytes, for all to see who may list processes")
+    material.add_argument("--material-file", metavar="FILE", help="a file of the key's bytes (- for standard input)")
     for one in made:
         one.add_argument("--kind", choices=sorted(KINDS), default="aes")
         one.add_argument("--uses", type=number(32), metavar="N", help="the key works N times")
+        one.add_argument("--replace", action="store_true", help="a key that has the name ends")
     used = [
         command("mac", do_mac, "HMAC-SHA256 of a file (- for standard input)", "key", "file"),
-        command("seal", do_seal, "seal a file with AES-GCM", "key", "file", "out"),
+        command("seal", do_seal, "seal a file with AES-GCM (- for standard input, or output)", "key", "file", "out"),
         command("open", do_open, "open a sealed file", "key", "file", "out"),
+        command("entry", do_entry, "what is known of a key", "key"),
     ]
     used[0].add_argument("--bits", type=number(32), default=256, help="the mac's length (256)")
-    used[0].add_argument("--verify", metavar="HEX", help="verify this mac instead")
+    used[0].add_argument("--verify", type=hex_bytes, metavar="HEX", help="verify this mac instead")
     for one in used:
         one.add_argument("--granted", type=number(64), metavar="N", help="the key of this grant, whatever KEY says")
     command("list", do_list, "the caller's keys")
+    command("count", do_count, "how many keys the caller has")
     granted = command("grant", do_grant, "let another uid use a key", "key")
     granted.add_argument("grantee", type=number(32), metavar="uid")
     granted.add_argument("--bits", type=number(32), default=USE, help=f"what it may do ({USE}, use)")
+    command("ungrant", do_ungrant, "take a grant back", "key").add_argument("grantee", type=number(32), metavar="uid")
     command("delete", do_delete, "delete a key", "key")
+    command("token", do_token, "bring a token, as tools/make_token.py prints it", "file", of_system=True)
+    for name, does, text in (("lock", do_lock, "the device is locked for a user"), ("unlock", do_unlock, "the device is unlocked for a user")):
+        command(name, does, text, of_system=True).add_argument("user", type=number(32))
     return parser.parse_args(words)
 
 
-def main():
-    words = words_of(sys.argv[1:])
+def ended(text, status):
+    """Tells why a command was not done, and gives its status."""
+    with contextlib.suppress(OSError):
+        print(f"keystore_client: {text}", file=sys.stderr)
+    return status
+
+
+def run(words):
+    service = Service(words)
     try:
-        with Client.connect(words.uid, words.host, words.port) as client:
-            show(words.does(client, words), words.json)
+        show(words.does(service, words), words.json)
+        sys.stdout.flush()
+        return 0
     except ServiceError as error:
         if words.json:
             print(json.dumps({"code": error.code, "rule": error.rule, "name": error.name}))
-        sys.exit(f"keystore_client: {error}")
-    except ConnectionEnded:
-        sys.exit("keystore_client: the service ended the connection")
+        return ended(error, STATUS_WRONG if error.code == WRONG else STATUS_REFUSED)
+    except Changed as error:
+        return ended(error, STATUS_WRONG)
+    except Refused as error:
+        return ended(error, STATUS_REFUSED)
+    except TimeoutError:
+        return ended(f"no reply within {words.timeout:g} seconds", STATUS_NO_SERVICE)
+    except ConnectionEnded as error:
+        return ended(error, STATUS_NO_SERVICE)
+    except BrokenPipeError:
+        os.dup2(os.open(os.devnull, os.O_WRONLY), 1)
+        return ended("nobody reads what it writes", STATUS_USAGE)
     except (OSError, ValueError) as error:
-        sys.exit(f"keystore_client: {error}")
+        return ended(error, STATUS_USAGE)
+    except KeyboardInterrupt:
+        return ended("interrupted", 128 + signal.SIGINT)
+    finally:
+        service.close()
+
+
+def main():
+    def stopped(number, _):
+        raise SystemExit(128 + number)
+    signal.signal(signal.SIGTERM, stopped)
+    sys.exit(run(words_of(sys.argv[1:])))
 
 
 if __name__ == "__main__":

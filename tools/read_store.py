@@ -1,6 +1,7 @@
 """Reads the journal of a store, beside the program and without its code.
 
     python3 tools/read_store.py FILE       prints the records as lines, and where the journal ends or is broken
+    python3 tools/read_store.py --count FILE   prints how many keys live, at once also where they are many
     python3 tools/read_store.py --stores   prints the digest of 1,000 stores that stands in use_journal's tests
     python3 tools/read_store.py --damage   prints the tables of damaged stores that stand there
     python3 tools/read_store.py --records  prints the records that stand in journal_records' tests
@@ -194,6 +195,35 @@ def print_store(store):
     return 0
 
 
+def live_keys(store):
+    """How many keys live, in one pass, or None where the bytes are no journal. The needs of the changes are not judged."""
+    records, _, broken = read_journal(store)
+    live, numbers = {}, {}
+
+    def end(number):
+        key = live.pop(number, None)
+        if key is not None and numbers.get(key[:3]) == number:
+            del numbers[key[:3]]
+
+    for _, kind, values in records:
+        if kind == 1:
+            number, domain, nspace, alias, *_, limit = values
+            end(numbers.get((domain, nspace, alias)))
+            live[number], numbers[domain, nspace, alias] = (domain, nspace, alias, limit), number
+        elif kind == 2:
+            end(values[0])
+        elif kind == 3 and values[0] in live:
+            *name, left = live[values[0]]
+            live[values[0]] = (*name, left - 1)
+            if left == 1:
+                end(values[0])
+        elif kind in (6, 7):
+            is_ended = (lambda key: list(key[:2]) == values) if kind == 6 else (lambda key: key[0] == 0 and key[1] // 100000 == values[0])
+            for number in [it for it, key in live.items() if is_ended(key)]:
+                end(number)
+    return len(live) if broken is None else None
+
+
 class Draws:
     """xorshift64*, of a seed that is not 0."""
 
@@ -268,10 +298,16 @@ def main():
     parser = parser_of(__doc__)
     ways = parser.add_mutually_exclusive_group(required=True)
     ways.add_argument("file", nargs="?", metavar="FILE", help="a store, whose records are printed")
+    ways.add_argument("--count", metavar="FILE", help="print how many keys of a store live")
     ways.add_argument("--stores", action="store_true", help="print the digest of 1,000 stores")
     ways.add_argument("--damage", action="store_true", help="print the tables of damaged stores")
     ways.add_argument("--records", action="store_true", help="print a record of each kind")
     given = parser.parse_args()
+    if given.count:
+        with open(given.count, "rb") as file:
+            count = live_keys(file.read())
+        print("no store" if count is None else count)
+        return 7 if count is None else 0
     if given.stores:
         print(f"{random_stores():016x}")
     elif given.damage:

@@ -88,7 +88,7 @@ class Started:
     def __init__(self, program, folder, connections):
         subprocess.run([program, "init"], cwd=folder, check=True)
         self.port = free_port()
-        self.process = subprocess.Popen([program, "serve", str(self.port), str(connections + 1), str(MOST)], cwd=folder)
+        self.process = subprocess.Popen([program, "serve", str(self.port), str(connections + 1), str(MOST)], stderr=subprocess.DEVNULL, cwd=folder)
 
     def __enter__(self):
         with Client(connected(self.port)) as client:
