@@ -21,6 +21,9 @@ Examples:
   keystore2 run --fresh < examples/hmac.jsonl
   keystore2 soak 7 1000";
 
+/// The version, with the logic of the toolchain that proves these sources (`rt version`).
+const VERSION: &str = "0.1.0 (logic dac8208d650f15bf)";
+
 /// The command, whose subcommands are the first words of the forms.
 fn command(alloc: Global) -> Result<Command<'static>, AllocError> {
     let init = Command::new(alloc, "init").about("Makes an empty store; what it held is lost");
@@ -34,7 +37,7 @@ fn command(alloc: Global) -> Result<Command<'static>, AllocError> {
         "Serves so many connections to a port of this machine over the store, by so many workers",
     );
     Command::new(alloc, "keystore2")
-        .version("0.1.0")
+        .version(VERSION)
         .about(
             "The key service of an Android device for symmetric keys, over a script of calls, or over connections",
         )
