@@ -6,6 +6,7 @@
 It says nothing where all is well, and ends with status 1 at the first difference. It builds the program first where it is not built.
 """
 import shlex
+import shutil
 import subprocess
 
 from harness import COMMAND, TOP, add_program, check, parser_of, without_notices
@@ -61,6 +62,9 @@ def check_all(program):
             run_example(program, words, folder)
         output, status, fault = ended_run(program, ["--version"], folder)
         check("--version", (output.split()[0], status, fault), ("keystore2", 0, ""))
+        if shutil.which("rt"):
+            logic = subprocess.run(["rt", "version"], capture_output=True, text=True, check=True).stdout.split()[-1]
+            check("the logic of --version", output.split()[-1], f"{logic})")
         check("-V", ended_run(program, ["-V"], folder), (output, 0, ""))
         for words in HELPS:
             check(" ".join(words), ended_run(program, words, folder), (text, 0, ""))
