@@ -68,6 +68,13 @@ class Operation:
         return reply(b"\x0e" + counted(out + tag))
 
 
+def end_listening(listener):
+    """From then on nobody is accepted, also by a thread that waits for the next connection."""
+    with contextlib.suppress(OSError):
+        listener.shutdown(socket.SHUT_RDWR)
+    listener.close()
+
+
 class Service:
     """A service of this tool's own. It counts the operations that begin, and is full from one to another; at the begin of one it sends
     the client a signal, or where that is none ends the connection."""
@@ -114,7 +121,7 @@ class Service:
         return reply(b"\x03" + u64(self.begun), b"" if DECRYPT in body else b"\x0d" + counted(self.open[self.begun].nonce))
 
     def close(self):
-        self.listener.close()
+        end_listening(self.listener)
 
 
 class Other:
@@ -136,7 +143,7 @@ class Other:
                 self.kept.append(stream)
 
     def close(self):
-        self.listener.close()
+        end_listening(self.listener)
 
 
 def ended(service, folder, *words, data=b""):
