@@ -59,6 +59,11 @@ def text(name, value):
     return counted(value), f"{name}: {owned(value)}"
 
 
+def material(value):
+    """The bytes of a key, which Rust does not print."""
+    return counted(value), "material: Material"
+
+
 def given(name, value):
     return optional(value), f"{name}: {maybe(value)}"
 
@@ -86,7 +91,7 @@ BOTH = key(4294967295, 18446744073709551615, b"", b"\x00")
 REQUESTS = [
     act(1, "Connect", short("uid", 10001)),
     act(3, "GenerateKey", ALIAS, text("params", b"\x00\x00")),
-    act(4, "ImportKey", BLOB, text("params", b"\x00\x01\x02"), short("format", 3), text("material", b"\x11" * 16)),
+    act(4, "ImportKey", BLOB, text("params", b"\x00\x01\x02"), short("format", 3), material(b"\x11" * 16)),
     act(5, "CreateOperation", BOTH, text("params", b""), flag("forced", True)),
     act(6, "EnterAad", long("op", 7), text("input", b"ad")),
     act(7, "EnterUpdate", long("op", 8), text("input", b"text")),

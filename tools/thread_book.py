@@ -29,6 +29,8 @@ SLOTS = 64
 LIMIT = 5
 SECONDS = 60
 ALL_USE = b"us"
+# The key that each import of a load brings, which the text of an act does not have.
+MATERIAL = b"\x0b" * 20
 MAC = "b0344c61d8db38535ca8afceaf0bf12b881dc200c9833da726e9376c2e32cff7"
 TOKEN = re.compile(r"\s*([A-Za-z_]\w*|\d+|[{}()\[\],:])")
 # What is changed in a reply: a number of a field, the first byte of a field, or the number of a rule.
@@ -93,6 +95,8 @@ class Reader:
             return inside[0]
         if name == "Bytes":
             return bytes(inside[0]["bytes"])
+        if name == "Material":
+            return MATERIAL
         return (name, *inside)
 
 

@@ -2,6 +2,19 @@
 //!
 //! The one contract: for every cutting of the text, what [`Blocks`] gave after each piece is the front of what the mode
 //! makes of the whole text so far, and `finish` gives the rest. The definitions (`specs/`) are of whole texts.
+//!
+//! ```rust
+//! use aes_core::AesKey;
+//! use block_modes::Blocks;
+//! use tags::Plan;
+//!
+//! let Some(aes) = AesKey::new(b"0123456789abcdef") else { return false; };
+//! let mut blocks = Blocks::new(aes, Plan::Cbc { seal: true, padded: true }, [9; 16]);
+//! let mut out = [0u8; 48];
+//! let size = blocks.update(b"twenty bytes of text", &mut out);
+//! let mut last = [0u8; 16];
+//! let rest = blocks.finish(&mut last);
+//! ```
 #![tactic(auto)]
 
 mod engine;

@@ -6,6 +6,7 @@ use Rattle.tags.specs.Values.{implies, passes}
 use Rattle.key_domains.specs.declared.permission.Permission.TheVariants.{GetInfo}
 use Rattle.key_domains.specs.Bits.{has}
 use Rattle.key_domains.specs.Domains.{domain_app, domain_grant, domain_key_id, domain_selinux}
+use Rattle.tags.specs.declared.limits.TheConstants.{MOST_USER}
 
 -- APP and SELINUX find a key by its alias, GRANT and KEY_ID by a number
 abbrev pub is_by_alias : ℕ → Bool
@@ -30,16 +31,13 @@ is_owned domain = is_by_alias domain
 abbrev pub most_uid : ℕ
 most_uid = 4294967295
 
-abbrev pub most_user : ℕ
-most_user = 42949
-
 -- the domain is APP and the nspace a uid, or the domain is SELINUX
 abbrev pub names_owner : ℕ → ℕ → Bool
 names_owner domain nspace = ((domain == domain_app) && nat_le nspace most_uid) || (domain == domain_selinux)
 
 -- the user is at most that of the greatest uid
 abbrev pub is_user : ℕ → Bool
-is_user user = nat_le user most_user
+is_user user = nat_le user MOST_USER
 
 -- SELINUX: the policy has a row of the caller's uid and the namespace
 abbrev pub is_in_policy : ℕ → Option ℕ → Bool

@@ -11,7 +11,6 @@ mod rules;
 mod table;
 
 pub use facts::{KeyCallFacts, SystemCallFacts};
-pub use rules::MOST_USER;
 pub use table::{
     check_clear_namespace, check_delete_key, check_disconnect, check_get_key_entry, check_grant,
     check_listing, check_system_call, check_token, check_ungrant, check_user_call,

@@ -4,10 +4,7 @@ ghost use Rattle.std.specs.Prelude.{◌≡◌, ◌≤◌, true};
 ghost use Rattle.call_rules.specs.Rules as spec;
 
 use key_domains::{Permission, Permissions};
-use tags::{DOMAIN_APP, DOMAIN_GRANT, DOMAIN_KEY_ID, DOMAIN_SELINUX, Descriptor};
-
-/// The greatest number of a user: that of the greatest uid, which has 100,000 uids a user.
-pub const MOST_USER: u32 = 42_949;
+use tags::{DOMAIN_APP, DOMAIN_GRANT, DOMAIN_KEY_ID, DOMAIN_SELINUX, Descriptor, MOST_USER};
 
 fn is_by_alias(domain: u32) -> bool
     ensures { result ≡ spec.is_by_alias domain }
@@ -52,7 +49,7 @@ pub fn names_owner(domain: u32, nspace: u64) -> bool
 /// Whether there can be a user of this number.
 pub fn is_user(user: u32) -> bool
     ensures user { result ≡ spec.is_user user }
-    ensures most { result ≡ true → user ≤ 42949 }
+    ensures most { result ≡ true → user ≤ MOST_USER }
 {
     user <= MOST_USER
 }

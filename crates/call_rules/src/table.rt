@@ -5,6 +5,7 @@ ghost use Rattle.tags.specs.declared.rule.RuleTable.TheVariants.{A};
 ghost use Rattle.tags.specs.Table.{Check, first_broken, rule_of};
 ghost use Rattle.call_rules.specs.Rules as rules;
 ghost use Rattle.call_rules.specs.Table as spec;
+ghost use Rattle.tags.specs.declared.limits.TheConstants.{MOST_USER};
 
 use crate::rules::{is_in_policy, is_owned, is_shared, is_user, may_list, names_key, names_owner};
 use crate::{KeyCallFacts, SystemCallFacts};
@@ -134,7 +135,7 @@ pub fn check_token(is_right: bool, facts: &SystemCallFacts) -> Ruling
 /// The rules of deviceLocked, deviceUnlocked and userRemoved. Where none is broken the user is at most 42,949.
 pub fn check_user_call(user: u32, facts: &SystemCallFacts) -> Ruling
     ensures first { result ≡ first_broken A (spec.user_call_rules user facts.now) }
-    ensures user { OnOk result (user ≤ 42949) }
+    ensures user { OnOk result (user ≤ MOST_USER) }
 {
     check(rule(1), Code::InvalidArgument, facts.connected)?;
     check(rule(2), Code::InvalidArgument, is_user(user))?;

@@ -1,7 +1,7 @@
 //! The work of a job and the memory that it needs.
 
 ghost use Rattle.std.specs.Prelude.{◌≡◌, ℕ, ◌+◌, ◌≤◌, List, Option, if◌then◌else◌, length, IfOk};
-ghost use Rattle.tags.specs.Plan.{OPERATION_BYTES};
+ghost use Rattle.tags.specs.declared.limits.TheConstants.{OPERATION_BYTES};
 ghost use Rattle.cipher_ops.specs.Output.{finish_output, update_output};
 ghost use Rattle.cipher_ops.specs.Sizes as spec;
 

@@ -5,6 +5,7 @@ use Rattle.serde_json.specs.Data.{Data, Items, no_items, item}
 use Rattle.serde_json.specs.Find.{at, as_array, as_number, as_u64}
 use Rattle.serde_json.specs.Read.{read}
 use Rattle.tags.specs.declared.policy.PolicyRow.{PolicyRow}
+use Rattle.tags.specs.declared.limits.TheConstants.{POLICY_ROWS}
 
 -- what the first finds is handed to the second
 infixl 10 ◌>>=◌
@@ -32,9 +33,9 @@ abbrev pub rows_in : Items → Option (List PolicyRow)
 rows_in no_items = Some []
 rows_in (item row rows) = row_of row >>= λ first. rows_in rows >>= λ rest. Some (first ∷ rest)
 
--- at most 256 of them
+-- no more of them than the most
 abbrev pub few : List PolicyRow → Option (List PolicyRow)
-few rows = if nat_le (length rows) 256 then Some rows else None
+few rows = if nat_le (length rows) POLICY_ROWS then Some rows else None
 
 -- the JSON value of a text: UTF-8 that is a JSON text
 abbrev pub parsed : List ℕ → Option Data

@@ -68,7 +68,7 @@ fn parsed(alloc: Global, bytes: &[u8]) -> Result<Value, FileFault>
     }
 }
 
-/// The policy that the bytes of `policy.json` spell: an array of at most 256 rows, each an array of exactly three whole
+/// The policy that the bytes of `policy.json` spell: an array of at most `POLICY_ROWS` rows, each an array of exactly three whole
 /// numbers, the uid, the namespace and the permission bits. `Malformed` exactly where they spell none.
 pub fn policy_in(alloc: Global, bytes: &[u8]) -> Result<Policy, FileFault>
     ensures { GivesView (λ policy. policy) result (spec.policy_in bytes.now) }

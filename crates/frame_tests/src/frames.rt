@@ -22,7 +22,7 @@ static FRAMES: [(&[u8], &str); 20] = [
     ),
     (
         b"\x00\x00\x00\x34\x04\x00\x00\x00\x03\x00\x00\x00\x00\x00\x00\x00\x00\x00\x01\x00\x00\x00\x02\xaa\xbb\x00\x00\x00\x03\x00\x01\x02\x00\x00\x00\x03\x00\x00\x00\x10\x11\x11\x11\x11\x11\x11\x11\x11\x11\x11\x11\x11\x11\x11\x11\x11",
-        "ImportKey { key: Descriptor { domain: 3, nspace: 0, alias: None, blob: Some(Bytes { bytes: [170, 187] }) }, params: Bytes { bytes: [0, 1, 2] }, format: 3, material: Bytes { bytes: [17, 17, 17, 17, 17, 17, 17, 17, 17, 17, 17, 17, 17, 17, 17, 17] } }",
+        "ImportKey { key: Descriptor { domain: 3, nspace: 0, alias: None, blob: Some(Bytes { bytes: [170, 187] }) }, params: Bytes { bytes: [0, 1, 2] }, format: 3, material: Material }",
     ),
     (
         b"\x00\x00\x00\x1d\x05\xff\xff\xff\xff\xff\xff\xff\xff\xff\xff\xff\xff\x01\x00\x00\x00\x00\x01\x00\x00\x00\x01\x00\x00\x00\x00\x00\x01",

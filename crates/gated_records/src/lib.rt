@@ -6,6 +6,13 @@
 //!
 //! Its contract: `publish` does so at any place of a disk, and `is_published` settles whether it was done. A journal,
 //! an area of a larger store, and several records at once are cases of it.
+//!
+//! ```rust
+//! use gated_records::publish;
+//!
+//! // an open gate, the record "use", and the shut gate of the next one
+//! publish(&mut disk, at, b"\x4buse\x00")?;
+//! ```
 #![tactic(auto)]
 
 mod gate;

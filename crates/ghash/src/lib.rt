@@ -2,6 +2,15 @@
 //!
 //! Its one contract: `Ghash` holds `ghash` of the blocks that it absorbed, in their order, under the hash subkey that
 //! it was made for. It takes no memory.
+//!
+//! ```rust
+//! use ghash::Ghash;
+//!
+//! let mut hash = Ghash::new(subkey);
+//! hash.absorb([1; 16]);
+//! hash.absorb_all(&blocks);
+//! let sum = hash.value();
+//! ```
 #![tactic(auto)]
 
 mod chains;

@@ -4,6 +4,7 @@ use Rattle.std.specs.List.{list_any}
 use Rattle.std.specs.Str.{bytes_eq}
 use Rattle.grants.specs.declared.row.GrantRow.{GrantRow}
 use Rattle.journal_records.specs.declared.record.KeyRecord.{KeyRecord}
+use Rattle.tags.specs.declared.limits.TheConstants.{USER_UIDS}
 
 -- the live keys in the order of their numbers, the grants in the order of theirs, and the numbers that the next key
 -- and the next grant take
@@ -35,7 +36,7 @@ is_named domain nspace alias key = is_owned domain nspace key && bytes_eq key.al
 
 -- whether a key is an app's whose uid has this user: a uid's user is the uid divided by 100,000
 abbrev pub is_of_user : ℕ → KeyRecord → Bool
-is_of_user user key = (key.domain == 0) && (key.nspace / 100000 == user)
+is_of_user user key = (key.domain == 0) && (key.nspace / USER_UIDS == user)
 
 -- the keys that pass the test end, and with them their grants
 abbrev pub without_keys : (KeyRecord → Bool) → Lasting → Lasting

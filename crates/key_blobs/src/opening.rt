@@ -14,7 +14,7 @@ use byte_strings::same_bytes;
 use gcm_mode::{GcmOpen, TagWrong};
 use std::alloc::Global;
 use tag_lists::AuthList;
-use tags::{Bytes, DeviceSecrets};
+use tags::{Bytes, DeviceSecrets, Material};
 
 /// Whether the bytes have the form of a blob.
 fn is_blob(blob: &[u8]) -> bool
@@ -89,7 +89,7 @@ fn compared(
     if !same_id(parts.app_bytes, app_bytes) {
         return Err(BlobFault::App);
     }
-    let material = Bytes::copy_of(alloc, parts.material)?;
+    let material = Material::of(Bytes::copy_of(alloc, parts.material)?);
     Ok(Opened { list, material })
 }
 

@@ -1,10 +1,10 @@
 //! What a blob holds.
 
 use tag_lists::AuthList;
-use tags::Bytes;
+use tags::{Bytes, Material};
 
 /// What is sealed into a blob.
-#[derive(Debug, Drop)]
+#[derive(Drop)]
 pub struct Sealed {
     /// the root of trust that the device had, 32 bytes
     pub root: [u8; 32],
@@ -15,7 +15,7 @@ pub struct Sealed {
     /// the key's list, of which the encoding has fewer than 2^32 bytes
     pub list: AuthList,
     /// the key's material, at most 255 bytes
-    pub material: Bytes,
+    pub material: Material,
 }
 
 /// What a blob gives when it opens for a device and a caller.
@@ -24,5 +24,5 @@ pub struct Opened {
     /// the key's list
     pub list: AuthList,
     /// the key's material
-    pub material: Bytes,
+    pub material: Material,
 }

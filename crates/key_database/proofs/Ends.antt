@@ -18,6 +18,7 @@ use Rattle.key_database.specs.Rows.{AreRows, IsBefore, IsFit, NonePass, AreBelow
 use Rattle.key_database.specs.Names.{name_of, is_at_name}
 use Rattle.key_database.proofs.KeyRows.{later_id, rows_filter, rows_more, name_without, use_keeps_all, id_from_found, find_with_use}
 use Rattle.key_database.proofs.Whole.{none_out, named_is, owned_parts, found_short}
+use Rattle.tags.specs.declared.limits.TheConstants.{ALIAS_BYTES, MOST_KEYS}
 
 -- ---- lists
 
@@ -138,7 +139,7 @@ one_alone p id part a none = sym (none_end p (without_keys (has_id id) part) non
 
 -- ---- a key under a name
 
-pub rebound : (domain nspace : ℕ) (alias : List ℕ) (part : Lasting) (held : KeyRecord) → AreRows part.keys → length alias ≤ 256 → find (is_named domain nspace alias) part.keys ≡ Some held → find (has_id held.id) part.keys ≡ Some held → without_keys (has_id held.id) part ≡ without_keys (is_named domain nspace alias) part
+pub rebound : (domain nspace : ℕ) (alias : List ℕ) (part : Lasting) (held : KeyRecord) → AreRows part.keys → length alias ≤ ALIAS_BYTES → find (is_named domain nspace alias) part.keys ≡ Some held → find (has_id held.id) part.keys ≡ Some held → without_keys (has_id held.id) part ≡ without_keys (is_named domain nspace alias) part
 rebound domain nspace alias part held t le named numbered =
     let at : find (is_at_name (name_of domain nspace alias)) part.keys ≡ Some held = named_is domain nspace alias part.keys t le ∙ named in
     let left = filter (λ key. not (has_id held.id key)) part.keys in
@@ -205,34 +206,34 @@ once_named domain nspace alias (key ∷ rows) t = (
   once_named domain nspace alias rows t.2,
 )
 
-lt_is_le : (n m : ℕ) → n + 1 ≡ m → nat_le m 65536 ≡ nat_lt n 65536
+lt_is_le : (n m : ℕ) → n + 1 ≡ m → nat_le m MOST_KEYS ≡ nat_lt n MOST_KEYS
 lt_is_le n m e =
-    elim (cases_lt n 65536) [
-      | inl below ↦ le-leb m 65536 (omega (arith, e, below)) ∙ sym (lt-ltb n 65536 below)
-      | inr above ↦ too_many m (omega (arith, e, above)) ∙ sym (le-ltb n 65536 above)
+    elim (cases_lt n MOST_KEYS) [
+      | inl below ↦ le-leb m MOST_KEYS (omega (arith, e, below)) ∙ sym (lt-ltb n MOST_KEYS below)
+      | inr above ↦ too_many m (omega (arith, e, above)) ∙ sym (le-ltb n MOST_KEYS above)
     ]
   where
-    too_many : (m : ℕ) → 65536 < m → nat_le m 65536 ≡ false
-    too_many m above = elim (cases_Bool (nat_le m 65536)) [ inl few ↦ absurd (omega (arith, leb-true m 65536 few, above)) | inr many ↦ many ]
+    too_many : (m : ℕ) → MOST_KEYS < m → nat_le m MOST_KEYS ≡ false
+    too_many m above = elim (cases_Bool (nat_le m MOST_KEYS)) [ inl few ↦ absurd (omega (arith, leb-true m MOST_KEYS few, above)) | inr many ↦ many ]
 
-pub place_rebound : (domain nspace count : ℕ) (alias : List ℕ) (part : Lasting) → AreRows part.keys → count ≡ length part.keys → is_some (find (is_named domain nspace alias) part.keys) ≡ true → nat_le count 65536 ≡ has_place_for domain nspace alias part
+pub place_rebound : (domain nspace count : ℕ) (alias : List ℕ) (part : Lasting) → AreRows part.keys → count ≡ length part.keys → is_some (find (is_named domain nspace alias) part.keys) ≡ true → nat_le count MOST_KEYS ≡ has_place_for domain nspace alias part
 place_rebound domain nspace count alias part t e held =
     let left = place_left (is_named domain nspace alias) part.keys (once_named domain nspace alias part.keys t) in
     lt_is_le (length (filter (λ key. not (is_named domain nspace alias key)) part.keys)) count ((rw held at left) ∙ sym e)
 
-pub place_new : (domain nspace count : ℕ) (alias : List ℕ) (part : Lasting) → AreRows part.keys → count ≡ length part.keys → is_some (find (is_named domain nspace alias) part.keys) ≡ false → nat_lt count 65536 ≡ has_place_for domain nspace alias part
+pub place_new : (domain nspace count : ℕ) (alias : List ℕ) (part : Lasting) → AreRows part.keys → count ≡ length part.keys → is_some (find (is_named domain nspace alias) part.keys) ≡ false → nat_lt count MOST_KEYS ≡ has_place_for domain nspace alias part
 place_new domain nspace count alias part t e none =
     let left = place_left (is_named domain nspace alias) part.keys (once_named domain nspace alias part.keys t) in
     let same : count ≡ length (filter (λ key. not (is_named domain nspace alias key)) part.keys) = omega (arith, e, (rw none at left)) in
-    ap (λ n. nat_lt n 65536) same
+    ap (λ n. nat_lt n MOST_KEYS) same
 
 -- fewer keys than there may be
-pub place_few : (domain nspace count : ℕ) (alias : List ℕ) (part : Lasting) → AreRows part.keys → count ≡ length part.keys → count < 65536 → true ≡ has_place_for domain nspace alias part
+pub place_few : (domain nspace count : ℕ) (alias : List ℕ) (part : Lasting) → AreRows part.keys → count ≡ length part.keys → count < MOST_KEYS → true ≡ has_place_for domain nspace alias part
 place_few domain nspace count alias part t e few =
     by_held (is_some (find (is_named domain nspace alias) part.keys)) refl where
       by_held : (held : Bool) → is_some (find (is_named domain nspace alias) part.keys) ≡ held → true ≡ has_place_for domain nspace alias part
-      by_held true held = sym (le-leb count 65536 (omega (arith, few))) ∙ place_rebound domain nspace count alias part t e held
-      by_held false none = sym (lt-ltb count 65536 few) ∙ place_new domain nspace count alias part t e none
+      by_held true held = sym (le-leb count MOST_KEYS (omega (arith, few))) ∙ place_rebound domain nspace count alias part t e held
+      by_held false none = sym (lt-ltb count MOST_KEYS few) ∙ place_new domain nspace count alias part t e none
 
 -- ---- a key that is found, and what is left of the others
 

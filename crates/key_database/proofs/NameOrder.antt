@@ -13,6 +13,7 @@ use Rattle.journal_records.specs.declared.record.KeyRecord.{KeyRecord}
 use Rattle.journal_records.specs.LastingPart.{is_named}
 use Rattle.journal_records.specs.Lookups.{alias_cmp}
 use Rattle.key_database.specs.Names.{Name, owner_cmp, padded_cmp, name_cmp, padded, name_of, is_at_name}
+use Rattle.tags.specs.declared.limits.TheConstants.{ALIAS_BYTES}
 
 pub owner_total : IsTotalOrder owner_cmp
 owner_total = then_total (on_total (λ (o : ℕ × ℕ). o.0) nat_cmp_total) (on_total (λ (o : ℕ × ℕ). o.1) nat_cmp_total)
@@ -117,20 +118,20 @@ pads_are (suc n) (x ∷ alias) (y ∷ other) le le' =
 
 -- ---- names
 
-pub named_cmp : (domain nspace : ℕ) (alias other : List ℕ) → length alias ≤ 256 → length other ≤ 256 → name_cmp (name_of domain nspace alias) (name_of domain nspace other) ≡ alias_cmp alias other
+pub named_cmp : (domain nspace : ℕ) (alias other : List ℕ) → length alias ≤ ALIAS_BYTES → length other ≤ ALIAS_BYTES → name_cmp (name_of domain nspace alias) (name_of domain nspace other) ≡ alias_cmp alias other
 named_cmp domain nspace alias other le le' =
-    rw (sym (nat_cmp_is domain domain Equal refl), sym (nat_cmp_is nspace nspace Equal refl)) (pads_are 256 alias other le le')
+    rw (sym (nat_cmp_is domain domain Equal refl), sym (nat_cmp_is nspace nspace Equal refl)) (pads_are ALIAS_BYTES alias other le le')
 
 pub owner_test : (domain nspace d n : ℕ) → is_eq (owner_cmp (domain, nspace) (d, n)) ≡ ((d == domain) && (n == nspace))
 owner_test domain nspace d n =
     sym (both_tied (d == domain) (n == nspace) (nat_cmp domain d) (nat_cmp nspace n) (sym (nat_test domain d)) (sym (nat_test nspace n)))
 
-pub name_test : (domain nspace : ℕ) (alias : List ℕ) (key : KeyRecord) → length alias ≤ 256 → length key.alias ≤ 256 → is_at_name (name_of domain nspace alias) key ≡ is_named domain nspace alias key
+pub name_test : (domain nspace : ℕ) (alias : List ℕ) (key : KeyRecord) → length alias ≤ ALIAS_BYTES → length key.alias ≤ ALIAS_BYTES → is_at_name (name_of domain nspace alias) key ≡ is_named domain nspace alias key
 name_test domain nspace alias key le le' =
     sym (both_tied ((key.domain == domain) && (key.nspace == nspace)) (bytes_eq key.alias alias)
-    (owner_cmp (domain, nspace) (key.domain, key.nspace)) (padded_cmp (padded 256 alias, length alias) (padded 256 key.alias, length key.alias))
+    (owner_cmp (domain, nspace) (key.domain, key.nspace)) (padded_cmp (padded ALIAS_BYTES alias, length alias) (padded ALIAS_BYTES key.alias, length key.alias))
     (sym (owner_test domain nspace key.domain key.nspace))
-    (sym (ap is_eq (pads_are 256 alias key.alias le le') ∙ is_eq-slice_cmp alias key.alias ∙ (lists_equiv nat_eq_equiv).symm alias key.alias)))
+    (sym (ap is_eq (pads_are ALIAS_BYTES alias key.alias le le') ∙ is_eq-slice_cmp alias key.alias ∙ (lists_equiv nat_eq_equiv).symm alias key.alias)))
 
 pub name_flips : (name other : Name) → is_eq (name_cmp name other) ≡ is_eq (name_cmp other name)
 name_flips name other = ap is_eq (name_total.antisymm name other) ∙ eq_reverse (name_cmp other name)

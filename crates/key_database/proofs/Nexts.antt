@@ -23,6 +23,7 @@ use Rattle.key_database.proofs.NameOrder.{name_total, owner_test, owner_total, n
 use Rattle.key_database.proofs.KeyRows.{name_push, absent_before, later_name, all_fit, id_from_found}
 use Rattle.key_database.proofs.Firsts.{name_is}
 use Rattle.key_database.proofs.Whole.{append_none, named_is, found_short, owned_parts}
+use Rattle.tags.specs.declared.limits.TheConstants.{ALIAS_BYTES, USER_UIDS}
 
 -- ---- with the newest key
 
@@ -156,15 +157,15 @@ take_short n past = omega (arith, length-take n past)
     length-take (suc n) (x ∷ past) = omega (arith, length-take n past)
 
 -- a name of the owner stands from the start on exactly where its alias is greater than past
-pub from_after : (domain nspace : ℕ) (past : Option (List ℕ)) (alias : List ℕ) → length alias ≤ 256 → is_after past alias ≡ true → IsFromStart name_cmp (start_of domain nspace past) (name_of domain nspace alias)
+pub from_after : (domain nspace : ℕ) (past : Option (List ℕ)) (alias : List ℕ) → length alias ≤ ALIAS_BYTES → is_after past alias ≡ true → IsFromStart name_cmp (start_of domain nspace past) (name_of domain nspace alias)
 from_after domain nspace None alias le after = ap is_gt (named_cmp domain nspace [] alias (omega arith) le) ∙ low_alias alias
 from_after domain nspace (Some past) alias le after =
-    named_cmp domain nspace (take 256 past) alias (take_short 256 past) le ∙ lt_less (alias_cmp (take 256 past) alias) (cut_test 256 past alias le ∙ after)
+    named_cmp domain nspace (take ALIAS_BYTES past) alias (take_short ALIAS_BYTES past) le ∙ lt_less (alias_cmp (take ALIAS_BYTES past) alias) (cut_test ALIAS_BYTES past alias le ∙ after)
 
-pub after_from : (domain nspace : ℕ) (past : Option (List ℕ)) (alias : List ℕ) → length alias ≤ 256 → IsFromStart name_cmp (start_of domain nspace past) (name_of domain nspace alias) → is_after past alias ≡ true
+pub after_from : (domain nspace : ℕ) (past : Option (List ℕ)) (alias : List ℕ) → length alias ≤ ALIAS_BYTES → IsFromStart name_cmp (start_of domain nspace past) (name_of domain nspace alias) → is_after past alias ≡ true
 after_from domain nspace None alias le from = refl
 after_from domain nspace (Some past) alias le from =
-    sym (cut_test 256 past alias le) ∙ ap is_lt (sym (named_cmp domain nspace (take 256 past) alias (take_short 256 past) le) ∙ from)
+    sym (cut_test ALIAS_BYTES past alias le) ∙ ap is_lt (sym (named_cmp domain nspace (take ALIAS_BYTES past) alias (take_short ALIAS_BYTES past) le) ∙ from)
 
 -- the owner of a name that stands from a start on is not before the start's
 owner_le : (first second : Ordering) → is_gt (ordering_then first second) ≡ false → is_gt first ≡ false
@@ -214,7 +215,7 @@ module _ (rows : List KeyRecord) (t : AreRows rows) (domain nspace : ℕ) (past 
 
   pub next_is : (key : KeyRecord) → key.domain ≡ domain → key.nspace ≡ nspace → IsFirstFrom rows (start_of domain nspace past) (Some key) → IsNextName rows domain nspace past (Some key)
   next_is key d n first =
-      let fit : length key.alias ≤ 256 = (fit_of (find (is_at_name (key_name key)) rows) refl first.held).0 in
+      let fit : length key.alias ≤ ALIAS_BYTES = (fit_of (find (is_at_name (key_name key)) rows) refl first.held).0 in
       let same : key_name key ≡ name_of domain nspace key.alias = ap (λ x. name_of x key.nspace key.alias) d ∙ ap (λ x. name_of domain x key.alias) n in
       record {
         owned = (d, n);
@@ -256,10 +257,10 @@ none_owned domain nspace rows t none =
 
 -- ---- the keys of a user
 
-user_parts : (user : ℕ) (key : KeyRecord) → is_of_user user key ≡ true → (key.domain ≡ 0) × (key.nspace / 100000 ≡ user)
+user_parts : (user : ℕ) (key : KeyRecord) → is_of_user user key ≡ true → (key.domain ≡ 0) × (key.nspace / USER_UIDS ≡ user)
 user_parts user key e =
-    let parts = and_parts (key.domain == 0) (key.nspace / 100000 == user) e in
-    (eqb-true key.domain 0 parts.0, eqb-true (key.nspace / 100000) user parts.1)
+    let parts = and_parts (key.domain == 0) (key.nspace / USER_UIDS == user) e in
+    (eqb-true key.domain 0 parts.0, eqb-true (key.nspace / USER_UIDS) user parts.1)
 
 not_gt_le : (n k : ℕ) → is_gt (nat_cmp n k) ≡ false → n ≤ k
 not_gt_le n k h =
@@ -293,33 +294,33 @@ low_name : (nspace : ℕ) (key : KeyRecord) → IsFit key → key.domain ≡ 0 �
 low_name nspace key fit app le =
     then_not_gt (owner_cmp (0, nspace) (key.domain, key.nspace)) _
     (then_not_gt (nat_cmp 0 key.domain) (nat_cmp nspace key.nspace) (le_not_gt 0 key.domain (omega arith)) (le_not_gt nspace key.nspace le))
-    (ap is_gt (pads_are 256 [] key.alias (omega arith) fit.0) ∙ low_alias key.alias)
+    (ap is_gt (pads_are ALIAS_BYTES [] key.alias (omega arith) fit.0) ∙ low_alias key.alias)
 
-in_user : (user nspace other : ℕ) → user * 100000 ≤ nspace → nspace ≤ other → other / 100000 ≡ user → nspace / 100000 ≡ user
+in_user : (user nspace other : ℕ) → user * USER_UIDS ≤ nspace → nspace ≤ other → other / USER_UIDS ≡ user → nspace / USER_UIDS ≡ user
 in_user user nspace other low high is = omega (arith, low, high, is)
 
-user_low : (user nspace : ℕ) → nspace / 100000 ≡ user → user * 100000 ≤ nspace
+user_low : (user nspace : ℕ) → nspace / USER_UIDS ≡ user → user * USER_UIDS ≤ nspace
 user_low user nspace is = omega (arith, is)
 
 module _ (rows : List KeyRecord) (t : AreRows rows) (user : ℕ) where
-  from_user : (key : KeyRecord) → find (is_at_name (key_name key)) rows ≡ Some key → is_of_user user key ≡ true → IsFromStart name_cmp (Included (name_of 0 (user * 100000) [])) (key_name key)
+  from_user : (key : KeyRecord) → find (is_at_name (key_name key)) rows ≡ Some key → is_of_user user key ≡ true → IsFromStart name_cmp (Included (name_of 0 (user * USER_UIDS) [])) (key_name key)
   from_user key found of =
       let parts = user_parts user key of in
-      low_name (user * 100000) key (found_has IsFit (is_at_name (key_name key)) rows key (all_fit rows t) found) parts.0 (user_low user key.nspace parts.1)
+      low_name (user * USER_UIDS) key (found_has IsFit (is_at_name (key_name key)) rows key (all_fit rows t) found) parts.0 (user_low user key.nspace parts.1)
 
-  pub user_none : IsFirstFrom rows (Included (name_of 0 (user * 100000) [])) None → NonePass (is_of_user user) rows
+  pub user_none : IsFirstFrom rows (Included (name_of 0 (user * USER_UIDS) [])) None → NonePass (is_of_user user) rows
   user_none none = none_by_name (is_of_user user) rows t (λ key found of. none-some key (sym (none (key_name key) (from_user key found of)) ∙ found))
 
-  pub user_beyond : (first : KeyRecord) → is_of_user user first ≡ false → IsFirstFrom rows (Included (name_of 0 (user * 100000) [])) (Some first) → NonePass (is_of_user user) rows
+  pub user_beyond : (first : KeyRecord) → is_of_user user first ≡ false → IsFirstFrom rows (Included (name_of 0 (user * USER_UIDS) [])) (Some first) → NonePass (is_of_user user) rows
   user_beyond first other least = none_by_name (is_of_user user) rows t (λ key found of.
       let parts = user_parts user key of in
       let before = least.least (key_name key) (from_user key found of) (rw found refl) in
       let owners : is_gt (owner_cmp (first.domain, first.nspace) (key.domain, key.nspace)) ≡ false = owner_le (owner_cmp (first.domain, first.nspace) (key.domain, key.nspace)) _ before in
       let app : first.domain ≡ 0 = omega (arith, parts.0, not_gt_le first.domain key.domain (owner_le (nat_cmp first.domain key.domain) _ owners)) in
       let high : first.nspace ≤ key.nspace = not_gt_le first.nspace key.nspace (second_not_gt 0 (nat_cmp first.nspace key.nspace) (subst (λ d. is_gt (ordering_then (nat_cmp 0 d) (nat_cmp first.nspace key.nspace)) ≡ false) parts.0 (subst (λ d. is_gt (ordering_then (nat_cmp d key.domain) (nat_cmp first.nspace key.nspace)) ≡ false) app owners))) in
-      let start : is_gt (owner_cmp (0, user * 100000) (first.domain, first.nspace)) ≡ false = owner_le (owner_cmp (0, user * 100000) (first.domain, first.nspace)) _ least.from in
-      let low : user * 100000 ≤ first.nspace = not_gt_le (user * 100000) first.nspace (second_not_gt 0 (nat_cmp (user * 100000) first.nspace) (subst (λ d. is_gt (ordering_then (nat_cmp 0 d) (nat_cmp (user * 100000) first.nspace)) ≡ false) app start)) in
-      both_ways (is_of_user user first) other (and_from (first.domain == 0) (first.nspace / 100000 == user) (eq-eqb first.domain 0 app) (eq-eqb (first.nspace / 100000) user (in_user user first.nspace key.nspace low high parts.1))))
+      let start : is_gt (owner_cmp (0, user * USER_UIDS) (first.domain, first.nspace)) ≡ false = owner_le (owner_cmp (0, user * USER_UIDS) (first.domain, first.nspace)) _ least.from in
+      let low : user * USER_UIDS ≤ first.nspace = not_gt_le (user * USER_UIDS) first.nspace (second_not_gt 0 (nat_cmp (user * USER_UIDS) first.nspace) (subst (λ d. is_gt (ordering_then (nat_cmp 0 d) (nat_cmp (user * USER_UIDS) first.nspace)) ≡ false) app start)) in
+      both_ways (is_of_user user first) other (and_from (first.domain == 0) (first.nspace / USER_UIDS == user) (eq-eqb first.domain 0 app) (eq-eqb (first.nspace / USER_UIDS) user (in_user user first.nspace key.nspace low high parts.1))))
 
 -- a key that is found first is found by its number
 pub first_numbered : (rows : List KeyRecord) (start : Bound Name) (key : KeyRecord) (Q : KeyRecord → Type 0) → AreRows rows → IsFirstFrom rows start (Some key) → Q key → IsSomeAnd (find (has_id key.id) rows) Q

@@ -11,6 +11,7 @@ use Rattle.journal_records.specs.declared.change.Change.TheVariants.{Create, Del
 use Rattle.journal_records.specs.LastingPart.{Lasting}
 use Rattle.journal_records.specs.Needs.{is_met, is_number_left, is_owner, has_place_for}
 use Rattle.journal_records.specs.Spelling.{counted, body_of, tail_of, closed_of}
+use Rattle.tags.specs.declared.limits.TheConstants.{ALIAS_BYTES, BLOB_BYTES, KEPT_LIST_BYTES, RECORD_BYTES}
 
 length_counted : (bytes : List ℕ) → length (counted bytes) ≡ 4 + length bytes
 length_counted bytes = omega (arith, length-append (big_bytes 4 (length bytes)) bytes, length-bytes_high_first 4 (length bytes))
@@ -34,14 +35,14 @@ sum_of id domain nspace limit alias blob list =
 
 pub small_body : (part : Lasting) (change : Change) → is_met part change ≡ true → length (body_of change) ≤ 10757
 small_body part (Create id domain nspace alias blob list limit) met =
-    let first = and_parts ((id == part.next_key) && is_number_left id) (is_owner domain nspace && (is_alias alias && (nat_le (length blob) 6327 && (nat_le (length list) 4140 && has_place_for domain nspace alias part)))) met in
-    let second = and_parts (is_owner domain nspace) (is_alias alias && (nat_le (length blob) 6327 && (nat_le (length list) 4140 && has_place_for domain nspace alias part))) first.1 in
-    let third = and_parts (is_alias alias) (nat_le (length blob) 6327 && (nat_le (length list) 4140 && has_place_for domain nspace alias part)) second.1 in
-    let fourth = and_parts (nat_le (length blob) 6327) (nat_le (length list) 4140 && has_place_for domain nspace alias part) third.1 in
-    let fifth = and_parts (nat_le (length list) 4140) (has_place_for domain nspace alias part) fourth.1 in
-    let name = and_parts (nat_le 1 (length alias)) (nat_le (length alias) 256 && is_utf8 alias) third.0 in
-    let long = and_parts (nat_le (length alias) 256) (is_utf8 alias) name.1 in
-    omega (arith, sum_of id domain nspace limit alias blob list, leb-true (length alias) 256 long.0, leb-true (length blob) 6327 fourth.0, leb-true (length list) 4140 fifth.0)
+    let first = and_parts ((id == part.next_key) && is_number_left id) (is_owner domain nspace && (is_alias alias && (nat_le (length blob) BLOB_BYTES && (nat_le (length list) KEPT_LIST_BYTES && has_place_for domain nspace alias part)))) met in
+    let second = and_parts (is_owner domain nspace) (is_alias alias && (nat_le (length blob) BLOB_BYTES && (nat_le (length list) KEPT_LIST_BYTES && has_place_for domain nspace alias part))) first.1 in
+    let third = and_parts (is_alias alias) (nat_le (length blob) BLOB_BYTES && (nat_le (length list) KEPT_LIST_BYTES && has_place_for domain nspace alias part)) second.1 in
+    let fourth = and_parts (nat_le (length blob) BLOB_BYTES) (nat_le (length list) KEPT_LIST_BYTES && has_place_for domain nspace alias part) third.1 in
+    let fifth = and_parts (nat_le (length list) KEPT_LIST_BYTES) (has_place_for domain nspace alias part) fourth.1 in
+    let name = and_parts (nat_le 1 (length alias)) (nat_le (length alias) ALIAS_BYTES && is_utf8 alias) third.0 in
+    let long = and_parts (nat_le (length alias) ALIAS_BYTES) (is_utf8 alias) name.1 in
+    omega (arith, sum_of id domain nspace limit alias blob list, leb-true (length alias) ALIAS_BYTES long.0, leb-true (length blob) BLOB_BYTES fourth.0, leb-true (length list) KEPT_LIST_BYTES fifth.0)
 small_body part (Delete id) met = omega (arith, length-bytes_high_first 8 id)
 small_body part (Use id) met = omega (arith, length-bytes_high_first 8 id)
 small_body part (Grant row) met =
@@ -59,6 +60,6 @@ small_body part (Ungrant grant) met = omega (arith, length-bytes_high_first 8 gr
 small_body part (Clear domain nspace) met = omega (arith, length-bytes_high_first 8 nspace)
 small_body part (Removed user) met = omega (arith, length-bytes_high_first 4 user)
 
-pub small_record : (part : Lasting) (change : Change) → is_met part change ≡ true → length (closed_of change) ≤ 10763
+pub small_record : (part : Lasting) (change : Change) → is_met part change ≡ true → length (closed_of change) ≤ RECORD_BYTES
 unfolding tail_of
 small_record part change met = omega (arith, small_body part change met, length_counted (body_of change), length-append (counted (body_of change)) (0 ∷ []))

@@ -15,6 +15,7 @@ use Rattle.key_database.specs.Rows.{AreRows, IsBefore, NonePass}
 use Rattle.key_database.specs.Table.{listed}
 use Rattle.key_database.proofs.NameOrder.{name_test}
 use Rattle.key_database.proofs.KeyRows.{before_last, later_id, use_keeps_all}
+use Rattle.tags.specs.declared.limits.TheConstants.{ALIAS_BYTES}
 
 pub append_none : (rows : List KeyRecord) → rows ++ [] ≡ rows
 append_none [] = refl
@@ -92,11 +93,11 @@ use_at_newest id rows new last used is e = rw (e, is) (sym (map_whole id rows (l
 alias_fits : (domain nspace : ℕ) (alias : List ℕ) (key : KeyRecord) → is_named domain nspace alias key ≡ true → key.alias ≡ alias
 alias_fits domain nspace alias key e = (bytes_eq-Decides key.alias alias).0 (and_parts (is_owned domain nspace key) (bytes_eq key.alias alias) e).1
 
-pub named_is : (domain nspace : ℕ) (alias : List ℕ) (rows : List KeyRecord) → AreRows rows → length alias ≤ 256 → find (is_at_name (name_of domain nspace alias)) rows ≡ find (is_named domain nspace alias) rows
+pub named_is : (domain nspace : ℕ) (alias : List ℕ) (rows : List KeyRecord) → AreRows rows → length alias ≤ ALIAS_BYTES → find (is_at_name (name_of domain nspace alias)) rows ≡ find (is_named domain nspace alias) rows
 named_is domain nspace alias [] t le = refl
 named_is domain nspace alias (key ∷ rows) t le = rw (name_test domain nspace alias key le t.0.0, named_is domain nspace alias rows t.2 le) refl
 
-pub none_so_long : (domain nspace : ℕ) (alias : List ℕ) (rows : List KeyRecord) → AreRows rows → 256 < length alias → find (is_named domain nspace alias) rows ≡ None
+pub none_so_long : (domain nspace : ℕ) (alias : List ℕ) (rows : List KeyRecord) → AreRows rows → ALIAS_BYTES < length alias → find (is_named domain nspace alias) rows ≡ None
 none_so_long domain nspace alias [] t lt = refl
 none_so_long domain nspace alias (key ∷ rows) t lt =
     elim (cases_Bool (is_named domain nspace alias key)) [
@@ -105,9 +106,9 @@ none_so_long domain nspace alias (key ∷ rows) t lt =
     ]
 
 -- a key that is found by an owner and an alias has an alias that fits
-pub found_short : (domain nspace : ℕ) (alias : List ℕ) (rows : List KeyRecord) → AreRows rows → IsSome (find (is_named domain nspace alias) rows) → length alias ≤ 256
+pub found_short : (domain nspace : ℕ) (alias : List ℕ) (rows : List KeyRecord) → AreRows rows → IsSome (find (is_named domain nspace alias) rows) → length alias ≤ ALIAS_BYTES
 found_short domain nspace alias rows t some =
-    elim (cases_lt 256 (length alias)) [
+    elim (cases_lt ALIAS_BYTES (length alias)) [
       | inl long ↦ absurd (both_ways (is_some (find (is_named domain nspace alias) rows)) (ap is_some (none_so_long domain nspace alias rows t long)) some)
       | inr short ↦ short
     ]

@@ -6,6 +6,7 @@ use Rattle.std.specs.declared.ops.Bound.TheVariants.{Included, Excluded}
 use Rattle.std.specs.BTreeMap.Range.{IsFromStart}
 use Rattle.journal_records.specs.declared.record.KeyRecord.{KeyRecord}
 use Rattle.key_database.specs.Names.{Name, name_cmp, name_of, key_name, is_at_name}
+use Rattle.tags.specs.declared.limits.TheConstants.{ALIAS_BYTES}
 
 -- a key of these, whose name is not before the start, and not behind that of another such key
 pub record IsLeast (keys : List KeyRecord) (start : Bound Name) (key : KeyRecord) : Type 0 where
@@ -21,4 +22,4 @@ IsFirstFrom keys start (Some key) = IsLeast keys start key
 -- where the keys of an owner with an alias greater than past begin
 abbrev pub start_of : ℕ → ℕ → Option (List ℕ) → Bound Name
 start_of domain nspace None = Included (name_of domain nspace [])
-start_of domain nspace (Some past) = Excluded (name_of domain nspace (take 256 past))
+start_of domain nspace (Some past) = Excluded (name_of domain nspace (take ALIAS_BYTES past))

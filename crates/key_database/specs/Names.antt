@@ -4,8 +4,9 @@ use Rattle.std.specs.declared.cmp.Ordering.{Ordering}
 use Rattle.std.specs.Ordering.{nat_cmp, ordering_then, is_eq}
 use Rattle.std.specs.Cmp.Lexicographic.{slice_cmp}
 use Rattle.journal_records.specs.declared.record.KeyRecord.{KeyRecord}
+use Rattle.tags.specs.declared.limits.TheConstants.{ALIAS_BYTES}
 
--- an owner's domain and nspace; an alias of at most 256 bytes, with zeros behind it, and its length
+-- an owner's domain and nspace; an alias of at most the most bytes, with zeros behind it, and its length
 abbrev pub Name : Type 0
 Name = (ℕ × ℕ) × (List ℕ × ℕ)
 
@@ -24,7 +25,7 @@ padded n alias = alias ++ replicate (n - length alias) 0
 
 -- the name of an owner's key of this alias
 abbrev pub name_of : ℕ → ℕ → List ℕ → Name
-name_of domain nspace alias = ((domain, nspace), (padded 256 alias, length alias))
+name_of domain nspace alias = ((domain, nspace), (padded ALIAS_BYTES alias, length alias))
 
 abbrev pub key_name : KeyRecord → Name
 key_name key = name_of key.domain key.nspace key.alias

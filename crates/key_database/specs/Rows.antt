@@ -4,14 +4,15 @@ use Rattle.std.specs.List.{AllByRecursion}
 use Rattle.grants.specs.Rows.{is_behind}
 use Rattle.journal_records.specs.declared.record.KeyRecord.{KeyRecord}
 use Rattle.journal_records.specs.LastingPart.{has_id, is_named}
+use Rattle.tags.specs.declared.limits.TheConstants.{ALIAS_BYTES}
 
 -- the later key has a greater number, and another name
 abbrev pub IsBefore : KeyRecord → KeyRecord → Type 0
 IsBefore key later = (key.id < later.id) × (is_named key.domain key.nspace key.alias later ≡ false)
 
--- an alias of at most 256 bytes, and a domain of one
+-- an alias that is not too long, and a domain of one byte
 abbrev pub IsFit : KeyRecord → Type 0
-IsFit key = (length key.alias ≤ 256) × (key.domain < 256)
+IsFit key = (length key.alias ≤ ALIAS_BYTES) × (key.domain < 256)
 
 -- the numbers rise, and no two keys have one name
 abbrev pub AreRows : List KeyRecord → Type 0

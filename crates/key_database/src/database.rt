@@ -12,6 +12,7 @@ ghost use Rattle.journal_records.specs.Spelling.{closed_of};
 ghost use Rattle.use_journal.specs.Holding.{end_of, end_with, is_waiting, waits_after, AppendCause, FormatCause, OpenCause};
 ghost use Rattle.key_database.specs.Held.{CanMake, HasRoomForGrant, HasRoomForKey, KeepsRoom, takes_memory};
 ghost use Rattle.key_database.specs.Store.{MayBe, Between, StandsFor};
+ghost use Rattle.tags.specs.declared.limits.TheConstants.{JOURNAL_BYTES};
 
 use crate::appending::append_change;
 use crate::lasting_table::LastingTable;
@@ -122,7 +123,7 @@ impl KeyDatabase {
         ensures waiting { is_unsettled self.new ≡ waits_after result }
         ensures bytes { store_bytes self.new ≡ bytes_after change result (store_bytes self.old) }
         ensures pending { pending_of self.new ≡ waiting_after change result }
-        ensures full { IsErrOf result StoreFault.Full ↔ (268435456 < store_bytes self.old + change_bytes change) }
+        ensures full { IsErrOf result StoreFault.Full ↔ (JOURNAL_BYTES < store_bytes self.old + change_bytes change) }
         ensures same { IsErrOf result StoreFault.Full → (disk.new ≡ disk.old) × SameStore self.old self.new }
         ensures sure { D.is_sure disk.old → D.is_sure disk.new }
         ensures telling { tells D.Disk disk.new ≡ tells D.Disk disk.old }
@@ -161,8 +162,8 @@ impl KeyDatabase {
         ensures pending { pending_of self.new ≡ waiting_after change result }
         ensures memory { IsErrOf result StoreFault.Memory → (takes_memory change ≡ true) × (disk.new ≡ disk.old) }
         ensures full { IsErrOf result StoreFault.Full
-            → (268435456 < store_bytes self.old + change_bytes change) × (disk.new ≡ disk.old) }
-        ensures past { 268435456 < store_bytes self.old + change_bytes change
+            → (JOURNAL_BYTES < store_bytes self.old + change_bytes change) × (disk.new ≡ disk.old) }
+        ensures past { JOURNAL_BYTES < store_bytes self.old + change_bytes change
             → IsErrOf result StoreFault.Full ⊎ IsErrOf result StoreFault.Memory }
         ensures sure { D.is_sure disk.old → D.is_sure disk.new }
         ensures telling { tells D.Disk disk.new ≡ tells D.Disk disk.old }

@@ -14,13 +14,13 @@ ghost use Rattle.key_database.specs.Rows.{AreRows, NonePass, is_past};
 ghost use Rattle.key_database.specs.Table.{HasRoom, KeepsRoom};
 
 use crate::maps::KeyMaps;
-use crate::names::{ALIAS_BYTES, Name, name_of};
+use crate::names::{Name, name_of};
 use journal_records::KeyRecord;
 use std::alloc::Global;
 use std::cmp::Ordering;
 use std::marker::Model;
 use std::ops::Bound;
-use tags::NoMemory;
+use tags::{ALIAS_BYTES, NoMemory, USER_UIDS};
 
 /// The keys by their numbers and names, and in the order of names.
 ///
@@ -45,7 +45,7 @@ impl Model for Keys {
 
 /// The name of a key.
 fn name_of_key(key: &KeyRecord) -> Name
-    requires { length key.now.alias ≤ 256 }
+    requires { length key.now.alias ≤ ALIAS_BYTES }
     ensures { result ≡ spec.key_name key.now }
 {
     name_of(key.domain, key.nspace, key.alias.as_slice())
@@ -79,12 +79,12 @@ fn is_owned(key: &KeyRecord, domain: u8, nspace: u64) -> bool
 fn is_of_user(key: &KeyRecord, user: u32) -> bool
     ensures { result ≡ is_of_user user key.now }
 {
-    key.domain == 0 && key.nspace / 100_000 == user as u64
+    key.domain == 0 && key.nspace / USER_UIDS as u64 == user as u64
 }
 
 /// Whether the name of a key stands before a name.
 fn is_before(key: &KeyRecord, name: &Name) -> bool
-    requires { length key.now.alias ≤ 256 }
+    requires { length key.now.alias ≤ ALIAS_BYTES }
     ensures before { result ≡ true → name_cmp (spec.key_name key.now) name.now ≡ Less }
     ensures other { result ≡ false → name_cmp (spec.key_name key.now) name.now ≡ Less → ⊥ }
 {
@@ -105,8 +105,8 @@ fn is_from(start: &Bound<Name>, name: &Name) -> bool
 
 /// As many of the bytes as an alias has at most.
 fn cut(alias: &[u8]) -> &[u8]
-    ensures front { result.now ≡ take 256 alias.now }
-    ensures short { length result.now ≤ 256 }
+    ensures front { result.now ≡ take ALIAS_BYTES alias.now }
+    ensures short { length result.now ≤ ALIAS_BYTES }
 {
     if alias.len() <= ALIAS_BYTES {
         return alias;
@@ -329,7 +329,7 @@ impl Keys {
         ensures none { IfNone result (NonePass (is_of_user user) self.now.rows) }
         ensures orderly { AreRows self.now.rows }
     {
-        let start = Bound::Included(name_of(0, user as u64 * 100_000, &[]));
+        let start = Bound::Included(name_of(0, user as u64 * USER_UIDS as u64, &[]));
         let Some(key) = self.first_from(start) else {
             return None;
         };

@@ -7,6 +7,16 @@
 //! before the change or with it; and `settle` makes of an unsettled database what the disk has. What is known of the disk
 //! goes on by `after_apply` and `after_settle` (`journal_records/specs/Holding.antt`). An image stands for one lasting
 //! part at most (`one_store`).
+//!
+//! ```rust
+//! use key_database::KeyDatabase;
+//!
+//! KeyDatabase::format(&mut disk)?;
+//! let mut database = KeyDatabase::open(alloc, &mut disk)?;
+//! if database.is_settled() && database.meets(&change) {
+//!     let applied = database.apply(&mut disk, change);
+//! }
+//! ```
 #![tactic(auto)]
 
 mod appending;

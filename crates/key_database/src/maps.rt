@@ -10,12 +10,13 @@ ghost use Rattle.key_database.specs.Rows.{AreRows, is_past};
 ghost use Rattle.grants.specs.Maps.{start_of};
 
 use crate::counts::{count_of, lower, raise};
-use crate::names::{ALIAS_BYTES, Name, Owner, name_of};
+use crate::names::{Name, Owner, name_of};
 use journal_records::KeyRecord;
 use std::alloc::Global;
 use std::collections::BTreeMap;
 use std::marker::Model;
 use std::ops::Bound;
+use tags::ALIAS_BYTES;
 
 /// The keys, found by their number and by their name; seen as the list of them in the order of their numbers.
 #[derive(Drop)]

@@ -18,13 +18,10 @@ use crate::keys::Keys;
 use grants::{GrantRow, Grants};
 use journal_records::{Change, KeyRecord};
 use std::alloc::Global;
-use tags::{NoMemory, is_text};
-
-/// Numbers of keys and grants stay below this one.
-const NUMBERS_END: u64 = 1 << 63;
-
-/// How many keys are live at most, and how many grants are held.
-const MOST: usize = 65_536;
+use tags::{
+    ALIAS_BYTES, BLOB_BYTES, KEPT_LIST_BYTES, MOST_GRANTS, MOST_KEYS, MOST_USER, NUMBERS_END,
+    NoMemory, is_text,
+};
 
 /// Keys, grants and the numbers that the next of each takes.
 #[derive(Drop)]
@@ -37,11 +34,11 @@ pub(crate) struct Part {
     ghost grants_below: { grant_table.AreBelow grants next_grant },
 }
 
-/// Whether bytes may be an alias: 1 to 256 bytes of UTF-8.
+/// Whether bytes may be an alias: 1 to `ALIAS_BYTES` bytes of UTF-8.
 fn is_alias(alias: &[u8]) -> bool
     ensures { result ≡ descriptors.is_alias alias.now }
 {
-    1 <= alias.len() && alias.len() <= 256 && is_text(alias)
+    1 <= alias.len() && alias.len() <= ALIAS_BYTES && is_text(alias)
 }
 
 /// Whether there may be an owner of this domain and nspace: an app's uid of 32 bits, or a namespace.
@@ -80,11 +77,11 @@ impl Part {
         ensures { result ≡ has_place_for domain nspace alias.now (part_of self.now) }
     {
         let count = self.keys.len();
-        if count < MOST {
+        if count < MOST_KEYS {
             return true;
         }
         let rebound = self.keys.named(domain, nspace, alias).is_some();
-        rebound && count <= MOST
+        rebound && count <= MOST_KEYS
     }
 
     /// Whether a grant has the number that it must have.
@@ -95,7 +92,7 @@ impl Part {
             Some(held) => row.grant == held.grant,
             None => {
                 row.grant == self.next_grant
-                    && (row.grant < NUMBERS_END && self.grants.len() < MOST)
+                    && (row.grant < NUMBERS_END && self.grants.len() < MOST_GRANTS)
             }
         }
     }
@@ -134,8 +131,8 @@ impl Part {
                 (*id == self.next_key && *id < NUMBERS_END)
                     && (is_owner(*domain, *nspace)
                         && (is_alias(alias.as_slice())
-                            && (blob.len() <= 6327
-                                && (list.len() <= 4140
+                            && (blob.len() <= BLOB_BYTES
+                                && (list.len() <= KEPT_LIST_BYTES
                                     && self.has_place_for(*domain, *nspace, alias.as_slice())))))
             }
             Change::Delete { id } => self.is_live(*id),
@@ -143,7 +140,7 @@ impl Part {
             Change::Grant { row } => self.is_live(row.key) && self.is_grant_numbered(row),
             Change::Ungrant { grant } => self.grants.find(*grant).is_some(),
             Change::Clear { domain, .. } => *domain == 0 || *domain == 2,
-            Change::Removed { user } => *user <= 42_949,
+            Change::Removed { user } => *user <= MOST_USER,
         }
     }
 
@@ -206,7 +203,7 @@ impl Part {
     fn create(&mut self, key: KeyRecord)
         requires room { HasRoom self.old.keys }
         requires next { key.id ≡ self.old.next_key }
-        requires small { key.id < 2 ^ 63 }
+        requires small { key.id < NUMBERS_END }
         requires fit { IsFit key }
         ensures { part_of self.new ≡ with_key key (part_of self.old) }
     {

@@ -31,6 +31,7 @@ use Rattle.key_rules.specs.Rules.{each_short, has_allowed_size, has_short_ids, i
 use Rattle.key_rules.specs.Table.{list_rules, rules_of}
 use Rattle.key_rules.proofs.Ids.{short_id}
 use Rattle.key_rules.proofs.Keys.{bits_few, generated_short}
+use Rattle.tags.specs.declared.limits.TheConstants.{LIST_BYTES}
 
 -- ---- the rows that hold
 
@@ -46,7 +47,7 @@ all_ok (Err broken) value e = cc
 -- what the rules read of a call that they let through
 pub record IsLetThrough (facts : NewFacts) : Type 0 where
   pub named : names_new_key facts.descriptor ≡ true
-  pub few : length facts.params ≤ 4096
+  pub few : length facts.params ≤ LIST_BYTES
   pub reads : is_ok (listed facts.params) ≡ true
   pub ids : has_short_ids (list_in facts.params) ≡ true
   pub size : has_allowed_size facts.import (list_in facts.params) ≡ true
@@ -69,7 +70,7 @@ let_through facts e =
     let short = held _ _ _ third.1 in
     let reads = held _ _ _ short.1 in
     let ids = held _ _ _ reads.1 in
-    record { named = second.0; few = leb-true (length facts.params) 4096 short.0; reads = reads.0; ids = ids.0; size = size_allowed facts.import facts.descriptor.domain facts.early_ended (list_in facts.params) ids.1 }
+    record { named = second.0; few = leb-true (length facts.params) LIST_BYTES short.0; reads = reads.0; ids = ids.0; size = size_allowed facts.import facts.descriptor.domain facts.early_ended (list_in facts.params) ids.1 }
 
 -- ---- the name
 

@@ -8,11 +8,12 @@ use Rattle.tag_lists.specs.Reading.{listed}
 use Rattle.key_rules.specs.declared.facts.ImportFacts.{ImportFacts}
 use Rattle.key_rules.specs.declared.facts.NewFacts.{NewFacts}
 use Rattle.key_rules.specs.Rules.{has_allowed_size, has_fit_length, has_known_modes, has_known_paddings, has_least_length, has_one_authority, has_one_digest, has_own_counts, has_own_purposes, has_own_size, has_short_ids, has_some_uses, is_early, list_in, may_make, names_algorithm, names_new_key, reading_code, takes_format}
+use Rattle.tags.specs.declared.limits.TheConstants.{LIST_BYTES}
 
 -- the rule of an encoded list
 abbrev pub bytes_rules : List ℕ → List Check
 bytes_rules params =
-    check 4 InvalidInputLength (nat_le (length params) 4096) ∷  -- the encoded list is not too long
+    check 4 InvalidInputLength (nat_le (length params) LIST_BYTES) ∷  -- the encoded list is not too long
     check 4 (reading_code (listed params)) (is_ok (listed params)) ∷  -- it reads
     check 4 InvalidInputLength (has_short_ids (list_in params)) ∷  -- its ids are not too long
     []

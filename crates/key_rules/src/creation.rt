@@ -10,6 +10,7 @@ ghost use Rattle.key_rules.specs.Creation.{new_key};
 ghost use Rattle.key_rules.specs.Gives.{Gives};
 ghost use Rattle.key_rules.specs.Rules.{each_short, has_allowed_size, has_short_ids, list_in};
 ghost use Rattle.key_rules.specs.Table.{key_rules};
+ghost use Rattle.tags.specs.declared.limits.TheConstants.{LIST_BYTES};
 
 use crate::kept::{kept, limit};
 use crate::table::{check_facts, check_key};
@@ -60,8 +61,8 @@ fn plan(
     requires ids { has_short_ids list ≡ true }
     requires short { IfSome import (λ facts. facts.length ≤ 64) }
     requires size { has_allowed_size import list ≡ true }
-    requires few { length list ≤ 4096 }
-    requires small { length (spelling list) ≤ 4096 }
+    requires few { length list ≤ LIST_BYTES }
+    requires small { length (spelling list) ≤ LIST_BYTES }
     ensures plan { Gives (λ plan. plan) result (Ok (spec.plan_for import wall list)) }
     ensures small { IfOk result spec.IsSmall }
 {

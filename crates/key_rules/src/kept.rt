@@ -5,6 +5,7 @@ ghost use Rattle.tags.specs.declared.param.ParamValue.TheVariants.{Number};
 ghost use Rattle.tag_lists.specs.Order.{Fits};
 ghost use Rattle.tag_lists.specs.Spelling.{spelling};
 ghost use Rattle.key_rules.specs.Kept as spec;
+ghost use Rattle.tags.specs.declared.limits.TheConstants.{LIST_BYTES};
 
 use crate::ImportFacts;
 use tag_lists::AuthList;
@@ -87,7 +88,7 @@ pub(crate) fn kept(
     wall: u64,
 ) -> Result<AuthList, NoMemory>
     requires short { IfSome import (λ facts. facts.length ≤ 64) }
-    requires few { length list ≤ 4096 }
+    requires few { length list ≤ LIST_BYTES }
     ensures kept { IfOk result (λ new. new ≡ spec.kept import wall list) }
     ensures small { IfOk result (λ new. length (spelling new) ≤ length (spelling list) + 36) }
 {

@@ -20,7 +20,7 @@ use crate::{ImportFacts, NewFacts, NewFault};
 use std::alloc::Global;
 use tag_lists::{AuthList, ListFault};
 use tags::values::RAW;
-use tags::{Code, Rule, RuleTable, Ruling, check};
+use tags::{Code, LIST_BYTES, Rule, RuleTable, Ruling, check};
 
 /// A rule of the table by its number.
 fn rule(number: u8) -> Rule
@@ -52,10 +52,14 @@ pub(crate) fn read_by_rule(alloc: Global, params: &[u8]) -> Result<AuthList, New
     ensures is { IfOk result (λ list. list ≡ rules.list_in params.now) }
     ensures goes_on { OnOk result ((later : List Check) → first_broken K (spec.bytes_rules params.now ++ later) ≡ first_broken K later) }
     ensures ids { IfOk result (λ list. rules.has_short_ids list ≡ true) }
-    ensures few { IfOk result (λ list. length list ≤ 4096) }
-    ensures small { IfOk result (λ list. length (spelling list) ≤ 4096) }
+    ensures few { IfOk result (λ list. length list ≤ LIST_BYTES) }
+    ensures small { IfOk result (λ list. length (spelling list) ≤ LIST_BYTES) }
 {
-    check(rule(4), Code::InvalidInputLength, params.len() <= 4096)?;
+    check(
+        rule(4),
+        Code::InvalidInputLength,
+        params.len() <= LIST_BYTES,
+    )?;
     let list = read(alloc, params)?;
     check(rule(4), Code::InvalidInputLength, has_short_ids(&list))?;
     Ok(list)
@@ -154,8 +158,8 @@ fn check_params(
     ensures size { IfOk result (λ list. rules.has_allowed_size import list ≡ true) }
     ensures digest { IfOk result (λ list. rules.has_one_digest list ≡ true) }
     ensures ids { IfOk result (λ list. rules.has_short_ids list ≡ true) }
-    ensures few { IfOk result (λ list. length list ≤ 4096) }
-    ensures small { IfOk result (λ list. length (spelling list) ≤ 4096) }
+    ensures few { IfOk result (λ list. length list ≤ LIST_BYTES) }
+    ensures small { IfOk result (λ list. length (spelling list) ≤ LIST_BYTES) }
     ensures short { OnOk result (IfSome import (λ facts. facts.length ≤ 64)) }
 {
     match read_by_rule(alloc, params) {
@@ -174,8 +178,8 @@ pub(crate) fn check_facts(alloc: Global, facts: &NewFacts) -> Result<AuthList, N
     ensures size { IfOk result (λ list. rules.has_allowed_size facts.now.import list ≡ true) }
     ensures digest { IfOk result (λ list. rules.has_one_digest list ≡ true) }
     ensures ids { IfOk result (λ list. rules.has_short_ids list ≡ true) }
-    ensures few { IfOk result (λ list. length list ≤ 4096) }
-    ensures small { IfOk result (λ list. length (spelling list) ≤ 4096) }
+    ensures few { IfOk result (λ list. length list ≤ LIST_BYTES) }
+    ensures small { IfOk result (λ list. length (spelling list) ≤ LIST_BYTES) }
     ensures short { OnOk result (IfSome facts.now.import (λ import. import.length ≤ 64)) }
     ensures named { OnOk result (rules.names_new_key facts.now.descriptor ≡ true) }
 {

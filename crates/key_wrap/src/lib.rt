@@ -13,6 +13,17 @@
 //!
 //! How long a call takes depends on the length of the text, on the cipher, and on whether the wrapped bytes open, and not on where
 //! they differ; no clause says so. Copies of the value and of a block that the calls leave on the stack are not cleared.
+//!
+//! ```rust
+//! use aes_core::AesKey;
+//! use key_wrap::{unwrap, wrap};
+//!
+//! let Some(aes) = AesKey::new(b"0123456789abcdef") else { return false; };
+//! let mut wrapped = [0u8; 40];
+//! wrap(&aes, &key, &mut wrapped);
+//! let mut text = [0u8; 32];
+//! let size = unwrap(&aes, &wrapped, &mut text);
+//! ```
 #![tactic(auto)]
 
 mod lengths;

@@ -10,7 +10,7 @@ ghost use Rattle.keymint_ops.specs.Creation as spec;
 use key_blobs::{Sealed, seal};
 use key_rules::{KeyPlan, NewFacts, NewFault, check_new};
 use std::alloc::Global;
-use tags::{Bytes, DeviceSecrets, NoMemory};
+use tags::{Bytes, DeviceSecrets, Material, NoMemory};
 
 /// What is kept with a new key, and what is drawn for it and sealed.
 #[derive(Debug, Drop)]
@@ -42,7 +42,7 @@ pub fn plan_key(alloc: Global, facts: &NewFacts) -> Result<NewKey, NewFault>
 }
 
 /// What is sealed into a key's blob.
-fn sealed_as(root: [u8; 32], plan: KeyPlan, material: Bytes) -> Sealed
+fn sealed_as(root: [u8; 32], plan: KeyPlan, material: Material) -> Sealed
     requires small { IsSmall plan }
     requires short { length material ≤ 64 }
     ensures sealed { result ≡ spec.sealed_as root plan material }
@@ -73,7 +73,7 @@ pub fn seal_key(
     device: &DeviceSecrets,
     nonce: [u8; 12],
     plan: KeyPlan,
-    material: Bytes,
+    material: Material,
 ) -> Result<Bytes, NoMemory>
     requires small { IsSmall plan }
     requires short { length material ≤ 64 }

@@ -10,7 +10,7 @@ use key_blobs::{BlobFault, Opened, unseal};
 use key_rules::usable;
 use std::alloc::Global;
 use tag_lists::AuthList;
-use tags::{Bytes, Code, DeviceSecrets, NoMemory, Tag};
+use tags::{Bytes, Code, DeviceSecrets, Material, NoMemory, Tag};
 
 /// What the rules of a begin read of a key's blob, and its material.
 #[derive(Debug, Drop)]
@@ -21,7 +21,7 @@ pub struct OpenedKey {
     /// it opens for this device and these ids, and its list and material are a key of their cipher
     pub fits: bool,
     /// the material, and no bytes where it does not open for this device and these ids
-    pub material: Bytes,
+    pub material: Material,
 }
 
 /// An id of the operation's list.
@@ -68,12 +68,12 @@ pub fn open_key(
         Err(BlobFault::Format | BlobFault::Tag) => Ok(OpenedKey {
             list: None,
             fits: false,
-            material: Bytes::empty(alloc),
+            material: Material::of(Bytes::empty(alloc)),
         }),
         Err(BlobFault::Root | BlobFault::App) => Ok(OpenedKey {
             list: Some(AuthList::empty(alloc)),
             fits: false,
-            material: Bytes::empty(alloc),
+            material: Material::of(Bytes::empty(alloc)),
         }),
     }
 }

@@ -4,7 +4,7 @@ use Rattle.std.specs.Option.{option_and_then, option_or}
 use Rattle.std.proofs.lemmas.Bool.{eqb-true, eq-eqb}
 use Rattle.tags.specs.declared.code.Code.{Code}
 use Rattle.tags.specs.declared.code.Code.TheVariants.{JournalFull, SystemError}
-use Rattle.tags.specs.Plan.{OPERATION_BYTES}
+use Rattle.tags.specs.declared.limits.TheConstants.{OPERATION_BYTES}
 use Rattle.ks_outside.specs.declared.disk.Disk.{Ghosts}
 use Rattle.step_rules.specs.declared.facts.StepFacts.{StepFacts}
 use Rattle.step_rules.specs.Rules.{Enters}

@@ -60,7 +60,7 @@ use Rattle.rule_model.specs.NewFacts.{import_of, new_facts}
 use Rattle.rule_model.specs.Operations.{challenge_of, nonce_size, output_of}
 use Rattle.rule_model.specs.Places.{has_grant_place, has_key_place}
 use Rattle.rule_model.specs.Replies.{broken_or, no_fields}
-use Rattle.rule_model.specs.ReplyRooms.{BLOB, Fits, IsWithin, NONCE, no_sizes, sizes_of}
+use Rattle.rule_model.specs.ReplyRooms.{Fits, IsWithin, NONCE, no_sizes, sizes_of}
 use Rattle.rule_model.specs.Setup.{Setup}
 use Rattle.rule_model.specs.Slots.{begin_facts, pruned_for}
 use Rattle.rule_model.specs.StepFacts.{brought_by, brought_by_abort, step_facts}
@@ -71,6 +71,7 @@ use Rattle.rule_model.specs.Uses.{IsStored}
 use Rattle.rule_model.proofs.Bounds.{Each, each_found, each_left}
 use Rattle.rule_model.proofs.KeySizes.{AreShort, IsShort, kept_short}
 use Rattle.keystore_core.specs.Outputs.{HasOutRoom, output_out}
+use Rattle.tags.specs.declared.limits.TheConstants.{ALIAS_BYTES, BLOB_BYTES, LISTED, MOST_TRIPLES}
 
 -- ---- through the layers of an answer
 
@@ -95,7 +96,7 @@ take_few n bytes = omega (arith, length-take n bytes)
 
 -- what is handed out as its blob, of a device whose root of trust has 32 bytes
 blob_fits : (device : DeviceSecrets) (plan : KeyPlan) (facts : NewFacts) (material drawn : List ℕ) → length device.root ≡ 32 → IsFit facts plan → length material ≤ 64 → length drawn ≡ plan.size + 12
-    → length (kept_as device plan (drop plan.size drawn) material) ≤ 6327
+    → length (kept_as device plan (drop plan.size drawn) material) ≤ BLOB_BYTES
 blob_fits device plan facts material drawn long fit short drew =
     let x : Sealed = record { root = device.root; app_id = plan.app_id; app_bytes = plan.app_bytes; list = plan.list; material = material } in
     let twelve : length (drop plan.size drawn) ≡ 12 = omega (arith, length-drop plan.size drawn, drew) in
@@ -108,9 +109,9 @@ blob_fits device plan facts material drawn long fit short drew =
       short,
     )
 
-key_fits : (ruling : Ruling) (plan : KeyPlan) (place handed : Bool) (blob : List ℕ) (number : ℕ) (drawn : List ℕ) → (is_ok (where_all_hold ruling plan) ≡ true → length drawn ≡ plan.size + 12 → length blob ≤ 6327)
+key_fits : (ruling : Ruling) (plan : KeyPlan) (place handed : Bool) (blob : List ℕ) (number : ℕ) (drawn : List ℕ) → (is_ok (where_all_hold ruling plan) ≡ true → length drawn ≡ plan.size + 12 → length blob ≤ BLOB_BYTES)
     → length drawn ≡ size_of (wanted_by_key (where_all_hold ruling plan) place)
-    → Fits (record no_sizes { blob = BLOB }) (broken_or (where_all_hold ruling plan) (if place then Done (if handed then record no_fields { blob = Some blob } else record no_fields { key = Some number }) else Stopped StoreFull))
+    → Fits (record no_sizes { blob = BLOB_BYTES }) (broken_or (where_all_hold ruling plan) (if place then Done (if handed then record no_fields { blob = Some blob } else record no_fields { key = Some number }) else Stopped StoreFull))
 key_fits (Err (rule, code)) plan place handed blob number drawn few drew = tt
 key_fits (Ok done) plan false handed blob number drawn few drew = tt
 key_fits (Ok done) plan true true blob number drawn few drew = record { alias = tt; nonce = tt; out = tt; blob = few refl drew; list = tt; entries = tt }
@@ -176,7 +177,7 @@ next_short : (part : Lasting) (domain nspace : ℕ) (past : Option (List ℕ)) �
 next_short part domain nspace past short = least_short (filter (is_listed domain nspace past) part.keys) (each_left IsShort (is_listed domain nspace past) part.keys short)
 
 abbrev HasShortAlias : List ℕ × ℕ → Type 0
-HasShortAlias entry = length entry.0 ≤ 256
+HasShortAlias entry = length entry.0 ≤ ALIAS_BYTES
 
 abbrev IsFew : ℕ → List (List ℕ × ℕ) → Type 0
 IsFew most entries = (length entries ≤ most) × All HasShortAlias entries
@@ -216,7 +217,7 @@ granted_fits part None uid = record { alias = tt; nonce = tt; out = tt; blob = t
 granted_fits part (Some key) uid = if_fits no_sizes (has_grant_place part key uid) (Done (record no_fields { grant = Some (grant_number part key uid) })) (Stopped StoreFull) (record { alias = tt; nonce = tt; out = tt; blob = tt; list = tt; entries = tt }) tt
 
 accepted_fits : (tokens : List AuthToken) (token : AuthToken) → Fits no_sizes (accepted_in tokens token)
-accepted_fits tokens token = if_fits no_sizes (length (other_triples token tokens) == 256) (Stopped TokensFull) (Done no_fields) tt (record { alias = tt; nonce = tt; out = tt; blob = tt; list = tt; entries = tt })
+accepted_fits tokens token = if_fits no_sizes (length (other_triples token tokens) == MOST_TRIPLES) (Stopped TokensFull) (Done no_fields) tt (record { alias = tt; nonce = tt; out = tt; blob = tt; list = tt; entries = tt })
 
 -- each answer by the rules
 rules_fit : (act : Act) (setup : Setup) (past : History) (caller : Caller) (drawn : List ℕ) (out : ℕ) → AreShort (kept setup past) → length (root_of setup past) ≡ 32
@@ -251,7 +252,7 @@ rules_fit (GetNumberOfEntries domain nspace) setup past caller drawn out short l
     broken_fits no_sizes (listing_ruling setup.policy caller domain nspace) (counted_in (kept setup past) (owner_for (owner_of caller) domain nspace)) (record { alias = tt; nonce = tt; out = tt; blob = tt; list = tt; entries = tt })
 rules_fit (ListEntriesBatched domain nspace behind) setup past caller drawn out short long drew room =
     broken_fits (sizes_of (ListEntriesBatched domain nspace behind) 0) (listing_ruling setup.policy caller domain nspace) (listed_in (kept setup past) (owner_for (owner_of caller) domain nspace) behind)
-    (record { alias = tt; nonce = tt; out = tt; blob = tt; list = tt; entries = listed_few 256 (kept setup past) (owner_for (owner_of caller) domain nspace).0 (owner_for (owner_of caller) domain nspace).1 behind short })
+    (record { alias = tt; nonce = tt; out = tt; blob = tt; list = tt; entries = listed_few LISTED (kept setup past) (owner_for (owner_of caller) domain nspace).0 (owner_for (owner_of caller) domain nspace).1 behind short })
 rules_fit (ClearNamespace domain nspace) setup past caller drawn out short long drew room =
     broken_fits no_sizes (clear_namespace_ruling caller domain nspace) (Done no_fields) (record { alias = tt; nonce = tt; out = tt; blob = tt; list = tt; entries = tt })
 rules_fit (UserRemoved user) setup past caller drawn out short long drew room =

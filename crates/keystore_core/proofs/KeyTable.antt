@@ -30,6 +30,7 @@ use Rattle.rule_model.specs.Setup.{Setup}
 use Rattle.rule_model.specs.Stored.{record_bytes}
 use Rattle.keystore_core.specs.declared.tables.Tables.{Tables}
 use Rattle.keystore_core.specs.Keys.{KeysStand, SameKeys, WaitsFor}
+use Rattle.tags.specs.declared.limits.TheConstants.{MOST_GRANTS}
 
 pub same_keys : (tables : Tables) → SameKeys tables tables
 same_keys tables = record { device_is = refl; policy_is = refl; store_is = one_store_same tables.keys }
@@ -118,5 +119,5 @@ may_grant part key uid bits number live place is = rw live (by_held (grant_at pa
   by_held (Some held) at has n = eq-eqb number held.grant (rw at at n)
   by_held None at has n =
       let next : number ≡ part.next_grant = rw at at n in
-      let left : (is_number_left part.next_grant && nat_lt (length part.grants) 65536) ≡ true = rw at at has in
+      let left : (is_number_left part.next_grant && nat_lt (length part.grants) MOST_GRANTS) ≡ true = rw at at has in
       rw (next, eq-eqb part.next_grant part.next_grant refl) left

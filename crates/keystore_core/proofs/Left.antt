@@ -5,7 +5,7 @@ use Rattle.tags.specs.declared.code.Code.{Code}
 use Rattle.tags.specs.declared.code.Code.TheVariants.{NoTicket}
 use Rattle.tags.specs.declared.rule.Rule.{Rule}
 use Rattle.tags.specs.declared.rule.RuleTable.TheVariants.{A}
-use Rattle.tags.specs.Plan.{OPERATION_BYTES}
+use Rattle.tags.specs.declared.limits.TheConstants.{OPERATION_BYTES}
 use Rattle.tags.specs.Table.{first_broken}
 use Rattle.cipher_ops.specs.declared.job.Done.{Done as JobDone}
 use Rattle.cipher_ops.specs.declared.room.Work.{Work}

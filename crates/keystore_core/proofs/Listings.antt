@@ -5,6 +5,7 @@ use Rattle.journal_records.specs.declared.record.KeyRecord.{KeyRecord}
 use Rattle.journal_records.specs.LastingPart.{Lasting}
 use Rattle.journal_records.specs.Lookups.{next_key}
 use Rattle.rule_model.specs.Listing.{listed_from}
+use Rattle.tags.specs.declared.limits.TheConstants.{LISTED}
 
 module _ (part : Lasting) (domain nspace : ℕ) where
   more_from : (most : ℕ) (past : Option (List ℕ)) (key : KeyRecord) → next_key part domain nspace past ≡ Some key
@@ -21,20 +22,20 @@ module _ (part : Lasting) (domain nspace : ℕ) where
   none_from zero past next = refl
   none_from (suc most) past next = rw next refl
 
-  pub listed_more : (done : List (List ℕ × ℕ)) (past : Option (List ℕ)) (key : KeyRecord) → length done < 256 → next_key part domain nspace past ≡ Some key
-      → (done ++ (key.alias, key.id) ∷ []) ++ listed_from (256 - length (done ++ (key.alias, key.id) ∷ [])) part domain nspace (Some key.alias)
-      ≡ done ++ listed_from (256 - length done) part domain nspace past
+  pub listed_more : (done : List (List ℕ × ℕ)) (past : Option (List ℕ)) (key : KeyRecord) → length done < LISTED → next_key part domain nspace past ≡ Some key
+      → (done ++ (key.alias, key.id) ∷ []) ++ listed_from (LISTED - length (done ++ (key.alias, key.id) ∷ [])) part domain nspace (Some key.alias)
+      ≡ done ++ listed_from (LISTED - length done) part domain nspace past
   listed_more done past key few next =
       let longer = length-append done ((key.alias, key.id) ∷ []) in
-      let left : 256 - length done ≡ suc (256 - length (done ++ (key.alias, key.id) ∷ [])) = omega (arith, few, longer) in
-      append_assoc done ((key.alias, key.id) ∷ []) (listed_from (256 - length (done ++ (key.alias, key.id) ∷ [])) part domain nspace (Some key.alias))
-      ∙ ap (λ rest. done ++ rest) (sym (ap (λ most. listed_from most part domain nspace past) left ∙ more_from (256 - length (done ++ (key.alias, key.id) ∷ [])) past key next))
+      let left : LISTED - length done ≡ suc (LISTED - length (done ++ (key.alias, key.id) ∷ [])) = omega (arith, few, longer) in
+      append_assoc done ((key.alias, key.id) ∷ []) (listed_from (LISTED - length (done ++ (key.alias, key.id) ∷ [])) part domain nspace (Some key.alias))
+      ∙ ap (λ rest. done ++ rest) (sym (ap (λ most. listed_from most part domain nspace past) left ∙ more_from (LISTED - length (done ++ (key.alias, key.id) ∷ [])) past key next))
 
   pub listed_no_more : (done : List (List ℕ × ℕ)) (past : Option (List ℕ)) → next_key part domain nspace past ≡ None
-      → done ≡ done ++ listed_from (256 - length done) part domain nspace past
-  listed_no_more done past next = sym (append-nil done) ∙ ap (λ rest. done ++ rest) (sym (none_from (256 - length done) past next))
+      → done ≡ done ++ listed_from (LISTED - length done) part domain nspace past
+  listed_no_more done past next = sym (append-nil done) ∙ ap (λ rest. done ++ rest) (sym (none_from (LISTED - length done) past next))
 
-  pub listed_full : (done : List (List ℕ × ℕ)) (past : Option (List ℕ)) → (length done < 256 → ⊥) → done ≡ done ++ listed_from (256 - length done) part domain nspace past
+  pub listed_full : (done : List (List ℕ × ℕ)) (past : Option (List ℕ)) → (length done < LISTED → ⊥) → done ≡ done ++ listed_from (LISTED - length done) part domain nspace past
   listed_full done past full =
-      let none : 256 - length done ≡ 0 = omega (arith, full) in
+      let none : LISTED - length done ≡ 0 = omega (arith, full) in
       sym (append-nil done) ∙ ap (λ rest. done ++ rest) (sym (ap (λ most. listed_from most part domain nspace past) none ∙ zero_from past))

@@ -71,6 +71,7 @@ use Rattle.keystore_core.proofs.Booted.{boot_stays}
 use Rattle.keystore_core.proofs.Ready.{ready_settled}
 use Rattle.keystore_core.proofs.Opened.{stays_same}
 use Rattle.keystore_core.proofs.Standing.{called, clients_stay, denied_tables, operations_stay, quiet, same_tables, slots_stay, tickets_stay}
+use Rattle.tags.specs.declared.limits.TheConstants.{BLOB_BYTES, KEPT_LIST_BYTES}
 
 abbrev facts_of : List PolicyRow → Caller → Descriptor → List ℕ → Option Import → Bool → NewFacts
 facts_of policy caller key params import early_ended = new_facts policy caller key params (option_map facts_of_import import) early_ended
@@ -181,8 +182,8 @@ may_keep policy caller key params import early_ended held plan blob list limit r
         placed.0,
         owned (owner_of caller) key.domain key.nspace small,
         alias_named key fit.named stored,
-        le-leb (length blob) 6327 (omega (arith, few)),
-        le-leb (length list) 4140 (omega (arith, short)),
+        le-leb (length blob) BLOB_BYTES (omega (arith, few)),
+        le-leb (length list) KEPT_LIST_BYTES (omega (arith, short)),
         placed.1,
       ) refl,
       (λ e. room, λ e. cc),

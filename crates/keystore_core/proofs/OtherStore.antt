@@ -56,6 +56,7 @@ use Rattle.rule_model.specs.Stored.{has_record_room, where_stored}
 use Rattle.rule_model.specs.Tickets.{Entered, ticket_at}
 use Rattle.rule_model.specs.Tokens.{token_of}
 use Rattle.keystore_core.specs.Restarting.{is_other_code, is_other_store}
+use Rattle.tags.specs.declared.limits.TheConstants.{MOST_TRIPLES}
 
 broken_not : {T : Type 0} (ruling : Result T (Rule × Code)) (reply : Reply) → is_other_store reply ≡ false → is_other_store (broken_or ruling reply) ≡ false
 broken_not (Ok found) reply e = e
@@ -133,7 +134,7 @@ made_not part caller key blob =
     if_not (has_key_place part (owner_of caller) key) (Done (if key.domain == domain_blob then record no_fields { blob = Some blob } else record no_fields { key = Some part.next_key })) (Stopped StoreFull) refl refl
 
 accepted_not : (tokens : List AuthToken) (token : AuthToken) → is_other_store (accepted_in tokens token) ≡ false
-accepted_not tokens token = if_not (length (other_triples token tokens) == 256) (Stopped TokensFull) (Done no_fields) refl refl
+accepted_not tokens token = if_not (length (other_triples token tokens) == MOST_TRIPLES) (Stopped TokensFull) (Done no_fields) refl refl
 
 -- no answer by the rules is that
 rules_not : (act : Act) (setup : Setup) (past : History) (caller : Caller) (drawn : List ℕ) → is_other_store (answer_by_rules act setup past caller drawn) ≡ false

@@ -6,7 +6,7 @@ use Rattle.tags.specs.declared.code.Code.{Code}
 use Rattle.tags.specs.declared.rule.Rule.{Rule}
 use Rattle.tags.specs.declared.rule.RuleTable.TheVariants.{S}
 use Rattle.tags.specs.declared.settled.Settled.{Settled}
-use Rattle.tags.specs.Plan.{OPERATION_BYTES}
+use Rattle.tags.specs.declared.limits.TheConstants.{OPERATION_BYTES}
 use Rattle.tags.specs.Table.{Ruling, first_broken}
 use Rattle.ks_outside.specs.declared.clock.Reading.{Reading}
 use Rattle.step_rules.specs.declared.facts.StepFacts.{StepFacts}

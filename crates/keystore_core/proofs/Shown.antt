@@ -45,6 +45,7 @@ use Rattle.keystore_core.proofs.Booted.{boot_after}
 use Rattle.keystore_core.proofs.KeyTable.{keys_stay, same_keys_as}
 use Rattle.keystore_core.proofs.Opened.{stays_same, stays_shown}
 use Rattle.keystore_core.proofs.Standing.{called, clients_stay, denied_tables, rows_after, same_tables, slots_after, tickets_stay}
+use Rattle.tags.specs.declared.limits.TheConstants.{MOST_TRIPLES}
 
 -- a token is for a row where it is for its operation
 for_same : (token : AuthToken) (row : Operation) (o : Open) → IsRow row o → is_for_row token row ≡ is_for token o
@@ -113,10 +114,10 @@ module _ (setup : Setup) (past : History) (tables : Tables) (caller : Caller) (t
         either false = refl
 
   -- the answer of a token that no rule refuses, by whether there is a place
-  answer_is : (full : Bool) → add_auth_token_ruling setup.device.token caller token ≡ Ok tt → full ≡ (length (other_triples token (tokens_in tables.boot.tokens)) == 256)
+  answer_is : (full : Bool) → add_auth_token_ruling setup.device.token caller token ≡ Ok tt → full ≡ (length (other_triples token (tokens_in tables.boot.tokens)) == MOST_TRIPLES)
       → (if full then Stopped TokensFull else Done no_fields) ≡ answer_by_rules (adding token) setup past (caller_of past Adding) []
   answer_is full e is =
-      ap (λ b. if b then Stopped TokensFull else Done no_fields) (is ∙ ap (λ tokens. length (other_triples token tokens) == 256) stands.boot.tokens.tokens_are)
+      ap (λ b. if b then Stopped TokensFull else Done no_fields) (is ∙ ap (λ tokens. length (other_triples token tokens) == MOST_TRIPLES) stands.boot.tokens.tokens_are)
       ∙ sym (ap (λ found. broken_or found (accepted_in (last_tokens setup past) token)) e) ∙ ap (λ c. answer_by_rules (adding token) setup past c []) same
 
   refused_same : (new : Tables) → RefusesToken tables new → SameTables tables new
@@ -129,7 +130,7 @@ module _ (setup : Setup) (past : History) (tables : Tables) (caller : Caller) (t
     boot = record { device = is.device; tokens = is.tokens; begins = λ key. ap (λ b. begins_in b key) is.begins };
   }
 
-  pub full : (new : Tables) → add_auth_token_ruling setup.device.token caller token ≡ Ok tt → true ≡ (length (other_triples token (tokens_in tables.boot.tokens)) == 256) → RefusesToken tables new
+  pub full : (new : Tables) → add_auth_token_ruling setup.device.token caller token ≡ Ok tt → true ≡ (length (other_triples token (tokens_in tables.boot.tokens)) == MOST_TRIPLES) → RefusesToken tables new
       → AnswersAfter setup past new Adding (record { reply = Stopped TokensFull; job = None; drawn = [] })
   full new e is still = record {
     follows = λ ready. Answered (record { ready = ready; drew = refl; is_answer = answer_is true e is });
@@ -138,7 +139,7 @@ module _ (setup : Setup) (past : History) (tables : Tables) (caller : Caller) (t
     stays = stays_same setup past Adding [] (Stopped TokensFull) refl;
   }
 
-  pub accepted : (new : Tables) → add_auth_token_ruling setup.device.token caller token ≡ Ok tt → false ≡ (length (other_triples token (tokens_in tables.boot.tokens)) == 256) → AcceptsToken token tables new
+  pub accepted : (new : Tables) → add_auth_token_ruling setup.device.token caller token ≡ Ok tt → false ≡ (length (other_triples token (tokens_in tables.boot.tokens)) == MOST_TRIPLES) → AcceptsToken token tables new
       → AnswersAfter setup past new Adding (record { reply = Done no_fields; job = None; drawn = [] })
   accepted new e is takes =
       let reply : Reply = Done no_fields in

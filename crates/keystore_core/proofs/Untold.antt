@@ -42,6 +42,7 @@ use Rattle.rule_model.specs.Stored.{has_record_room, stored_bytes, where_stored}
 use Rattle.rule_model.specs.Tickets.{Entered, ticket_at}
 use Rattle.rule_model.specs.Tokens.{token_of}
 use Rattle.rule_model.proofs.Admitted.{answered_done}
+use Rattle.tags.specs.declared.limits.TheConstants.{MOST_TRIPLES}
 
 abbrev tells_ticket : Reply → Bool
 tells_ticket (Done fields) = is_some fields.ticket
@@ -88,7 +89,7 @@ made_untold part caller key blob =
     (handed_untold (key.domain == domain_blob) blob part.next_key) refl
 
 accepted_untold : (tokens : List AuthToken) (token : AuthToken) → tells_ticket (accepted_in tokens token) ≡ false
-accepted_untold tokens token = if_untold (length (other_triples token tokens) == 256) (Stopped TokensFull) (Done no_fields) refl refl
+accepted_untold tokens token = if_untold (length (other_triples token tokens) == MOST_TRIPLES) (Stopped TokensFull) (Done no_fields) refl refl
 
 rules_untold : (act : Act) (setup : Setup) (past : History) (caller : Caller) (drawn : List ℕ) → is_enter act ≡ false → tells_ticket (answer_by_rules act setup past caller drawn) ≡ false
 rules_untold (Connect uid) setup past caller drawn e = refl

@@ -41,27 +41,28 @@ use Rattle.keystore_core.specs.Keys.{AreSettled, KeysStand}
 use Rattle.keystore_core.proofs.KeyTable.{keys_stay, none_waits}
 use Rattle.keystore_core.proofs.Ready.{idle_ready, idle_settled}
 use Rattle.keystore_core.specs.Writing.{Full, HasMade, IsTorn, IsWritten, IsWrittenIf, LeavesStore, Made, StoreGoes, StoreGoesFor, Torn, change_for, use_by}
+use Rattle.tags.specs.declared.limits.TheConstants.{JOURNAL_BYTES}
 
 -- ---- a change that is written
 
 pub closed_length : (change : Change) → change_bytes change ≡ record_bytes change + 1
 closed_length change = omega (arith, length-append (tail_of change) (0 ∷ []))
 
-pub room_left : (bytes : ℕ) (change : Change) → (268435456 < bytes + change_bytes change → ⊥) → has_record_room bytes change ≡ true
+pub room_left : (bytes : ℕ) (change : Change) → (JOURNAL_BYTES < bytes + change_bytes change → ⊥) → has_record_room bytes change ≡ true
 room_left bytes change fits =
-    elim (cases_lt 268435456 (bytes + change_bytes change)) [
+    elim (cases_lt JOURNAL_BYTES (bytes + change_bytes change)) [
       | inl over ↦ absurd (fits over)
-      | inr within ↦ le-leb (bytes + record_bytes change + 1) 268435456 (omega (arith, closed_length change, within))
+      | inr within ↦ le-leb (bytes + record_bytes change + 1) JOURNAL_BYTES (omega (arith, closed_length change, within))
     ]
 
-pub room_none : (bytes : ℕ) (change : Change) → 268435456 < bytes + change_bytes change → has_record_room bytes change ≡ false
+pub room_none : (bytes : ℕ) (change : Change) → JOURNAL_BYTES < bytes + change_bytes change → has_record_room bytes change ≡ false
 room_none bytes change over = by_test (has_record_room bytes change) refl where
   by_test : (b : Bool) → has_record_room bytes change ≡ b → b ≡ false
-  by_test true e = absurd (omega (arith, closed_length change, over, leb-true (bytes + record_bytes change + 1) 268435456 e))
+  by_test true e = absurd (omega (arith, closed_length change, over, leb-true (bytes + record_bytes change + 1) JOURNAL_BYTES e))
   by_test false e = refl
 
 pub has_made : (old new : KeyDatabase) (change : Change) → lasting new ≡ after (lasting old) change → store_bytes new ≡ store_bytes old + (change_bytes change - 1) → is_unsettled new ≡ false
-    → (268435456 < store_bytes old + change_bytes change → ⊥) → HasMade old new change
+    → (JOURNAL_BYTES < store_bytes old + change_bytes change → ⊥) → HasMade old new change
 has_made old new change made bytes settled fits = record {
   lasting_is = made;
   bytes_are = omega (arith, bytes, closed_length change);

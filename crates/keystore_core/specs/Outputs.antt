@@ -1,7 +1,7 @@
 -- How many bytes the leave of a work puts out at most, and what the engine tells of it before the enter.
 use Rattle.std.specs.Prelude.{◌≡◌, ◌+◌, ◌≤◌, ℕ, Bool, true, false, List, [], length, Option, Some, None, Result, Ok, IfOk, if◌then◌else◌, ⊤}
 use Rattle.tags.specs.declared.code.Code.{Code}
-use Rattle.tags.specs.Plan.{OPERATION_BYTES}
+use Rattle.tags.specs.declared.limits.TheConstants.{OPERATION_BYTES}
 use Rattle.tags.specs.declared.plan.Plan.{Plan}
 use Rattle.cipher_ops.specs.Output.{finish_output, update_output}
 use Rattle.cipher_ops.specs.Sizes.{finish_room, piece_room, taken}

@@ -3,7 +3,7 @@ use Rattle.std.specs.Prelude.{◌≡◌, ℕ, ◌+◌, ◌≤◌, true, ◌==◌
 use Rattle.std.specs.BTreeMap.{get}
 use Rattle.std.specs.Option.{option_flatten}
 use Rattle.std.specs.Ordering.{nat_cmp}
-use Rattle.tags.specs.Plan.{OPERATION_BYTES}
+use Rattle.tags.specs.declared.limits.TheConstants.{OPERATION_BYTES}
 use Rattle.cipher_ops.specs.declared.room.Work.{Work}
 use Rattle.rule_model.specs.Kept.{operation_at}
 use Rattle.rule_model.specs.Acts.{is_enter}

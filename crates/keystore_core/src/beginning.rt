@@ -45,7 +45,7 @@ use ks_outside::Entropy;
 use rule_model::{Caller, Conditions, Fields, NO_FIELDS, Pieces, Reply};
 use std::alloc::Global;
 use tag_lists::AuthList;
-use tags::{Bytes, Code, Descriptor, DeviceSecrets, NoMemory, Policy, Tag};
+use tags::{Bytes, Code, Descriptor, DeviceSecrets, Material, NoMemory, Policy, Tag, USER_UIDS};
 use use_rules::{BeginFacts, challenge_wanted};
 
 /// The key of a begin.
@@ -73,7 +73,7 @@ struct Admitted {
     challenge: usize,
     /// the list and the material of its key
     list: AuthList,
-    material: Bytes,
+    material: Material,
 }
 
 /// The blob of the stored key, or the one that is handed in; no bytes, which open nowhere, where there is none.
@@ -146,7 +146,7 @@ fn begin_key(
 fn user_of(caller: Caller) -> u32
     ensures { result ≡ users.user_of caller }
 {
-    owner_of(caller) / 100_000
+    owner_of(caller) / USER_UIDS
 }
 
 /// Whether one of the last tokens opens the key of a list at the reading `boot`.

@@ -30,16 +30,10 @@ use key_domains::{Access, Permissions};
 use ks_outside::Disk;
 use rule_model::{Caller, Fields, NO_FIELDS, Reply};
 use std::alloc::Global;
-use tags::{Bytes, Code, Descriptor, NoMemory, Policy};
+use tags::{Bytes, Code, Descriptor, MOST_GRANTS, NUMBERS_END, NoMemory, Policy};
 
 /// The uid of the system.
 const SYSTEM: u32 = 1000;
-
-/// Numbers of grants stay below this one.
-const NUMBERS_END: u64 = 1 << 63;
-
-/// How many grants are held at most.
-const MOST_GRANTS: usize = 65_536;
 
 /// What the rules read of a call on the key that was found.
 fn key_call_facts(

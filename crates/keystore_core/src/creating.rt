@@ -28,19 +28,18 @@ use keymint_ops::{NewKey, plan_key, seal_key};
 use ks_outside::{Disk, Entropy};
 use rule_model::{Caller, Fields, NO_FIELDS, Pieces, Reply};
 use std::alloc::Global;
-use tags::{Bytes, Code, DOMAIN_BLOB, Descriptor, DeviceSecrets, NoMemory, Policy};
+use tags::{
+    Bytes, Code, DOMAIN_BLOB, Descriptor, DeviceSecrets, Material, NUMBERS_END, NoMemory, Policy,
+};
 
 /// The bytes of the nonce that a key is sealed with.
 pub const NONCE_BYTES: usize = 12;
-
-/// Numbers of keys stay below this one.
-const NUMBERS_END: u64 = 1 << 63;
 
 /// The material of an imported key.
 #[derive(Drop)]
 pub struct Import {
     pub format: u32,
-    pub material: Bytes,
+    pub material: Material,
 }
 
 fn import_facts(import: &Option<Import>) -> Option<ImportFacts>
@@ -86,7 +85,7 @@ fn descriptor_of(facts: NewFacts) -> Descriptor
 }
 
 /// A new key's material: the imported one, or these drawn bytes in the room that was taken.
-fn material_of(import: Option<Import>, room: Room, drawn: &[u8]) -> Bytes
+fn material_of(import: Option<Import>, room: Room, drawn: &[u8]) -> Material
     requires { room_in room ≡ length drawn.now }
     ensures { result ≡ spec.material_of import drawn.now }
 {
@@ -97,7 +96,7 @@ fn material_of(import: Option<Import>, room: Room, drawn: &[u8]) -> Bytes
                 material,
             },
         ) => material,
-        None => room.filled(drawn),
+        None => Material::of(room.filled(drawn)),
     }
 }
 

@@ -3,6 +3,7 @@
 ghost use Rattle.std.specs.Prelude.{◌≡◌, ◌≤◌, IfOk, replicate, false, if◌then◌else◌};
 ghost use Rattle.rule_model.specs.Boot.{EndsEarlyBoot, Locks, StartsAgain, Unlocks};
 ghost use Rattle.keystore_core.specs.Device.{ChangesDevice, IsStart, early_in, unlocked_in};
+ghost use Rattle.tags.specs.declared.limits.TheConstants.{MOST_USER};
 
 use crate::device::Device;
 use std::alloc::Global;
@@ -48,7 +49,7 @@ impl Device {
 
     /// Locks a user, or unlocks it.
     pub fn set(&mut self, user: u32, unlocked: bool)
-        requires { user ≤ 42949 }
+        requires { user ≤ MOST_USER }
         ensures { ChangesDevice (if unlocked then Unlocks user else Locks user) self.old self.new }
     {
         self.unlocked[user as usize] = unlocked;

@@ -22,6 +22,7 @@ ghost use Rattle.keystore_core.specs.Restarting.{HasRead, is_other_store};
 ghost use Rattle.keystore_core.specs.Engine.{entries_made as made_by, fault_of};
 ghost use Rattle.keystore_core.specs.Outputs.{HasOutRoom};
 ghost use Rattle.keystore_core.specs.Tables.{IsTables};
+ghost use Rattle.tags.specs.declared.limits.TheConstants.{MOST_SLOTS};
 
 use crate::tables::Tables;
 use cipher_ops::Done;
@@ -112,7 +113,7 @@ impl Engine {
         }
     }
 
-    /// Reads the store that the disk holds, for an engine under a policy, without clients and operations, with 1 to 64
+    /// Reads the store that the disk holds, for an engine under a policy, without clients and operations, with 1 to `MOST_SLOTS`
     /// slots: it stands for the empty history over the lasting part that the bytes stand for. Corrupted has the place of
     /// what is wrong first in them.
     pub fn open<D: Disk>(
@@ -123,7 +124,7 @@ impl Engine {
         disk: &mut D,
     ) -> Result<Engine, OpenFault>
         requires some { 0 < slots }
-        requires few { slots ≤ 64 }
+        requires few { slots ≤ MOST_SLOTS }
         ensures stands { IfOk result (λ engine. (setup : Setup) → IsOpened setup device.now policy.now slots engine → Stands setup engine []) }
         ensures holds { IfOk result (λ engine. (setup : Setup) → IsOpened setup device.now policy.now slots engine → StoreStands D.Disk setup engine disk.new []) }
         ensures first { IfOk result StandsAtFirst }

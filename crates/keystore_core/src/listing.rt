@@ -8,10 +8,7 @@ ghost use Rattle.rule_model.specs.Listing.{listing};
 use key_database::KeyDatabase;
 use rule_model::Entries;
 use std::alloc::Global;
-use tags::{Bytes, NoMemory};
-
-/// At most this many keys stand in one listing.
-const LISTED: usize = 256;
+use tags::{Bytes, LISTED, NoMemory};
 
 /// The alias behind which a listing begins, where there is one.
 fn alias_past(past: &Option<Bytes>) -> Option<&[u8]>

@@ -1,7 +1,6 @@
 //! How many bytes the work of an enter gives at most.
 
 ghost use Rattle.std.specs.Prelude.{◌≡◌, ◌+◌, ◌≤◌, Some, nat_le};
-ghost use Rattle.tags.specs.Plan.{OPERATION_BYTES};
 ghost use Rattle.keystore_core.specs.Outputs as spec;
 ghost use Rattle.keystore_core.specs.Outputs.{RowGives, StepGives};
 

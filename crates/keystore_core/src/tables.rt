@@ -14,6 +14,7 @@ ghost use Rattle.keystore_core.specs.Engine.{IsOver};
 ghost use Rattle.keystore_core.specs.Keys.{AreSettled};
 ghost use Rattle.keystore_core.specs.Restarting.{HasRead, is_other_store};
 ghost use Rattle.keystore_core.specs.Writing.{StoreAnswers, StoreGoesAfter};
+ghost use Rattle.tags.specs.declared.limits.TheConstants.{MOST_SLOTS};
 
 use crate::answered::Answered;
 use crate::boot::Boot;
@@ -57,7 +58,7 @@ impl Tables {
         keys: KeyDatabase,
     ) -> Result<Tables, NoMemory>
         requires some { 0 < slots }
-        requires few { slots ≤ 64 }
+        requires few { slots ≤ MOST_SLOTS }
         requires settled { is_unsettled keys ≡ false }
         ensures stands { IfOk result (λ tables. (setup : Setup) → IsOver setup device.now policy slots keys → TablesStand setup tables []) }
         ensures keys { IfOk result (λ tables. tables.keys ≡ keys) }

@@ -8,6 +8,7 @@ ghost use Rattle.keystore_core.specs.Tables.{IsCaller, ServesAfter, event_by};
 ghost use Rattle.keystore_core.specs.TokenCalls as spec;
 ghost use Rattle.keystore_core.specs.Tokens.{tokens_in};
 ghost use Rattle.keystore_core.specs.Writing.{LeavesStore};
+ghost use Rattle.tags.specs.declared.limits.TheConstants.{MOST_TRIPLES};
 
 use crate::answered::Answered;
 use crate::calls::system_facts;
@@ -22,7 +23,7 @@ use token_store::TokensFull;
 impl Tables {
     /// Takes a token in and shows it to the operations that it is for, where there is a place for it.
     fn accept(&mut self, token: AuthToken) -> Result<(), TokensFull>
-        ensures full { is_err result ≡ (length (other_triples token (tokens_in self.old.boot.tokens)) == 256) }
+        ensures full { is_err result ≡ (length (other_triples token (tokens_in self.old.boot.tokens)) == MOST_TRIPLES) }
         ensures accepts { OnOk result (spec.AcceptsToken token self.old self.new) }
         ensures same { OnErr result (spec.RefusesToken self.old self.new) }
     {

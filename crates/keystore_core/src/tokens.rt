@@ -6,6 +6,7 @@ ghost use Rattle.token_store.specs.Fitting.{opens};
 ghost use Rattle.rule_model.specs.Boot.{Accepts, StartsAgain, other_triples};
 ghost use Rattle.rule_model.specs.Calls.{has_right_mac as has_right_mac_in};
 ghost use Rattle.keystore_core.specs.Tokens.{ChangesTokens, SameTokens, token_key_in, tokens_in};
+ghost use Rattle.tags.specs.declared.limits.TheConstants.{MOST_TRIPLES};
 
 use auth_tokens::{AuthToken, check};
 use std::alloc::Global;
@@ -22,7 +23,7 @@ pub struct Tokens {
 }
 
 impl Tokens {
-    /// No tokens under this key, with room for 256 triples. It is the one call that takes memory.
+    /// No tokens under this key, with room for `MOST_TRIPLES` triples. It is the one call that takes memory.
     pub fn with_room(alloc: Global, key: [u8; 32]) -> Result<Tokens, NoMemory>
         ensures key { IfOk result (λ tokens. token_key_in tokens ≡ key) }
         ensures empty { IfOk result (λ tokens. tokens_in tokens ≡ []) }
@@ -40,9 +41,9 @@ impl Tokens {
         check(token, &self.key)
     }
 
-    /// Makes a token the last one of its triple; `TokensFull` comes exactly where 256 other triples have one.
+    /// Makes a token the last one of its triple; `TokensFull` comes exactly where `MOST_TRIPLES` other triples have one.
     pub fn accept(&mut self, token: AuthToken) -> Result<(), TokensFull>
-        ensures full { is_err result ≡ (length (other_triples token (tokens_in self.old)) == 256) }
+        ensures full { is_err result ≡ (length (other_triples token (tokens_in self.old)) == MOST_TRIPLES) }
         ensures accepts { OnOk result (ChangesTokens (Accepts token) self.old self.new) }
         ensures same { OnErr result (SameTokens self.old self.new) }
     {

@@ -5,6 +5,7 @@ use std::alloc::{AllocError, Global};
 use std::fmt;
 use std::fmt::{Display, Formatter};
 use strsim::levenshtein;
+use tags::MOST_SLOTS;
 
 /// A number among the words of a form.
 #[derive(Clone, Copy, Debug, PartialEq, Eq)]
@@ -28,7 +29,7 @@ const SERVE: &str = "serve PORT CONNECTIONS WORKERS";
 static SLOTS: [Number; 1] = [Number {
     name: "N",
     least: 1,
-    most: 64,
+    most: MOST_SLOTS as u64,
 }];
 
 static LOAD: [Number; 2] = [

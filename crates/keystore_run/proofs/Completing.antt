@@ -37,6 +37,7 @@ use Rattle.keystore_run.specs.Kept.{Keeps, failed_of}
 use Rattle.keystore_run.specs.Lines.{AreLines, IsFree, begun_with, ended, lines_of}
 use Rattle.keystore_run.specs.Runs.{Does, Formatted, Given, IsRefused, Opened, Refused, Runs, RunsFresh, Unformatted, given}
 use Rattle.keystore_run.proofs.LineLemmas.{lines_of-ended}
+use Rattle.tags.specs.declared.limits.TheConstants.{LINE_BYTES, SCRIPT_BYTES}
 
 -- ---- a history without a failed device call settles nothing
 
@@ -90,7 +91,7 @@ first_reaches : (rest more : List ℕ) → IsFree rest → length rest ≤ first
 first_reaches [] more free = omega arith
 first_reaches (b ∷ rest) more free = rw (not_feed b free.0) (omega (arith, begun_length b (lines_of (rest ++ more)), first_reaches rest more free.1))
 
-first_short : (lines : List (List ℕ)) → AreLines lines → first_length lines ≤ 262144
+first_short : (lines : List (List ℕ)) → AreLines lines → first_length lines ≤ LINE_BYTES
 first_short [] are = omega arith
 first_short (line ∷ lines) are = are.0.1
 
@@ -99,7 +100,7 @@ later_short [] later are = are
 later_short (line ∷ front) later are = later_short front later are.1
 
 -- no line of a script is longer than a line may be
-pub rest_short : (bytes more rest : List ℕ) (lines : List (List ℕ)) → bytes ≡ (ended lines ++ rest) ++ more → AreLines lines → AreLines (lines_of bytes) → IsFree rest → length rest ≤ 262144
+pub rest_short : (bytes more rest : List ℕ) (lines : List (List ℕ)) → bytes ≡ (ended lines ++ rest) ++ more → AreLines lines → AreLines (lines_of bytes) → IsFree rest → length rest ≤ LINE_BYTES
 rest_short bytes more rest lines is are short free =
     let split : lines_of bytes ≡ lines ++ lines_of (rest ++ more) = ap lines_of (is ∙ append_assoc (ended lines) rest more) ∙ lines_of-ended lines (rest ++ more) are in
     omega (arith, first_reaches rest more free, first_short (lines_of (rest ++ more)) (later_short lines (lines_of (rest ++ more)) (subst AreLines split short)))
@@ -134,7 +135,7 @@ module _ {S K D N : Type 0} (s : SourceGhosts S) (k : SinkGhosts K) (d : DiskGho
         undrawn = none_counted (undrawn_of history) entropy drew.faults;
       }
 
-  module _ (g : Given) (fresh : Bool) (start : Lasting) (bytes : List ℕ) (old new : Outside S K D N) (told : s.content old.source ≡ Some bytes) (few : length bytes < 2 ^ 30) (short : AreLines (lines_of bytes)) (fine : AreFaultless s k d n old new) where
+  module _ (g : Given) (fresh : Bool) (start : Lasting) (bytes : List ℕ) (old new : Outside S K D N) (told : s.content old.source ≡ Some bytes) (few : length bytes < SCRIPT_BYTES) (short : AreLines (lines_of bytes)) (fine : AreFaultless s k d n old new) where
     -- the whole source was served
     whole : (setup : Setup) (begin : D) → tells d begin ≡ true → HasNoFault (d.fault_count begin) (d.fault_count new.disk) → EndsOk s k d n setup (record old { disk = begin }) new → GivesAll s k d n setup bytes old new
     whole setup begin tells_begin disk ends =
@@ -183,7 +184,7 @@ module _ {S K D N : Type 0} (s : SourceGhosts S) (k : SinkGhosts K) (d : DiskGho
     refused_completes disk statuses.ScriptTooLong images tells_disk same refused = absurd refused.refuses
     refused_completes disk statuses.ListenFault images tells_disk same refused = absurd refused.refuses
 
-  module _ (g : Given) (start : Lasting) (bytes : List ℕ) (old new : Outside S K D N) (told : s.content old.source ≡ Some bytes) (few : length bytes < 2 ^ 30) (short : AreLines (lines_of bytes)) (fine : AreFaultless s k d n old new) where
+  module _ (g : Given) (start : Lasting) (bytes : List ℕ) (old new : Outside S K D N) (told : s.content old.source ≡ Some bytes) (few : length bytes < SCRIPT_BYTES) (short : AreLines (lines_of bytes)) (fine : AreFaultless s k d n old new) where
     -- a run over the store that is there, and one over an empty store
     stored_completes : (status : Status) → AllImages d old.disk (IsStoreOf start) → tells d old.disk ≡ true → Runs s k d n g (λ opened. old.disk) old new status → Completes s k d n g false start bytes old new status
     stored_completes status images tells_disk (Opened opened runs) =

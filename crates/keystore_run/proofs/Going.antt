@@ -29,6 +29,7 @@ use Rattle.keystore_run.specs.Window.{HasNoFeedBelow, IsFirstFeed}
 use Rattle.keystore_run.proofs.DrawLemmas.{drew_none, drew_nothing, drew_on}
 use Rattle.keystore_run.proofs.KeepLemmas.{KeptSince, keeps_all, since_none, since_on}
 use Rattle.keystore_run.proofs.LineLemmas.{are_more, ended-more, follows_more, free_take, free_whole, lines_of-ended, lines_of-last, split_feed}
+use Rattle.tags.specs.declared.limits.TheConstants.{LINE_BYTES, SCRIPT_BYTES}
 
 -- the held bytes around their first LF
 at_feed : (lines : List (List ℕ)) (held : List ℕ) (n : ℕ) → IsFirstFeed held n → ended (lines ++ take n held ∷ []) ++ drop (n + 1) held ≡ ended lines ++ held
@@ -124,7 +125,7 @@ module _ {S K D N : Type 0} (s : SourceGhosts S) (k : SinkGhosts K) (d : DiskGho
 
   -- a line is served and passed on
   pub passes : (setup : Setup) (old now : Outside S K D N) (sink : K) (disk : D) (entropy : N) (session session' : Session) (held : List ℕ) (taken served count : ℕ)
-      → (going : Going setup old now session held taken served false) → IsFirstFeed held count → count ≤ 262144
+      → (going : Going setup old now session held taken served false) → IsFirstFeed held count → count ≤ LINE_BYTES
       → IsServed k d n setup going.past session' (take count held) now.sink sink (devices now.disk now.entropy) (devices disk entropy)
       → Going setup old (record now { sink = sink; disk = disk; entropy = entropy }) session' (drop (count + 1) held) taken (served + 1) false
   passes setup old now sink disk entropy session session' held taken served count going feed short done =
@@ -149,7 +150,7 @@ module _ {S K D N : Type 0} (s : SourceGhosts S) (k : SinkGhosts K) (d : DiskGho
 
   -- the source ends after an LF, or is empty
   pub ends_empty : (setup : Setup) (old now : Outside S K D N) (session : Session) (held : List ℕ) (taken served : ℕ)
-      → Going setup old now session held taken served false → IsAtEnd (s.content now.source) → taken < 2 ^ 30 → length held ≡ 0 → EndsOk s k d n setup old now
+      → Going setup old now session held taken served false → IsAtEnd (s.content now.source) → taken < SCRIPT_BYTES → length held ≡ 0 → EndsOk s k d n setup old now
   ends_empty setup old now session held taken served going end few none =
       let nothing : held ≡ [] = empty held none in
       let split : lines_of (ended going.lines ++ held) ≡ going.lines = ap (λ l. lines_of (ended going.lines ++ l)) nothing ∙ lines_of-ended going.lines [] going.short ∙ append-nil going.lines in
@@ -169,7 +170,7 @@ module _ {S K D N : Type 0} (s : SourceGhosts S) (k : SinkGhosts K) (d : DiskGho
 
   -- the source ends in a line without LF, which is served
   pub ends_last : (setup : Setup) (old now : Outside S K D N) (sink : K) (disk : D) (entropy : N) (session session' : Session) (held : List ℕ) (taken served : ℕ)
-      → (going : Going setup old now session held taken served false) → HasNoFeedBelow held (length held) → length held ≤ 262144 → IsAtEnd (s.content now.source) → taken < 2 ^ 30 → 0 < length held
+      → (going : Going setup old now session held taken served false) → HasNoFeedBelow held (length held) → length held ≤ LINE_BYTES → IsAtEnd (s.content now.source) → taken < SCRIPT_BYTES → 0 < length held
       → IsServed k d n setup going.past session' held now.sink sink (devices now.disk now.entropy) (devices disk entropy) → EndsOk s k d n setup old (record now { sink = sink; disk = disk; entropy = entropy })
   ends_last setup old now sink disk entropy session session' held taken served going feeds short end few some done =
       let free : IsFree held = free_whole held feeds in
@@ -208,7 +209,7 @@ module _ {S K D N : Type 0} (s : SourceGhosts S) (k : SinkGhosts K) (d : DiskGho
 
   -- the run stops at a line that was served with a front of its text written
   ends_in_part : (setup : Setup) (old now : Outside S K D N) (sink : K) (disk : D) (entropy : N) (session session' : Session) (held line : List ℕ) (taken served : ℕ) (failed : Bool)
-      → (going : Going setup old now session held taken served false) → taken ≤ 2 ^ 30 → IsFree line → length line ≤ 262144
+      → (going : Going setup old now session held taken served false) → taken ≤ SCRIPT_BYTES → IsFree line → length line ≤ LINE_BYTES
       → AreTaken (s.content now.source) (ended going.lines ++ held) (going.lines ++ line ∷ [])
       → IsServedInPart k d n setup going.past session' line now.sink sink (devices now.disk now.entropy) (devices disk entropy) failed → EndsCut s k d n setup old (record now { sink = sink; disk = disk; entropy = entropy }) failed
   ends_in_part setup old now sink disk entropy session session' held line taken served failed going few free short are done = record {
@@ -235,7 +236,7 @@ module _ {S K D N : Type 0} (s : SourceGhosts S) (k : SinkGhosts K) (d : DiskGho
 
   -- the run stops at a line that was not served
   ends_unserved : (setup : Setup) (old now : Outside S K D N) (sink : K) (disk : D) (entropy : N) (session session' : Session) (held : List ℕ) (taken served : ℕ)
-      → (going : Going setup old now session held taken served false) → taken ≤ 2 ^ 30
+      → (going : Going setup old now session held taken served false) → taken ≤ SCRIPT_BYTES
       → IsUnserved k d n setup going.past session' now.sink sink (devices now.disk now.entropy) (devices disk entropy) → EndsCut s k d n setup old (record now { sink = sink; disk = disk; entropy = entropy }) false
   ends_unserved setup old now sink disk entropy session session' held taken served going few done = record {
     front = going.lines;
@@ -261,7 +262,7 @@ module _ {S K D N : Type 0} (s : SourceGhosts S) (k : SinkGhosts K) (d : DiskGho
 
   -- the run stops at a line, by why it does
   pub cut_line : (halt : Halt) (status : Status) (setup : Setup) (old now : Outside S K D N) (sink : K) (disk : D) (entropy : N) (session session' : Session) (held line own : List ℕ) (taken served : ℕ)
-      → status ≡ status_of halt → (going : Going setup old now session held taken served false) → taken ≤ 2 ^ 30 → IsFree line → length line ≤ 262144
+      → status ≡ status_of halt → (going : Going setup old now session held taken served false) → taken ≤ SCRIPT_BYTES → IsFree line → length line ≤ LINE_BYTES
       → AreTaken (s.content now.source) (ended going.lines ++ held) (going.lines ++ line ∷ []) → own ≡ line
       → ServesLine k d n setup going.past session' own now.sink sink (devices now.disk now.entropy) (devices disk entropy) (Err halt) → Ends s k d n setup old (record now { sink = sink; disk = disk; entropy = entropy }) status
   cut_line halts.Write status setup old now sink disk entropy session session' held line own taken served e going few free short are is done =
@@ -277,7 +278,7 @@ module _ {S K D N : Type 0} (s : SourceGhosts S) (k : SinkGhosts K) (d : DiskGho
 pub held_line : (held : List ℕ) (count : ℕ) → IsFirstFeed held count → IsFree (take count held)
 held_line held count feed = free_take held count feed.free (omega (arith, feed.within))
 
-pub short_line : (held : List ℕ) (count : ℕ) → IsFirstFeed held count → count ≤ 262144 → length (take count held) ≤ 262144
+pub short_line : (held : List ℕ) (count : ℕ) → IsFirstFeed held count → count ≤ LINE_BYTES → length (take count held) ≤ LINE_BYTES
 short_line held count feed short = omega (arith, length-take-le count held (omega (arith, feed.within)), short)
 
 -- all the held bytes

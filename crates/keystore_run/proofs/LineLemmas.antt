@@ -6,6 +6,7 @@ use Rattle.script_lines.specs.Lines.{event_of}
 use Rattle.keystore_run.specs.Follows.{Follows, Says}
 use Rattle.keystore_run.specs.Lines.{AreLines, IsFree, begun_with, ended, lines_of}
 use Rattle.keystore_run.specs.Window.{HasNoFeedBelow}
+use Rattle.tags.specs.declared.limits.TheConstants.{LINE_BYTES}
 
 -- ---- bytes without LF
 
@@ -32,7 +33,7 @@ ended-more (first ∷ lines) line rest =
     append_assoc (first ++ 10 ∷ []) (ended (lines ++ line ∷ [])) rest ∙ ap (λ l. (first ++ 10 ∷ []) ++ l) (ended-more lines line rest)
     ∙ sym (append_assoc (first ++ 10 ∷ []) (ended lines) ((line ++ 10 ∷ []) ++ rest))
 
-pub are_more : (lines : List (List ℕ)) (line : List ℕ) → AreLines lines → IsFree line → length line ≤ 262144 → AreLines (lines ++ line ∷ [])
+pub are_more : (lines : List (List ℕ)) (line : List ℕ) → AreLines lines → IsFree line → length line ≤ LINE_BYTES → AreLines (lines ++ line ∷ [])
 are_more [] line are free short = ((free, short), tt)
 are_more (first ∷ lines) line are free short = (are.0, are_more lines line are.1 free short)
 

@@ -22,8 +22,9 @@ use Rattle.keystore_run.specs.declared.status.Status.TheVariants as statuses
 use Rattle.keystore_run.specs.Drawn.{DrewAll}
 use Rattle.keystore_run.specs.Follows.{Follows}
 use Rattle.keystore_run.specs.Kept.{estranged_of, failed_of}
-use Rattle.keystore_run.specs.Lines.{AreLines, SCRIPT_BYTES, lines_of}
+use Rattle.keystore_run.specs.Lines.{AreLines, lines_of}
 use Rattle.keystore_run.specs.Runs.{Given, IsFormatted}
+use Rattle.tags.specs.declared.limits.TheConstants.{SCRIPT_BYTES}
 
 -- how many entries settle an earlier change
 abbrev pub settlings_of : History → ℕ

@@ -15,7 +15,8 @@ use Rattle.keystore_run.specs.declared.status.Status.TheVariants as statuses
 use Rattle.keystore_run.specs.Drawn.{DrewAll}
 use Rattle.keystore_run.specs.Follows.{Follows}
 use Rattle.keystore_run.specs.Kept.{Keeps}
-use Rattle.keystore_run.specs.Lines.{AreLines, IsFree, LINE_BYTES, SCRIPT_BYTES, ended, lines_of}
+use Rattle.keystore_run.specs.Lines.{AreLines, IsFree, ended, lines_of}
+use Rattle.tags.specs.declared.limits.TheConstants.{LINE_BYTES, SCRIPT_BYTES}
 
 -- all that a run is handed, at one moment
 abbrev pub outside : {S K D N : Type 0} → S → K → D → N → Outside S K D N

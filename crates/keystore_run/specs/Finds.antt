@@ -3,8 +3,8 @@ use Rattle.std.specs.Prelude.{◌≡◌, ℕ, ◌<◌, ◌≤◌, Bool, true, fa
 use Rattle.std.specs.Io.KnownBytes.{IsAtEnd}
 use Rattle.keystore_run.specs.declared.reader.Found.{Found}
 use Rattle.keystore_run.specs.declared.reader.Found.TheVariants.{Line, End, TooLong, ScriptTooLong, Fault}
-use Rattle.keystore_run.specs.Lines.{LINE_BYTES, SCRIPT_BYTES}
 use Rattle.keystore_run.specs.Window.{Held, HasNoFeedBelow, IsFirstFeed}
+use Rattle.tags.specs.declared.limits.TheConstants.{LINE_BYTES, SCRIPT_BYTES}
 
 -- the held bytes have no LF, and are not too many for a line
 pub record IsOpen (held : Held) : Type 0 where

@@ -1,13 +1,6 @@
 -- The lines of a script.
 use Rattle.std.specs.Prelude.{◌≢◌, ℕ, ◌≤◌, ◌^◌, ◌==◌, List, [], ◌∷◌, ◌++◌, length, if◌then◌else◌}
-
--- the most bytes of a line, without its LF
-abbrev pub LINE_BYTES : ℕ
-LINE_BYTES = 262144
-
--- how many bytes a script may not reach
-abbrev pub SCRIPT_BYTES : ℕ
-SCRIPT_BYTES = 2 ^ 30
+use Rattle.tags.specs.declared.limits.TheConstants.{LINE_BYTES}
 
 -- the bytes have no LF
 abbrev pub IsFree : List ℕ → Type 0

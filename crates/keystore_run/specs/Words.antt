@@ -5,10 +5,11 @@ use Rattle.std.specs.declared.alloc.Global.{Global}
 use Rattle.command_words.specs.Numbers.{is_word, number_in}
 use Rattle.keystore_run.specs.declared.words.Form.{Form}
 use Rattle.keystore_run.specs.declared.words.Form.TheVariants.{Init, Run, Soak}
+use Rattle.tags.specs.declared.limits.TheConstants.{MOST_SLOTS}
 
--- the slots that a word gives: a number from 1 to 64
+-- the slots that a word gives: a number from 1 to the most slots
 abbrev pub slots_in : List ℕ → Option ℕ
-slots_in text = number_in 1 64 text
+slots_in text = number_in 1 MOST_SLOTS text
 
 -- the run of a word that gives its slots, where it gives some
 abbrev pub run_with : Bool → Option ℕ → Option Form
@@ -34,8 +35,8 @@ form_of (first ∷ second ∷ third ∷ fourth ∷ []) =
     if is_word (codes "run") first && (is_word (codes "--fresh") second && is_word (codes "--slots") third) then run_with true (slots_in (string_bytes fourth)) else None
 form_of _ = None
 
--- a run has 1 to 64 slots, and a load at most 100,000 lines
+-- a run has a slot at least, and at most the most slots, and a load at most 100,000 lines
 abbrev pub IsWithin : Form → Type 0
 IsWithin Init = Unit {0}
-IsWithin (Run fresh slots) = (0 < slots) × (slots ≤ 64)
+IsWithin (Run fresh slots) = (0 < slots) × (slots ≤ MOST_SLOTS)
 IsWithin (Soak seed lines) = lines ≤ 100000

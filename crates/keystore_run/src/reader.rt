@@ -4,19 +4,12 @@ ghost use Rattle.std.specs.Prelude.{◌≡◌, ℕ, ◌+◌, ◌-◌, ◌<◌, �
 ghost use Rattle.std.specs.Io.KnownBytes.{IsAtEnd};
 ghost use Rattle.ks_outside.specs.Shown.{Took};
 ghost use Rattle.keystore_run.specs.Finds.{Finds, is_fault};
-ghost use Rattle.keystore_run.specs.Lines.{LINE_BYTES, SCRIPT_BYTES};
 ghost use Rattle.keystore_run.specs.Window.{HasNoFeedBelow, IsFirstFeed};
 
 use ks_outside::{Failed, Source};
 use std::alloc::Global;
 use std::marker::Model;
-use tags::NoMemory;
-
-/// The most bytes of a line, without its LF.
-pub const LINE_LIMIT: usize = 262_144;
-
-/// How many bytes a script may not reach.
-pub const SCRIPT_LIMIT: u64 = 1 << 30;
+use tags::{LINE_BYTES, NoMemory, SCRIPT_BYTES};
 
 const LINE_FEED: u8 = b'\n';
 
@@ -132,7 +125,7 @@ impl LineReader {
         ensures { IfOk result (λ reader. (reader.bytes ≡ []) × (reader.taken ≡ 0)) }
     {
         Ok(LineReader {
-            buffer: vec![in alloc; 0u8; LINE_LIMIT + 1]?,
+            buffer: vec![in alloc; 0u8; LINE_BYTES + 1]?,
             start: 0,
             end: 0,
             scanned: 0,
@@ -145,7 +138,7 @@ impl LineReader {
         ensures found { IfSome result (λ n. IsFirstFeed self.new.bytes n) }
         ensures none { IfNone result (HasNoFeedBelow self.new.bytes (length self.new.bytes)) }
         ensures same { self.new ≡ self.old }
-        ensures bound { length self.new.bytes ≤ 262145 }
+        ensures bound { length self.new.bytes ≤ LINE_BYTES + 1 }
         ensures taken { self.new.taken ≤ SCRIPT_BYTES }
     {
         let window = &self.buffer[self.start..self.end];
@@ -181,7 +174,7 @@ impl LineReader {
         ensures err { OnErr result ((self.new.bytes ≡ self.old.bytes) × (self.new.taken ≡ self.old.taken) × Took S.Source source.old source.new [] true) }
     {
         let held = self.end - self.start;
-        let room = (self.buffer.len() - held).min((SCRIPT_LIMIT - self.taken) as usize);
+        let room = (self.buffer.len() - held).min((SCRIPT_BYTES - self.taken) as usize);
         let read = refill(source, &mut self.buffer, self.start, self.end, room);
         self.start = 0;
         self.end = held;
@@ -219,10 +212,10 @@ impl LineReader {
     {
         'reads: loop {
             let taken = self.taken();
-            if self.held() > LINE_LIMIT {
+            if self.held() > LINE_BYTES {
                 return Found::TooLong;
             }
-            if taken == SCRIPT_LIMIT {
+            if taken == SCRIPT_BYTES {
                 return Found::ScriptTooLong;
             }
             match self.read(source) {

@@ -10,6 +10,7 @@ ghost use Rattle.keystore_core.specs.Opening.{IsUnwritten};
 ghost use Rattle.keystore_run.specs.Runs.{Does, Formats, IsCause, Runs, RunsFresh, disk_told, formatted_as, given, refusal_of};
 ghost use Rattle.keystore_run.specs.Session.{StandsFor, entries_in};
 ghost use Rattle.keystore_run.specs.Words.{form_of as form_said};
+ghost use Rattle.tags.specs.declared.limits.TheConstants.{MOST_SLOTS};
 
 use crate::reader::{Found, LineReader};
 use crate::serve::serve_line;
@@ -91,7 +92,7 @@ fn serve_store<S: Source, K: Sink, D: Disk, N: Entropy>(
     entropy: &mut N,
 ) -> Status
     requires some { 0 < slots }
-    requires few { slots ≤ 64 }
+    requires few { slots ≤ MOST_SLOTS }
     ensures since_call { Runs S.Source K.Sink D.Disk N.Entropy (given device.now policy.now slots) (λ opened. disk.old)
         (outside source.old sink.old disk.old entropy.old) (outside source.new sink.new disk.new entropy.new) result }
     ensures since_opened { Runs S.Source K.Sink D.Disk N.Entropy (given device.now policy.now slots) (λ opened. opened)
@@ -142,7 +143,7 @@ fn serve_fresh<S: Source, K: Sink, D: Disk, N: Entropy>(
     entropy: &mut N,
 ) -> Status
     requires some { 0 < slots }
-    requires few { slots ≤ 64 }
+    requires few { slots ≤ MOST_SLOTS }
     ensures runs { RunsFresh S.Source K.Sink D.Disk N.Entropy (given device.now policy.now slots)
         (outside source.old sink.old disk.old entropy.old) (outside source.new sink.new disk.new entropy.new) result }
     ensures source_faults { CountsFaults (S.fault_count source.old) (S.fault_count source.new) (is_read_fault result) }

@@ -7,18 +7,16 @@ ghost use Rattle.keystore_run.specs.Words.{IsWithin};
 
 use command_words::number_in;
 use soak_lines::MOST_LINES;
+use tags::MOST_SLOTS;
 
 /// The slots of an engine where the words do not say.
 const SLOTS: usize = 16;
 
-/// The most slots that the words may say.
-const MOST_SLOTS: u64 = 64;
-
-/// The slots that a word gives: a number from 1 to 64.
+/// The slots that a word gives: a number from 1 to `MOST_SLOTS`.
 fn slots_in(text: &[u8]) -> Option<usize>
     ensures { result ≡ spec.slots_in text.now }
 {
-    match number_in(1, MOST_SLOTS, text) {
+    match number_in(1, MOST_SLOTS as u64, text) {
         Some(slots) => Some(slots as usize),
         None => None,
     }

@@ -5,7 +5,7 @@ use keymint_ops::{open_key, plan_key, seal_key};
 use std::alloc::Global;
 use std::test::Fail;
 use tag_lists::AuthList;
-use tags::{Bytes, Code, DeviceSecrets, Tag};
+use tags::{Bytes, Code, DeviceSecrets, Material, Tag};
 
 /// An HMAC key of an application with an id and data, one whose id has no bytes, and one of no application.
 const OWNED: Pairs = &[
@@ -58,7 +58,7 @@ static ROWS: [Row; 10] = [
 
 /// The blob of an imported key with this list, for the demo device.
 fn blob_of(alloc: Global, list: Pairs) -> Option<Bytes> {
-    let material = Bytes::copy_of(alloc, &[7; 32]).ok()?;
+    let material = Material::of(Bytes::copy_of(alloc, &[7; 32]).ok()?);
     let facts = new_facts(alloc, b"k", list, Some(32), 1000);
     let planned = plan_key(alloc, &facts);
     drop(facts);

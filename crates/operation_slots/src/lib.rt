@@ -14,5 +14,5 @@ mod steps;
 
 use operation::Operation;
 pub use operation::{OpId, Taken};
-pub use slots::{MOST_SLOTS, Slots};
+pub use slots::Slots;
 pub use steps::Steps;

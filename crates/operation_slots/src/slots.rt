@@ -8,10 +8,7 @@ use crate::{OpId, Operation, Steps, Taken, owners};
 use std::alloc::Global;
 use std::marker::Model;
 use std::sync::ledger::Ledger;
-use tags::NoMemory;
-
-/// The most slots that there may be.
-pub const MOST_SLOTS: usize = 64;
+use tags::{MOST_SLOTS, NoMemory};
 
 /// Operations in a bounded number of slots, seen as the list of those that are held, in the order in which they began.
 ///

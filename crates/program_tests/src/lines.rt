@@ -18,7 +18,7 @@ static LINES: [(&str, (u64, u64), &str); 31] = [
     (
         r#"{"t":[5,1000],"c":1,"do":"importKey","key":{"domain":0,"alias":"m"},"params":[["PURPOSE",2],["PURPOSE",3],["ALGORITHM",128],["DIGEST",4],["MIN_MAC_LENGTH",64],["NO_AUTH_REQUIRED",true]],"format":3,"material":"0b0b0b0b0b0b0b0b0b0b0b0b0b0b0b0b0b0b0b0b"}"#,
         (5, 1),
-        "ImportKey { key: Descriptor { domain: 0, nspace: 0, alias: Some(Bytes { bytes: [109] }), blob: None }, params: Bytes { bytes: [0, 6, 32, 0, 0, 1, 0, 0, 0, 2, 32, 0, 0, 1, 0, 0, 0, 3, 16, 0, 0, 2, 0, 0, 0, 128, 32, 0, 0, 5, 0, 0, 0, 4, 48, 0, 0, 8, 0, 0, 0, 64, 112, 0, 1, 247, 1] }, format: 3, material: Bytes { bytes: [11, 11, 11, 11, 11, 11, 11, 11, 11, 11, 11, 11, 11, 11, 11, 11, 11, 11, 11, 11] } }",
+        "ImportKey { key: Descriptor { domain: 0, nspace: 0, alias: Some(Bytes { bytes: [109] }), blob: None }, params: Bytes { bytes: [0, 6, 32, 0, 0, 1, 0, 0, 0, 2, 32, 0, 0, 1, 0, 0, 0, 3, 16, 0, 0, 2, 0, 0, 0, 128, 32, 0, 0, 5, 0, 0, 0, 4, 48, 0, 0, 8, 0, 0, 0, 64, 112, 0, 1, 247, 1] }, format: 3, material: Material }",
     ),
     (
         r#"{"t":[0,1000],"c":1,"do":"createOperation","key":{"domain":0,"alias":"m"},"params":[["PURPOSE",2],["MAC_LENGTH",256]]}"#,
@@ -58,7 +58,7 @@ static LINES: [(&str, (u64, u64), &str); 31] = [
     (
         r#"{"t":[0,1000],"c":1,"do":"importKey","key":{"domain":4,"nspace":18446744073709551615},"format":1,"material":"00"}"#,
         (0, 1),
-        "ImportKey { key: Descriptor { domain: 4, nspace: 18446744073709551615, alias: None, blob: None }, params: Bytes { bytes: [0, 0] }, format: 1, material: Bytes { bytes: [0] } }",
+        "ImportKey { key: Descriptor { domain: 4, nspace: 18446744073709551615, alias: None, blob: None }, params: Bytes { bytes: [0, 0] }, format: 1, material: Material }",
     ),
     (
         r#"{"t":[0,1000],"c":1,"do":"createOperation","key":{"domain":3,"blob":"4b53"},"params":[],"forced":true}"#,

@@ -2,7 +2,8 @@
 use Rattle.std.proofs.Common.{◌≡◌, ℕ, ◌+◌, ◌<◌, ◌≤◌, List, [], ◌∷◌, ◌++◌, length, get_or, take, refl, sym, ◌∙◌, arith}
 use Rattle.std.proofs.lemmas.List.{take_more}
 use Rattle.std.proofs.lemmas.List.Elements.{All-get_or}
-use Rattle.rule_model.specs.ReplyRooms.{ALIAS, AreWithin}
+use Rattle.rule_model.specs.ReplyRooms.{AreWithin}
+use Rattle.tags.specs.declared.limits.TheConstants.{ALIAS_BYTES}
 
 abbrev Listed : Type 0
 Listed = List ℕ × ℕ
@@ -17,5 +18,5 @@ pub copied_more : (source copied now : List Listed) (i : ℕ) (d : Listed) (alia
 copied_more source copied now i d alias key inside so_far is one two =
     is ∙ (λ t. so_far t ++ (one t, two t) ∷ []) ∙ sym (take_more source i d inside)
 
-pub alias_short : (most : ℕ) (source : List Listed) (i : ℕ) (d : Listed) → i < length source → AreWithin most source → length (get_or source i d).0 ≤ ALIAS
-alias_short most source i d inside within = All-get_or (λ (entry : Listed). length entry.0 ≤ ALIAS) source i d inside within.1
+pub alias_short : (most : ℕ) (source : List Listed) (i : ℕ) (d : Listed) → i < length source → AreWithin most source → length (get_or source i d).0 ≤ ALIAS_BYTES
+alias_short most source i d inside within = All-get_or (λ (entry : Listed). length entry.0 ≤ ALIAS_BYTES) source i d inside within.1

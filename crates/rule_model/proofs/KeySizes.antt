@@ -49,17 +49,18 @@ use Rattle.rule_model.specs.Uses.{IsStored}
 use Rattle.rule_model.proofs.Admitted.{admitted_by_rules, answered_done, broken_done}
 use Rattle.rule_model.proofs.Bounds.{Each, each_changed, each_left, each_more}
 use Rattle.rule_model.proofs.Kept.{restart_unfaulted, waiting_unfaulted}
+use Rattle.tags.specs.declared.limits.TheConstants.{ALIAS_BYTES, BLOB_BYTES, KEPT_LIST_BYTES}
 
 -- ---- over a change
 
 abbrev pub IsShort : KeyRecord → Type 0
-IsShort key = (length key.alias ≤ 256) × (length key.list ≤ 4140)
+IsShort key = (length key.alias ≤ ALIAS_BYTES) × (length key.list ≤ KEPT_LIST_BYTES)
 
 abbrev pub AreShort : Lasting → Type 0
 AreShort part = Each IsShort part.keys
 
 abbrev IsShortChange : Change → Type 0
-IsShortChange (Create id domain nspace alias blob list limit) = (length alias ≤ 256) × (length list ≤ 4140)
+IsShortChange (Create id domain nspace alias blob list limit) = (length alias ≤ ALIAS_BYTES) × (length list ≤ KEPT_LIST_BYTES)
 IsShortChange _ = Unit {0}
 
 short_use : (n : ℕ) (key : KeyRecord) → IsShort key → IsShort (with_use n key)
@@ -96,14 +97,14 @@ short_changed (Some change) part new short = short_after part change new short
 
 met_short : (part : Lasting) (change : Change) → is_met part change ≡ true → IsShortChange change
 met_short part (Create id domain nspace alias blob list limit) met =
-    let first = and_parts ((id == part.next_key) && is_number_left id) (is_owner domain nspace && (is_alias alias && (nat_le (length blob) 6327 && (nat_le (length list) 4140 && has_place_for domain nspace alias part)))) met in
-    let second = and_parts (is_owner domain nspace) (is_alias alias && (nat_le (length blob) 6327 && (nat_le (length list) 4140 && has_place_for domain nspace alias part))) first.1 in
-    let third = and_parts (is_alias alias) (nat_le (length blob) 6327 && (nat_le (length list) 4140 && has_place_for domain nspace alias part)) second.1 in
-    let fourth = and_parts (nat_le (length blob) 6327) (nat_le (length list) 4140 && has_place_for domain nspace alias part) third.1 in
-    let fifth = and_parts (nat_le (length list) 4140) (has_place_for domain nspace alias part) fourth.1 in
-    let name = and_parts (nat_le 1 (length alias)) (nat_le (length alias) 256 && is_utf8 alias) third.0 in
-    let long = and_parts (nat_le (length alias) 256) (is_utf8 alias) name.1 in
-    (leb-true (length alias) 256 long.0, leb-true (length list) 4140 fifth.0)
+    let first = and_parts ((id == part.next_key) && is_number_left id) (is_owner domain nspace && (is_alias alias && (nat_le (length blob) BLOB_BYTES && (nat_le (length list) KEPT_LIST_BYTES && has_place_for domain nspace alias part)))) met in
+    let second = and_parts (is_owner domain nspace) (is_alias alias && (nat_le (length blob) BLOB_BYTES && (nat_le (length list) KEPT_LIST_BYTES && has_place_for domain nspace alias part))) first.1 in
+    let third = and_parts (is_alias alias) (nat_le (length blob) BLOB_BYTES && (nat_le (length list) KEPT_LIST_BYTES && has_place_for domain nspace alias part)) second.1 in
+    let fourth = and_parts (nat_le (length blob) BLOB_BYTES) (nat_le (length list) KEPT_LIST_BYTES && has_place_for domain nspace alias part) third.1 in
+    let fifth = and_parts (nat_le (length list) KEPT_LIST_BYTES) (has_place_for domain nspace alias part) fourth.1 in
+    let name = and_parts (nat_le 1 (length alias)) (nat_le (length alias) ALIAS_BYTES && is_utf8 alias) third.0 in
+    let long = and_parts (nat_le (length alias) ALIAS_BYTES) (is_utf8 alias) name.1 in
+    (leb-true (length alias) ALIAS_BYTES long.0, leb-true (length list) KEPT_LIST_BYTES fifth.0)
 met_short part (Delete id) met = tt
 met_short part (Use id) met = tt
 met_short part (Granting row) met = tt

@@ -12,6 +12,7 @@ use Rattle.journal_records.specs.declared.record.KeyRecord.{KeyRecord}
 use Rattle.journal_records.specs.LastingPart.{Lasting}
 use Rattle.journal_records.specs.Lookups.{key_of_id, named_in, numbered_in, granted_in, shared_in}
 use Rattle.rule_model.specs.declared.facts.Caller.{Caller}
+use Rattle.tags.specs.declared.limits.TheConstants.{USER_UIDS}
 
 -- the uid of a caller; the rules let none through that has none
 abbrev pub owner_of : Caller → ℕ
@@ -19,7 +20,7 @@ owner_of caller = unwrap_or caller.uid 0
 
 -- the user of a caller: each has 100,000 uids
 abbrev pub user_of : Caller → ℕ
-user_of caller = owner_of caller / 100000
+user_of caller = owner_of caller / USER_UIDS
 
 -- what a uid's descriptor finds
 abbrev pub access_of : List PolicyRow → Lasting → ℕ → Descriptor → Access

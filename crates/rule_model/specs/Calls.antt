@@ -26,6 +26,7 @@ use Rattle.rule_model.specs.Changes.{grant_number, grant_of}
 use Rattle.rule_model.specs.Listing.{listing}
 use Rattle.rule_model.specs.Places.{has_grant_place}
 use Rattle.rule_model.specs.Replies.{no_fields}
+use Rattle.tags.specs.declared.limits.TheConstants.{MOST_TRIPLES}
 
 -- ---- what the rules read
 
@@ -128,7 +129,7 @@ granted_in part (Some key) uid =
 
 -- a token is accepted where at most 255 other triples have one
 abbrev pub accepted_in : List AuthToken → AuthToken → Reply
-accepted_in tokens token = if length (other_triples token tokens) == 256 then Stopped TokensFull else Done no_fields
+accepted_in tokens token = if length (other_triples token tokens) == MOST_TRIPLES then Stopped TokensFull else Done no_fields
 
 -- how many keys an owner has
 abbrev pub counted_in : Lasting → ℕ × ℕ → Reply

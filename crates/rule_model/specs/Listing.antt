@@ -3,6 +3,7 @@ use Rattle.std.specs.Prelude.{ℕ, zero, suc, List, [], ◌∷◌, Option, Some,
 use Rattle.journal_records.specs.declared.record.KeyRecord.{KeyRecord}
 use Rattle.journal_records.specs.LastingPart.{Lasting}
 use Rattle.journal_records.specs.Lookups.{next_key}
+use Rattle.tags.specs.declared.limits.TheConstants.{LISTED}
 
 -- at most so many of an owner's keys, each of the least alias greater than the one before; an alias with the key's number
 unfoldable pub listed_from : ℕ → Lasting → ℕ → ℕ → Option (List ℕ) → List (List ℕ × ℕ)
@@ -12,10 +13,6 @@ listed_from (suc most) part domain nspace past = behind (next_key part domain ns
   behind None rest = []
   behind (Some key) rest = (key.alias, key.id) ∷ rest key.alias
 
--- at most this many keys stand in one listing
-abbrev pub LISTED : ℕ
-LISTED = 256
-
--- a page: at most 256 keys of an owner behind an alias, in the order of their aliases
+-- a page: so many keys of an owner behind an alias, in the order of their aliases
 abbrev pub listing : Lasting → ℕ → ℕ → Option (List ℕ) → List (List ℕ × ℕ)
 listing part domain nspace past = listed_from LISTED part domain nspace past

@@ -6,6 +6,7 @@ use Rattle.grants.specs.declared.row.GrantRow.{GrantRow}
 use Rattle.journal_records.specs.LastingPart.{Lasting}
 use Rattle.journal_records.specs.Needs.{has_place_for, is_number_left}
 use Rattle.rule_model.specs.Changes.{alias_of, grant_at, owner_for}
+use Rattle.tags.specs.declared.limits.TheConstants.{MOST_GRANTS}
 
 -- A number is left for a new key, and at most 65,536 keys are live with it; the one under its name makes place. A key that is made
 -- in BLOB takes none.
@@ -19,4 +20,4 @@ abbrev pub has_grant_place : Lasting → ℕ → ℕ → Bool
 has_grant_place part key uid = is_held (grant_at part key uid) where
   is_held : Option GrantRow → Bool
   is_held (Some held) = true
-  is_held None = is_number_left part.next_grant && nat_lt (length part.grants) 65536
+  is_held None = is_number_left part.next_grant && nat_lt (length part.grants) MOST_GRANTS

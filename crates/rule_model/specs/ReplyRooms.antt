@@ -6,23 +6,11 @@ use Rattle.rule_model.specs.declared.reply.Fields.{Fields}
 use Rattle.rule_model.specs.declared.reply.Reply.{Reply}
 use Rattle.rule_model.specs.declared.reply.Reply.TheVariants.{Done, Broken, Stopped}
 use Rattle.rule_model.specs.declared.field_sizes.FieldSizes.{FieldSizes}
-use Rattle.rule_model.specs.Listing.{LISTED}
-
--- the most bytes of an alias, of a nonce, of a sealed key and of a key's kept list
-abbrev pub ALIAS : ℕ
-ALIAS = 256
+use Rattle.tags.specs.declared.limits.TheConstants.{ALIAS_BYTES, BLOB_BYTES, KEPT_LIST_BYTES, LISTED}
 
 -- the longest nonce (SP 800-38A: an initialization vector of one block), in bytes
 abbrev pub NONCE : ℕ
 NONCE = 16
-
--- the longest blob of a key, in bytes
-abbrev pub BLOB : ℕ
-BLOB = 6327
-
--- the longest kept list, encoded, in bytes
-abbrev pub LIST : ℕ
-LIST = 4140
 
 -- no field of bytes
 abbrev pub no_sizes : FieldSizes
@@ -32,10 +20,10 @@ no_sizes = record { alias = 0; nonce = 0; out = 0; blob = 0; list = 0; entries =
 -- have a sealed key, that of a begin a nonce, that of getKeyEntry an alias and a list, that of a listing entries, and that of a leave an
 -- output. No other reply has bytes.
 abbrev pub sizes_of : Act → ℕ → FieldSizes
-sizes_of (GenerateKey key params) out = record no_sizes { blob = BLOB }
-sizes_of (ImportKey key params format material) out = record no_sizes { blob = BLOB }
+sizes_of (GenerateKey key params) out = record no_sizes { blob = BLOB_BYTES }
+sizes_of (ImportKey key params format material) out = record no_sizes { blob = BLOB_BYTES }
 sizes_of (CreateOperation key params forced) out = record no_sizes { nonce = NONCE }
-sizes_of (GetKeyEntry key) out = record no_sizes { alias = ALIAS; list = LIST }
+sizes_of (GetKeyEntry key) out = record no_sizes { alias = ALIAS_BYTES; list = KEPT_LIST_BYTES }
 sizes_of (ListEntriesBatched domain nspace past) out = record no_sizes { entries = LISTED }
 sizes_of (Leave ticket) out = record no_sizes { out = out }
 sizes_of _ out = no_sizes
@@ -47,7 +35,7 @@ IsWithin most (Some bytes) = length bytes ≤ most
 
 -- a listing of at most so many entries, each with the bytes of an alias at most
 abbrev pub AreWithin : ℕ → List (List ℕ × ℕ) → Type 0
-AreWithin most entries = (length entries ≤ most) × All (λ (entry : List ℕ × ℕ). length entry.0 ≤ ALIAS) entries
+AreWithin most entries = (length entries ≤ most) × All (λ (entry : List ℕ × ℕ). length entry.0 ≤ ALIAS_BYTES) entries
 
 -- a listing, where there is one, has no more entries than that
 abbrev pub IsListingWithin : ℕ → Option (List (List ℕ × ℕ)) → Type 0

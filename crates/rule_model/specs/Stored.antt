@@ -18,6 +18,7 @@ use Rattle.rule_model.specs.Entries.{History}
 use Rattle.rule_model.specs.Kept.{kept, kept_settled, open_of}
 use Rattle.rule_model.specs.Settling.{counts, is_system_error, is_unsettled, verdict_before}
 use Rattle.rule_model.specs.Setup.{Setup}
+use Rattle.tags.specs.declared.limits.TheConstants.{JOURNAL_BYTES}
 
 -- the change that an event makes of what a history keeps, where it counts
 abbrev pub change_by : Setup → History → Event → List ℕ → Option Change
@@ -48,10 +49,6 @@ bytes_settled setup verdict (Acted event drawn reply ∷ past) =
 -- how many bytes the header and the records have
 abbrev pub stored_bytes : Setup → History → ℕ
 stored_bytes setup past = bytes_settled setup None past
-
--- how many bytes a journal may have
-abbrev pub JOURNAL_BYTES : ℕ
-JOURNAL_BYTES = 268435456
 
 -- the record and the byte that closes it end before the journal's end
 abbrev pub has_record_room : ℕ → Change → Bool

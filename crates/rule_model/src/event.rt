@@ -1,7 +1,7 @@
 //! The events of the service: a reading of the clocks, a client, and its act with the arguments.
 
 use ks_outside::Reading;
-use tags::{Bytes, Descriptor};
+use tags::{Bytes, Descriptor, Material};
 
 /// One call of a client, or what the service makes of it, with the call's arguments. The names are those of
 /// Keystore2's AIDL interfaces; `params` is always the bytes of an encoded authorization list.
@@ -22,7 +22,7 @@ pub enum Act {
         key: Descriptor,
         params: Bytes,
         format: u32,
-        material: Bytes,
+        material: Material,
     },
     /// An operation begins; `forced` prunes another where no slot is free.
     CreateOperation {

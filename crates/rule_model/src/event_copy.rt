@@ -6,7 +6,7 @@ ghost use Rattle.rule_model.specs.declared.event.Act.TheVariants as act;
 
 use crate::{Act, Event};
 use std::alloc::Global;
-use tags::{Bytes, Descriptor, NoMemory};
+use tags::{Bytes, Descriptor, Material, NoMemory};
 
 /// The same bytes, where they are given.
 fn optional(alloc: Global, bytes: &Option<Bytes>) -> Result<Option<Bytes>, NoMemory>
@@ -46,12 +46,12 @@ fn import_key(
     key: &Descriptor,
     params: &Bytes,
     format: u32,
-    material: &Bytes,
+    material: &Material,
 ) -> Result<Act, NoMemory>
     ensures { IfOk result (λ copy. copy ≡ act.ImportKey key.now params.now format material.now) }
 {
     let params = Bytes::copy_of(alloc, params.as_slice())?;
-    let material = Bytes::copy_of(alloc, material.as_slice())?;
+    let material = Material::of(Bytes::copy_of(alloc, material.as_slice())?);
     Ok(Act::ImportKey {
         key: descriptor(alloc, key)?,
         params,

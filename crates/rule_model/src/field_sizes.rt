@@ -4,6 +4,7 @@ ghost use Rattle.std.specs.Prelude.{◌≡◌};
 ghost use Rattle.rule_model.specs.ReplyRooms.{no_sizes, sizes_of};
 
 use crate::Act;
+use tags::{ALIAS_BYTES, BLOB_BYTES, KEPT_LIST_BYTES, LISTED};
 
 /// The most bytes of each field of a reply, and the most entries of its listing.
 #[derive(Clone, Copy, Debug, PartialEq, Eq)]
@@ -13,7 +14,7 @@ pub struct FieldSizes {
     pub out: usize,
     pub blob: usize,
     pub list: usize,
-    /// how many entries, each with an alias of at most 256 bytes
+    /// how many entries, each with an alias of at most `ALIAS_BYTES` bytes
     pub entries: usize,
 }
 
@@ -34,11 +35,11 @@ impl FieldSizes {
     {
         match act {
             Act::GenerateKey { .. } => FieldSizes {
-                blob: 6327,
+                blob: BLOB_BYTES,
                 ..NO_SIZES
             },
             Act::ImportKey { .. } => FieldSizes {
-                blob: 6327,
+                blob: BLOB_BYTES,
                 ..NO_SIZES
             },
             Act::CreateOperation { .. } => FieldSizes {
@@ -46,12 +47,12 @@ impl FieldSizes {
                 ..NO_SIZES
             },
             Act::GetKeyEntry { .. } => FieldSizes {
-                alias: 256,
-                list: 4140,
+                alias: ALIAS_BYTES,
+                list: KEPT_LIST_BYTES,
                 ..NO_SIZES
             },
             Act::ListEntriesBatched { .. } => FieldSizes {
-                entries: 256,
+                entries: LISTED,
                 ..NO_SIZES
             },
             Act::Leave { .. } => FieldSizes {

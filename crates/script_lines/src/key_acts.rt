@@ -14,7 +14,7 @@ use crate::params::params_of;
 use rule_model::Act;
 use serde_json::Value;
 use std::alloc::Global;
-use tags::Descriptor;
+use tags::{Descriptor, Material};
 
 fn descriptor_of(alloc: Global, object: &Value) -> Result<Descriptor, LineFault>
     ensures { Gives result (spec_descriptor_of (view object.now)) }
@@ -56,7 +56,7 @@ pub fn import_key(alloc: Global, object: &Value) -> Result<Act, LineFault>
     let key = key_of(alloc, object)?;
     let params = params_of(alloc, object)?;
     let format = needed_u32(object, "format")?;
-    let material = needed_hex(alloc, object, "material")?;
+    let material = Material::of(needed_hex(alloc, object, "material")?);
     Ok(Act::ImportKey {
         key,
         params,

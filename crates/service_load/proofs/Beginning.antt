@@ -11,6 +11,7 @@ use Rattle.service_book.specs.declared.entry.BookEntry.{BookEntry}
 use Rattle.shared_service.specs.Passes.{start_of}
 use Rattle.service_load.specs.declared.service.Service.{Service}
 use Rattle.service_load.specs.Services.{BeganNew, IsBookBy, IsBookOf, IsNewEngine, count_of, demo_device, demo_policy}
+use Rattle.tags.specs.declared.limits.TheConstants.{MOST_SLOTS}
 
 demo_is : (device : DeviceSecrets) → device.seal ≡ replicate 32 1 → device.token ≡ replicate 32 2 → device.root ≡ replicate 32 3 → device ≡ demo_device
 demo_is device seal token root =
@@ -20,9 +21,9 @@ demo_is device seal token root =
 
 -- one that was opened over an empty store, by the device and the policy for demonstrations
 pub new_engine : (device : DeviceSecrets) (policy : List PolicyRow) (engine : Engine) → device.seal ≡ replicate 32 1 → device.token ≡ replicate 32 2 → device.root ≡ replicate 32 3 → policy ≡ demo_policy
-    → Stands (setup_of device policy 64 engine) engine [] → lasting_of engine ≡ empty_lasting → IsNewEngine engine
+    → Stands (setup_of device policy MOST_SLOTS engine) engine [] → lasting_of engine ≡ empty_lasting → IsNewEngine engine
 new_engine device policy engine seal token root rows stands empty = record {
-  setup = setup_of device policy 64 engine;
+  setup = setup_of device policy MOST_SLOTS engine;
   is_demo = record { device_is = demo_is device seal token root; policy_is = rows; slots_are = refl; empty = empty };
   stands = stands;
 }

@@ -12,6 +12,7 @@ use Rattle.service_book.specs.Book.{Counts, IsCaused, history_of, log_of, own}
 use Rattle.shared_service.specs.declared.pass.Pass.{Pass}
 use Rattle.shared_service.specs.Passes.{IsOurs, IsSetupOf, engine_of, passes_of, start_of}
 use Rattle.service_load.specs.declared.service.Service.{Service}
+use Rattle.tags.specs.declared.limits.TheConstants.{MOST_SLOTS}
 
 -- a pass of this service
 abbrev pub IsPassOf : Service → Pass → Type 0
@@ -30,11 +31,11 @@ demo_device = record { seal = replicate 32 1; token = replicate 32 2; root = rep
 abbrev pub demo_policy : List PolicyRow
 demo_policy = record { uid = 1000; nspace = 100; bits = 509 } ∷ record { uid = 1000; nspace = 0; bits = 64 } ∷ []
 
--- what is fixed in each run: that device and that policy, 64 slots, and an empty store
+-- what is fixed in each run: that device and that policy, the most slots, and an empty store
 pub record IsDemoSetup (setup : Setup) : Type 0 where
   pub device_is : setup.device ≡ demo_device
   pub policy_is : setup.policy ≡ demo_policy
-  pub slots_are : setup.slots ≡ 64
+  pub slots_are : setup.slots ≡ MOST_SLOTS
   pub empty : setup.start ≡ empty_lasting
 
 -- an engine over that, before any entry

@@ -6,7 +6,7 @@ ghost use Rattle.wire_frames.specs.Spelling.{body_of};
 use crate::plan::Call;
 use rule_model::Act;
 use std::alloc::Global;
-use tags::{Bytes, Descriptor, NoMemory};
+use tags::{Bytes, Descriptor, Material, NoMemory};
 use wire_frames::Request;
 
 /// PURPOSE 2 and 3, ALGORITHM 128, DIGEST 4, MIN_MAC_LENGTH 64, NO_AUTH_REQUIRED, as a list is spelled.
@@ -64,7 +64,7 @@ fn import(alloc: Global, alias: [u8; 2], params: &[u8]) -> Result<Act, NoMemory>
 {
     let key = key_of(alloc, alias)?;
     let params = Bytes::copy_of(alloc, params)?;
-    let material = Bytes::copy_of(alloc, &MATERIAL)?;
+    let material = Material::of(Bytes::copy_of(alloc, &MATERIAL)?);
     Ok(Act::ImportKey {
         key,
         params,

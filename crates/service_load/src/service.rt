@@ -17,7 +17,7 @@ use service_book::Book;
 use shared_service::{Pass, Served, Shared};
 use std::alloc::Global;
 use std::sync::Wait;
-use tags::{DeviceSecrets, Policy};
+use tags::{DeviceSecrets, MOST_SLOTS, Policy};
 use wire_frames::Request;
 
 /// The service, without the types of its devices: what goes to threads names no lifetime.
@@ -39,8 +39,6 @@ const ROOM: Room = Room {
     pages: 256,
 };
 
-const SLOTS: usize = 64;
-
 /// An engine over an empty store, which is made on a disk, where there is memory for it.
 fn engine_over<D: Disk>(alloc: Global, disk: &mut D) -> Option<Engine>
     requires telling { tells D.Disk disk.old ≡ true }
@@ -54,7 +52,7 @@ fn engine_over<D: Disk>(alloc: Global, disk: &mut D) -> Option<Engine>
     let Ok(()) = Engine::format(disk) else {
         return None;
     };
-    match Engine::open(alloc, &device, &policy, SLOTS, disk) {
+    match Engine::open(alloc, &device, &policy, MOST_SLOTS, disk) {
         Ok(engine) => Some(engine),
         Err(_) => None,
     }

@@ -3,7 +3,8 @@ use Rattle.std.proofs.Common.{◌≡◌, ℕ, ◌+◌, ◌≤◌, Bool, true, fa
 use Rattle.std.specs.Prelude.{nat_le}
 use Rattle.std.proofs.lemmas.Bool.Decides.{nat_tests}
 use Rattle.std.proofs.lemmas.Bool.{false≢true, eqb-true, not-true}
-use Rattle.tags.specs.Plan.{OPERATION_BYTES, PIECE_BYTES, may_end, takes_aad}
+use Rattle.tags.specs.Plan.{may_end, takes_aad}
+use Rattle.tags.specs.declared.limits.TheConstants.{OPERATION_BYTES, PIECE_BYTES}
 use Rattle.step_rules.specs.declared.facts.StepFacts.{StepFacts}
 use Rattle.step_rules.specs.Rules.{is_aad, is_last, are_pieces_short, may_take_aad, is_total_within, has_whole_text, Enters}
 

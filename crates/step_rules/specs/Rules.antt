@@ -1,6 +1,7 @@
 -- The rules of a step of an operation: each says whether it holds over the facts.
 use Rattle.std.specs.Prelude.{◌≡◌, ◌≤◌, ◌+◌, Bool, true, false, ◌&&◌, ◌==◌, nat_le}
-use Rattle.tags.specs.Plan.{OPERATION_BYTES, PIECE_BYTES, may_end, takes_aad}
+use Rattle.tags.specs.Plan.{may_end, takes_aad}
+use Rattle.tags.specs.declared.limits.TheConstants.{OPERATION_BYTES, PIECE_BYTES}
 use Rattle.tags.specs.Values.{implies}
 use Rattle.step_rules.specs.declared.facts.StepFacts.{StepFacts}
 use Rattle.step_rules.specs.declared.facts.StepKind.{StepKind}

@@ -2,10 +2,11 @@
 use Rattle.std.specs.Prelude.{ℕ, Bool, false, ◌&&◌, nat_le, List, Option, Some, None, length}
 use Rattle.std.specs.Str.{is_utf8}
 use Rattle.tags.specs.declared.descriptor.Descriptor.{Descriptor}
+use Rattle.tags.specs.declared.limits.TheConstants.{ALIAS_BYTES}
 
--- 1 to 256 bytes of UTF-8
+-- UTF-8 of a byte and more, and at most the most bytes of an alias
 abbrev pub is_alias : List ℕ → Bool
-is_alias alias = nat_le 1 (length alias) && (nat_le (length alias) 256 && is_utf8 alias)
+is_alias alias = nat_le 1 (length alias) && (nat_le (length alias) ALIAS_BYTES && is_utf8 alias)
 
 -- there is an alias, of such bytes
 abbrev pub has_alias_in : Option (List ℕ) → Bool

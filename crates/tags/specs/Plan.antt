@@ -4,14 +4,6 @@ use Rattle.tags.specs.declared.plan.Plan.{Plan}
 use Rattle.tags.specs.declared.plan.Plan.TheVariants.{Ecb, Cbc, Ctr, Gcm, HmacSign, HmacVerify}
 use Rattle.tags.specs.Values.{digest_bits}
 
--- the most bytes that an operation takes in, of additional data and text together
-abbrev pub OPERATION_BYTES : ℕ
-OPERATION_BYTES = 1048576
-
--- the most bytes of one input, and of a signature
-abbrev pub PIECE_BYTES : ℕ
-PIECE_BYTES = 32768
-
 -- the bytes of an AES key (FIPS 197 section 5)
 abbrev pub is_aes_size : ℕ → Bool
 is_aes_size size = size == 16 || size == 24 || size == 32

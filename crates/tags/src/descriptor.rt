@@ -5,6 +5,7 @@ ghost use Rattle.std.specs.Str.{is_utf8};
 ghost use Rattle.tags.specs.Descriptor as spec;
 
 use crate::Bytes;
+use crate::limits::ALIAS_BYTES;
 
 /// The domain of an app's own keys; its owner is the app's uid.
 pub const DOMAIN_APP: u32 = 0;
@@ -16,9 +17,6 @@ pub const DOMAIN_SELINUX: u32 = 2;
 pub const DOMAIN_BLOB: u32 = 3;
 /// The domain of keys named by their number.
 pub const DOMAIN_KEY_ID: u32 = 4;
-
-/// The most bytes of an alias.
-pub const ALIAS_BYTES: usize = 256;
 
 /// Which key a call means, after Keystore2's `KeyDescriptor`.
 #[derive(Debug, Drop)]

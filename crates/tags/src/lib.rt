@@ -8,6 +8,8 @@
 mod bytes;
 mod code;
 mod descriptor;
+mod limits;
+mod material;
 mod param;
 mod plan;
 mod policy;
@@ -21,12 +23,17 @@ pub mod values;
 pub use bytes::{Bytes, NoMemory};
 pub use code::Code;
 pub use descriptor::{
-    ALIAS_BYTES, DOMAIN_APP, DOMAIN_BLOB, DOMAIN_GRANT, DOMAIN_KEY_ID, DOMAIN_SELINUX, Descriptor,
-    is_text,
+    DOMAIN_APP, DOMAIN_BLOB, DOMAIN_GRANT, DOMAIN_KEY_ID, DOMAIN_SELINUX, Descriptor, is_text,
 };
+pub use limits::{
+    ALIAS_BYTES, BLOB_BYTES, FRAME_BYTES, JOURNAL_BYTES, KEPT_LIST_BYTES, LINE_BYTES, LIST_BYTES,
+    LISTED, MOST_GRANTS, MOST_KEYS, MOST_SLOTS, MOST_TRIPLES, MOST_USER, NUMBERS_END,
+    OPERATION_BYTES, PIECE_BYTES, POLICY_ROWS, RECORD_BYTES, SCRIPT_BYTES, USER_UIDS,
+};
+pub use material::Material;
 pub use param::{Param, ParamValue};
-pub use plan::{OPERATION_BYTES, PIECE_BYTES, Plan};
-pub use policy::{POLICY_ROWS, Policy, PolicyRow};
+pub use plan::Plan;
+pub use policy::{Policy, PolicyRow};
 pub use rule::{Rule, RuleTable};
 pub use secrets::DeviceSecrets;
 pub use settled::Settled;

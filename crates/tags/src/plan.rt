@@ -3,11 +3,6 @@
 ghost use Rattle.std.specs.Prelude.{◌≡◌};
 ghost use Rattle.tags.specs.Plan as spec;
 
-/// The most bytes that an operation takes in, of additional data and text together.
-pub const OPERATION_BYTES: u64 = 1_048_576;
-/// The most bytes of one input, and of a signature.
-pub const PIECE_BYTES: u64 = 32_768;
-
 /// What the work of an operation is: the cipher, its mode, and what the mode needs to know.
 #[derive(Clone, Copy, Debug, PartialEq, Eq)]
 pub enum Plan {

@@ -4,6 +4,7 @@ ghost use Rattle.std.specs.Prelude.{◌≡◌, ◌≤◌, ◌<◌, ◌↔◌, Li
 ghost use Rattle.tags.specs.declared.policy.PolicyRow.{PolicyRow};
 
 use crate::NoMemory;
+use crate::limits::POLICY_ROWS;
 use std::alloc::Global;
 use std::marker::Model;
 
@@ -15,10 +16,7 @@ pub struct PolicyRow {
     pub bits: u32,
 }
 
-/// The most rows of a policy.
-pub const POLICY_ROWS: usize = 256;
-
-/// The permission table that is handed in, in place of SELinux: the list of its rows, at most 256.
+/// The permission table that is handed in, in place of SELinux: the list of its rows, at most `POLICY_ROWS`.
 #[derive(Debug, Drop)]
 pub struct Policy {
     rows: Vec<PolicyRow>,
@@ -26,21 +24,22 @@ pub struct Policy {
 
 impl Model for Policy {
     ghost use Rattle.std.specs.Prelude.{List, ◌≤◌, length};
+    ghost use Rattle.tags.specs.declared.limits.TheConstants.{POLICY_ROWS};
     ghost use Rattle.tags.specs.declared.policy.PolicyRow.{PolicyRow};
 
     ghost Value = { List PolicyRow };
 
     ghost view = { λ p. p.rows.items };
 
-    ghost invariant = { λ p. length p.rows.items ≤ 256 };
+    ghost invariant = { λ p. length p.rows.items ≤ POLICY_ROWS };
 }
 
 impl Policy {
     ghost use Rattle.tags.specs.Policy.{bits_of};
 
-    /// A policy of these rows: `None` exactly for more than 256. It takes no memory.
+    /// A policy of these rows: `None` exactly for more than `POLICY_ROWS`. It takes no memory.
     pub fn of(rows: Vec<PolicyRow>) -> Option<Policy>
-        ensures few { IsSome result ↔ (length rows.items ≤ 256) }
+        ensures few { IsSome result ↔ (length rows.items ≤ POLICY_ROWS) }
         ensures rows { IfSome result (λ policy. policy ≡ rows.items) }
     {
         if rows.len() <= POLICY_ROWS {
@@ -70,10 +69,10 @@ impl Policy {
         Ok(Policy { rows })
     }
 
-    /// The rows, at most 256.
+    /// The rows, at most `POLICY_ROWS`.
     pub fn rows(&self) -> &[PolicyRow]
         ensures rows { result.now ≡ self.now }
-        ensures few { length self.now ≤ 256 }
+        ensures few { length self.now ≤ POLICY_ROWS }
     {
         self.rows.as_slice()
     }

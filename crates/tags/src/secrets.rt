@@ -2,8 +2,11 @@
 
 ghost use Rattle.std.specs.Prelude.{◌≡◌, replicate};
 
+use std::fmt;
+use std::fmt::{Debug, Formatter};
+
 /// The three secrets of a device, 32 bytes each.
-#[derive(Clone, Copy, Debug, PartialEq, Eq)]
+#[derive(Clone, Copy, PartialEq, Eq)]
 pub struct DeviceSecrets {
     /// the AES-256 key that seals blobs
     pub seal: [u8; 32],
@@ -25,5 +28,12 @@ impl DeviceSecrets {
             token: [2; 32],
             root: [3; 32],
         }
+    }
+}
+
+/// The name of the type, and no secret.
+impl Debug for DeviceSecrets {
+    fn fmt<W: fmt::Write>(&self, f: &mut Formatter<W>) -> fmt::Result {
+        f.write_str("DeviceSecrets")
     }
 }

@@ -12,8 +12,9 @@ use Rattle.tag_lists.specs.Lookups.{number_of}
 use Rattle.std.proofs.lemmas.List.Filters.{length-filter_both}
 use Rattle.auth_tokens.specs.declared.token.AuthToken.{AuthToken}
 use Rattle.token_store.specs.Fitting.{fits, is_recent, opens}
-use Rattle.token_store.specs.Table.{is_of, is_like, IsLast, IsNew, is_held, others_of, other_triples, triple_count, IsEachOnce, IsSound, SameTokens, AddsToken, triple_limit, with_last, FindsAdded, is_timely, IsTimely}
+use Rattle.token_store.specs.Table.{is_of, is_like, IsLast, IsNew, is_held, others_of, other_triples, triple_count, IsEachOnce, IsSound, SameTokens, AddsToken, with_last, FindsAdded, is_timely, IsTimely}
 use Rattle.token_store.proofs.Triples.{like_itself, like_back, unlike_back, like_same, like_triple}
+use Rattle.tags.specs.declared.limits.TheConstants.{MOST_TRIPLES}
 
 -- ---- filters
 
@@ -189,7 +190,7 @@ timely_never tokens key boot e =
 
 -- ---- what `add` keeps
 
-pub sound_after : {T E : Type 0} (result : Result T E) (old new : List AuthToken) (token : AuthToken) → IsSound old → OnOk result (AddsToken old new token) → OnOk result (other_triples old token < triple_limit) → OnErr result (SameTokens old new) → IsSound new
+pub sound_after : {T E : Type 0} (result : Result T E) (old new : List AuthToken) (token : AuthToken) → IsSound old → OnOk result (AddsToken old new token) → OnOk result (other_triples old token < MOST_TRIPLES) → OnErr result (SameTokens old new) → IsSound new
 sound_after (Ok x) old new token sound added few same = subst IsSound (sym added) (record {
   once = once_with_last old token sound.once;
   few = omega (arith, few, length-append (others_of old token) (token ∷ []));

@@ -4,6 +4,7 @@ use Rattle.std.specs.List.{list_any}
 use Rattle.tags.specs.declared.param.Param.{Param}
 use Rattle.auth_tokens.specs.declared.token.AuthToken.{AuthToken}
 use Rattle.token_store.specs.Fitting.{opens}
+use Rattle.tags.specs.declared.limits.TheConstants.{MOST_TRIPLES}
 
 -- the token is of this triple of user, authenticator and kind
 abbrev pub is_of : ℕ → ℕ → ℕ → AuthToken → Bool
@@ -42,10 +43,6 @@ others_of tokens token = filter (λ other. not (is_like token other)) tokens
 abbrev pub other_triples : List AuthToken → AuthToken → ℕ
 other_triples tokens token = length (others_of tokens token)
 
--- how many triples there is room for
-abbrev pub triple_limit : ℕ
-triple_limit = 256
-
 -- each triple has one token
 abbrev pub IsEachOnce : List AuthToken → Type 0
 IsEachOnce [] = ⊤
@@ -54,7 +51,7 @@ IsEachOnce (token ∷ tokens) = IsNew tokens token × IsEachOnce tokens
 -- each triple has one token, and there are no more than there is room for
 pub record IsSound (tokens : List AuthToken) : Type 0 where
   pub once : IsEachOnce tokens
-  pub few : triple_count tokens ≤ triple_limit
+  pub few : triple_count tokens ≤ MOST_TRIPLES
 
 -- no triple has a token
 abbrev pub IsEmpty : List AuthToken → Type 0

@@ -10,4 +10,4 @@ mod fitting;
 mod store;
 
 pub use fitting::fits;
-pub use store::{MOST_TRIPLES, TokenStore, TokensFull};
+pub use store::{TokenStore, TokensFull};

@@ -3,17 +3,14 @@
 ghost use Rattle.std.specs.Prelude.{◌≡◌, ◌≤◌, ◌<◌, ◌==◌, ◌↔◌, ◌&&◌, ◌+◌, ◌-◌, if◌then◌else◌, IsTrue, IfOk, OnOk, OnErr, is_err, vec_capacity};
 ghost use Rattle.std.specs.List.{list_any};
 ghost use Rattle.token_store.specs.Fitting.{is_recent as is_recent_at, fits as fits_key};
-ghost use Rattle.token_store.specs.Table.{is_like as like_in, is_held, triple_count, triple_limit, others_of, other_triples, IsSound, IsEmpty, SameTokens, AddsToken, FindsAdded, FindsNone, is_timely, IsTimely};
+ghost use Rattle.token_store.specs.Table.{is_like as like_in, is_held, triple_count, others_of, other_triples, IsSound, IsEmpty, SameTokens, AddsToken, FindsAdded, FindsNone, is_timely, IsTimely};
 
 use crate::fitting::{fits, is_recent};
 use auth_tokens::AuthToken;
 use std::alloc::Global;
 use std::marker::Model;
 use tag_lists::AuthList;
-use tags::{NoMemory, Tag};
-
-/// How many triples of user, authenticator and kind there is room for.
-pub const MOST_TRIPLES: usize = 256;
+use tags::{MOST_TRIPLES, NoMemory, Tag};
 
 /// Each of the 256 places is taken by another triple.
 #[derive(Clone, Copy, Debug, PartialEq, Eq)]
@@ -57,13 +54,13 @@ fn drop_like(tokens: &mut Vec<AuthToken>, token: &AuthToken)
 
 /// Puts a token behind those of the other triples, where there is room.
 fn put_last(tokens: &mut Vec<AuthToken>, token: AuthToken) -> Result<(), TokensFull>
-    requires few { triple_count tokens.old.items ≤ triple_limit }
-    requires room { triple_limit ≤ vec_capacity tokens.old }
-    ensures full { is_err result ≡ (other_triples tokens.old.items token == triple_limit) }
+    requires few { triple_count tokens.old.items ≤ MOST_TRIPLES }
+    requires room { MOST_TRIPLES ≤ vec_capacity tokens.old }
+    ensures full { is_err result ≡ (other_triples tokens.old.items token == MOST_TRIPLES) }
     ensures ok { OnOk result (AddsToken tokens.old.items tokens.new.items token) }
-    ensures few { OnOk result (other_triples tokens.old.items token < triple_limit) }
+    ensures few { OnOk result (other_triples tokens.old.items token < MOST_TRIPLES) }
     ensures err { OnErr result (SameTokens tokens.old.items tokens.new.items) }
-    ensures room { triple_limit ≤ vec_capacity tokens.new }
+    ensures room { MOST_TRIPLES ≤ vec_capacity tokens.new }
 {
     drop_like(tokens, &token);
     if tokens.len() == MOST_TRIPLES {
@@ -96,7 +93,7 @@ impl TokenStore {
     /// Makes the token the last one of its triple. `TokensFull` comes exactly where 256 other triples have a token, and
     /// then nothing changes.
     pub fn add(&mut self, token: AuthToken) -> Result<(), TokensFull>
-        ensures full { is_err result ≡ (other_triples self.old token == triple_limit) }
+        ensures full { is_err result ≡ (other_triples self.old token == MOST_TRIPLES) }
         ensures others { other_triples self.old token ≡ (if is_held self.old token then triple_count self.old - 1 else triple_count self.old) }
         ensures count { OnOk result (triple_count self.new ≡ other_triples self.old token + 1) }
         ensures added { OnOk result (AddsToken self.old self.new token) }

@@ -7,6 +7,7 @@ use Rattle.journal_records.specs.Spelling.{tail_of, framed, IsChange}
 use Rattle.journal_records.specs.Reading.{record_at}
 use Rattle.journal_records.proofs.Bodies.{record_again}
 use Rattle.use_journal.specs.Journal.{header, written, IsJournal, AreChanges, up_to_end, HasNoRecord, IsBrokenOff, IsCorrupted, NoHeader, BrokenOff}
+use Rattle.tags.specs.declared.limits.TheConstants.{JOURNAL_BYTES}
 
 pub some_is : {A : Type 0} (x y : A) → ◌≡◌ {A = Option A} (Some x) (Some y) → x ≡ y
 some_is x y e = cc
@@ -92,8 +93,8 @@ journal_read : (past : List Change) (image : List ℕ) (j : IsJournal past image
 journal_read past image j fit =
     let front = written past ++ j.area.gate ∷ [] in
     let n = length front in
-    let within : n ≤ 268435456 = omega (arith, j.within, length-append (written past) (j.area.gate ∷ [])) in
-    let taken : take n (up_to_end image) ≡ front = take-take n 268435456 image within ∙ j.area.is in
+    let within : n ≤ JOURNAL_BYTES = omega (arith, j.within, length-append (written past) (j.area.gate ∷ [])) in
+    let taken : take n (up_to_end image) ≡ front = take-take n JOURNAL_BYTES image within ∙ j.area.is in
     record {
       is = sym (take-append-drop n (up_to_end image)) ∙ ap (λ (t : List ℕ). t ++ drop n (up_to_end image)) taken ∙ append_assoc (written past) (j.area.gate ∷ []) (drop n (up_to_end image));
       fit = fit;
@@ -105,8 +106,8 @@ broken_read past image b fit = record { is = b.is; fit = fit; stop = broken_stop
 
 read_header : (past : List Change) (left image : List ℕ) → IsRead past left image → take 8 image ≡ header
 read_header past left image r =
-    let le : 8 ≤ 268435456 = omega arith in
-    sym (take-take 8 268435456 image le)
+    let le : 8 ≤ JOURNAL_BYTES = omega arith in
+    sym (take-take 8 JOURNAL_BYTES image le)
     ∙ ap (λ (t : List ℕ). take 8 t) (r.is ∙ ap (λ (t : List ℕ). t ++ left) (written_is past) ∙ append_assoc header (frames (reverse past)) left)
     ∙ take_at header (frames (reverse past) ++ left) 8 refl
 

@@ -12,6 +12,7 @@ use Rattle.use_journal.specs.declared.journal.Journal.{Journal}
 use Rattle.use_journal.specs.Journal.{header, written, IsJournal, AreChanges, up_to_end, HasNoRecord, IsCorrupted, NoHeader, BrokenOff, past_of, placed}
 use Rattle.use_journal.specs.Holding.{Reads, Finds}
 use Rattle.use_journal.proofs.Unique.{same_changes, not_corrupted}
+use Rattle.tags.specs.declared.limits.TheConstants.{JOURNAL_BYTES}
 
 -- the bytes so far are the header and the records of the changes
 pub record IsWalked (bytes : List ℕ) (changes : List (ℕ × Change)) (rest : List ℕ) : Type 0 where
@@ -50,7 +51,7 @@ within_bytes : (bytes front rest : List ℕ) (gate : ℕ) → bytes ≡ front ++
 within_bytes bytes front rest gate is = omega (arith, ap length is, length-append front (gate ∷ rest))
 
 -- a gate that is shut ends the walk
-pub walk_ends : (bytes rest after : List ℕ) (changes : List (ℕ × Change)) (gate : ℕ) → IsWalked bytes changes rest → rest ≡ gate ∷ after → gate ≢ 75 → length bytes ≤ 268435456 → IsJournal (past_of changes) bytes
+pub walk_ends : (bytes rest after : List ℕ) (changes : List (ℕ × Change)) (gate : ℕ) → IsWalked bytes changes rest → rest ≡ gate ∷ after → gate ≢ 75 → length bytes ≤ JOURNAL_BYTES → IsJournal (past_of changes) bytes
 walk_ends bytes rest after changes gate w split shut few =
     let front = written (past_of changes) in
     let is : bytes ≡ front ++ gate ∷ after = w.is ∙ ap (λ (t : List ℕ). front ++ t) split in
@@ -64,9 +65,9 @@ walk_ends bytes rest after changes gate w split shut few =
     }
 
 -- what is no record, and no gate that is shut, breaks it off
-pub walk_breaks : (bytes rest : List ℕ) (changes : List (ℕ × Change)) (at : ℕ) → IsWalked bytes changes rest → HasNoRecord rest → at ≡ length bytes - length rest → length bytes ≤ 268435456 → IsCorrupted bytes at
+pub walk_breaks : (bytes rest : List ℕ) (changes : List (ℕ × Change)) (at : ℕ) → IsWalked bytes changes rest → HasNoRecord rest → at ≡ length bytes - length rest → length bytes ≤ JOURNAL_BYTES → IsCorrupted bytes at
 walk_breaks bytes rest changes at w none place few =
-    BrokenOff (past_of changes) w.fit (record { left = rest; is = take_all 268435456 bytes few ∙ w.is; broken = none }) (place ∙ walked_place bytes rest changes w)
+    BrokenOff (past_of changes) w.fit (record { left = rest; is = take_all JOURNAL_BYTES bytes few ∙ w.is; broken = none }) (place ∙ walked_place bytes rest changes w)
 
 pub no_header_short : (bytes : List ℕ) → length bytes < 8 → take 8 bytes ≢ header
 no_header_short bytes few e = let len : length (take 8 bytes) ≡ 8 = ap length e in absurd (omega (arith, few, length-take 8 bytes, len))
@@ -75,15 +76,15 @@ no_header_short bytes few e = let len : length (take 8 bytes) ≡ 8 = ap length 
 pub reads_up_to_end : (bytes : List ℕ) (result : Result (Journal × List (ℕ × Change)) StoreFault) → Reads (up_to_end bytes) result → Reads bytes result
 reads_up_to_end bytes (Ok opened) j =
     let front = written (past_of opened.1) ++ j.area.gate ∷ [] in
-    let within : length front ≤ 268435456 = omega (arith, j.within, length-append (written (past_of opened.1)) (j.area.gate ∷ [])) in
-    record { area = record { gate = j.area.gate; closed = j.area.closed; is = sym (take-take (length front) 268435456 bytes within) ∙ j.area.is }; within = j.within }
+    let within : length front ≤ JOURNAL_BYTES = omega (arith, j.within, length-append (written (past_of opened.1)) (j.area.gate ∷ [])) in
+    record { area = record { gate = j.area.gate; closed = j.area.closed; is = sym (take-take (length front) JOURNAL_BYTES bytes within) ∙ j.area.is }; within = j.within }
 reads_up_to_end bytes (Err faults.Device) r = tt
 reads_up_to_end bytes (Err (faults.Corrupted offset)) c = corrupted c
   where
     corrupted : IsCorrupted (up_to_end bytes) offset → IsCorrupted bytes offset
-    corrupted (NoHeader other zero) = NoHeader (λ e. other (take-take 8 268435456 bytes (omega arith) ∙ e)) zero
+    corrupted (NoHeader other zero) = NoHeader (λ e. other (take-take 8 JOURNAL_BYTES bytes (omega arith) ∙ e)) zero
     corrupted (BrokenOff past fit broken place) =
-        BrokenOff past fit (record { left = broken.left; is = sym (take-take 268435456 268435456 bytes (omega arith)) ∙ broken.is; broken = broken.broken }) place
+        BrokenOff past fit (record { left = broken.left; is = sym (take-take JOURNAL_BYTES JOURNAL_BYTES bytes (omega arith)) ∙ broken.is; broken = broken.broken }) place
 reads_up_to_end bytes (Err faults.Full) r = absurd r
 reads_up_to_end bytes (Err faults.Memory) r = tt
 

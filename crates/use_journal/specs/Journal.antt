@@ -5,6 +5,7 @@ use Rattle.gated_records.specs.Areas.{IsArea}
 use Rattle.journal_records.specs.declared.change.Change.{Change}
 use Rattle.journal_records.specs.Spelling.{framed, IsChange}
 use Rattle.journal_records.specs.Reading.{record_at}
+use Rattle.tags.specs.declared.limits.TheConstants.{JOURNAL_BYTES}
 
 -- KSJRNL01
 abbrev pub header : List ℕ
@@ -19,7 +20,7 @@ written (change ∷ past) = written past ++ framed change
 -- 268,435,456, a gate that is shut. What follows that gate is anything.
 pub record IsJournal (past : List Change) (image : List ℕ) : Type 0 where
   pub area : IsArea 0 (written past) image
-  pub within : length (written past) < 268435456
+  pub within : length (written past) < JOURNAL_BYTES
 
 -- the changes, or those with one more
 abbrev pub IsBeforeOrAfter : List Change → Change → List ℕ → Type 0
@@ -31,7 +32,7 @@ AreChanges past = AllByRecursion IsChange past
 
 -- the bytes of an image up to a journal's end
 abbrev pub up_to_end : List ℕ → List ℕ
-up_to_end image = take 268435456 image
+up_to_end image = take JOURNAL_BYTES image
 
 -- at a gate's place no byte stands, or an open gate with no record behind it
 abbrev pub HasNoRecord : List ℕ → Type 0

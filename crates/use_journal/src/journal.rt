@@ -6,19 +6,17 @@ ghost use Rattle.ks_outside.specs.Images.{AllImages, Passes, TornFrom, tells};
 ghost use Rattle.journal_records.specs.declared.change.Change.{Change};
 ghost use Rattle.journal_records.specs.declared.fault.StoreFault.TheVariants as faults;
 ghost use Rattle.journal_records.specs.Spelling.{closed_of, IsChange};
+ghost use Rattle.tags.specs.declared.limits.TheConstants.{JOURNAL_BYTES};
 
 use crate::opening::read_disk;
 use gated_records::{is_published, publish};
 use journal_records::{Changes, StoreFault};
 use ks_outside::{Disk, write_synced};
 use std::alloc::Global;
-use tags::Settled;
+use tags::{JOURNAL_BYTES, Settled};
 
 /// The header of a journal, and a gate that is shut.
 const FRESH: [u8; 9] = *b"KSJRNL01\0";
-
-/// How many bytes a journal may have.
-pub(crate) const JOURNAL_BYTES: u64 = 268_435_456;
 
 /// Where the records of a journal end: the place of the gate behind them. While a change whose writing failed waits
 /// to be settled, also where they end with it.
@@ -26,8 +24,8 @@ pub(crate) const JOURNAL_BYTES: u64 = 268_435_456;
 pub struct Journal {
     end: u64,
     pending: Option<u64>,
-    ghost before_end: { end < 268435456 },
-    ghost pending_before_end: { ForSome pending (λ next. next < 268435456) },
+    ghost before_end: { end < JOURNAL_BYTES },
+    ghost pending_before_end: { ForSome pending (λ next. next < JOURNAL_BYTES) },
 }
 
 impl Journal {
@@ -70,7 +68,7 @@ impl Journal {
 
     /// A settled journal whose records end at a place.
     pub(crate) fn at(end: u64) -> Journal
-        requires { end < 268435456 }
+        requires { end < JOURNAL_BYTES }
         ensures end { end_of result ≡ end }
         ensures idle { is_waiting result ≡ false }
     {
@@ -111,7 +109,7 @@ impl Journal {
         ensures waiting { is_waiting self.new ≡ waits_after result }
         ensures end { end_of self.new ≡ end_after (length closed.now) result (end_of self.old) }
         ensures pending { end_with self.new ≡ pending_after (length closed.now) result (end_of self.old) }
-        ensures full { IsErrOf result StoreFault.Full ↔ (268435456 < end_of self.old + length closed.now) }
+        ensures full { IsErrOf result StoreFault.Full ↔ (JOURNAL_BYTES < end_of self.old + length closed.now) }
         ensures same { IsErrOf result StoreFault.Full → (disk.new ≡ disk.old) × (self.new ≡ self.old) }
         ensures sure { D.is_sure disk.old → D.is_sure disk.new }
         ensures telling { tells D.Disk disk.new ≡ tells D.Disk disk.old }

@@ -6,15 +6,16 @@ ghost use Rattle.journal_records.specs.declared.change.Change.{Change};
 ghost use Rattle.use_journal.specs.Journal.{written, IsJournal, AreChanges, past_of, placed};
 ghost use Rattle.use_journal.specs.Holding.{end_of, is_waiting, IsSettledOn, Reads, Finds, OpenCause};
 
-use crate::journal::{JOURNAL_BYTES, Journal};
+use crate::journal::Journal;
 use gated_records::OPEN;
 use journal_records::{Changes, RecordFault, StoreFault, read_record};
 use ks_outside::{Disk, ReadFault, read_synced};
 use std::alloc::Global;
+use tags::JOURNAL_BYTES;
 
 /// The journal that these bytes are, up to their end.
 fn walk(alloc: Global, bytes: &[u8]) -> Result<(Journal, Changes), StoreFault>
-    requires { length bytes.now ≤ 268435456 }
+    requires { length bytes.now ≤ JOURNAL_BYTES }
     ensures reads { Reads bytes.now result }
     ensures places { IfOk result (λ opened. opened.1 ≡ placed (past_of opened.1)) }
     ensures end { IfOk result (λ opened. end_of opened.0 ≡ length (written (past_of opened.1))) }

@@ -6,11 +6,12 @@ use Rattle.byteorder.specs.Endian.{big_number, big_bytes}
 use Rattle.byteorder.specs.Numbers.{big_from-append, big_number-reads_back, length-bytes_high_first}
 use Rattle.rule_model.specs.declared.event.Act.{Act}
 use Rattle.wire_frames.specs.declared.front.Front.TheVariants.{Part, Bad, Whole}
-use Rattle.wire_frames.specs.Spelling.{counted, most, body_of, frame_of, IsRequest, AreFields}
+use Rattle.wire_frames.specs.Spelling.{counted, body_of, frame_of, IsRequest, AreFields}
 use Rattle.wire_frames.specs.Reading.{act_in}
 use Rattle.wire_frames.specs.Streams.{announced, is_length, needed, IsPart, IsBad, whole_in, front_of}
 use Rattle.wire_frames.proofs.Codecs.{IsBytes, IsBytes-take, IsBytes-drop, number_front, wide4}
 use Rattle.wire_frames.proofs.Bodies.{act_takes, act_again}
+use Rattle.tags.specs.declared.limits.TheConstants.{FRAME_BYTES}
 
 -- ---- how many bytes are needed
 
@@ -22,7 +23,7 @@ size_least false false n = omega arith
 pub needed_least : (bytes : List ℕ) → 4 ≤ needed bytes
 needed_least bytes = size_least (ltb (length bytes) 4) (is_length (announced bytes)) (announced bytes)
 
-size_most : (b c : Bool) (n : ℕ) → (c ≡ true → n ≤ most) → cond b 4 (cond c (4 + n) 4) ≤ 262148
+size_most : (b c : Bool) (n : ℕ) → (c ≡ true → n ≤ FRAME_BYTES) → cond b 4 (cond c (4 + n) 4) ≤ 4 + FRAME_BYTES
 size_most true c n le = omega arith
 size_most false true n le = let m = le refl in omega (arith, m)
 size_most false false n le = omega arith
@@ -45,13 +46,13 @@ needed_more bytes more le =
     rw (le-ltb (length bytes) 4 le, le-ltb (length (bytes ++ more)) 4 longer, announced_more bytes more le) refl
 
 -- a length that a body may have
-pub length_fits : (n : ℕ) → is_length n ≡ true → (1 ≤ n) × (n ≤ most)
+pub length_fits : (n : ℕ) → is_length n ≡ true → (1 ≤ n) × (n ≤ FRAME_BYTES)
 length_fits n e = grind arith
 
-pub needed_most : (bytes : List ℕ) → needed bytes ≤ 262148
+pub needed_most : (bytes : List ℕ) → needed bytes ≤ 4 + FRAME_BYTES
 needed_most bytes = size_most (ltb (length bytes) 4) (is_length (announced bytes)) (announced bytes) (λ e. (length_fits (announced bytes) e).1)
 
-pub fits_length : (n : ℕ) → 1 ≤ n → n ≤ most → is_length n ≡ true
+pub fits_length : (n : ℕ) → 1 ≤ n → n ≤ FRAME_BYTES → is_length n ≡ true
 fits_length n le most = grind arith
 
 -- ---- the front, by its cases
@@ -191,7 +192,7 @@ framed_front act rest request =
     let bytes : List ℕ = counted body ++ rest in
     let split : bytes ≡ big_bytes 4 n ++ (body ++ rest) = append_assoc (big_bytes 4 n) body rest in
     let least = body_some act request.0 in
-    let greatest : n ≤ 262144 = request.1 in
+    let greatest : n ≤ FRAME_BYTES = request.1 in
     let said : announced bytes ≡ n = ap (big_number 4) split ∙ big_number-reads_back 4 n (body ++ rest) (omega arith) in
     let head : length (big_bytes 4 n) ≡ 4 = length-bytes_high_first 4 n in
     let behind : drop 4 bytes ≡ body ++ rest = ap (drop 4) split ∙ drop_at (big_bytes 4 n) (body ++ rest) 4 head in

@@ -4,6 +4,7 @@ use Rattle.byteorder.specs.Endian.{big_bytes}
 use Rattle.tags.specs.declared.descriptor.Descriptor.{Descriptor}
 use Rattle.rule_model.specs.declared.event.Act.{Act}
 use Rattle.rule_model.specs.declared.event.Act.TheVariants.{Connect, Disconnect, GenerateKey, ImportKey, CreateOperation, EnterAad, EnterUpdate, EnterFinish, Abort, GetKeyEntry, DeleteKey, Grant, Ungrant, GetNumberOfEntries, ListEntriesBatched, AddAuthToken, DeviceLocked, DeviceUnlocked, EarlyBootEnded, ClearNamespace, UserRemoved, Leave, Restart}
+use Rattle.tags.specs.declared.limits.TheConstants.{FRAME_BYTES}
 
 -- ---- fields
 
@@ -52,10 +53,6 @@ body_of (ClearNamespace domain nspace) = 20 ∷ (big_bytes 4 domain ++ big_bytes
 body_of (UserRemoved user) = 21 ∷ big_bytes 4 user
 body_of (Leave ticket) = []
 body_of (Restart root) = []
-
--- the most bytes of a body
-abbrev pub most : ℕ
-most = 262144
 
 -- the length of the body, and the body
 unfoldable pub frame_of : Act → List ℕ
@@ -126,4 +123,4 @@ is_token act = false
 
 -- a frame can hold the act
 abbrev pub IsRequest : Act → Type 0
-IsRequest act = AreFields act × (length (body_of act) ≤ most)
+IsRequest act = AreFields act × (length (body_of act) ≤ FRAME_BYTES)

@@ -5,8 +5,9 @@ use Rattle.byteorder.specs.Endian.{big_number}
 use Rattle.rule_model.specs.declared.event.Act.{Act}
 use Rattle.wire_frames.specs.declared.front.Front.{Front}
 use Rattle.wire_frames.specs.declared.front.Front.TheVariants.{Part, Bad, Whole}
-use Rattle.wire_frames.specs.Spelling.{most, body_of, frame_of, IsRequest}
+use Rattle.wire_frames.specs.Spelling.{body_of, frame_of, IsRequest}
 use Rattle.wire_frames.specs.Reading.{act_in}
+use Rattle.tags.specs.declared.limits.TheConstants.{FRAME_BYTES}
 
 -- ---- what stands at the front of bytes
 
@@ -16,7 +17,7 @@ announced bytes = big_number 4 bytes
 
 -- a body may have so many bytes
 abbrev pub is_length : ℕ → Bool
-is_length n = nat_le 1 n && nat_le n most
+is_length n = nat_le 1 n && nat_le n FRAME_BYTES
 
 -- how many bytes the frame at the front has, as far as that is known: four until its length is there
 abbrev pub needed : List ℕ → ℕ

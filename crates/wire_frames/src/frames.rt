@@ -11,7 +11,7 @@ use crate::held::Held;
 /// Gives the requests of a stream of frames, whose bytes come in pieces of any size. It holds back what has come of one
 /// frame, at most 262,148 bytes, and nothing else. Once the frame's length and its act have come, the room for all of it is
 /// taken, so that no byte of an input moves again until its request has it.
-#[derive(Debug, Drop)]
+#[derive(Drop)]
 pub struct Frames {
     /// the place in the stream of what is held, or of the bad frame
     start: u64,

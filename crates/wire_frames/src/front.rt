@@ -8,10 +8,7 @@ use crate::reading::act_in;
 use crate::request::Request;
 use byteorder::{BigEndian, ByteOrder};
 use std::alloc::Global;
-use tags::NoMemory;
-
-/// The most bytes of a body.
-pub(crate) const MOST: usize = 262_144;
+use tags::{FRAME_BYTES, NoMemory};
 
 /// What stands at the front.
 #[derive(Debug, Drop)]
@@ -32,7 +29,7 @@ pub(crate) fn needed(bytes: &[u8]) -> usize
         return 4;
     }
     let size = BigEndian::read_u32(bytes) as usize;
-    if 1 <= size && size <= MOST {
+    if 1 <= size && size <= FRAME_BYTES {
         4 + size
     } else {
         4

@@ -6,6 +6,17 @@
 //! (`specs/Standing.antt`). `request_frame` and `reply_frame` write the spelling, and
 //! `Request::frame_length` and `reply_length` tell its length. The format is the service's own; numbers
 //! are big-endian.
+//!
+//! ```rust
+//! use wire_frames::{FrameFault, Frames};
+//!
+//! let mut frames = Frames::new(alloc);
+//! match frames.feed(alloc, piece) {
+//!     Ok(requests) => answered(requests),
+//!     Err(FrameFault::Bad { offset }) => refused_at(offset),
+//!     Err(FrameFault::Memory) => no_memory(),
+//! }
+//! ```
 #![tactic(auto)]
 
 mod fault;

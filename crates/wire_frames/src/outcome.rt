@@ -6,7 +6,7 @@ use std::alloc::Global;
 
 /// What was read of a text: its requests, how many bytes their frames had, and behind them the part of a frame, or a bad
 /// frame that shuts the stream.
-#[derive(Debug, Drop)]
+#[derive(Drop)]
 pub struct Outcome {
     pub requests: Vec<Request>,
     pub used: usize,

@@ -9,7 +9,7 @@ use crate::fault::BodyFault;
 use byteorder::{BigEndian, ByteOrder};
 use rule_model::Act;
 use std::alloc::Global;
-use tags::{Bytes, Descriptor};
+use tags::{Bytes, Descriptor, Material};
 
 /// A byte, and what stands behind it.
 fn byte_at(bytes: &[u8]) -> Result<(u8, &[u8]), BodyFault>
@@ -145,7 +145,7 @@ fn imported_in(alloc: Global, bytes: &[u8]) -> Result<Act, BodyFault>
         key,
         params,
         format,
-        material,
+        material: Material::of(material),
     };
     ended(act, rest)
 }

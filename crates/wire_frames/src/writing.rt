@@ -1,15 +1,14 @@
 //! Writing frames.
 
 ghost use Rattle.std.specs.Prelude.{◌≡◌, ◌↔◌, true, ◌≤◌, ◌<◌, ◌^◌, length, IfOk, IfSome, IsSome};
-ghost use Rattle.wire_frames.specs.Spelling.{most, body_of, frame_of, is_framed};
+ghost use Rattle.wire_frames.specs.Spelling.{body_of, frame_of, is_framed};
 ghost use Rattle.wire_frames.specs.Replies.{reply_body, reply_of};
 
-use crate::front::MOST;
 use crate::request::Request;
 use byteorder::{BigEndian, ByteOrder};
 use rule_model::Reply;
 use std::alloc::Global;
-use tags::{Bytes, NoMemory};
+use tags::{Bytes, FRAME_BYTES, NoMemory};
 
 mod acts;
 mod fields;
@@ -21,11 +20,11 @@ pub(crate) mod sizes;
 #[tactic(auto, unfolding(crate::specs::Spelling::frame_of))]
 pub fn request_frame(alloc: Global, request: &Request) -> Result<Option<Bytes>, NoMemory>
     ensures frame { IfOk result (λ o. IfSome o (λ bytes. bytes ≡ frame_of request.now)) }
-    ensures some { IfOk result (λ o. IsSome o ↔ ((is_framed request.now ≡ true) × (length (body_of request.now) ≤ most))) }
+    ensures some { IfOk result (λ o. IsSome o ↔ ((is_framed request.now ≡ true) × (length (body_of request.now) ≤ FRAME_BYTES))) }
 {
     let act = request.act();
     let size = sizes::body_size(act);
-    if size == 0 || size > MOST {
+    if size == 0 || size > FRAME_BYTES {
         return Ok(None);
     }
     let mut out = Vec::from_slice(alloc, &[0; 4])?;

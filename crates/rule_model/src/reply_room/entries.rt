@@ -1,7 +1,8 @@
 //! Room for the entries of a listing.
 
 ghost use Rattle.std.specs.Prelude.{◌≡◌, ◌<◌, ◌≤◌, ◌++◌, ◌∷◌, [], length, IfOk, vec_capacity};
-ghost use Rattle.rule_model.specs.ReplyRooms.{ALIAS, AreWithin, IsListingWithin};
+ghost use Rattle.rule_model.specs.ReplyRooms.{AreWithin, IsListingWithin};
+ghost use Rattle.tags.specs.declared.limits.TheConstants.{ALIAS_BYTES};
 
 use super::texts::TextRoom;
 use crate::Entries;
@@ -12,7 +13,7 @@ use tags::{ALIAS_BYTES, Bytes, NoMemory};
 #[derive(Drop)]
 struct AliasRoom {
     text: TextRoom,
-    ghost whole: { text.most ≡ ALIAS },
+    ghost whole: { text.most ≡ ALIAS_BYTES },
 }
 
 impl AliasRoom {
@@ -23,7 +24,7 @@ impl AliasRoom {
     }
 
     fn copy(self, alias: &Bytes) -> Bytes
-        requires { length alias.now ≤ ALIAS }
+        requires { length alias.now ≤ ALIAS_BYTES }
         ensures { result ≡ alias.now }
     {
         let AliasRoom { text } = self;

@@ -5,6 +5,7 @@ ghost use Rattle.rule_model.specs.declared.event.Act.{Act};
 ghost use Rattle.wire_frames.specs.declared.fault.FrameFault.TheVariants.{Bad};
 ghost use Rattle.wire_frames.specs.Streams.{stream_of};
 ghost use Rattle.wire_frames.specs.Standing.{start_of, held_in, is_shut, reach, Stands, SameFrames, Faults};
+ghost use Rattle.tags.specs.declared.limits.TheConstants.{FRAME_BYTES};
 
 use super::Frames;
 use crate::fault::FrameFault;
@@ -39,7 +40,7 @@ impl Frames {
         ensures fault { IfErr result (Faults self.old piece.now self.new) }
         ensures shut { is_shut self.old ≡ true → (result ≡ Err (Bad (start_of self.old))) × SameFrames self.old self.new }
         ensures reach { reach self.new ≤ reach self.old + length piece.now }
-        ensures held { length (held_in self.new) ≤ 262148 }
+        ensures held { length (held_in self.new) ≤ 4 + FRAME_BYTES }
     {
         if self.shut {
             return Err(FrameFault::Bad { offset: self.start });

@@ -3,7 +3,8 @@
 ghost use Rattle.std.specs.Prelude.{◌≡◌, ◌++◌, ◌∷◌, true, ℕ, ◌≤◌, ◌<◌, ◌^◌, length, OnOk};
 ghost use Rattle.byteorder.specs.Endian.{big_bytes};
 ghost use Rattle.wire_frames.specs.Spelling as spec;
-ghost use Rattle.wire_frames.specs.Spelling.{most, body_of, is_framed, is_on_key, is_token};
+ghost use Rattle.tags.specs.declared.limits.TheConstants.{FRAME_BYTES};
+ghost use Rattle.wire_frames.specs.Spelling.{body_of, is_framed, is_on_key, is_token};
 
 use super::fields::{put, put_counted, put_flag, put_key, put_long, put_optional, put_short};
 use rule_model::Act;
@@ -73,7 +74,7 @@ fn put_named(out: &mut Vec<u8>, number: u8, key: &Descriptor) -> Result<(), NoMe
 /// An act on a key that a descriptor names.
 fn put_key_act(out: &mut Vec<u8>, act: &Act) -> Result<(), NoMemory>
     requires named { is_on_key act.now ≡ true }
-    requires short { length (body_of act.now) ≤ most }
+    requires short { length (body_of act.now) ≤ FRAME_BYTES }
     ensures written { OnOk result (out.new.items ≡ out.old.items ++ body_of act.now) }
 {
     match act {
@@ -119,7 +120,7 @@ fn put_key_act(out: &mut Vec<u8>, act: &Act) -> Result<(), NoMemory>
 /// The number of an act, and its fields.
 pub(super) fn put_body(out: &mut Vec<u8>, act: &Act) -> Result<(), NoMemory>
     requires framed { is_framed act.now ≡ true }
-    requires short { length (body_of act.now) ≤ most }
+    requires short { length (body_of act.now) ≤ FRAME_BYTES }
     ensures written { OnOk result (out.new.items ≡ out.old.items ++ body_of act.now) }
 {
     match act {

@@ -6,7 +6,7 @@ ghost use Rattle.wire_frames.specs.Spelling.{body_of};
 ghost use Rattle.wire_frames.specs.Sizes.{IsSize};
 
 use rule_model::Act;
-use tags::{Bytes, Descriptor};
+use tags::{Bytes, Descriptor, Material};
 
 /// The least size that four bytes cannot name.
 pub(super) const TOO_LONG: usize = 1 << 32;
@@ -21,6 +21,14 @@ pub(super) fn counted_size(bytes: &Bytes) -> usize
     } else {
         4 + bytes.len()
     }
+}
+
+/// The size of a counted material.
+fn material_size(material: &Material) -> usize
+    ensures size { IsSize result (length (spec.counted material.now)) }
+    ensures small { result ≤ 4294967300 }
+{
+    counted_size(material.as_bytes())
 }
 
 /// The size of bytes that may be given.
@@ -54,7 +62,7 @@ pub(crate) fn body_size(act: &Act) -> usize
             params,
             material,
             ..
-        } => 5 + key_size(key) + counted_size(params) + counted_size(material),
+        } => 5 + key_size(key) + counted_size(params) + material_size(material),
         Act::CreateOperation { key, params, .. } => 2 + key_size(key) + counted_size(params),
         Act::EnterAad { input, .. } => 9 + counted_size(input),
         Act::EnterUpdate { input, .. } => 9 + counted_size(input),

@@ -1,11 +1,12 @@
 use Rattle.std.proofs.Common.{rules, ℕ, ◌+◌, ◌≤◌, Bool, ◌||◌, List, length, subst, sym, ap, ◌∙◌, refl, arith}
 use Rattle.std.specs.Vec.Iter.{into_iter_items}
 use Rattle.rule_model.specs.declared.event.Act.{Act}
-use Rattle.wire_frames.specs.Spelling.{body_of, most, IsRequest}
+use Rattle.wire_frames.specs.Spelling.{body_of, IsRequest}
 use Rattle.connections.specs.Steps.{Goes}
 use Rattle.connections.proofs.Framed.{request_length}
 use Rattle.connections.proofs.Requests.{goes_none, goes_on, next_is, stops_after}
 use Rattle.connections.proofs.answering.answer_all.Goals as goal
+use Rattle.tags.specs.declared.limits.TheConstants.{FRAME_BYTES}
 
 pub requests-init : goal.requests-init
 requests-init g c =
@@ -20,7 +21,7 @@ requests-init g c =
 pub frame_length-size-requires : goal.frame_length-size-requires
 frame_length-size-requires g c =
     let is : IsRequest c.in-Some.request = next_is c.args.requests.items (into_iter_items c.requests.left) (into_iter_items c.next.new.self) c.requests.invariant.goes.talk c.in-Some.request c.requires.framed c.requests.invariant.goes.requests_are c.in-Some.ensures.items in
-    let small : length (body_of c.in-Some.request) ≤ most = is.1 in
+    let small : length (body_of c.in-Some.request) ≤ FRAME_BYTES = is.1 in
     record { short = omega (arith, small) }
 
 pub answer_one-next-requires : goal.answer_one-next-requires

@@ -13,4 +13,4 @@ returns-then-not-same_id-2 c =
 
 pub returns : goal.returns
 returns c =
-    rw (← c.same_bytes.ensures, c.if-not-same_bytes.false, ← c.same_id.ensures, c.if-not-same_id.false, ← c.same_id-2.ensures, c.if-not-same_id-2.false, c.in_ok-material.ensures)
+    rw (← c.same_bytes.ensures, c.if-not-same_bytes.false, ← c.same_id.ensures, c.if-not-same_id.false, ← c.same_id-2.ensures, c.if-not-same_id-2.false, c.of-material.ensures, c.in_ok-copy_of.ensures)

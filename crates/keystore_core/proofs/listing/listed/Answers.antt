@@ -6,12 +6,13 @@ use Rattle.key_database.specs.Stands.{lasting}
 use Rattle.keystore_core.proofs.Listings.{listed_full, listed_more, listed_no_more}
 use Rattle.keystore_core.proofs.listing.listed.Goals as goal
 use Rattle.keystore_core.proofs.listing.listed.Goals.{else-entries-test, then-entries-test+in_default}
+use Rattle.tags.specs.declared.limits.TheConstants.{LISTED}
 
 pub entries-preserved : goal.entries-preserved
 entries-preserved c =
     let part : Lasting = lasting c.args.keys.now in
     let next : next_key part c.args.domain c.args.nspace (option_copied c.entries.last) ≡ Some c.in-Some.key.now = sym c.next_name.ensures ∙ ap option_copied c.in-Some.is in
-    let few : length c.entries.entries.items < 256 = omega (arith, c.entries-test.true, c.len.ensures, c.entries.entries.ok) in
+    let few : length c.entries.entries.items < LISTED = omega (arith, c.entries-test.true, c.len.ensures, c.entries.entries.ok) in
     let alias : c.as_slice-alias.result.now ≡ c.in-Some.key.now.alias = c.as_slice-alias.ensures in
     let copy : c.in_ok-copy_of.field-0 ≡ c.in-Some.key.now.alias = c.in_ok-copy_of.ensures ∙ alias in
     rw (c.in_ok-push.ensures.items, alias, copy) (record {

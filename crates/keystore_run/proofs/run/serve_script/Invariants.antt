@@ -6,6 +6,7 @@ use Rattle.keystore_core.specs.Opening.{IsUnwritten}
 use Rattle.keystore_run.specs.Session.{StandsFor, entries_in}
 use Rattle.keystore_run.proofs.Going.{Going}
 use Rattle.keystore_run.proofs.run.serve_script.Given as goal
+use Rattle.tags.specs.declared.limits.TheConstants.{SCRIPT_BYTES}
 
 abbrev pub invariant-lines : goal.invariant-lines
 invariant-lines g l = record {
@@ -13,10 +14,10 @@ invariant-lines g l = record {
       → Going g.S.Source g.K.Sink g.D.Disk g.N.Entropy g.met.D.Disk.only_now setup (outside l.fn.source l.fn.sink begin l.fn.entropy) (outside l.source l.sink l.disk l.entropy) l.session l.reader.bytes l.reader.taken l.served false;
   entries : entries_in l.session ≤ l.served + l.served + l.served;
   bytes : l.served + length l.reader.bytes ≤ l.reader.taken;
-  taken : l.reader.taken ≤ 2 ^ 30;
+  taken : l.reader.taken ≤ SCRIPT_BYTES;
   source : CountsFaults (g.S.Source.fault_count l.fn.source) (g.S.Source.fault_count l.source) false;
   sink : CountsFaults (g.K.Sink.fault_count l.fn.sink) (g.K.Sink.fault_count l.sink) false;
 }
 
 abbrev pub decreases-lines : goal.decreases-lines
-decreases-lines g l = 2 ^ 30 - l.reader.taken + length l.reader.bytes
+decreases-lines g l = SCRIPT_BYTES - l.reader.taken + length l.reader.bytes

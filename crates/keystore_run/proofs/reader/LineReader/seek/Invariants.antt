@@ -2,6 +2,7 @@ use Rattle.std.proofs.Common.{◌≡◌, ℕ, ◌+◌, ◌-◌, ◌^◌, false, 
 use Rattle.ks_outside.specs.Shown.{Took}
 use Rattle.keystore_run.specs.Window.{HasNoFeedBelow}
 use Rattle.keystore_run.proofs.reader.LineReader.seek.Given as goal
+use Rattle.tags.specs.declared.limits.TheConstants.{SCRIPT_BYTES}
 
 abbrev pub invariant-reads : goal.invariant-reads
 invariant-reads g l = record {
@@ -11,4 +12,4 @@ invariant-reads g l = record {
 }
 
 abbrev pub decreases-reads : goal.decreases-reads
-decreases-reads g l = 2 ^ 30 - l.self.taken
+decreases-reads g l = SCRIPT_BYTES - l.self.taken

@@ -13,7 +13,7 @@ pub returns-in-ImportKey : goal.returns-in-ImportKey
 returns-in-ImportKey c =
     let a = c.in-ImportKey in
     let tail = big_bytes 4 a.format ++ counted a.material in
-    rw a.is (size_three 5 c.key_size-in-ImportKey.result c.counted_size-in-ImportKey.result c.counted_size-in-ImportKey-2.result (length (key_of a.key)) (length (counted a.params)) (length (counted a.material)) _ c.key_size-in-ImportKey.ensures.size c.counted_size-in-ImportKey.ensures.size c.counted_size-in-ImportKey-2.ensures.size
+    rw a.is (size_three 5 c.key_size-in-ImportKey.result c.counted_size-in-ImportKey.result c.material_size.result (length (key_of a.key)) (length (counted a.params)) (length (counted a.material)) _ c.key_size-in-ImportKey.ensures.size c.counted_size-in-ImportKey.ensures.size c.material_size.ensures.size
     (omega (arith, length-append (key_of a.key) (counted a.params ++ tail), length-append (counted a.params) tail)))
 
 pub returns-in-CreateOperation : goal.returns-in-CreateOperation
