@@ -6,6 +6,7 @@ pub mod Boot
 pub mod Keys
 pub mod Writing
 pub mod Alike
+pub mod Numbered
 pub mod Operations
 pub mod Slots
 pub mod Tickets

@@ -330,6 +330,7 @@ impl Tables {
         ensures way { spec.MakesWay pruned self.old self.new }
         ensures boot { self.new.boot ≡ self.old.boot }
         ensures free { is_free self.new.slots ≡ true }
+        ensures given { operations_given self.new.operations ≡ operations_given self.old.operations }
         ensures room { HasRoomForOperation self.old.operations → HasRoomForOperation self.new.operations }
     {
         if let Some(op) = pruned {
@@ -354,6 +355,7 @@ impl Tables {
         requires later { IsLater self.old.slots step }
         requires room { HasRoomForOperation self.old.operations }
         requires few { operations_given self.old.operations < 2 ^ 63 }
+        requires number { row.number ≡ operations_given self.old.operations + 1 }
         requires counted { spec.HasRoomOn self.old.boot.begins key }
         requires less { IfSome key (λ id. begins_in self.old.boot.begins id < 2 ^ 63) }
         ensures { spec.OpensOne pruned step uid key row state self.old self.new }

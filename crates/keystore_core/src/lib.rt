@@ -27,6 +27,7 @@ mod operations;
 mod output;
 mod restarting;
 mod room;
+mod rows;
 mod settling;
 mod stepping;
 mod tables;

@@ -1,16 +1,13 @@
 //! The open operations, with what the rules read of each.
 
-ghost use Rattle.std.specs.Prelude.{◌≡◌, ◌+◌, ◌^◌, ◌<◌, ◌≤◌, ◌==◌, [], not, filter, map, if◌then◌else◌, OnOk, vec_capacity, vec_len};
-ghost use Rattle.std.specs.Option.{option_copied};
-ghost use Rattle.rule_model.specs.Entries.{gives};
-ghost use Rattle.keystore_core.specs.Operations as spec;
-ghost use Rattle.keystore_core.specs.Operations.{AddsRow, ChangesRow, DropsRow, DropsRowsOf, HasRoomForOperation, SameRows, ShowsRows, has_busy_row, operation_in, operations_given, rows_in, with_row, with_shown};
+ghost use Rattle.std.specs.Prelude.{◌+◌};
+ghost use Rattle.keystore_core.specs.Numbered.{AreNumbered, AreNumbered-prop};
 
+use crate::rows::{change_row, drop_row, drop_rows_of, row_at, show_rows};
 use auth_tokens::AuthToken;
 use std::alloc::Global;
 use tag_lists::AuthList;
 use tags::{NoMemory, Plan};
-use token_store::fits;
 
 /// What the rules read of an open operation. Lengths are in bytes.
 #[derive(Debug, Drop)]
@@ -52,91 +49,20 @@ pub enum RowChange {
     Returns(Added),
 }
 
-/// The open operations, in the order of their begins: as many as there are slots at the most.
+/// The open operations, in the order of their begins: as many as there are slots at the most. Their numbers rise, so that one is
+/// found by halving.
 #[derive(Drop)]
 pub struct Operations {
     rows: Vec<Operation>,
     given: u64,
-}
-
-/// Changes a row, where it is that of a number.
-fn change_one(row: &mut Operation, number: u64, change: RowChange)
-    ensures { row.new ≡ (if spec.has_row number row.old then spec.changed change row.old else row.old) }
-{
-    if row.number != number {
-        return;
-    }
-    match change {
-        RowChange::Enters => row.busy = true,
-        RowChange::Returns(added) => {
-            row.aad = row.aad.saturating_add(added.aad);
-            row.text = row.text.saturating_add(added.text);
-            row.busy = false;
-        }
-    }
-}
-
-/// Whether a token names the challenge of an operation.
-fn names(token: &AuthToken, challenge: Option<u64>) -> bool
-    ensures { result ≡ gives challenge token.now.challenge }
-{
-    match challenge {
-        Some(own) => own == token.challenge,
-        None => false,
-    }
-}
-
-/// Whether a token is for the operation of a row.
-fn is_for(token: &AuthToken, row: &Operation) -> bool
-    ensures { result ≡ spec.is_for_row token.now row.now }
-{
-    names(token, row.challenge) && fits(token, &row.list)
-}
-
-/// Shows a token to the operation of a row, where it is for it.
-fn show_one(row: &mut Operation, token: &AuthToken)
-    ensures { row.new ≡ (if spec.is_for_row token.now row.old then spec.shown row.old else row.old) }
-{
-    if is_for(token, row) {
-        row.shown = true;
-    }
-}
-
-/// Shows a token to the operations that it is for.
-fn show_rows(rows: &mut [Operation], token: &AuthToken)
-    ensures { rows.new ≡ with_shown token.now rows.old }
-{
-    for row in rows.iter_mut() {
-        show_one(row, token);
-    }
-}
-
-/// Changes the row of a number.
-fn change_row(rows: &mut [Operation], number: u64, change: RowChange)
-    ensures { rows.new ≡ with_row number (spec.changed change) rows.old }
-{
-    for row in rows.iter_mut() {
-        change_one(row, number, change);
-    }
-}
-
-/// Takes out the row of a number.
-fn drop_row(rows: &mut Vec<Operation>, number: u64)
-    ensures rows { rows.new.items ≡ filter (λ row. not (spec.has_row number row)) rows.old.items }
-    ensures capacity { vec_capacity rows.new ≡ vec_capacity rows.old }
-    ensures len { vec_len rows.new ≤ vec_len rows.old }
-{
-    rows.retain(|row| row.number != number);
-}
-
-/// Takes out the rows of a client.
-fn drop_rows_of(rows: &mut Vec<Operation>, client: u64)
-    ensures { rows.new.items ≡ filter (λ row. not (spec.is_row_of client row)) rows.old.items }
-{
-    rows.retain(|row| row.client != client);
+    ghost order: { AreNumbered rows.items (given + 1) } by { AreNumbered-prop rows.items (given + 1) },
 }
 
 impl Operations {
+    ghost use Rattle.std.specs.Prelude.{◌≡◌, ◌^◌, ◌<◌, [], OnOk};
+    ghost use Rattle.std.specs.Option.{option_copied};
+    ghost use Rattle.keystore_core.specs.Operations.{AddsRow, ChangesRow, DropsRow, DropsRowsOf, HasRoomForOperation, SameRows, ShowsRows, has_busy_row, operation_in, operations_given, rows_in};
+
     /// No operations, of which none was begun.
     pub fn new(alloc: Global) -> Operations
         ensures rows { rows_in result ≡ [] }
@@ -152,7 +78,10 @@ impl Operations {
     pub fn get(&self, number: u64) -> Option<&Operation>
         ensures { option_copied result ≡ operation_in self.now number }
     {
-        self.rows.iter().find(|row| row.number == number)
+        match row_at(&self.rows, number) {
+            Ok(at) => Some(&self.rows[at]),
+            Err(_at) => None,
+        }
     }
 
     /// Whether a work on an operation of a client is out.
@@ -183,6 +112,7 @@ impl Operations {
     pub fn open(&mut self, operation: Operation)
         requires room { HasRoomForOperation self.old }
         requires few { operations_given self.old < 2 ^ 63 }
+        requires number { operation.number ≡ operations_given self.old + 1 }
         ensures { AddsRow operation self.old self.new }
     {
         let Ok(()) = self.rows.push(operation) else {

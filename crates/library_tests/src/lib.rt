@@ -13,7 +13,11 @@ mod blocks;
 #[cfg(test)]
 mod broken;
 #[cfg(test)]
+mod chained;
+#[cfg(test)]
 mod descriptors;
+#[cfg(test)]
+mod draws;
 #[cfg(test)]
 mod files;
 #[cfg(test)]

@@ -57,7 +57,7 @@ impl Desk {
     }
 }
 
-/// The oldest idle operation of a uid, with the steps that it took.
+/// The oldest idle operation of a uid, by a counter of its own.
 fn oldest<L: Ledger>(slots: &Slots<Vec<u8>>, uid: u32, blank: Blank) -> Option<(OpId, u64)>
     requires name { blank.name ≡ L.name }
     requires parts { blank.parts ≡ L.parts }

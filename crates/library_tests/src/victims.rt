@@ -1,7 +1,8 @@
 //! A table of sixteen operations, and random slot lists against the definition computed by filters over a whole list.
-ghost use Rattle.std.specs.Prelude.{◌≡◌, ◌<◌, ◌≤◌};
+ghost use Rattle.std.specs.Prelude.{◌≡◌, ◌+◌, ◌<◌, ◌≤◌};
 ghost use Rattle.operation_slots.specs.Table.{IsLater};
 
+use crate::draws::Draws;
 use operation_slots::{OpId, Slots, Steps, Taken};
 use pruning::victim;
 use std::alloc::Global;
@@ -25,14 +26,14 @@ impl Desk {
     }
 
     /// Begins an operation where a slot is free and its number is; the stamp is this moment's.
-    fn begin(&mut self, op: OpId, uid: u32) -> bool {
+    fn begin(&mut self, op: OpId, uid: u32, client: u64) -> bool {
         let stamp = self.next;
         if stamp == u64::MAX || !self.slots.has_room() {
             return false;
         }
         match self.slots.take(op) {
             Taken::Absent => {
-                self.slots.begin(op, uid, 1, stamp, 0);
+                self.slots.begin(op, uid, client, stamp, 0);
                 self.next = stamp + 1;
                 true
             }
@@ -76,14 +77,37 @@ impl Desk {
     }
 }
 
-/// The victim, with a counter of its own.
-fn pruned<L: Ledger>(desk: &Desk, uid: u32, forced: bool, blank: Blank) -> Option<OpId>
+/// The victim, and how many uids have an idle operation, which is the most steps that the search takes.
+fn counted<L: Ledger>(
+    desk: &Desk,
+    uid: u32,
+    forced: bool,
+    steps: &mut Steps<L>,
+) -> (Option<OpId>, usize)
+    ensures { steps.new ≤ steps.old + result.1 }
+{
+    let first = victim(&desk.slots, uid, forced, desk.next, steps);
+    (first, desk.slots.idle_owners())
+}
+
+/// The same, by a counter of its own.
+fn pruned<L: Ledger>(desk: &Desk, uid: u32, forced: bool, blank: Blank) -> (Option<OpId>, usize)
     requires name { blank.name ≡ L.name }
     requires parts { blank.parts ≡ L.parts }
     requires some { 0 < L.parts }
 {
     let mut steps = Steps::<L>::new(blank);
-    victim(&desk.slots, uid, forced, desk.next, &mut steps)
+    counted(desk, uid, forced, &mut steps)
+}
+
+/// The oldest idle operation of a uid, by a counter of its own.
+fn oldest<L: Ledger>(desk: &Desk, uid: u32, blank: Blank) -> Option<(OpId, u64)>
+    requires name { blank.name ≡ L.name }
+    requires parts { blank.parts ≡ L.parts }
+    requires some { 0 < L.parts }
+{
+    let mut steps = Steps::<L>::new(blank);
+    desk.slots.oldest_idle(uid, &mut steps)
 }
 
 /// Sixteen operations, the one of place i with the number (7 i + 3) mod 16 + 1.
@@ -298,7 +322,7 @@ fn fill(desk: &mut Desk, case: &Case) {
     for place in 0..16u64 {
         desk.wait_until(NOW.saturating_sub(case.ages[place as usize]));
         let op = (7 * place + 3) % 16 + 1;
-        desk.begin(op, case.uids[place as usize]);
+        desk.begin(op, case.uids[place as usize], 1);
         if case.busy >> place & 1 == 1 {
             desk.hold(op);
         }
@@ -313,7 +337,7 @@ fn first_to_go(alloc: Global, case: &Case) -> (usize, u64, Option<OpId>) {
     };
     let mut desk = Desk { slots, next: 1 };
     fill(&mut desk, case);
-    let victim = pruned::<Brand>(&desk, case.uid, case.forced, Blank::new(1));
+    let (victim, _) = pruned::<Brand>(&desk, case.uid, case.forced, Blank::new(1));
     let (open, now) = (desk.slots.open_count(), desk.next);
     drop(desk);
     (open, now, victim)
@@ -332,6 +356,7 @@ fn the_first_to_go_of_sixteen(rt: HostRuntime) {
 struct Row {
     op: OpId,
     uid: u32,
+    client: u64,
     stamp: u64,
     busy: bool,
 }
@@ -395,23 +420,6 @@ fn by_definition(rows: &[Row], uid: u32, forced: bool, now: u64) -> Option<OpId>
     }
 }
 
-/// Draws of the test's own: a linear congruence, of which the upper bits count.
-#[derive(Drop)]
-struct Draws {
-    state: u64,
-}
-
-impl Draws {
-    fn below(&mut self, bound: u32) -> u32 {
-        self.state = self
-            .state
-            .wrapping_mul(6364136223846793005)
-            .wrapping_add(1442695040888963407);
-        let drawn = (self.state >> 33) as u32;
-        drawn.checked_rem(bound).unwrap_or(0)
-    }
-}
-
 fn has(rows: &[Row], op: OpId) -> bool {
     let mut found = false;
     for row in rows {
@@ -436,31 +444,47 @@ fn hold(rows: &mut [Row], op: OpId) {
     }
 }
 
-/// One event on the slots and on the plain list, and whether there was memory for it.
-fn act(desk: &mut Desk, rows: &mut Vec<Row>, draws: &mut Draws, uids: u32) -> bool {
-    let pause = draws.below(3).wrapping_mul(draws.below(40)) as u64;
-    desk.wait_until(desk.next.saturating_add(pause));
+/// The idle row of a uid with the least stamp.
+fn least(rows: &[Row], uid: u32) -> Option<(OpId, u64)> {
+    let mut least: Option<(OpId, u64)> = None;
+    for row in rows {
+        let less = match least {
+            Some((_, stamp)) => row.stamp < stamp,
+            None => true,
+        };
+        if less && !row.busy && row.uid == uid {
+            least = Some((row.op, row.stamp));
+        }
+    }
+    least
+}
+
+/// Begins an operation here and there where that can be, and tells whether there was memory.
+fn begin(desk: &mut Desk, rows: &mut Vec<Row>, op: OpId, uid: u32, client: u64) -> bool {
     let stamp = desk.next;
-    let op = draws.below(40) as u64;
+    if has(rows, op) || !desk.begin(op, uid, client) {
+        return true;
+    }
+    let row = Row {
+        op,
+        uid,
+        client,
+        stamp,
+        busy: false,
+    };
+    rows.push(row).is_ok()
+}
+
+/// One event on an operation that has begun.
+fn go_on(desk: &mut Desk, rows: &mut Vec<Row>, draws: &mut Draws, op: OpId) {
+    let stamp = desk.next;
     match draws.below(8) {
         0..=3 => {
-            let uid = draws.below(uids);
-            if !has(rows, op) && desk.begin(op, uid) {
-                let row = Row {
-                    op,
-                    uid,
-                    stamp,
-                    busy: false,
-                };
-                return rows.push(row).is_ok();
-            }
-        }
-        4 | 5 => {
             if desk.touch(op) {
                 touch(rows, op, stamp);
             }
         }
-        6 => {
+        4 | 5 => {
             if desk.hold(op) {
                 hold(rows, op);
             }
@@ -471,34 +495,81 @@ fn act(desk: &mut Desk, rows: &mut Vec<Row>, draws: &mut Draws, uids: u32) -> bo
             }
         }
     }
+}
+
+/// A client of eight ends, or, seldom, all is cleared.
+fn leave(desk: &mut Desk, rows: &mut Vec<Row>, draws: &mut Draws) {
+    if draws.below(16) == 0 {
+        desk.slots.clear();
+        rows.clear();
+        return;
+    }
+    let client = draws.below(8) as u64;
+    desk.slots.close_of(client);
+    rows.retain(|row| row.client != client);
+}
+
+/// One event on the slots and on the plain list, and whether there was memory for it.
+fn act(desk: &mut Desk, rows: &mut Vec<Row>, draws: &mut Draws, uids: u32) -> bool {
+    let pause = draws.below(3).wrapping_mul(draws.below(40)) as u64;
+    desk.wait_until(desk.next.saturating_add(pause));
+    let op = draws.below(100) as u64;
+    match draws.below(64) {
+        0..=39 => {
+            let (uid, client) = (draws.below(uids), draws.below(8) as u64);
+            return begin(desk, rows, op, uid, client);
+        }
+        40..=62 => go_on(desk, rows, draws, op),
+        _ => leave(desk, rows, draws),
+    }
     true
 }
 
-/// The slots answer as the definition does, for a caller of each uid and one that has none.
-fn agree(desk: &Desk, rows: &[Row]) -> bool {
-    let mut same = desk.slots.open_count() == rows.len();
-    for uid in 0..6u32 {
-        for forced in [false, true] {
-            let answer = pruned::<Brand>(desk, uid, forced, Blank::new(1));
-            same &= answer == by_definition(rows, uid, forced, desk.next);
-        }
+/// The slots answer a caller as the definition does.
+fn agree(desk: &Desk, rows: &[Row], uid: u32) -> bool {
+    let mut same = desk.slots.open_of(uid) == open_of(rows, uid);
+    for forced in [false, true] {
+        let (answer, _) = pruned::<Brand>(desk, uid, forced, Blank::new(1));
+        same &= answer == by_definition(rows, uid, forced, desk.next);
     }
     same
 }
 
-/// Whether the slots answer as the definition does behind sixty events.
+/// The idle operations of a uid go in the order of their stamps, each behind a look at the oldest.
+fn go_in_order(desk: &mut Desk, rows: &mut [Row], uid: u32) -> bool {
+    let mut same = true;
+    for _ in 0..=rows.len() {
+        let answer = oldest::<Brand>(desk, uid, Blank::new(1));
+        same &= answer == least(rows, uid);
+        let Some((op, _)) = answer else {
+            return same;
+        };
+        same &= desk.hold(op);
+        hold(rows, op);
+    }
+    false
+}
+
+/// Whether the slots answer as the definition does behind so many events.
 fn agree_behind_events(alloc: Global, draws: &mut Draws) -> bool {
-    let Ok(slots) = Slots::with_capacity(alloc, 16) else {
+    let count = (draws.below(64) as usize).min(63) + 1;
+    let Ok(slots) = Slots::with_capacity(alloc, count) else {
         return false;
     };
     let mut desk = Desk { slots, next: 1 };
     let mut rows = Vec::new(alloc);
-    let uids = draws.below(5).max(1);
+    let uids = draws.below(65).max(1);
     let mut same = true;
-    for _ in 0..60 {
+    for _ in 0..150 {
         same &= act(&mut desk, &mut rows, draws, uids);
     }
-    same &= agree(&desk, rows.as_slice());
+    same &= desk.slots.open_count() == rows.len();
+    for _ in 0..6 {
+        same &= agree(&desk, rows.as_slice(), draws.below(uids.saturating_add(1)));
+    }
+    for uid in 0..uids {
+        same &= go_in_order(&mut desk, rows.as_mut_slice(), uid);
+    }
     drop(desk);
     drop(rows);
     same
@@ -512,4 +583,32 @@ fn random_slot_lists_agree_with_the_definition(rt: HostRuntime) {
         agree &= agree_behind_events(rt.alloc(), &mut draws);
     }
     assert!(rt; agree);
+}
+
+/// Whether sixty-four slots with idle operations of four uids, sixteen each, answer as the definition does, and how many are open
+/// and looked at.
+fn agree_of_four(alloc: Global) -> (bool, usize, usize) {
+    let Ok(slots) = Slots::with_capacity(alloc, 64) else {
+        return (false, 0, 0);
+    };
+    let mut desk = Desk { slots, next: 1 };
+    let mut rows = Vec::new(alloc);
+    let mut same = true;
+    for op in 0..64u64 {
+        desk.wait_until(op.saturating_mul(op));
+        same &= begin(&mut desk, &mut rows, op, (op % 4) as u32, 1);
+    }
+    for uid in 0..5 {
+        same &= agree(&desk, rows.as_slice(), uid);
+    }
+    let (_, steps) = pruned::<Brand>(&desk, 4, true, Blank::new(1));
+    let open = desk.slots.open_count();
+    drop(desk);
+    drop(rows);
+    (same, open, steps)
+}
+
+#[test]
+fn sixty_four_operations_of_four_uids_take_four_steps(rt: HostRuntime) {
+    assert!(rt; agree_of_four(rt.alloc()) == (true, 64, 4));
 }

@@ -5,7 +5,7 @@ use Rattle.std.proofs.lemmas.List.Sums.{length-filter, count_by-le-length}
 use Rattle.std.proofs.lemmas.Bool.{cases_Bool, eqb-true}
 use Rattle.operation_slots.specs.declared.operation.Operation.{Operation}
 use Rattle.operation_slots.specs.Table.{has_number, idle_value, with_change, made_busy, given_back, without, numbers_of, stamps_of, NoneIs, AllDiffer}
-use Rattle.operation_slots.specs.Kept.{IsKept}
+use Rattle.operation_slots.specs.Kept.{IsHeld}
 use Rattle.operation_slots.proofs.Lists.{not_found, unchanged}
 
 none_more : (n k : ℕ) (ks : List ℕ) → NoneIs n ks → k ≢ n → NoneIs n (ks ++ k ∷ [])
@@ -73,51 +73,47 @@ module _ {T : Type 0} where
 
   -- ---- the calls
 
-  pub kept_begun : (xs : List (Operation T)) (capacity room later : ℕ) (x : Operation T) → IsKept xs capacity room → find (has_number x.number) xs ≡ None → All (λ o. o.stamp < x.stamp) xs → length xs < capacity → room ≤ later → IsKept (xs ++ x ∷ []) capacity later
-  kept_begun xs capacity room later x kept fresh newest free grown = record {
+  pub kept_begun : (xs : List (Operation T)) (capacity : ℕ) (x : Operation T) → IsHeld xs capacity → find (has_number x.number) xs ≡ None → All (λ o. o.stamp < x.stamp) xs → length xs < capacity → IsHeld (xs ++ x ∷ []) capacity
+  kept_begun xs capacity x kept fresh newest free = record {
     numbers = rw (key_more (λ o. o.number) xs x) (differ_more x.number (numbers_of xs) kept.numbers (not_found x.number xs fresh));
     stamps = rw (key_more (λ o. o.stamp) xs x) (differ_more x.stamp (stamps_of xs) kept.stamps (none_later x.stamp xs newest));
     some = kept.some;
     few = kept.few;
     within = simp length-append (omega arith);
-    memory = omega (arith, kept.memory);
   }
 
-  pub kept_taken : (xs : List (Operation T)) (capacity room n : ℕ) → IsKept xs capacity room → IsKept (with_change n made_busy xs) capacity room
-  kept_taken xs capacity room n kept = record {
+  pub kept_taken : (xs : List (Operation T)) (capacity n : ℕ) → IsHeld xs capacity → IsHeld (with_change n made_busy xs) capacity
+  kept_taken xs capacity n kept = record {
     numbers = rw (key_same (λ o. o.number) n made_busy (λ o. refl) xs) kept.numbers;
     stamps = rw (key_same (λ o. o.stamp) n made_busy (λ o. refl) xs) kept.stamps;
     some = kept.some;
     few = kept.few;
     within = rw (length_change n made_busy xs) kept.within;
-    memory = kept.memory;
   }
 
-  pub kept_given : (xs : List (Operation T)) (capacity room n s : ℕ) (v : T) → IsKept xs capacity room → All (λ o. o.stamp < s) xs → IsKept (with_change n (given_back s v) xs) capacity room
-  kept_given xs capacity room n s v kept newest = record {
+  pub kept_given : (xs : List (Operation T)) (capacity n s : ℕ) (v : T) → IsHeld xs capacity → All (λ o. o.stamp < s) xs → IsHeld (with_change n (given_back s v) xs) capacity
+  kept_given xs capacity n s v kept newest = record {
     numbers = rw (key_same (λ o. o.number) n (given_back s v) (λ o. refl) xs) kept.numbers;
     stamps = stamps_given n s v xs kept.numbers kept.stamps newest;
     some = kept.some;
     few = kept.few;
     within = rw (length_change n (given_back s v) xs) kept.within;
-    memory = kept.memory;
   }
 
   fewer : (p : Operation T → Bool) (xs : List (Operation T)) → length (filter p xs) ≤ length xs
   fewer p xs = omega (arith, length-filter p xs, count_by-le-length p xs)
 
-  pub kept_fewer : (p : Operation T → Bool) (xs : List (Operation T)) (capacity room later : ℕ) → IsKept xs capacity room → later ≡ room → IsKept (filter p xs) capacity later
-  kept_fewer p xs capacity room later kept same = record {
+  pub kept_fewer : (p : Operation T → Bool) (xs : List (Operation T)) (capacity : ℕ) → IsHeld xs capacity → IsHeld (filter p xs) capacity
+  kept_fewer p xs capacity kept = record {
     numbers = differ_fewer (λ o. o.number) p xs kept.numbers;
     stamps = differ_fewer (λ o. o.stamp) p xs kept.stamps;
     some = kept.some;
     few = kept.few;
     within = omega (arith, fewer p xs, kept.within);
-    memory = omega (arith, kept.memory);
   }
 
-  pub kept_without : (xs : List (Operation T)) (capacity room later n : ℕ) → IsKept xs capacity room → later ≡ room → IsKept (without n xs) capacity later
-  kept_without xs capacity room later n kept same = kept_fewer (λ o. not (has_number n o)) xs capacity room later kept same
+  pub kept_without : (xs : List (Operation T)) (capacity n : ℕ) → IsHeld xs capacity → IsHeld (without n xs) capacity
+  kept_without xs capacity n kept = kept_fewer (λ o. not (has_number n o)) xs capacity kept
 
   -- an idle operation that is taken out leaves fewer
   pub one_fewer : (n : ℕ) (xs : List (Operation T)) (v : T) → idle_value (find (has_number n) xs) ≡ Some v → length (without n xs) < length xs

@@ -1,6 +1,12 @@
 pub mod Lists
-pub mod Finding
-pub mod Owning
-pub mod Oldest
 pub mod Keeping
-pub mod Sound
+pub mod Sorting
+pub mod Entries
+pub mod Idle
+pub mod Counting
+pub mod Boards
+pub mod Reading
+pub mod Seeing
+pub mod Closing
+pub mod Laying
+pub mod OldestIdle

@@ -1,3 +1,4 @@
 pub mod Table
-pub mod Owners
+pub mod Counted
+pub mod Sorted
 pub mod Kept

@@ -3,8 +3,8 @@
 ghost use Rattle.std.specs.Prelude.{◌≡◌, ℕ, ◌+◌, ◌<◌, ◌≤◌, true, false, length, slice_get, Some, None, IfSome, IfNone, OnSome, IfOk};
 ghost use Rattle.operation_slots.specs.Table.{IsSound, IsEmpty, IsLater, Same, Begins, Takes, Gives, TakesOut, TakesOutOf, idle_operation, held, open_count as held_count, open_of as held_of, has_room as room_in, has_idle, owners_of, capacity_of, taken, idle_value, is_busy, is_taken, MatchTaken, FindsNew, FindsChanged, FindsWithout, FindsNoMore, KeepsLater, KeepsLaterThan, made_busy, given_back, IsOldestIdle};
 
-use crate::edits::{give_value, take_out_busy, take_out_client, take_out_idle, take_value};
-use crate::{OpId, Operation, Steps, Taken, owners};
+use crate::board::Board;
+use crate::{OpId, Operation, Steps, Taken};
 use std::alloc::Global;
 use std::marker::Model;
 use std::sync::ledger::Ledger;
@@ -16,8 +16,7 @@ use tags::{MOST_SLOTS, NoMemory};
 /// what happened: `begin` and `give` are called with one that is greater than every stamp held, so no two are the same.
 #[derive(Drop)]
 pub struct Slots<T> {
-    operations: Vec<Operation<T>>,
-    capacity: usize,
+    board: Board<T>,
 }
 
 impl<T> Model for Slots<T> {
@@ -26,11 +25,10 @@ impl<T> Model for Slots<T> {
     ghost Value = { SlotTable T };
 
     ghost use Rattle.operation_slots.specs.Kept.{seen, IsKept};
-    ghost use Rattle.std.specs.Prelude.{vec_capacity};
 
-    ghost view = { λ s. seen s.operations.items s.capacity };
+    ghost view = { λ s. seen s.board };
 
-    ghost invariant = { λ s. IsKept s.operations.items s.capacity (vec_capacity s.operations) };
+    ghost invariant = { λ s. IsKept s.board };
 }
 
 impl<T> Slots<T> {
@@ -42,8 +40,7 @@ impl<T> Slots<T> {
         ensures later { IfOk result (λ slots. (next : ℕ) → IsLater slots next) }
     {
         Ok(Slots {
-            operations: Vec::with_capacity(alloc, count)?,
-            capacity: count,
+            board: Board::with_capacity(alloc, count)?,
         })
     }
 
@@ -54,14 +51,14 @@ impl<T> Slots<T> {
         ensures empty { IsEmpty self.new (capacity_of self.old) }
         ensures later { (next : ℕ) → IsLater self.new next }
     {
-        self.operations.clear();
+        self.board.clear();
     }
 
     /// Whether a slot is free.
     pub fn has_room(&self) -> bool
         ensures { result ≡ room_in self.now }
     {
-        self.operations.len() < self.capacity
+        self.board.index.len() < self.board.capacity
     }
 
     /// How many operations are held, idle and busy.
@@ -69,7 +66,7 @@ impl<T> Slots<T> {
         ensures count { result ≡ held_count self.now }
         ensures sound { IsSound self.now }
     {
-        self.operations.len()
+        self.board.index.len()
     }
 
     /// How many operations of a uid are held, idle and busy.
@@ -77,10 +74,7 @@ impl<T> Slots<T> {
         ensures count { result ≡ held_of self.now uid }
         ensures within { result ≤ held_count self.now }
     {
-        self.operations
-            .iter()
-            .filter(|operation| operation.uid == uid)
-            .count()
+        self.board.counts.of(uid)
     }
 
     /// How many uids have an idle operation.
@@ -88,7 +82,7 @@ impl<T> Slots<T> {
         ensures count { result ≡ length (owners_of self.now) }
         ensures sound { IsSound self.now }
     {
-        owners::owner_count(&self.operations)
+        self.board.idle.owner_count()
     }
 
     /// The uid at this place among those that have an idle operation, each of which stands at one place; None exactly
@@ -96,18 +90,17 @@ impl<T> Slots<T> {
     pub fn idle_owner(&self, place: usize) -> Option<u32>
         ensures { result ≡ slice_get (owners_of self.now) place }
     {
-        owners::owner_at(&self.operations, place)
+        self.board.idle.owner(place)
     }
 
     /// The number and the stamp of the idle operation of a uid with the least stamp; None exactly where none is idle.
-    /// It takes at most one step for each slot.
+    /// It takes exactly one step.
     pub fn oldest_idle<L: Ledger>(&self, uid: u32, steps: &mut Steps<L>) -> Option<(OpId, u64)>
         ensures some { IfSome result (λ found. IsOldestIdle self.now uid found.0 found.1) }
         ensures none { IfNone result (has_idle self.now uid ≡ false) }
-        ensures later { steps.old ≤ steps.new }
-        ensures steps { steps.new ≤ steps.old + capacity_of self.now }
+        ensures steps { steps.new ≡ steps.old + 1 }
     {
-        owners::oldest_idle(&self.operations, uid, steps)
+        self.board.oldest_idle(uid, steps)
     }
 
     /// Begins an idle operation, which comes behind the others. It needs a free slot, a number that is not held, and a
@@ -120,17 +113,13 @@ impl<T> Slots<T> {
         ensures found { FindsNew self.old self.new (idle_operation op uid client stamp value) }
         ensures later { KeepsLaterThan self.old self.new stamp }
     {
-        let operation = Operation {
+        self.board.begin(Operation {
             number: op,
             uid,
             client,
             stamp,
             value: Some(value),
-        };
-        match self.operations.push(operation) {
-            Ok(()) => (),
-            Err(_) => unreachable!(),
-        }
+        });
     }
 
     /// Takes the value of an idle operation out, which is busy from then on and keeps its place and its stamp. Busy and
@@ -146,7 +135,7 @@ impl<T> Slots<T> {
         ensures found { FindsChanged self.old self.new op made_busy }
         ensures later { KeepsLater self.old self.new }
     {
-        take_value(&mut self.operations, op)
+        self.board.take(op)
     }
 
     /// Gives a busy operation its value back, with a new stamp, which needs to be greater than every stamp held. It is idle
@@ -159,7 +148,7 @@ impl<T> Slots<T> {
         ensures found { FindsChanged self.old self.new op (given_back stamp value) }
         ensures later { KeepsLaterThan self.old self.new stamp }
     {
-        give_value(&mut self.operations, op, stamp, value)
+        self.board.give(op, stamp, value)
     }
 
     /// Takes an idle operation out, with its value, which leaves a slot free; None exactly where it is busy or not held, and
@@ -173,7 +162,7 @@ impl<T> Slots<T> {
         ensures found { OnSome result (FindsWithout self.old self.new op) }
         ensures later { KeepsLater self.old self.new }
     {
-        take_out_idle(&mut self.operations, op)
+        self.board.close(op)
     }
 
     /// Takes all operations of a client out, idle and busy.
@@ -184,7 +173,7 @@ impl<T> Slots<T> {
         ensures found { FindsNoMore self.old self.new }
         ensures later { KeepsLater self.old self.new }
     {
-        take_out_client(&mut self.operations, client);
+        self.board.close_of(client);
     }
 
     /// Takes a busy operation out.
@@ -194,6 +183,6 @@ impl<T> Slots<T> {
         ensures found { FindsWithout self.old self.new op }
         ensures later { KeepsLater self.old self.new }
     {
-        take_out_busy(&mut self.operations, op)
+        self.board.end(op)
     }
 }

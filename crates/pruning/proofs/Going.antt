@@ -126,10 +126,10 @@ module _ {T : Type 0} where
   FirstSoFar table now count None = count ≡ 0
   FirstSoFar table now count (Some c) = GoesFirst table now count c
 
-  pub record Walked (table : SlotTable T) (now count capacity : ℕ) (first : Option Candidate) (steps_before steps : ℕ) : Type 0 where
+  pub record Walked (table : SlotTable T) (now count : ℕ) (first : Option Candidate) (steps_before steps : ℕ) : Type 0 where
     pub first_is : FirstSoFar table now count first
     pub later : steps_before ≤ steps
-    pub few : steps ≤ steps_before + count * capacity
+    pub few : steps ≤ steps_before + count
 
   -- of this owner's idle operations it goes first
   this_owner : (table : SlotTable T) (now count : ℕ) (c : Candidate) (oldest : IsOldestOfOwner table now count c) (k : ℕ) (o : Operation T) → k ≡ count → In o (operations_of table) → is_idle o ≡ true → slice_get (owners_of table) k ≡ Some o.uid → goes_before c (compared table now o) ≡ true

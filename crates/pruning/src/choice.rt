@@ -1,7 +1,7 @@
 //! The first idle operation to go: the oldest ones of the owners are compared, since each goes before the other idle
 //! operations of its owner.
-ghost use Rattle.std.specs.Prelude.{◌≡◌, IfSome, IsSome, ◌+◌, ◌*◌, ◌<◌, ◌≤◌, length};
-ghost use Rattle.operation_slots.specs.Table.{IsLater, held, idle_value, IsSound, owners_of, capacity_of};
+ghost use Rattle.std.specs.Prelude.{◌≡◌, IfSome, IsSome, ◌+◌, ◌<◌, ◌≤◌, length};
+ghost use Rattle.operation_slots.specs.Table.{IsLater, held, idle_value, IsSound, owners_of};
 ghost use Rattle.pruning.specs.Victim as spec;
 ghost use Rattle.pruning.specs.Choice.{IsFirst, IsOldestOfOwner, earlier as earlier_of};
 
@@ -30,7 +30,7 @@ pub fn first_to_go<T, L: Ledger>(
     ensures idle { IfSome result (λ c. IsSome (idle_value (held slots.now c.number))) }
     ensures sound { IsSound slots.now }
     ensures later { steps.old ≤ steps.new }
-    ensures steps { steps.new ≤ steps.old + length (owners_of slots.now) * capacity_of slots.now }
+    ensures steps { steps.new ≤ steps.old + length (owners_of slots.now) }
 {
     let mut first: Option<Candidate> = None;
     for place in 0..slots.idle_owners() {
@@ -39,7 +39,7 @@ pub fn first_to_go<T, L: Ledger>(
     first
 }
 
-/// The oldest idle operation of the owner at this place.
+/// The oldest idle operation of the owner at this place. It takes one step.
 fn oldest_of<T, L: Ledger>(
     slots: &Slots<T>,
     place: usize,
@@ -50,8 +50,7 @@ fn oldest_of<T, L: Ledger>(
     requires sound { IsSound slots.now }
     requires place { place < length (owners_of slots.now) }
     ensures oldest { IsOldestOfOwner slots.now now place result }
-    ensures later { steps.old ≤ steps.new }
-    ensures steps { steps.new ≤ steps.old + capacity_of slots.now }
+    ensures steps { steps.new ≡ steps.old + 1 }
 {
     let Some(uid) = slots.idle_owner(place) else {
         unreachable!()

@@ -1,10 +1,6 @@
-use Rattle.std.proofs.Common.{arith, refl, ◌+◌, ◌*◌, ◌≤◌, ℕ, add-mul}
+use Rattle.std.proofs.Common.{arith, refl}
 use Rattle.pruning.proofs.Going.{one_more, first_of_all, first_is_idle}
 use Rattle.pruning.proofs.choice.first_to_go.Goals as goal
-
--- one owner more takes at most one step more for each slot
-steps_more : (first before now count capacity : ℕ) → before ≤ first + count * capacity → now ≤ before + capacity → now ≤ first + (count + 1) * capacity
-steps_more first before now count capacity h k = rw (add-mul count 1 capacity) (omega arith)
 
 pub returns-clause-first : goal.returns-clause-first
 returns-clause-first g c =
@@ -13,8 +9,8 @@ returns-clause-first g c =
 pub loop-place-preserved : goal.loop-place-preserved
 loop-place-preserved g c = record {
   first_is = rw c.earlier.ensures (one_more c.args.slots.now c.args.now c.loop-place.place c.loop-place.first c.oldest_of.result c.loop-place.invariant.first_is c.oldest_of.ensures.oldest);
-  later = omega (arith, c.loop-place.invariant.later, c.oldest_of.ensures.later);
-  few = steps_more c.args.steps.now c.loop-place.steps c.oldest_of.new.steps c.loop-place.place _ c.loop-place.invariant.few c.oldest_of.ensures.steps;
+  later = omega (arith, c.loop-place.invariant.later, c.oldest_of.ensures.steps);
+  few = omega (arith, c.loop-place.invariant.few, c.oldest_of.ensures.steps);
 }
 
 pub returns-clause-idle : goal.returns-clause-idle

@@ -64,6 +64,9 @@ open-requires-clause-later g c = at_later c.args.self.now c.args.step _ _ c.requ
 pub open-requires-clause-few : goal.open-requires-clause-few
 open-requires-clause-few g c = omega (arith, c.in_ok-ready.ensures.rows.given, few_operations c.args.self.now (at_few c.args.self.now c.args.step _ _ c.requires.few c.requires.at))
 
+pub open-requires-clause-number : goal.open-requires-clause-number
+open-requires-clause-number g c = c.new_operation-row.ensures.number_is ∙ c.next-op.ensures ∙ ap (λ n. n + 1) (sym c.in_ok-ready.ensures.rows.given)
+
 pub open-requires-clause-less : goal.open-requires-clause-less
 open-requires-clause-less g c =
     few_counted c.args.self.now c.make_ready.new.begins c.in-Ok.admitted.id c.in_ok-ready.ensures.begins

@@ -1,0 +1,5 @@
+use Rattle.library_tests.proofs.victims.agree_of_four.Given as goal
+
+-- the ledger that the blank opens
+abbrev pub ghosts-pruned : goal.ghosts-pruned
+ghosts-pruned a = record { name = a.blank.name; parts = a.blank.parts }

@@ -1,0 +1,5 @@
+use Rattle.library_tests.proofs.victims.go_in_order.Given as goal
+
+-- the ledger that the blank opens
+abbrev pub ghosts-oldest : goal.ghosts-oldest
+ghosts-oldest a = record { name = a.blank.name; parts = a.blank.parts }

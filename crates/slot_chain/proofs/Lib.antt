@@ -1,0 +1,9 @@
+pub mod Ordering
+pub mod Numbers
+pub mod Paths
+pub mod Writes
+pub mod HeadLists
+pub mod Keeping
+pub mod Dropping
+pub mod Seen
+pub mod Calls
