@@ -1,17 +1,19 @@
 #!/usr/bin/env python3
-"""Before a gate, in seconds: brings the crates into the layout that the gate asks for, and looks at their must-fail edits.
+"""Before a gate, in seconds: brings the crates into the layout that the gate asks for, and looks at their layers and must-fail edits.
 
     python3 tools/before_gate.py [CRATE ..]
 
 `rt ci` refuses a crate with a file that `rt fmt` would change, and then all above it, once everything is proved; `rt check` does not say
 so. This runs `rt fmt` in each crate and names the files that it changed, then the edits that are bad: an `old:` that does not stand in
-its file once, and more of them in a crate than the budget has. It ends with 1 where it names something."""
+its file once, and more of them in a crate than the budget has; and where the layers of crates.txt and of docs/ARCHITECTURE.md differ, or
+a crate has none. It ends with 1 where it names something."""
 import pathlib
 import subprocess
 import sys
 
 import build
 import edit_times
+import layers
 from harness import parser_of
 
 TOP = pathlib.Path(__file__).resolve().parent.parent
@@ -45,8 +47,8 @@ def main():
     unknown = [it for it in given.crates if it not in own]
     if unknown:
         parser.error(f"crates.txt lists no {', '.join(unknown)}")
-    told = [line for crate in given.crates or own for line in (*moved(crate), *bad_edits(crate))]
-    print("\n".join(told) or "all in the layout, and each edit can be applied")
+    told = [*layers.faults(), *(line for crate in given.crates or own for line in (*moved(crate), *bad_edits(crate)))]
+    print("\n".join(told) or "all in the layout, each crate has its layer, and each edit can be applied")
     return 1 if told else 0
 
 

@@ -4,9 +4,10 @@
     python3 tools/layers.py            writes the picture anew
     python3 tools/layers.py --check    says where the page differs, and ends with 1 then
 
-The table says which layer a crate is of, crates.txt what a crate stands on. An arrow goes from a layer to one that its crates stand on;
-one that follows from two others is left out. It is told too where a crate has no layer or two, where a name of the page is no crate, and
-where a crate stands on one of a higher layer. The crates that have tests alone are in the page's second table, and in no picture."""
+crates.txt has a heading for each layer, a comment of one word, and the table a row. It is told where a crate stands behind no heading,
+where the two have other headings or another order of them, or a heading other crates; where a crate stands twice, or before one that it
+stands on, and where one stands on a crate of tests. The last heading is that of the crates which have tests alone; they are in no
+picture. An arrow of it goes from a layer to one that its crates stand on; one that follows from two others is left out."""
 import pathlib
 import re
 import sys
@@ -16,21 +17,59 @@ from harness import parser_of
 TOP = pathlib.Path(__file__).resolve().parent.parent
 PAGE = TOP / "docs/ARCHITECTURE.md"
 BEGIN, END = "```mermaid\nflowchart TB\n", "```\n"
-LAYERS, TESTS = "| Layer | Crates |", "| Crate | Tests of |"
+LAYERS, TESTS = "| Layer | Crates |", "tests"
 WIDTH = 40
 
 
-def listed():
-    """The crates of crates.txt, each with the crates of the repository that it stands on."""
-    rows = [line.split("#")[0].strip() for line in (TOP / "crates.txt").read_text(encoding="utf-8").splitlines()]
-    found = {row.split(":")[0].split()[0]: row.split(":")[1].split() for row in rows if row}
-    return {crate: [it for it in below if it in found] for crate, below in found.items()}
+def headed(text):
+    """The layers of the text of crates.txt with their crates, in its order; before the first heading the layer has no name. And what
+    each crate stands on."""
+    layers, below = [("", [])], {}
+    for line in text.splitlines():
+        heading = re.fullmatch(r"# (\w+)", line)
+        row = line.split("#")[0].strip()
+        if heading:
+            layers.append((heading[1], []))
+        elif row:
+            name = row.split(":")[0].split()[0]
+            layers[-1][1].append(name)
+            below[name] = row.split(":")[1].split()
+    return layers, {crate: [it for it in names if it in below] for crate, names in below.items()}
 
 
-def rows_behind(text, head):
-    """The cells of the rows of the table with this head."""
-    rows = text[text.index(head):].split("\n\n")[0].splitlines()[2:]
-    return [[cell.strip() for cell in row.strip("|").split("|")] for row in rows]
+def tabled(page):
+    """The layers of the page's table with their crates."""
+    rows = page[page.index(LAYERS):].split("\n\n")[0].splitlines()[2:]
+    cells = [[cell.strip() for cell in row.strip("|").split("|")] for row in rows]
+    return [(row[0], re.findall(r"`(\w+)`", row[1])) for row in cells]
+
+
+def faults_in(text, page):
+    """Where crates.txt and the page's table of layers do not agree, or crates.txt has no good order."""
+    (bare, *layers), below = headed(text)
+    table = tabled(page)
+    yield from (f"{it} has no layer: it stands in crates.txt before the first heading" for it in bare[1])
+    names, named = [it for it, _ in layers], [it for it, _ in table]
+    if names != named:
+        yield f"crates.txt has the headings {' '.join(names)}, and the table of docs/ARCHITECTURE.md {' '.join(named)}"
+    if TESTS in names[:-1]:
+        yield f"the heading {TESTS} is not the last one of crates.txt"
+    for layer, crates in layers:
+        told = dict(table).get(layer, [])
+        yield from (f"{it} has the layer {layer} in crates.txt, and not in docs/ARCHITECTURE.md" for it in crates if it not in told)
+        yield from (f"{it} has the layer {layer} in docs/ARCHITECTURE.md, and not in crates.txt" for it in told if it not in crates)
+    order = [it for _, crates in (bare, *layers) for it in crates]
+    yield from (f"{it} stands twice in crates.txt" for it in sorted(set(order)) if order.count(it) > 1)
+    tests = dict(layers).get(TESTS, [])
+    for crate, names in below.items():
+        late = [it for it in names if order.index(it) > order.index(crate)]
+        yield from (f"{crate} stands in crates.txt before {it}, on which it stands" for it in late)
+        yield from (f"{crate} stands on {it}, which has tests alone" for it in names if it in tests)
+
+
+def faults():
+    """The same of the files as they are."""
+    return list(faults_in((TOP / "crates.txt").read_text(encoding="utf-8"), PAGE.read_text(encoding="utf-8")))
 
 
 def lines_of(names):
@@ -43,30 +82,17 @@ def lines_of(names):
     return "<br/>".join(lines)
 
 
-def faults_of(crates, layers, tests):
-    """What of the tables is not as crates.txt has it."""
-    named = [it for _, of_layer in layers for it in of_layer] + tests
-    place = {it: number for number, (_, of_layer) in enumerate(layers) for it in of_layer}
-    yield from (f"{it} stands in no table" for it in crates if it not in named)
-    yield from (f"{it} is no crate of crates.txt" for it in named if it not in crates)
-    yield from (f"{it} stands twice" for it in sorted(set(named)) if named.count(it) > 1)
-    for crate, below in crates.items():
-        over = [it for it in below if crate in place and place.get(it, 0) > place[crate]]
-        yield from (f"{crate} stands on {it}, which is of a higher layer" for it in over)
-        yield from (f"{crate} stands on {it}, which has tests alone" for it in below if crate in place and it in tests)
-
-
-def picture(crates, layers):
+def picture(below, layers):
     """The picture's text: each layer with its crates, the highest first, and its arrows."""
     of = {it: number for number, (_, of_layer) in enumerate(layers) for it in of_layer}
-    below = [{of[it] for crate in of_layer for it in crates[crate]} - {number} for number, (_, of_layer) in enumerate(layers)]
+    under = [{of[it] for crate in of_layer for it in below[crate]} - {number} for number, (_, of_layer) in enumerate(layers)]
     through = []
-    for under in below:
-        through.append(set().union(under, *(through[it] for it in under)))
+    for direct in under:
+        through.append(set().union(direct, *(through[it] for it in direct)))
     text = "".join(
         f'    {name}["<b>{name}</b><br/>{lines_of(of_layer)}"]\n' for name, of_layer in reversed(layers))
     for number in reversed(range(len(layers))):
-        direct = [it for it in below[number] if not any(it in through[other] for other in below[number] - {it})]
+        direct = [it for it in under[number] if not any(it in through[other] for other in under[number] - {it})]
         text += "".join(f"    {layers[number][0]} --> {layers[it][0]}\n" for it in sorted(direct, reverse=True))
     return text
 
@@ -75,17 +101,15 @@ def main():
     parser = parser_of(__doc__)
     parser.add_argument("--check", action="store_true", help="compare and write nothing")
     given = parser.parse_args()
-    page = PAGE.read_text(encoding="utf-8")
-    crates = listed()
-    layers = [(row[0], re.findall(r"`(\w+)`", row[1])) for row in rows_behind(page, LAYERS)]
-    tests = [it for row in rows_behind(page, TESTS) for it in re.findall(r"`(\w+)`", row[0])]
-    faults = list(faults_of(crates, layers, tests))
-    if faults:
-        print("\n".join(faults))
+    told = faults()
+    if told:
+        print("\n".join(told))
         return 1
+    page = PAGE.read_text(encoding="utf-8")
+    (_, *layers), below = headed((TOP / "crates.txt").read_text(encoding="utf-8"))
     before, rest = page.split(BEGIN, 1)
     drawn, behind = rest.split(END, 1)
-    wanted = picture(crates, layers)
+    wanted = picture(below, [it for it in layers if it[0] != TESTS])
     if drawn == wanted:
         return 0
     if given.check:
