@@ -1,9 +1,17 @@
-//! The tests of `wire_frames` and of `connections`, in a crate above them, so that none of their functions is proved a second time.
+//! The tests of what a connection crosses, in a crate above it, so that none of its functions is proved a second time: frames and
+//! connections, a port of this machine, the turn lock in one thread, and comparing strings. The files of a device and the loads of a
+//! seed are shown over the program (`tools/check_device.py`, `tools/check_help.py`).
 #![tactic(auto)]
 
 #[cfg(test)]
 mod copies;
 #[cfg(test)]
 mod frames;
+#[cfg(test)]
+mod loopback;
+#[cfg(test)]
+mod notes;
+#[cfg(test)]
+mod strings;
 #[cfg(test)]
 mod talks;

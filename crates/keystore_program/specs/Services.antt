@@ -1,6 +1,6 @@
 -- How the program ends behind a service.
-use Rattle.keystore_service.specs.declared.end.ServeStatus.{ServeStatus}
-use Rattle.keystore_service.specs.declared.end.ServeStatus.TheVariants as served
+use Rattle.keystore_server.specs.declared.end.ServeStatus.{ServeStatus}
+use Rattle.keystore_server.specs.declared.end.ServeStatus.TheVariants as served
 use Rattle.keystore_run.specs.declared.status.Status.{Status}
 use Rattle.keystore_run.specs.declared.status.Status.TheVariants as statuses
 

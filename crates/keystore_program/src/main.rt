@@ -4,7 +4,7 @@
 //! text is what was written, what was drawn for it is what the entropy gave, and what it changes of what lasts is on the
 //! disk. This file hands the process's words, input and output, the device, the policy and the store of the current folder
 //! and the system's random device to it; where the first word is `serve`, it hands them with a port of this machine to
-//! `serve_words` of `keystore_service`. What it says on standard error begins with the status; causes and notices stand behind it.
+//! `serve_words` of `keystore_server`. What it says on standard error begins with the status; causes and notices stand behind it.
 #![tactic(auto)]
 
 mod announced;
@@ -27,7 +27,7 @@ use crate::tally::Tally;
 use device_files::{FileTrouble, read_device, read_policy};
 use file_disk::open_store;
 use keystore_run::{Status, run_words};
-use keystore_service::{ServeStatus, serve_port, serve_words};
+use keystore_server::{ServeStatus, serve_port, serve_words};
 use ks_outside::{MachineClock, OpenGate, ReaderSource, WriterSink, open_device};
 use outside_net::listen;
 use std::process::ExitCode;

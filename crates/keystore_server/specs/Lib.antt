@@ -1,3 +1,5 @@
 pub mod Calling
+pub mod Ends
 pub mod Equality
 pub mod Listening
+pub mod Words

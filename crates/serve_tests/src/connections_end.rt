@@ -2,7 +2,7 @@
 
 use crate::service::{FORMATTED, Links, Outcome, Told, outcome_of};
 use crate::sessions::{ROWS, Row, replies};
-use keystore_service::ServeStatus;
+use keystore_server::ServeStatus;
 use ks_outside::OpenGate;
 use std::alloc::Global;
 use std::sync::Wait;

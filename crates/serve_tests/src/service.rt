@@ -1,7 +1,7 @@
 //! A service over connections and a store in memory.
 
 use disk_model::{MemoryDisk, Room};
-use keystore_service::{ServeStatus, serve_words};
+use keystore_server::{ServeStatus, serve_words};
 use ks_outside::{Disk, FixedClock, Gate, MemoryLink, MemoryListener, Reading, SteadyEntropy};
 use rule_model::Entry;
 use service_book::{Book, BookEntry};

@@ -2,7 +2,7 @@
 //! the other, or that did its works under the lock, would never end the gate's wait.
 
 use crate::service::{FORMATTED, Links, Outcome, Told, outcome_of};
-use keystore_service::ServeStatus;
+use keystore_server::ServeStatus;
 use ks_outside::Gate;
 use std::alloc::Global;
 use std::sync::Wait;

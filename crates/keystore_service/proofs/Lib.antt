@@ -1,4 +1,0 @@
-pub mod Endings
-pub mod Numbering
-pub mod Parting
-pub mod Working

@@ -1,4 +1,0 @@
-use Rattle.keystore_service.proofs.serve.status_after.Goals as goal
-
-pub returns-in-ListenFault : goal.returns-in-ListenFault
-returns-in-ListenFault c = rw c.in-ListenFault.is

@@ -1,4 +1,0 @@
-use Rattle.keystore_service.proofs.words.form_in.Goals as goal
-
-pub returns-clause-form : goal.returns-clause-form
-returns-clause-form c = rw (← c.in_ok-port.ensures.number, ← c.in_ok-connections.ensures.number, ← c.in_ok-workers.ensures.number)
