@@ -17,7 +17,7 @@ from scratch import scratch_folder
 
 MAKERS = ["state_checks", "token_checks", "domain_checks", "vectors", "wrong_tags"]
 # These need the package.
-SEALING = ["blob_checks", "cuttings"]
+SEALING = ["blob_checks", "rule_checks", "cuttings"]
 HAS_PACKAGE = importlib.util.find_spec("cryptography") is not None
 
 

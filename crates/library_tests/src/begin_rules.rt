@@ -1,6 +1,6 @@
 //! What no script of the gate shows of a begin: a blob that does not open, a key that is not usable, an alias that is no
-//! UTF-8, and lists that no key has. The other rules are in `checks/begins.jsonl` and `checks/begin-lists.jsonl`, the plans
-//! with their nonces in `beginnings.rt`.
+//! UTF-8, rows of a policy that the scripts have not, and lists that no key has. The other rules are in the scripts `begins`,
+//! `begin-lists`, `domain-rights`, `dates` and `bound-keys` of `checks/`, the plans with their nonces in `beginnings.rt`.
 
 use crate::spelled::{MAC_KEY, Pairs, app_key, asked_list, begin_facts, key_list};
 use key_domains::Permissions;
@@ -75,117 +75,19 @@ fn a_call_breaks_the_rules_before_its_lists(rt: HostRuntime) {
     assert!(rt; (plan, lists, access) == (Ok(sign), [true; 7], [true; 6]));
 }
 
-/// A domain, whether there is an alias and a blob, the bits of the policy's row, the caller's bits, whether the begin
-/// forces, and the rule that is broken with its code.
-type Access = (u32, (bool, bool), Option<u32>, u32, bool, Broken);
+/// A domain, whether there is a blob, the bits of the policy's row, the caller's bits, whether the begin forces, and the rule
+/// that is broken with its code.
+type Access = (u32, bool, Option<u32>, u32, bool, Broken);
 
-static ACCESSES: [Access; 21] = [
-    (0, (true, false), None, 256, false, None),
-    (
-        0,
-        (false, false),
-        None,
-        256,
-        false,
-        Some((2, Code::InvalidArgument)),
-    ),
-    (0, (true, false), None, 320, true, None),
-    (
-        0,
-        (true, false),
-        None,
-        429,
-        true,
-        Some((5, Code::PermissionDenied)),
-    ),
-    (
-        0,
-        (true, false),
-        None,
-        64,
-        true,
-        Some((5, Code::PermissionDenied)),
-    ),
-    (
-        0,
-        (true, false),
-        None,
-        255,
-        false,
-        Some((5, Code::PermissionDenied)),
-    ),
-    (1, (false, false), None, 256, false, None),
-    (2, (true, false), Some(0), 256, false, None),
-    (
-        2,
-        (true, false),
-        None,
-        256,
-        false,
-        Some((3, Code::PermissionDenied)),
-    ),
-    (
-        2,
-        (false, false),
-        Some(509),
-        509,
-        false,
-        Some((2, Code::InvalidArgument)),
-    ),
-    (
-        3,
-        (true, false),
-        Some(509),
-        509,
-        false,
-        Some((2, Code::InvalidArgument)),
-    ),
-    (4, (false, false), None, 256, false, None),
-    (
-        4,
-        (false, false),
-        None,
-        0,
-        false,
-        Some((5, Code::PermissionDenied)),
-    ),
-    (
-        5,
-        (true, false),
-        None,
-        256,
-        false,
-        Some((2, Code::InvalidArgument)),
-    ),
+/// Bits that no row of the policy of the scripts has; the others are in `checks/domain-rights.jsonl`.
+static ACCESSES: [Access; 6] = [
+    (0, false, None, 64, true, Some((5, Code::PermissionDenied))),
+    (2, false, Some(0), 256, false, None),
     // a blob is handed in where the policy lets it
-    (3, (true, true), Some(16), 272, false, None),
+    (3, true, Some(16), 272, false, None),
     (
         3,
-        (true, false),
-        Some(16),
-        272,
-        false,
-        Some((2, Code::InvalidArgument)),
-    ),
-    (
-        3,
-        (true, false),
-        None,
-        0,
-        false,
-        Some((2, Code::InvalidArgument)),
-    ),
-    (
-        3,
-        (true, true),
-        None,
-        272,
-        false,
-        Some((3, Code::PermissionDenied)),
-    ),
-    (
-        3,
-        (true, true),
+        true,
         Some(493),
         493,
         false,
@@ -193,7 +95,7 @@ static ACCESSES: [Access; 21] = [
     ),
     (
         3,
-        (true, true),
+        true,
         Some(0),
         272,
         false,
@@ -201,7 +103,7 @@ static ACCESSES: [Access; 21] = [
     ),
     (
         3,
-        (true, true),
+        true,
         Some(16),
         16,
         false,
@@ -211,12 +113,9 @@ static ACCESSES: [Access; 21] = [
 
 /// The facts of a begin where one of the caller's keys is found.
 fn at_access(mut facts: BeginFacts, alloc: Global, access: &Access) -> BeginFacts {
-    let (domain, (named, given), row, bits, forced, _) = access;
+    let (domain, given, row, bits, forced, _) = access;
     facts.descriptor.domain = *domain;
     facts.descriptor.nspace = 100;
-    if !*named {
-        facts.descriptor.alias = None;
-    }
     if *given {
         facts.descriptor.blob = Some(Bytes::empty(alloc));
     }
@@ -235,7 +134,7 @@ fn breaks_so(facts: &BeginFacts, broken: Broken) -> bool {
 }
 
 #[test]
-fn each_domain_has_its_form_and_its_rights(rt: HostRuntime) {
+fn each_right_is_asked_of_its_bits(rt: HostRuntime) {
     let alloc = rt.alloc();
     for (row, access) in ACCESSES.iter().enumerate() {
         let facts = at_access(begin(alloc, SIGN, MAC_KEY), alloc, access);
@@ -247,34 +146,7 @@ fn each_domain_has_its_form_and_its_rights(rt: HostRuntime) {
 
 const SIGN: Pairs = &[(Tag::Purpose, 2), (Tag::MacLength, 256)];
 
-const VERIFY: Pairs = &[(Tag::Purpose, 3)];
-
 const ENCRYPT: Pairs = &[(Tag::Purpose, 0), (Tag::BlockMode, 1), (Tag::Padding, 1)];
-
-const DECRYPT: Pairs = &[(Tag::Purpose, 1), (Tag::BlockMode, 1), (Tag::Padding, 1)];
-
-/// A key of macs from 1000 on, which signs up to 2000 and verifies up to 3000, and an AES key of the same dates.
-const DATED: Pairs = &[
-    (Tag::Purpose, 2),
-    (Tag::Purpose, 3),
-    (Tag::Algorithm, 128),
-    (Tag::Digest, 4),
-    (Tag::MinMacLength, 64),
-    (Tag::ActiveDatetime, 1000),
-    (Tag::OriginationExpireDatetime, 2000),
-    (Tag::UsageExpireDatetime, 3000),
-];
-
-const DATED_AES: Pairs = &[
-    (Tag::Purpose, 0),
-    (Tag::Purpose, 1),
-    (Tag::Algorithm, 32),
-    (Tag::BlockMode, 1),
-    (Tag::Padding, 1),
-    (Tag::ActiveDatetime, 1000),
-    (Tag::OriginationExpireDatetime, 2000),
-    (Tag::UsageExpireDatetime, 3000),
-];
 
 /// A key of macs of the user 1, in early boot, on the unlocked device, with a token of the last ten seconds, once a boot.
 const BOUND: Pairs = &[
@@ -290,39 +162,6 @@ const BOUND: Pairs = &[
     (Tag::UnlockedDeviceRequired, 1),
 ];
 
-/// A key of macs whose operations each are to be shown a token; one with a timeout and no secure id; one without a begin.
-const ONE_BY_ONE: Pairs = &[
-    (Tag::Purpose, 2),
-    (Tag::Algorithm, 128),
-    (Tag::Digest, 4),
-    (Tag::MinMacLength, 64),
-    (Tag::UserSecureId, 7),
-];
-
-const OF_NOBODY: Pairs = &[
-    (Tag::Purpose, 2),
-    (Tag::Algorithm, 128),
-    (Tag::Digest, 4),
-    (Tag::MinMacLength, 64),
-    (Tag::AuthTimeout, 10),
-];
-
-const NEVER: Pairs = &[
-    (Tag::Purpose, 2),
-    (Tag::Algorithm, 128),
-    (Tag::Digest, 4),
-    (Tag::MinMacLength, 64),
-    (Tag::MaxUsesPerBoot, 0),
-];
-
-const EARLY: Broken = Some((10, Code::KeyNotYetValid));
-
-const LATE: Broken = Some((11, Code::KeyExpired));
-
-const OTHER_USER: Broken = Some((12, Code::InvalidUserId));
-
-const NO_TOKEN: Broken = Some((15, Code::KeyUserNotAuthenticated));
-
 const NO_PURPOSE: Broken = Some((9, Code::UnsupportedPurpose));
 
 const NONE_LEFT: Broken = Some((16, Code::KeyMaxOpsExceeded));
@@ -333,95 +172,10 @@ type Broken = Option<(u8, Code)>;
 /// boot has ended, the user is unlocked, and a token is timely; and the rule that is broken first.
 type Condition = (Pairs, Pairs, (u64, u32, u64), (bool, bool, bool), Broken);
 
-static CONDITIONS: [Condition; 30] = [
-    (SIGN, DATED, (999, 0, 0), (false, false, false), EARLY),
-    (SIGN, DATED, (1000, 0, 0), (false, false, false), None),
-    (SIGN, DATED, (2000, 0, 0), (false, false, false), None),
-    (SIGN, DATED, (2001, 0, 0), (false, false, false), LATE),
-    (VERIFY, DATED, (999, 0, 0), (false, false, false), EARLY),
-    (VERIFY, DATED, (3000, 0, 0), (false, false, false), None),
-    (VERIFY, DATED, (3001, 0, 0), (false, false, false), LATE),
-    (
-        ENCRYPT,
-        DATED_AES,
-        (999, 0, 0),
-        (false, false, false),
-        EARLY,
-    ),
-    (
-        ENCRYPT,
-        DATED_AES,
-        (2000, 0, 0),
-        (false, false, false),
-        None,
-    ),
-    (
-        ENCRYPT,
-        DATED_AES,
-        (2001, 0, 0),
-        (false, false, false),
-        LATE,
-    ),
-    (
-        DECRYPT,
-        DATED_AES,
-        (999, 0, 0),
-        (false, false, false),
-        EARLY,
-    ),
-    (
-        DECRYPT,
-        DATED_AES,
-        (3000, 0, 0),
-        (false, false, false),
-        None,
-    ),
-    (
-        DECRYPT,
-        DATED_AES,
-        (3001, 0, 0),
-        (false, false, false),
-        LATE,
-    ),
-    (SIGN, BOUND, (0, 1, 0), (false, true, true), None),
-    (SIGN, BOUND, (0, 0, 0), (false, true, true), OTHER_USER),
-    (SIGN, BOUND, (0, 2, 9), (true, false, false), OTHER_USER),
-    (
-        SIGN,
-        BOUND,
-        (0, 1, 0),
-        (true, true, true),
-        Some((13, Code::EarlyBootEnded)),
-    ),
-    (
-        SIGN,
-        BOUND,
-        (0, 1, 9),
-        (true, false, false),
-        Some((13, Code::EarlyBootEnded)),
-    ),
-    (
-        SIGN,
-        BOUND,
-        (0, 1, 0),
-        (false, false, true),
-        Some((14, Code::DeviceLocked)),
-    ),
-    (
-        SIGN,
-        BOUND,
-        (0, 1, 9),
-        (false, false, false),
-        Some((14, Code::DeviceLocked)),
-    ),
-    (SIGN, BOUND, (0, 1, 0), (false, true, false), NO_TOKEN),
-    (SIGN, BOUND, (0, 1, 9), (false, true, false), NO_TOKEN),
-    (SIGN, BOUND, (0, 1, 1), (false, true, true), NONE_LEFT),
+/// What no run comes to; the others are in `checks/dates.jsonl` and `checks/bound-keys.jsonl`.
+static CONDITIONS: [Condition; 3] = [
+    // more begins than the key has
     (SIGN, BOUND, (0, 1, 2), (false, true, true), NONE_LEFT),
-    (SIGN, ONE_BY_ONE, (0, 0, 9), (true, false, false), None),
-    (SIGN, OF_NOBODY, (0, 0, 9), (true, false, false), None),
-    (SIGN, NEVER, (0, 0, 0), (true, false, false), NONE_LEFT),
-    (SIGN, MAC_KEY, (0, 0, 9), (true, false, false), None),
     // a key without an algorithm, and one without a purpose
     (
         ENCRYPT,
@@ -465,6 +219,6 @@ fn a_key_works_when_and_for_whom_it_is_made(rt: HostRuntime) {
     for (row, (asked, key, readings, states, broken)) in CONDITIONS.iter().enumerate() {
         let facts = begin(rt.alloc(), asked, key);
         let met = meets(facts, *readings, *states, *broken);
-        assert_eq!(rt; met, (true, row == 24), "in row {row}");
+        assert_eq!(rt; met, (true, false), "in row {row}");
     }
 }

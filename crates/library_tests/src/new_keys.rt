@@ -1,11 +1,11 @@
-//! Keys that are not made: a material that no line spells, and lists and lengths that are no key's. What a script shows is in
-//! `checks/new-keys.jsonl`, `checks/new-key-lists.jsonl` and `checks/kept-lists.jsonl`.
+//! Keys that are not made: a material that no line spells, rows of a policy that the scripts have not, and lists and lengths
+//! that are no key's. What a script shows is in `new-keys`, `new-key-lists`, `kept-lists` and `domain-rights` of `checks/`.
 
 use crate::spelled::{AES_KEY, GCM_KEY, MAC_KEY, Pairs, key_list, new_facts};
 use key_rules::{NewFacts, NewFault, check_new, read_asked, usable};
 use keymint_ops::plan_key;
 use std::alloc::Global;
-use tags::{Bytes, Code, Rule, RuleTable, Tag};
+use tags::{Code, Rule, RuleTable, Tag};
 
 /// An alias, a list, the length of an import, and the rule that is broken with its code.
 type Refused = (&'static [u8], Pairs, Option<u64>, u8, Code);
@@ -62,169 +62,27 @@ fn a_key_that_breaks_a_rule_is_not_made(rt: HostRuntime) {
     }
 }
 
-/// An HMAC key that begins once a boot.
-const ONCE_A_BOOT: Pairs = &[
-    (Tag::Purpose, 2),
-    (Tag::Purpose, 3),
-    (Tag::Algorithm, 128),
-    (Tag::Digest, 4),
-    (Tag::MinMacLength, 64),
-    (Tag::NoAuthRequired, 1),
-    (Tag::MaxUsesPerBoot, 1),
-];
+/// Where a key is to stand: the domain, whether an alias is given, the bits of the policy's row, and the rule that is broken.
+type Placed = (u32, bool, Option<u32>, Option<(u8, Code)>);
 
-/// One that is used once.
-const ONCE: Pairs = &[
-    (Tag::Purpose, 2),
-    (Tag::Purpose, 3),
-    (Tag::Algorithm, 128),
-    (Tag::Digest, 4),
-    (Tag::MinMacLength, 64),
-    (Tag::NoAuthRequired, 1),
-    (Tag::UsageCountLimit, 1),
-];
-
-/// One that is never used.
-const NEVER: Pairs = &[
-    (Tag::Purpose, 2),
-    (Tag::Purpose, 3),
-    (Tag::Algorithm, 128),
-    (Tag::Digest, 4),
-    (Tag::MinMacLength, 64),
-    (Tag::NoAuthRequired, 1),
-    (Tag::UsageCountLimit, 0),
-];
-
-/// Where a key is to stand: the domain, whether an alias and a blob are given, the bits of the policy's row, its list, and the
-/// rule that is broken.
-type Placed = (u32, bool, bool, Option<u32>, Pairs, Option<(u8, Code)>);
-
-static PLACED: [Placed; 19] = [
-    (0, true, false, None, MAC_KEY, None),
-    (
-        0,
-        true,
-        true,
-        None,
-        MAC_KEY,
-        Some((2, Code::InvalidArgument)),
-    ),
-    (
-        0,
-        false,
-        false,
-        None,
-        MAC_KEY,
-        Some((2, Code::InvalidArgument)),
-    ),
-    (2, true, false, Some(32), MAC_KEY, None),
-    (
-        2,
-        true,
-        false,
-        Some(16),
-        MAC_KEY,
-        Some((3, Code::PermissionDenied)),
-    ),
-    (
-        2,
-        true,
-        false,
-        None,
-        MAC_KEY,
-        Some((3, Code::PermissionDenied)),
-    ),
-    (
-        2,
-        true,
-        true,
-        Some(32),
-        MAC_KEY,
-        Some((2, Code::InvalidArgument)),
-    ),
+/// Bits that no row of the policy of the scripts has; the others are in `checks/domain-rights.jsonl`.
+static PLACED: [Placed; 5] = [
+    (2, true, Some(32), None),
+    (2, true, Some(16), Some((3, Code::PermissionDenied))),
     // a blob is made whatever the alias, by MANAGE_BLOB alone
-    (3, false, false, Some(16), MAC_KEY, None),
-    (3, true, false, Some(16), MAC_KEY, None),
-    (
-        3,
-        false,
-        true,
-        Some(16),
-        MAC_KEY,
-        Some((2, Code::InvalidArgument)),
-    ),
-    (
-        3,
-        false,
-        false,
-        Some(493),
-        MAC_KEY,
-        Some((3, Code::PermissionDenied)),
-    ),
-    (
-        3,
-        false,
-        false,
-        None,
-        MAC_KEY,
-        Some((3, Code::PermissionDenied)),
-    ),
-    (
-        1,
-        true,
-        false,
-        Some(509),
-        MAC_KEY,
-        Some((2, Code::InvalidArgument)),
-    ),
-    (
-        4,
-        true,
-        false,
-        Some(509),
-        MAC_KEY,
-        Some((2, Code::InvalidArgument)),
-    ),
-    // and its uses are not counted
-    (
-        3,
-        false,
-        false,
-        Some(16),
-        ONCE_A_BOOT,
-        Some((14, Code::UnsupportedTag)),
-    ),
-    (
-        3,
-        false,
-        false,
-        Some(16),
-        ONCE,
-        Some((14, Code::UnsupportedTag)),
-    ),
-    (
-        3,
-        false,
-        false,
-        Some(16),
-        NEVER,
-        Some((14, Code::InvalidKeyArgument)),
-    ),
-    (0, true, false, None, ONCE_A_BOOT, None),
-    (0, true, false, None, ONCE, None),
+    (3, false, Some(16), None),
+    (3, true, Some(16), None),
+    (3, false, Some(493), Some((3, Code::PermissionDenied))),
 ];
 
 /// The facts of an import of 20 bytes to such a place.
 fn placed(alloc: Global, row: &Placed) -> NewFacts {
-    let mut facts = new_facts(alloc, b"k", row.4, Some(20), 1000);
+    let mut facts = new_facts(alloc, b"k", MAC_KEY, Some(20), 1000);
     facts.descriptor.domain = row.0;
     if !row.1 {
         facts.descriptor.alias = None;
     }
-    if row.2 {
-        facts.descriptor.blob = Some(Bytes::empty(alloc));
-    }
-    facts.row = row.3;
+    facts.row = row.2;
     facts
 }
 
@@ -233,7 +91,7 @@ fn is_placed(alloc: Global, row: &Placed) -> bool {
     let facts = placed(alloc, row);
     let checked = check_new(alloc, &facts);
     drop(facts);
-    let placed = match (&checked, row.5) {
+    let placed = match (&checked, row.3) {
         (Ok(_), None) => true,
         (Err(NewFault::Broken(rule, code)), Some(wanted)) => (rule.number, *code) == wanted,
         _ => false,
@@ -243,7 +101,7 @@ fn is_placed(alloc: Global, row: &Placed) -> bool {
 }
 
 #[test]
-fn keys_are_made_where_the_domain_and_the_policy_let_them(rt: HostRuntime) {
+fn keys_are_made_where_the_policy_lets_them(rt: HostRuntime) {
     for (number, row) in PLACED.iter().enumerate() {
         let right = is_placed(rt.alloc(), row);
         assert!(rt; right, "in row {number}");

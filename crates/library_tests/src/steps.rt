@@ -1,4 +1,5 @@
-//! Each rule of table S alone and before a later one.
+//! The rules of table S at lengths that no short line has, alone and before a later one; the others are in
+//! `checks/step-rules.jsonl`.
 
 use step_rules::{StepFacts, StepKind, check_step, ends_operation};
 use tags::{Code, Plan, Rule, RuleTable};
@@ -8,44 +9,9 @@ const SEALING: Plan = Plan::Gcm {
     tag: 16,
 };
 
-const OPENING: Plan = Plan::Gcm {
-    seal: false,
-    tag: 13,
-};
-
-const MAC: Plan = Plan::HmacSign {
-    digest: 4,
-    size: 32,
-};
-
-const VERIFY: Plan = Plan::HmacVerify {
-    digest: 4,
-    least: 8,
-};
-
 const SEALING_BLOCKS: Plan = Plan::Ecb {
     seal: true,
     padded: false,
-};
-
-const PLAIN: Plan = Plan::Ecb {
-    seal: false,
-    padded: false,
-};
-
-const CHAINED: Plan = Plan::Cbc {
-    seal: true,
-    padded: false,
-};
-
-const PADDING: Plan = Plan::Cbc {
-    seal: true,
-    padded: true,
-};
-
-const UNPADDING: Plan = Plan::Ecb {
-    seal: false,
-    padded: true,
 };
 
 type Broken = Option<(u8, Code)>;
@@ -56,15 +22,11 @@ const BUSY: Broken = Some((2, Code::OperationBusy));
 
 const TOO_LONG: Broken = Some((3, Code::TooMuchData));
 
-const ENDED: Broken = Some((4, Code::InvalidKeyBlob));
-
 const NO_TOKEN: Broken = Some((5, Code::KeyUserNotAuthenticated));
 
 const NO_AAD: Broken = Some((6, Code::InvalidTag));
 
 const TOO_MUCH: Broken = Some((7, Code::InvalidInputLength));
-
-const NO_BLOCKS: Broken = Some((8, Code::InvalidInputLength));
 
 /// Whether an operation is the client's own, whether it is busy, and whether its key has ended.
 type State = (bool, bool, bool);
@@ -73,25 +35,18 @@ const IDLE: State = (true, false, false);
 
 const OTHERS: State = (false, false, false);
 
-const OUT: State = (true, true, false);
-
 const KEYLESS: State = (true, false, true);
 
 /// A step; the operation's state and plan; the lengths of the additional data and the text that were admitted, of the input
 /// and of the signature; and the rule that is broken first.
 type Row = (StepKind, State, Plan, [u64; 4], Broken);
 
-static ROWS: [Row; 50] = [
-    (StepKind::Text, IDLE, SEALING, [0, 0, 16, 0], None),
-    (StepKind::Aad, IDLE, SEALING, [0, 0, 16, 0], None),
-    (StepKind::Abort, IDLE, SEALING, [0, 0, 16, 0], None),
+/// Lengths that no short line has; the others are in `checks/step-rules.jsonl`.
+static ROWS: [Row; 15] = [
     // the operation is open and the client's own
-    (StepKind::Text, OTHERS, SEALING, [0, 0, 16, 0], NOT_OWN),
     (StepKind::Text, OTHERS, SEALING, [0, 0, 40_000, 0], NOT_OWN),
-    (StepKind::Abort, OTHERS, SEALING, [0, 0, 16, 0], NOT_OWN),
     (StepKind::Abort, KEYLESS, SEALING, [0, 0, 40_000, 0], None),
     // no work on it is out
-    (StepKind::Text, OUT, SEALING, [0, 0, 16, 0], BUSY),
     (
         StepKind::Text,
         (true, true, true),
@@ -99,14 +54,6 @@ static ROWS: [Row; 50] = [
         [0, 0, 40_000, 0],
         BUSY,
     ),
-    (
-        StepKind::Text,
-        (false, true, false),
-        SEALING,
-        [0, 0, 16, 0],
-        NOT_OWN,
-    ),
-    (StepKind::Abort, OUT, SEALING, [0, 0, 16, 0], BUSY),
     // input and signature
     (StepKind::Text, IDLE, SEALING, [0, 0, 32_768, 32_768], None),
     (StepKind::Text, IDLE, SEALING, [0, 0, 32_769, 0], TOO_LONG),
@@ -125,16 +72,8 @@ static ROWS: [Row; 50] = [
         [0, 1_048_576, 16, 32_769],
         TOO_LONG,
     ),
-    // the key has not ended
-    (StepKind::Text, KEYLESS, SEALING, [0, 0, 16, 0], ENDED),
-    (StepKind::Aad, KEYLESS, MAC, [0, 0, 16, 0], ENDED),
     // additional data
-    (StepKind::Aad, IDLE, MAC, [0, 0, 16, 0], NO_AAD),
-    (StepKind::Aad, IDLE, Plan::Ctr, [0, 0, 16, 0], NO_AAD),
-    (StepKind::Aad, IDLE, SEALING, [0, 1, 16, 0], NO_AAD),
-    (StepKind::Aad, IDLE, SEALING, [0, 1, 0, 0], NO_AAD),
     (StepKind::Aad, IDLE, SEALING, [0, 1_048_576, 16, 0], NO_AAD),
-    (StepKind::Text, IDLE, MAC, [0, 0, 16, 0], None),
     // all input together
     (StepKind::Text, IDLE, SEALING, [0, 1_048_560, 16, 0], None),
     (
@@ -172,27 +111,6 @@ static ROWS: [Row; 50] = [
         [1_048_000, 570, 7, 0],
         TOO_MUCH,
     ),
-    // the last input makes the text whole
-    (StepKind::Last, IDLE, PLAIN, [0, 0, 0, 0], None),
-    (StepKind::Last, IDLE, PLAIN, [0, 16, 15, 0], NO_BLOCKS),
-    (StepKind::Last, IDLE, PLAIN, [0, 17, 15, 0], None),
-    (StepKind::Last, IDLE, CHAINED, [0, 0, 0, 0], None),
-    (StepKind::Last, IDLE, CHAINED, [0, 16, 0, 0], None),
-    (StepKind::Last, IDLE, CHAINED, [0, 1, 0, 0], NO_BLOCKS),
-    (StepKind::Text, IDLE, CHAINED, [0, 1, 0, 0], None),
-    (StepKind::Last, IDLE, PADDING, [0, 0, 0, 0], None),
-    (StepKind::Last, IDLE, PADDING, [0, 1, 4, 0], None),
-    (StepKind::Last, IDLE, UNPADDING, [0, 0, 0, 0], NO_BLOCKS),
-    (StepKind::Last, IDLE, UNPADDING, [0, 0, 16, 0], None),
-    (StepKind::Last, IDLE, UNPADDING, [0, 16, 8, 0], NO_BLOCKS),
-    (StepKind::Last, IDLE, UNPADDING, [0, 24, 8, 0], None),
-    (StepKind::Last, IDLE, OPENING, [0, 12, 0, 0], NO_BLOCKS),
-    (StepKind::Last, IDLE, OPENING, [0, 0, 13, 0], None),
-    (StepKind::Last, IDLE, OPENING, [0, 1, 17, 0], None),
-    (StepKind::Last, IDLE, SEALING, [0, 0, 0, 0], None),
-    (StepKind::Last, IDLE, Plan::Ctr, [0, 3, 4, 0], None),
-    (StepKind::Last, IDLE, MAC, [0, 0, 5, 0], None),
-    (StepKind::Last, IDLE, VERIFY, [0, 0, 5, 0], None),
 ];
 
 /// Whether the step breaks this rule first.
