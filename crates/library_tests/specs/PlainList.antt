@@ -1,5 +1,5 @@
 -- A plain list of uids with their places, the newest last, against chains.
-use Rattle.std.specs.Prelude.{◌≡◌, ◌==◌, ◌×◌, ℕ, Bool, List, map, filter}
+use Rattle.std.specs.Prelude.{◌≡◌, ◌==◌, ℕ, Bool, List, map, filter}
 use Rattle.std.specs.List.{list_any}
 use Rattle.slot_chain.specs.Table.{ChainTable, list_in}
 
