@@ -79,8 +79,8 @@ def put(path, data):
     os.replace(new, path)
 
 
-def release(folder):
-    program = TOP / BUILT
+def release(folder, program):
+    """Puts the archive of a program into a folder, with its sums beside it, and gives its path."""
     commit, time = git("show", "-s", "--format=%H %ct", "HEAD").decode().split()
     data = program.read_bytes()
     name = f"keystore2-{version_of(program)}-{commit[:12]}-{platform.machine()}"
@@ -100,7 +100,7 @@ def main():
         sys.exit("release: the Rattle toolchain's command rt, which tells the logic, is not on the PATH")
     if not is_of(f"{TOP}/{BUILT}", digest()):
         sys.exit("release: there is no program of the commit's sources; './keystore2 build' proves and builds it")
-    print(release(folder))
+    print(release(folder, TOP / BUILT))
     return 0
 
 
