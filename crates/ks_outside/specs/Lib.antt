@@ -1,4 +1,5 @@
 pub mod Adapters
+pub mod Ahead
 pub mod Carried
 pub mod Clocks
 pub mod Draws

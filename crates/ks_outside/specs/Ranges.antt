@@ -1,5 +1,5 @@
 -- What a read gives, and what a write does to the bytes of a disk: whole, or torn.
-use Rattle.std.specs.Prelude.{◌≡◌, ℕ, ◌+◌, ◌-◌, ◌<◌, ◌≤◌, max, List, length, take, drop, Option, Some, None, ⊤}
+use Rattle.std.specs.Prelude.{◌≡◌, ℕ, ◌+◌, ◌-◌, ◌<◌, ◌≤◌, max, min, List, length, take, drop, Option, Some, None, ⊤}
 
 -- the range holds the piece and the bytes outside stay; a gap between the old end and the range may hold anything
 pub record Holds (at : ℕ) (piece old new : List ℕ) : Type 0 where
@@ -32,3 +32,8 @@ pub record GivesAt (at n asked : ℕ) (out file : List ℕ) : Type 0 where
 abbrev pub Gives : Option (List ℕ) → ℕ → ℕ → ℕ → List ℕ → Type 0
 Gives None at n asked out = ⊤
 Gives (Some file) at n asked out = GivesAt at n asked out file
+
+-- the first n bytes of `out` are those of an image from a place on, and n is as many as there are and fit
+pub record Fills (at n : ℕ) (out image : List ℕ) : Type 0 where
+  pub bytes : take n out ≡ take n (drop at image)
+  pub count : n ≡ min (length out) (length image - at)

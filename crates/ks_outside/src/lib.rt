@@ -4,11 +4,22 @@
 //!
 //! The one contract: the content (bytes left, bytes written, bytes to come), where an object tells it, moves exactly as a call
 //! answers and stays where it fails; and the object's count of faults rises in a call that fails, and stays as it was in a call that answers Ok. Of
-//! a disk it says besides what a crash may leave now, and might have left since an earlier moment; `write_synced`, `read_synced_byte` and
-//! `read_synced` are said in images alone.
+//! a disk it says besides what a crash may leave now, and might have left since an earlier moment. The calls over a disk (`ahead`, `still`,
+//! `synced`, `whole`) are said in images and in what is ahead, that is, in what the next sync makes of it; so nothing above names what a
+//! read gives.
+//!
+//! ```rust
+//! use ks_outside::{sync_ahead, write_pieces};
+//!
+//! // two texts, and one sync: after Ok each image has both
+//! write_pieces(&mut disk, 8, header)?;
+//! write_pieces(&mut disk, 4096, text)?;
+//! sync_ahead(&mut disk)?;
+//! ```
 #![tactic(auto)]
 
 mod adapters;
+mod ahead;
 mod calls;
 mod clock;
 mod counting;
@@ -24,11 +35,13 @@ mod listener;
 mod seeded;
 mod sink;
 mod source;
+mod still;
 mod stream_link;
 mod synced;
 mod whole;
 
 pub use adapters::{ReaderSource, WriterSink};
+pub use ahead::{PIECE, sync_ahead, write_ahead, write_pieces};
 pub use calls::FailingCalls;
 pub use clock::{Clock, FixedClock, MachineClock, Reading};
 pub use counting::{MemoryEntropy, SteadyEntropy};
@@ -43,6 +56,7 @@ pub use listener::{Listener, MemoryListener};
 pub use seeded::SeededEntropy;
 pub use sink::{MemorySink, Sink};
 pub use source::{MemorySource, Source, SteadySource};
+pub use still::{read_still, sync_still};
 pub use stream_link::StreamLink;
 pub use synced::{read_synced_byte, write_synced};
 pub use whole::{ReadFault, read_synced};

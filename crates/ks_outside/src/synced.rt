@@ -5,8 +5,10 @@ ghost use Rattle.ks_outside.specs.Ranges.{Holds, Torn};
 ghost use Rattle.ks_outside.specs.Moments.{Follows};
 ghost use Rattle.ks_outside.specs.Images.{AllImages, Passes, TornFrom, Goes, Reads};
 
+use crate::ahead::{sync_ahead, write_ahead};
 use crate::disk::Disk;
 use crate::faults::Failed;
+use crate::still::{read_still, sync_still};
 
 /// Writes a piece, and syncs. After Ok each image is an old one with the piece in its range. Whatever it answers, at each moment each
 /// image that came is an old one with at most that range, and the part past the old end, torn.
@@ -17,10 +19,10 @@ pub fn write_synced<D: Disk>(disk: &mut D, at: u64, piece: &[u8]) -> Result<(), 
     ensures nothing { D.is_sure disk.old → OnErr result (AllImages D.Disk disk.new (D.images disk.old)) }
     ensures goes { Goes D.Disk disk.old disk.new (is_err result) }
 {
-    let Ok(()) = disk.write_at(at, piece) else {
+    let Ok(()) = write_ahead(disk, at, piece) else {
         return Err(Failed);
     };
-    disk.sync()
+    sync_ahead(disk)
 }
 
 /// Syncs, and reads the byte at a place; None where no byte stands there. Each image then has that byte there. A disk that fails here, or
@@ -29,11 +31,11 @@ pub fn read_synced_byte<D: Disk>(disk: &mut D, at: u64) -> Result<Option<u8>, Fa
     ensures byte { IfOk result (λ byte. AllImages D.Disk disk.new (λ c. slice_get c at ≡ byte)) }
     ensures goes { Reads D.Disk disk.old disk.new (is_err result) }
 {
-    let Ok(()) = disk.sync() else {
+    let Ok(()) = sync_still(disk) else {
         return Err(Failed);
     };
     let mut byte = [0];
-    let Ok(count) = disk.read(at, &mut byte) else {
+    let Ok(count) = read_still(disk, at, &mut byte) else {
         return Err(Failed);
     };
     if count == 0 {

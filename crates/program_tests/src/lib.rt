@@ -33,4 +33,6 @@ mod tickets;
 #[cfg(test)]
 mod tokens;
 #[cfg(test)]
+mod traces;
+#[cfg(test)]
 mod uses;

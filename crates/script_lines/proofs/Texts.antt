@@ -1,10 +1,12 @@
--- The value of a line, by whether its bytes are UTF-8.
-use Rattle.std.proofs.Common.{◌≡◌, ℕ, List, Bool, true, false, if◌then◌else◌, Option, None, refl}
+-- The value of a line, and an alias in it, by whether their bytes are UTF-8.
+use Rattle.std.proofs.Common.{◌≡◌, ℕ, List, Bool, true, false, if◌then◌else◌, Option, None, codes, refl}
 use Rattle.std.specs.Str.{IsUtf8, is_utf8}
 use Rattle.std.proofs.lemmas.Str.{IsUtf8-from_is_utf8, is_utf8-from_IsUtf8}
-use Rattle.serde_json.specs.Data.{Data}
+use Rattle.serde_json.specs.Data.{Data, string, object, no_members, put}
 use Rattle.serde_json.specs.Read.{read}
 use Rattle.script_lines.specs.Lines.{parsed}
+use Rattle.script_lines.specs.Replies.{hex_data}
+use Rattle.script_lines.specs.Traces.{alias_data}
 
 none_unless : (b : Bool) (o : Option Data) → (b ≡ true → ⊥) → (if b then o else None) ≡ None
 none_unless true o h = absurd (h refl)
@@ -15,3 +17,15 @@ parsed_none line h = none_unless (is_utf8 line) (read line) (λ e. h (IsUtf8-fro
 
 pub parsed_as_read : (line : List ℕ) (o : Option Data) → IsUtf8 line → read line ≡ o → parsed line ≡ o
 parsed_as_read line o text h = rw (is_utf8-from_IsUtf8 line text) h
+
+-- ---- an alias in a trace
+
+one_of_two : (b : Bool) (x y : Data) → (b ≡ true → ⊥) → (if b then x else y) ≡ y
+one_of_two true x y h = absurd (h refl)
+one_of_two false x y h = refl
+
+pub alias_is_text : (alias : List ℕ) → IsUtf8 alias → alias_data alias ≡ string alias
+alias_is_text alias text = rw (is_utf8-from_IsUtf8 alias text) refl
+
+pub alias_is_hex : (alias : List ℕ) → (IsUtf8 alias → ⊥) → alias_data alias ≡ object (put (codes "hex") (hex_data alias) no_members)
+alias_is_hex alias none = one_of_two (is_utf8 alias) _ _ (λ e. none (IsUtf8-from_is_utf8 alias e))

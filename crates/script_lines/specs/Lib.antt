@@ -4,3 +4,7 @@ pub mod Params
 pub mod Acts
 pub mod Lines
 pub mod Replies
+pub mod Traces
+pub mod ReplyReads
+pub mod TraceReads
+pub mod ReadBack

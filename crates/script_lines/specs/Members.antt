@@ -1,9 +1,11 @@
 -- The members of a script line, as JSON values (RFC 8259), and the kinds that they have.
-use Rattle.std.specs.Prelude.{ℕ, ◌^◌, ◌==◌, nat_lt, List, length, if◌then◌else◌, Option, Some, None, is_some, Result, Ok, Err}
+use Rattle.std.specs.Prelude.{ℕ, ◌^◌, ◌==◌, nat_lt, List, [], ◌∷◌, codes, length, if◌then◌else◌, Option, Some, None, is_some, Result, Ok, Err}
 use Rattle.hex.specs.Hex.{decode_of}
 use Rattle.hex.specs.declared.error.FromHexError.{FromHexError}
-use Rattle.serde_json.specs.Data.{Data}
+use Rattle.serde_json.specs.Data.{Data, Items, no_items, item}
 use Rattle.serde_json.specs.Find.{get, at, as_number, as_u64, as_str}
+use Rattle.script_lines.specs.declared.alias_form.AliasForm.{AliasForm}
+use Rattle.script_lines.specs.declared.alias_form.AliasForm.TheVariants.{Text, TextOrHex}
 
 -- what the first finds is handed to the second
 infixl 10 ◌>>=◌
@@ -40,6 +42,11 @@ hex_32_of value = hex_of value >>= λ bytes. if length bytes == 32 then Some byt
 abbrev pub two_of : Data → Option (Data × Data)
 two_of value = if is_some (at 2 value) then None else (at 0 value >>= λ first. at 1 value >>= λ second. Some (first, second))
 
+-- the items of an array, each of a kind
+abbrev pub each_of : {A : Type 0} → (Data → Option A) → Items → Option (List A)
+each_of kind no_items = Some []
+each_of kind (item value items) = kind value >>= λ first. each_of kind items >>= λ rest. Some (first ∷ rest)
+
 -- ---- members
 
 -- a member that has to be there
@@ -61,3 +68,18 @@ present kind value = kind value >>= λ x. Some (Some x)
 -- a member that may be absent
 abbrev pub optional : {A : Type 0} → (Data → Option A) → List ℕ → Data → Option (Option A)
 optional kind name members = kind_or None (present kind) (get name members)
+
+-- ---- aliases
+
+-- the bytes of an object with hex, where the line may have one
+abbrev pub hex_object_of : AliasForm → Data → Option (List ℕ)
+hex_object_of Text value = None
+hex_object_of TextOrHex value = needed hex_of (codes "hex") value
+
+abbrev pub text_or : Option (List ℕ) → Option (List ℕ) → Option (List ℕ)
+text_or (Some text) other = Some text
+text_or None other = other
+
+-- an alias: a text, or in a trace also an object with its hex
+abbrev pub alias_of : AliasForm → Data → Option (List ℕ)
+alias_of form value = text_or (as_str value) (hex_object_of form value)

@@ -13,3 +13,9 @@ abbrev pub Gives : {T : Type 0} → Result T LineFault → Option T → Type 0
 Gives (Ok x) defined = defined ≡ Some x
 Gives (Err Malformed) defined = defined ≡ None
 Gives (Err Memory) defined = Unit {0}
+
+-- what was written to a place is the value that the definition gives
+abbrev pub GivesInto : {T : Type 0} → Result Unit LineFault → T → Option T → Type 0
+GivesInto (Ok done) written defined = defined ≡ Some written
+GivesInto (Err Malformed) written defined = defined ≡ None
+GivesInto (Err Memory) written defined = Unit {0}

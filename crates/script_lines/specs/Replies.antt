@@ -85,10 +85,13 @@ abbrev pub settled_text : Settled → List ℕ
 settled_text Kept = codes "kept"
 settled_text Lost = codes "lost"
 
+abbrev pub settled_members : Settled → Members
+settled_members settled = put (codes "settled") (string (settled_text settled)) no_members
+
 -- how an earlier change was settled, where that was due
 abbrev pub settled_line : Option Settled → List ℕ
 settled_line None = []
-settled_line (Some settled) = object_line (put (codes "settled") (string (settled_text settled)) no_members)
+settled_line (Some settled) = object_line (settled_members settled)
 
 -- the lines of a step: how an earlier change was settled, where that was due, and the reply
 abbrev pub line_of : Option Settled → Reply → List ℕ

@@ -3,11 +3,12 @@
 ghost use Rattle.std.specs.Prelude.{◌≡◌};
 ghost use Rattle.serde_json.specs.View.{view};
 ghost use Rattle.script_lines.specs.Reads.{Gives, GivesView};
-ghost use Rattle.script_lines.specs.Acts.{act_of as spec_act_of, client_of as spec_client_of, hold_of as spec_hold_of, reading_of as spec_reading_of};
+ghost use Rattle.script_lines.specs.Acts.{act_of as spec_act_of, client_of as spec_client_of, event_in as spec_event_in, hold_of as spec_hold_of, reading_of as spec_reading_of};
 ghost use Rattle.script_lines.specs.Lines.{event_of as spec_event_of, line_in as spec_line_in, parsed as spec_parsed};
 
 use crate::LineFault;
 use crate::act_name::name_of;
+use crate::alias_form::AliasForm;
 use crate::key_acts::{
     clear_namespace, create_operation, delete_key, generate_key, get_key_entry,
     get_number_of_entries, grant, import_key, list_entries_batched, ungrant,
@@ -33,7 +34,7 @@ pub fn event_of(alloc: Global, line: &[u8]) -> Result<Line, LineFault>
 }
 
 /// The JSON value of a line.
-fn parsed(alloc: Global, line: &[u8]) -> Result<Value, LineFault>
+pub fn parsed(alloc: Global, line: &[u8]) -> Result<Value, LineFault>
     ensures { GivesView view result (spec_parsed line.now) }
 {
     let Ok(text) = str::from_utf8(line) else {
@@ -49,24 +50,29 @@ fn parsed(alloc: Global, line: &[u8]) -> Result<Value, LineFault>
 fn line_in(alloc: Global, object: &Value) -> Result<Line, LineFault>
     ensures { Gives result (spec_line_in (view object.now)) }
 {
-    let reading = reading_of(object)?;
-    let name = name_of(object)?;
-    let client = client_of(name, object)?;
-    let act = act_of(alloc, name, object)?;
-    match hold_of(name, object) {
-        Ok(hold) => Ok(Line {
-            event: Event {
-                reading,
-                client,
-                act,
-            },
-            hold,
-        }),
+    let event = event_in(alloc, AliasForm::Text, object)?;
+    match hold_of(event.act.kind(), object) {
+        Ok(hold) => Ok(Line { event, hold }),
         Err(fault) => {
-            drop(act);
+            drop(event);
             Err(fault)
         }
     }
+}
+
+/// The event of an object.
+pub fn event_in(alloc: Global, form: AliasForm, object: &Value) -> Result<Event, LineFault>
+    ensures { Gives result (spec_event_in form (view object.now)) }
+{
+    let reading = reading_of(object)?;
+    let name = name_of(object)?;
+    let client = client_of(name, object)?;
+    let act = act_of(alloc, form, name, object)?;
+    Ok(Event {
+        reading,
+        client,
+        act,
+    })
 }
 
 fn reading_of(object: &Value) -> Result<Reading, LineFault>
@@ -104,25 +110,25 @@ fn hold_of(name: ActKind, object: &Value) -> Result<bool, LineFault>
 }
 
 /// The act of a name, with its fields from the members of the line.
-fn act_of(alloc: Global, name: ActKind, object: &Value) -> Result<Act, LineFault>
-    ensures { Gives result (spec_act_of name (view object.now)) }
+fn act_of(alloc: Global, form: AliasForm, name: ActKind, object: &Value) -> Result<Act, LineFault>
+    ensures { Gives result (spec_act_of form name (view object.now)) }
 {
     match name {
         ActKind::Connect => connect(object),
         ActKind::Disconnect => Ok(Act::Disconnect),
-        ActKind::GenerateKey => generate_key(alloc, object),
-        ActKind::ImportKey => import_key(alloc, object),
-        ActKind::CreateOperation => create_operation(alloc, object),
+        ActKind::GenerateKey => generate_key(alloc, form, object),
+        ActKind::ImportKey => import_key(alloc, form, object),
+        ActKind::CreateOperation => create_operation(alloc, form, object),
         ActKind::UpdateAad => update_aad(alloc, object),
         ActKind::Update => update(alloc, object),
         ActKind::Finish => finish(alloc, object),
         ActKind::Abort => abort(object),
-        ActKind::GetKeyEntry => get_key_entry(alloc, object),
-        ActKind::DeleteKey => delete_key(alloc, object),
-        ActKind::Grant => grant(alloc, object),
-        ActKind::Ungrant => ungrant(alloc, object),
+        ActKind::GetKeyEntry => get_key_entry(alloc, form, object),
+        ActKind::DeleteKey => delete_key(alloc, form, object),
+        ActKind::Grant => grant(alloc, form, object),
+        ActKind::Ungrant => ungrant(alloc, form, object),
         ActKind::GetNumberOfEntries => get_number_of_entries(object),
-        ActKind::ListEntriesBatched => list_entries_batched(alloc, object),
+        ActKind::ListEntriesBatched => list_entries_batched(alloc, form, object),
         ActKind::AddAuthToken => add_auth_token(alloc, object),
         ActKind::DeviceLocked => device_locked(object),
         ActKind::DeviceUnlocked => device_unlocked(object),

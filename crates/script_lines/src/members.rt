@@ -1,12 +1,13 @@
 //! The members of a line, each of its kind.
 
 ghost use Rattle.std.specs.Prelude.{◌≡◌, [], false, option_map};
-ghost use Rattle.serde_json.specs.Find.{get, as_str, as_bool};
+ghost use Rattle.serde_json.specs.Find.{get, as_bool};
 ghost use Rattle.serde_json.specs.View.{view};
 ghost use Rattle.script_lines.specs.Reads.{Gives};
-ghost use Rattle.script_lines.specs.Members.{u64_of as spec_u64_of, u32_of as spec_u32_of, bytes_of_hex as spec_bytes_of_hex, hex_of as spec_hex_of, hex_32_of as spec_hex_32_of, two_of as spec_two_of, needed, defaulted, optional};
+ghost use Rattle.script_lines.specs.Members.{u64_of as spec_u64_of, u32_of as spec_u32_of, bytes_of_hex as spec_bytes_of_hex, hex_of as spec_hex_of, hex_32_of as spec_hex_32_of, two_of as spec_two_of, alias_of as spec_alias_of, needed, defaulted, optional};
 
 use crate::LineFault;
+use crate::alias_form::AliasForm;
 use hex::FromHexError;
 use serde_json::Value;
 use std::alloc::Global;
@@ -61,14 +62,17 @@ pub fn hex_32_of(alloc: Global, value: &Value) -> Result<[u8; 32], LineFault>
     Ok(array)
 }
 
-/// A text.
-pub fn text_of(alloc: Global, value: &Value) -> Result<Bytes, LineFault>
-    ensures { Gives result (as_str (view value.now)) }
+/// An alias in a form that the line may have.
+pub fn alias_of(alloc: Global, form: AliasForm, value: &Value) -> Result<Bytes, LineFault>
+    ensures { Gives result (spec_alias_of form (view value.now)) }
 {
-    let Some(text) = value.as_str() else {
-        return Err(LineFault::Malformed);
-    };
-    Ok(Bytes::copy_of(alloc, text.as_bytes())?)
+    if let Some(text) = value.as_str() {
+        return Ok(Bytes::copy_of(alloc, text.as_bytes())?);
+    }
+    match form {
+        AliasForm::Text => Err(LineFault::Malformed),
+        AliasForm::TextOrHex => needed_hex(alloc, value, "hex"),
+    }
 }
 
 /// The two items of an array of exactly two.
@@ -177,12 +181,37 @@ pub fn optional_hex_32(
     Ok(Some(hex_32_of(alloc, value)?))
 }
 
-/// A text, where the member is there.
-pub fn optional_text(alloc: Global, object: &Value, name: &str) -> Result<Option<Bytes>, LineFault>
-    ensures { Gives result (optional as_str name.now (view object.now)) }
+/// An alias, where the member is there.
+pub fn optional_alias(
+    alloc: Global,
+    form: AliasForm,
+    object: &Value,
+    name: &str,
+) -> Result<Option<Bytes>, LineFault>
+    ensures { Gives result (optional (spec_alias_of form) name.now (view object.now)) }
 {
     let Some(value) = object.get(name) else {
         return Ok(None);
     };
-    Ok(Some(text_of(alloc, value)?))
+    Ok(Some(alias_of(alloc, form, value)?))
+}
+
+/// A number of 64 bits, where the member is there.
+pub fn optional_u64(object: &Value, name: &str) -> Result<Option<u64>, LineFault>
+    ensures { Gives result (optional spec_u64_of name.now (view object.now)) }
+{
+    let Some(value) = object.get(name) else {
+        return Ok(None);
+    };
+    Ok(Some(u64_of(value)?))
+}
+
+/// A number of 32 bits, where the member is there.
+pub fn optional_u32(object: &Value, name: &str) -> Result<Option<u32>, LineFault>
+    ensures { Gives result (optional spec_u32_of name.now (view object.now)) }
+{
+    let Some(value) = object.get(name) else {
+        return Ok(None);
+    };
+    Ok(Some(u32_of(value)?))
 }

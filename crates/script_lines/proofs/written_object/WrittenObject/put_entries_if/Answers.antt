@@ -1,5 +1,5 @@
 use Rattle.script_lines.proofs.NoFloats.{entries_have_none}
-use Rattle.script_lines.proofs.reply_members.ReplyMembers.put_entries.Goals as goal
+use Rattle.script_lines.proofs.written_object.WrittenObject.put_entries_if.Goals as goal
 
 pub put-requires : goal.put-requires
 put-requires c = rw c.from.ensures (entries_have_none _ _ c.in_ok-values-in-Some.ensures)
