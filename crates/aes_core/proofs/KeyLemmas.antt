@@ -2,7 +2,7 @@
 use Rattle.std.proofs.Common.{◌≡◌, ℕ, ◌+◌, ◌-◌, ◌*◌, ◌/◌, ◌≤◌, true, List, length, take, ap, ◌∙◌, arith}
 use Rattle.aes_core.specs.Expansion.{key_expansion, words_of, rounds_of}
 use Rattle.aes_core.specs.Cipher.{is_key_size}
-use Rattle.aes_core.specs.Held.{key_in}
+use Rattle.aes_core.specs.Schedules.{key_in}
 use Rattle.aes_core.specs.declared.aes_key.AesKey.{AesKey}
 use Rattle.aes_core.proofs.ScheduleLemmas.{begins_with_key, key_expansion_length}
 

@@ -3,7 +3,7 @@ pub mod Field
 pub mod State
 pub mod Expansion
 pub mod Cipher
-pub mod Held
+pub mod Schedules
 pub mod KeyOf
 pub mod Laws
 pub mod Tower

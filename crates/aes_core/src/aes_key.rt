@@ -3,7 +3,7 @@
 ghost use Rattle.std.specs.Prelude.{◌≡◌, length};
 ghost use Rattle.aes_core.specs.Expansion.{key_expansion, rounds_of};
 ghost use Rattle.aes_core.specs.Cipher.{IsKey};
-ghost use Rattle.aes_core.specs.Held.{key_in};
+ghost use Rattle.aes_core.specs.Schedules.{key_in};
 
 use crate::block_cipher::{BlockCipher, ManyBlocks};
 use crate::rounds::{cipher_by, inverse_by};

@@ -4,7 +4,7 @@ use Rattle.aes_core.specs.Block.{IsBytes}
 use Rattle.aes_core.specs.State.{add_round_key, inv_sub_bytes, inv_shift_rows, inv_mix_columns}
 use Rattle.aes_core.specs.Expansion.{key_expansion, round_key, rounds_of}
 use Rattle.aes_core.specs.Cipher.{inv_rounds, inverse_by, inverse_cipher}
-use Rattle.aes_wide.specs.Held.{held_key}
+use Rattle.aes_wide.specs.RoundKeyPlanes.{held_key}
 use Rattle.aes_wide.specs.Planes.{IsWhole, standing, at}
 use Rattle.aes_wide.specs.Steps.{constant}
 use Rattle.aes_wide.proofs.MovedLemmas.{sum_cleared, unmix_moved, held_later}

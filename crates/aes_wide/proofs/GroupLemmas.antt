@@ -14,7 +14,7 @@ use Rattle.aes_core.specs.KeyOf.{key_of}
 use Rattle.aes_core.specs.Laws.AesLaws.{key_of_is_key}
 use Rattle.aes_core.specs.declared.aes_key.AesKey.{AesKey}
 use Rattle.aes_wide.specs.declared.wide_aes.KeyPlanes.{KeyPlanes}
-use Rattle.aes_wide.specs.Held.{HasKeys, held_key, planes_in, planes_at}
+use Rattle.aes_wide.specs.RoundKeyPlanes.{HasKeys, held_key, planes_in, planes_at}
 use Rattle.aes_wide.specs.Planes.{IsWhole, block, by_rows, standing}
 use Rattle.aes_wide.specs.Steps.{constant}
 use Rattle.aes_wide.proofs.Standing.{by_rows_back, by_rows_block, each_byte}

@@ -9,7 +9,7 @@ use Rattle.aes_core.specs.Laws.FieldLaws.{sum_byte, x_times_byte}
 use Rattle.aes_core.specs.Laws.XorSums.{same_sums}
 use Rattle.aes_core.specs.Laws.XorSums.Sum.{Term, Both}
 use Rattle.aes_wide.specs.Steps.{constant}
-use Rattle.aes_wide.specs.Held.{held_key}
+use Rattle.aes_wide.specs.RoundKeyPlanes.{held_key}
 use Rattle.aes_wide.proofs.StepLemmas.{same_states, mixed_byte_is}
 use Rattle.aes_wide.proofs.UnmixLemmas.{four, unmixed_byte_is}
 

@@ -5,6 +5,6 @@ pub mod Boxes
 pub mod Steps
 pub mod Single
 pub mod Swaps
-pub mod Held
+pub mod RoundKeyPlanes
 pub mod WideKey
 pub mod WideLaws

@@ -4,7 +4,7 @@ ghost use Rattle.std.specs.Prelude.{◌≡◌, ℕ, ◌+◌, ◌<◌, ◌≤◌,
 ghost use Rattle.aes_core.specs.Cipher.{cipher};
 ghost use Rattle.aes_core.specs.Expansion.{key_expansion, rounds_of};
 ghost use Rattle.aes_core.specs.KeyOf.{key_of};
-ghost use Rattle.aes_wide.specs.Held.{HasAllKeys, held_key};
+ghost use Rattle.aes_wide.specs.RoundKeyPlanes.{HasAllKeys, held_key};
 ghost use Rattle.aes_wide.specs.Planes.{IsWhole, standing};
 ghost use Rattle.aes_wide.specs.Single.{HasRows};
 
@@ -29,7 +29,7 @@ struct KeyPlanes {
 
 impl KeyPlanes {
     ghost use Rattle.std.specs.Prelude.{◌≡◌};
-    ghost use Rattle.aes_wide.specs.Held.{planes_in};
+    ghost use Rattle.aes_wide.specs.RoundKeyPlanes.{planes_in};
 
     fn of(planes: [u8x16; 8]) -> KeyPlanes
         requires { IsWhole 8 planes }

@@ -1,1 +1,4 @@
 mod Bits
+pub mod Fields
+pub mod NumberLemmas
+pub mod Rows

@@ -4,6 +4,7 @@ ghost use Rattle.std.specs.Prelude.{◌≡◌};
 ghost use Rattle.device_files.specs.declared.fault.FileFault.TheVariants.{Memory};
 
 use std::alloc::{AllocError, AllocFailed};
+use std::fmt;
 use tags::NoMemory;
 
 /// Why the bytes of a file spell nothing.
@@ -36,5 +37,14 @@ impl<T: Drop> From<AllocFailed<T>> for FileFault {
 
     fn from(_fault: AllocFailed<T>) -> Self {
         FileFault::Memory
+    }
+}
+
+impl fmt::Display for FileFault {
+    fn fmt<W: fmt::Write>(&self, f: &mut fmt::Formatter<W>) -> fmt::Result {
+        match self {
+            FileFault::Malformed => f.write_str("the file has not the form that is wanted"),
+            FileFault::Memory => f.write_str("memory was wanting"),
+        }
     }
 }

@@ -4,14 +4,14 @@ use Rattle.std.proofs.lemmas.Bool.{cases_lt}
 use Rattle.std.proofs.lemmas.List.{ext_get_or, get_or-take, get_or-drop, reverse-append}
 use Rattle.ks_outside.specs.Moments.{Elapses}
 use Rattle.ks_outside.specs.Ranges.{Holds}
-use Rattle.disk_model.specs.Calls.{Call, Wrote, Synced}
-use Rattle.disk_model.specs.Kept.{content_of, IsImage, WasImage}
+use Rattle.disk_model.specs.DiskCalls.{DiskCall, Wrote, Synced}
+use Rattle.disk_model.specs.CrashImages.{content_of, IsImage, WasImage}
 use Rattle.disk_model.specs.Laws.{held, content_may_stay}
 
-pub elapses_same : (calls : List Call) (n : ℕ) → Elapses n n (WasImage calls) (WasImage calls) (IsImage calls)
+pub elapses_same : (calls : List DiskCall) (n : ℕ) → Elapses n n (WasImage calls) (WasImage calls) (IsImage calls)
 elapses_same calls n = record { later = omega arith; nothing_else = λ t c was. inl was; keeps = λ t c was. was }
 
-elapses_more : (call : Call) (earlier : List Call) (n m : ℕ) → n ≤ m → Elapses n m (WasImage earlier) (WasImage (call ∷ earlier)) (IsImage (call ∷ earlier))
+elapses_more : (call : DiskCall) (earlier : List DiskCall) (n m : ℕ) → n ≤ m → Elapses n m (WasImage earlier) (WasImage (call ∷ earlier)) (IsImage (call ∷ earlier))
 elapses_more call earlier n m le = record {
   later = le;
   nothing_else = λ t c was. ⊎_elim (λ now. inr now.1) (λ past. inl past) was;
@@ -19,10 +19,10 @@ elapses_more call earlier n m le = record {
 }
 
 -- one call more
-pub elapses_to : (call : Call) (old new : List Call) → reverse new ≡ call ∷ reverse old → length new ≡ length old + 1
+pub elapses_to : (call : DiskCall) (old new : List DiskCall) → reverse new ≡ call ∷ reverse old → length new ≡ length old + 1
     → Elapses (length old) (length new) (WasImage (reverse old)) (WasImage (reverse new)) (IsImage (reverse new))
 elapses_to call old new is size =
-    subst (λ (l : List Call). Elapses (length old) (length new) (WasImage (reverse old)) (WasImage l) (IsImage l)) (sym is) (elapses_more call (reverse old) (length old) (length new) (omega (arith, size)))
+    subst (λ (l : List DiskCall). Elapses (length old) (length new) (WasImage (reverse old)) (WasImage l) (IsImage l)) (sym is) (elapses_more call (reverse old) (length old) (length new) (omega (arith, size)))
 
 -- bytes that are those of a list from a place on
 pub read_is : (out bytes : List ℕ) (at count : ℕ) (source : ℕ → ℕ) → length out ≡ count → (0 < count → at + count ≤ length bytes)
@@ -38,19 +38,19 @@ read_is out bytes at count source size within kept is =
     ]
 
 -- a sync leaves what a read gives, and a crash before it might have left that
-pub synced_image : (old mid new : List Call) → mid ≡ old → reverse new ≡ Synced ∷ reverse mid → (c : List ℕ) → IsImage (reverse new) c → IsImage (reverse old) c
+pub synced_image : (old mid new : List DiskCall) → mid ≡ old → reverse new ≡ Synced ∷ reverse mid → (c : List ℕ) → IsImage (reverse new) c → IsImage (reverse old) c
 synced_image old mid new same is c now =
-    let left : c ≡ content_of (reverse mid) = subst (λ (l : List Call). IsImage l c) is now in
+    let left : c ≡ content_of (reverse mid) = subst (λ (l : List DiskCall). IsImage l c) is now in
     rw (left, same) (content_may_stay (reverse old))
 
 -- the newest call stands behind the others
-pub newest : (old mid new : List Call) (call : Call) → mid ≡ old → new ≡ mid ++ call ∷ [] → reverse new ≡ call ∷ reverse old
-newest old mid new call same is = ap reverse is ∙ reverse-append mid (call ∷ []) ∙ ap (λ (l : List Call). call ∷ reverse l) same
+pub newest : (old mid new : List DiskCall) (call : DiskCall) → mid ≡ old → new ≡ mid ++ call ∷ [] → reverse new ≡ call ∷ reverse old
+newest old mid new call same is = ap reverse is ∙ reverse-append mid (call ∷ []) ∙ ap (λ (l : List DiskCall). call ∷ reverse l) same
 
-pub write_holds : (old mid new : List Call) (at : ℕ) (piece : List ℕ) → mid ≡ old → reverse new ≡ Wrote at piece ∷ reverse mid
+pub write_holds : (old mid new : List DiskCall) (at : ℕ) (piece : List ℕ) → mid ≡ old → reverse new ≡ Wrote at piece ∷ reverse mid
     → Holds at piece (content_of (reverse old)) (content_of (reverse new))
 write_holds old mid new at piece same is = rw (is, same) (held at piece (content_of (reverse old)))
 
-pub write_elapses : (old mid new : List Call) (at : ℕ) (piece : List ℕ) → mid ≡ old → reverse new ≡ Wrote at piece ∷ reverse mid → length new ≡ length mid + 1
+pub write_elapses : (old mid new : List DiskCall) (at : ℕ) (piece : List ℕ) → mid ≡ old → reverse new ≡ Wrote at piece ∷ reverse mid → length new ≡ length mid + 1
     → Elapses (length old) (length new) (WasImage (reverse old)) (WasImage (reverse new)) (IsImage (reverse new))
-write_elapses old mid new at piece same is size = elapses_to (Wrote at piece) old new (is ∙ ap (λ (l : List Call). Wrote at piece ∷ reverse l) same) (size ∙ ap (λ (l : List Call). length l + 1) same)
+write_elapses old mid new at piece same is size = elapses_to (Wrote at piece) old new (is ∙ ap (λ (l : List DiskCall). Wrote at piece ∷ reverse l) same) (size ∙ ap (λ (l : List DiskCall). length l + 1) same)

@@ -1,8 +1,8 @@
 -- The listed images are images, and the others are not.
 use Rattle.std.proofs.Common.{◌≡◌, ◌⊎◌, inl, inr, ⊎_elim, ℕ, ◌+◌, ◌<◌, ◌≤◌, List, [], ◌∷◌, length, take, drop, get_or, refl, sym, ap, ◌∙◌, arith}
 use Rattle.ks_outside.specs.Ranges.{Torn}
-use Rattle.disk_model.specs.Calls.{Call}
-use Rattle.disk_model.specs.Kept.{IsImage}
+use Rattle.disk_model.specs.DiskCalls.{DiskCall}
+use Rattle.disk_model.specs.CrashImages.{IsImage}
 use Rattle.disk_model.specs.Limits.{IsWithin, IsPending}
 use Rattle.disk_model.specs.Listed.{five, over, past, two, synced, AreImages, AreNoImages, of_five, not_of_five, of_over, not_of_over, of_past, not_of_past, of_two, not_of_two, of_synced, not_of_synced}
 use Rattle.disk_model.proofs.Reaching.{images_within}
@@ -89,7 +89,7 @@ free_two place there (inl inside) = ⊎_elim (λ (k : place < 1). omega (arith, 
 free_two place there (inr earlier) = ⊎_elim (λ (k : place < 1). free_over place (inl k) earlier) (λ (k : (4 ≤ place) × (place < 7)). free_over place (inr k.0) earlier) there
 
 -- a byte that no pending write touched, changed
-changed : (calls : List Call) (c : List ℕ) (place byte wanted : ℕ) → get_or c place 0 ≡ byte → (IsWithin calls c → get_or c place 0 ≡ wanted) → (byte ≡ wanted → ⊥) → IsImage calls c → ⊥
+changed : (calls : List DiskCall) (c : List ℕ) (place byte wanted : ℕ) → get_or c place 0 ≡ byte → (IsWithin calls c → get_or c place 0 ≡ wanted) → (byte ≡ wanted → ⊥) → IsImage calls c → ⊥
 changed calls c place byte wanted is kept other image = other (sym is ∙ kept (images_within calls c image))
 
 pub are_not_of_over : AreNoImages over not_of_over

@@ -3,8 +3,8 @@ use Rattle.std.proofs.Common.{◌≡◌, ◌⊎◌, inl, inr, ℕ, ◌+◌, ◌-
 use Rattle.std.proofs.lemmas.Bool.{cases_lt}
 use Rattle.std.proofs.lemmas.List.{get_or-take, get_or-drop}
 use Rattle.ks_outside.specs.Ranges.{Torn}
-use Rattle.disk_model.specs.Calls.{Call, Wrote, Synced}
-use Rattle.disk_model.specs.Kept.{IsImage}
+use Rattle.disk_model.specs.DiskCalls.{DiskCall, Wrote, Synced}
+use Rattle.disk_model.specs.CrashImages.{IsImage}
 use Rattle.disk_model.specs.Limits.{IsWithin}
 
 -- a torn write leaves each byte outside its range
@@ -17,7 +17,7 @@ torn_outside at n old new torn place within (inr past) =
     ap (λ (k : ℕ). get_or new k 0) (sym there) ∙ sym (get_or-drop (at + n) new (place - (at + n)) 0)
     ∙ ap (λ (l : List ℕ). get_or l (place - (at + n)) 0) torn.after ∙ get_or-drop (at + n) old (place - (at + n)) 0 ∙ ap (λ (k : ℕ). get_or old k 0) there
 
-pub images_within : (calls : List Call) (c : List ℕ) → IsImage calls c → IsWithin calls c
+pub images_within : (calls : List DiskCall) (c : List ℕ) → IsImage calls c → IsWithin calls c
 images_within [] c image = rw image record { no_shorter = omega arith; no_longer = omega arith; stays = λ place within free. refl }
 images_within (Wrote at piece ∷ earlier) c image =
     let b = image.0 in

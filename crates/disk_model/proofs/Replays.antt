@@ -4,35 +4,35 @@ use Rattle.std.proofs.lemmas.Bool.{cases_lt}
 use Rattle.std.proofs.lemmas.List.{take_more, reverse-append, length-reverse, length-replicate}
 use Rattle.std.proofs.Common.{zero, length-take}
 use Rattle.ks_outside.specs.Ranges.{Torn}
-use Rattle.disk_model.specs.Calls.{Call, Wrote, Synced}
+use Rattle.disk_model.specs.DiskCalls.{DiskCall, Wrote, Synced}
 use Rattle.disk_model.specs.declared.image.Choice.{Choice}
 use Rattle.disk_model.specs.declared.image.Choice.TheVariants.{New, Old, Filled}
-use Rattle.disk_model.specs.Kept.{overwritten, content_of, IsImage}
+use Rattle.disk_model.specs.CrashImages.{overwritten, content_of, IsImage}
 use Rattle.disk_model.specs.Laws.{held, torn_as_held}
 use Rattle.disk_model.specs.Chosen.{chosen, laid, image_of, IsSettled, IsWrite, IsReplayed}
 
 -- the calls up to the next one, the newest first
-pub next_call : (calls : List Call) (i : ℕ) → i < length calls → reverse (take (i + 1) calls) ≡ get_or calls i Synced ∷ reverse (take i calls)
+pub next_call : (calls : List DiskCall) (i : ℕ) → i < length calls → reverse (take (i + 1) calls) ≡ get_or calls i Synced ∷ reverse (take i calls)
 next_call calls i within = ap reverse (take_more calls i Synced within) ∙ reverse-append (take i calls) (get_or calls i Synced ∷ [])
 
-laid_new : (call : Call) (earlier : List Call) → laid New call (content_of earlier) ≡ content_of (call ∷ earlier)
+laid_new : (call : DiskCall) (earlier : List DiskCall) → laid New call (content_of earlier) ≡ content_of (call ∷ earlier)
 laid_new (Wrote at piece) earlier = refl
 laid_new Synced earlier = refl
 
-laid_chosen : (choices : List Choice) (call : Call) (earlier : List Call) (i : ℕ) → IsWrite call → length earlier ≡ i
+laid_chosen : (choices : List Choice) (call : DiskCall) (earlier : List DiskCall) (i : ℕ) → IsWrite call → length earlier ≡ i
     → laid (get_or choices i New) call (image_of choices earlier) ≡ image_of choices (call ∷ earlier)
 laid_chosen choices (Wrote at piece) earlier i write size = ap (λ (k : ℕ). chosen (get_or choices k New) at piece (image_of choices earlier)) (sym size)
 laid_chosen choices Synced earlier i write size = absurd write
 
-settled_image : (choices : List Choice) (calls : List Call) → IsSettled calls → content_of calls ≡ image_of choices calls
+settled_image : (choices : List Choice) (calls : List DiskCall) → IsSettled calls → content_of calls ≡ image_of choices calls
 settled_image choices [] settled = refl
 settled_image choices (Wrote at piece ∷ earlier) settled = absurd settled
 settled_image choices (Synced ∷ earlier) settled = refl
 
-pub replay_none : (choices : List Choice) (calls : List Call) (start : ℕ) → IsReplayed choices calls start 0 []
+pub replay_none : (choices : List Choice) (calls : List DiskCall) (start : ℕ) → IsReplayed choices calls start 0 []
 replay_none choices calls start = record { written = λ le. refl; as_chosen = λ le. refl }
 
-pub replay_more : (choices : List Choice) (calls : List Call) (start stop i : ℕ) (choice : Choice) (bytes later : List ℕ)
+pub replay_more : (choices : List Choice) (calls : List DiskCall) (start stop i : ℕ) (choice : Choice) (bytes later : List ℕ)
     → IsSettled (reverse (take start calls)) → ((k : ℕ) → start ≤ k → k < stop → IsWrite (get_or calls k Synced)) → i < stop → stop ≤ length calls
     → (i < start → choice ≡ New) → (start ≤ i → choice ≡ get_or choices i New)
     → IsReplayed choices calls start i bytes → later ≡ laid choice (get_or calls i Synced) bytes → IsReplayed choices calls start (i + 1) later
@@ -66,7 +66,7 @@ torn_same at n bytes = record { front = take_front at bytes; after = refl; no_sh
     take_front (suc at) (x ∷ bytes) = ap (λ (l : List ℕ). x ∷ l) (take_front at bytes)
 
 -- what is chosen is one of the images
-pub chosen_image : (choices : List Choice) (calls : List Call) → IsImage calls (image_of choices calls)
+pub chosen_image : (choices : List Choice) (calls : List DiskCall) → IsImage calls (image_of choices calls)
 chosen_image choices [] = refl
 chosen_image choices (Wrote at piece ∷ earlier) = (image_of choices earlier, chosen_image choices earlier, torn_by (get_or choices (length earlier) New) at piece (image_of choices earlier))
   where
@@ -78,29 +78,29 @@ chosen_image choices (Wrote at piece ∷ earlier) = (image_of choices earlier, c
         (torn_as_held at (replicate (length piece) byte) old (overwritten at (replicate (length piece) byte) old) (held at (replicate (length piece) byte) old))
 chosen_image choices (Synced ∷ earlier) = refl
 
-pub settled_is : (calls : List Call) → IsSettled calls → (c : List ℕ) → IsImage calls c → c ≡ content_of calls
+pub settled_is : (calls : List DiskCall) → IsSettled calls → (c : List ℕ) → IsImage calls c → c ≡ content_of calls
 settled_is [] settled c image = image
 settled_is (Wrote at piece ∷ earlier) settled c image = absurd settled
 settled_is (Synced ∷ earlier) settled c image = image
 
 -- the newest sync so far
-pub record IsLast (calls : List Call) (count i : ℕ) : Type 0 where
+pub record IsLast (calls : List DiskCall) (count i : ℕ) : Type 0 where
   pub within : count ≤ i
   pub last : IsSettled (reverse (take count calls))
   pub pending : (k : ℕ) → count ≤ k → k < i → IsWrite (get_or calls k Synced)
 
-pub last_none : (calls : List Call) → IsLast calls 0 0
+pub last_none : (calls : List DiskCall) → IsLast calls 0 0
 last_none calls = record { within = omega arith; last = tt; pending = λ k le below. absurd (omega (arith, below)) }
 
 -- one more call
-pub last_sync : (calls : List Call) (count i : ℕ) → i < length calls → get_or calls i Synced ≡ Synced → IsLast calls (i + 1) (i + 1)
+pub last_sync : (calls : List DiskCall) (count i : ℕ) → i < length calls → get_or calls i Synced ≡ Synced → IsLast calls (i + 1) (i + 1)
 last_sync calls count i within is = record {
   within = omega arith;
   last = rw (next_call calls i within, is) tt;
   pending = λ k le below. absurd (omega (arith, le, below));
 }
 
-pub last_write : (calls : List Call) (count i at : ℕ) (piece : List ℕ) → get_or calls i Synced ≡ Wrote at piece → IsLast calls count i → IsLast calls count (i + 1)
+pub last_write : (calls : List DiskCall) (count i at : ℕ) (piece : List ℕ) → get_or calls i Synced ≡ Wrote at piece → IsLast calls count i → IsLast calls count (i + 1)
 last_write calls count i at piece is l = record {
   within = omega (arith, l.within);
   last = l.last;

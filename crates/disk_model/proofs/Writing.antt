@@ -3,7 +3,7 @@ use Rattle.std.proofs.Common.{◌≡◌, ◌⊎◌, inl, inr, ℕ, zero, suc, �
 use Rattle.std.proofs.lemmas.Bool.{cases_lt}
 use Rattle.std.proofs.lemmas.List.{get_or-take, get_or-drop, get_or_append_left, get_or-append_right, get_or-replicate, length-replicate}
 use Rattle.disk_model.specs.Pages.{Overlaid}
-use Rattle.disk_model.specs.Kept.{overwritten}
+use Rattle.disk_model.specs.CrashImages.{overwritten}
 use Rattle.disk_model.specs.Laws.{held}
 
 none_past : (bytes : List ℕ) (place : ℕ) → length bytes ≤ place → get_or bytes place 0 ≡ 0

@@ -3,8 +3,8 @@ use Rattle.std.specs.Prelude.{◌≡◌, ℕ, ◌+◌, ◌-◌, ◌≤◌, List,
 use Rattle.std.proofs.Common.{inl, inr, sym, ap, ◌∙◌, subst, arith, length-append, length-take, length-drop, append_assoc}
 use Rattle.std.proofs.lemmas.List.{take_at, drop_at, length-replicate, length-reverse}
 use Rattle.ks_outside.specs.Ranges.{Holds, Torn}
-use Rattle.disk_model.specs.Calls.{Call, Wrote, Synced}
-use Rattle.disk_model.specs.Kept.{overwritten, content_of, IsImage, WasImage}
+use Rattle.disk_model.specs.DiskCalls.{DiskCall, Wrote, Synced}
+use Rattle.disk_model.specs.CrashImages.{overwritten, content_of, IsImage, WasImage}
 
 pub torn_as_held : (at : ℕ) (piece old new : List ℕ) → Holds at piece old new → Torn at (length piece) old new
 torn_as_held at piece old new h = record { front = h.front; after = h.after; no_shorter = omega (arith, h.size); no_longer = omega (arith, h.size) }
@@ -32,31 +32,31 @@ module _ (at : ℕ) (piece old : List ℕ) where
     size = omega (arith, ap length split, size, length-append before (piece ++ drop (at + length piece) old), length-append piece (drop (at + length piece) old), length-drop (at + length piece) old);
   }
 
-pub content_may_stay : (calls : List Call) → IsImage calls (content_of calls)
+pub content_may_stay : (calls : List DiskCall) → IsImage calls (content_of calls)
 content_may_stay [] = refl
 content_may_stay (Wrote at piece ∷ earlier) =
     (content_of earlier, content_may_stay earlier, torn_as_held at piece (content_of earlier) (overwritten at piece (content_of earlier)) (held at piece (content_of earlier)))
 content_may_stay (Synced ∷ earlier) = refl
 
-pub content_is_image : (calls : List Call) (c : List ℕ) → Some (content_of calls) ≡ Some c → IsImage calls c
+pub content_is_image : (calls : List DiskCall) (c : List ℕ) → Some (content_of calls) ≡ Some c → IsImage calls c
 content_is_image calls c told = let same : content_of calls ≡ c = cc in subst (IsImage calls) same (content_may_stay calls)
 
-not_later : (calls : List Call) (t : ℕ) (c : List ℕ) → WasImage calls t c → t ≤ length calls
+not_later : (calls : List DiskCall) (t : ℕ) (c : List ℕ) → WasImage calls t c → t ≤ length calls
 not_later [] t c was = was.0
 not_later (call ∷ earlier) t c (inl now) = now.0
 not_later (call ∷ earlier) t c (inr was) = omega (arith, not_later earlier t c was)
 
-counts : (calls : List Call) (t : ℕ) (c : List ℕ) → t ≤ length calls → IsImage calls c → WasImage calls t c
+counts : (calls : List DiskCall) (t : ℕ) (c : List ℕ) → t ≤ length calls → IsImage calls c → WasImage calls t c
 counts [] t c le now = (le, now)
 counts (call ∷ earlier) t c le now = inl (le, now)
 
-only : (calls : List Call) (t : ℕ) (c : List ℕ) → length calls ≤ t → WasImage calls t c → IsImage calls c
+only : (calls : List DiskCall) (t : ℕ) (c : List ℕ) → length calls ≤ t → WasImage calls t c → IsImage calls c
 only [] t c le was = was.1
 only (call ∷ earlier) t c le (inl now) = now.1
 only (call ∷ earlier) t c le (inr was) = absurd (omega (arith, not_later earlier t c was))
 
-pub counts_now : (calls : List Call) (t : ℕ) (c : List ℕ) → t ≤ length calls → IsImage (reverse calls) c → WasImage (reverse calls) t c
+pub counts_now : (calls : List DiskCall) (t : ℕ) (c : List ℕ) → t ≤ length calls → IsImage (reverse calls) c → WasImage (reverse calls) t c
 counts_now calls t c le now = counts (reverse calls) t c (omega (arith, length-reverse calls)) now
 
-pub only_now : (calls : List Call) (c : List ℕ) → WasImage (reverse calls) (length calls) c → IsImage (reverse calls) c
+pub only_now : (calls : List DiskCall) (c : List ℕ) → WasImage (reverse calls) (length calls) c → IsImage (reverse calls) c
 only_now calls c was = only (reverse calls) (length calls) c (omega (arith, length-reverse calls)) was

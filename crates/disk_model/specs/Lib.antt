@@ -1,6 +1,6 @@
-pub mod Calls
+pub mod DiskCalls
 pub mod Chosen
-pub mod Kept
+pub mod CrashImages
 pub mod Laws
 pub mod Limits
 pub mod Listed

@@ -1,33 +1,33 @@
 -- Images that a crash may leave, and some that it may not, after a few calls, the newest first. Bytes are letters.
 use Rattle.std.specs.Prelude.{ℕ, List, [], ◌∷◌}
 use Rattle.std.specs.List.{AllByRecursion}
-use Rattle.disk_model.specs.Calls.{Call, Wrote, Synced}
-use Rattle.disk_model.specs.Kept.{IsImage}
+use Rattle.disk_model.specs.DiskCalls.{DiskCall, Wrote, Synced}
+use Rattle.disk_model.specs.CrashImages.{IsImage}
 
 -- five bytes, synced: abcde. A write that failed leaves these calls.
-abbrev pub five : List Call
+abbrev pub five : List DiskCall
 five = Synced ∷ Wrote 0 (97 ∷ 98 ∷ 99 ∷ 100 ∷ 101 ∷ []) ∷ []
 
 -- three bytes over them: XYZ at 1. A sync that failed leaves these calls.
-abbrev pub over : List Call
+abbrev pub over : List DiskCall
 over = Wrote 1 (88 ∷ 89 ∷ 90 ∷ []) ∷ five
 
 -- two bytes past the end: fg at 7
-abbrev pub past : List Call
+abbrev pub past : List DiskCall
 past = Wrote 7 (102 ∷ 103 ∷ []) ∷ five
 
 -- both, with no sync between
-abbrev pub two : List Call
+abbrev pub two : List DiskCall
 two = Wrote 7 (102 ∷ 103 ∷ []) ∷ over
 
 -- both, synced
-abbrev pub synced : List Call
+abbrev pub synced : List DiskCall
 synced = Synced ∷ two
 
-abbrev pub AreImages : List Call → List (List ℕ) → Type 0
+abbrev pub AreImages : List DiskCall → List (List ℕ) → Type 0
 AreImages calls images = AllByRecursion (λ image. IsImage calls image) images
 
-abbrev pub AreNoImages : List Call → List (List ℕ) → Type 0
+abbrev pub AreNoImages : List DiskCall → List (List ℕ) → Type 0
 AreNoImages calls images = AllByRecursion (λ image. IsImage calls image → ⊥) images
 
 -- abcde; abcd, abcdf, aXYZe

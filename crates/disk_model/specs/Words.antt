@@ -2,17 +2,17 @@
 use Rattle.std.specs.Prelude.{◌≡◌, ℕ, ◌+◌, ◌^◌, ◌<◌, ◌≤◌, List, Contains, length, take, reverse}
 use Rattle.std.specs.HashMap.{spare}
 use Rattle.ks_outside.specs.Plans.{failing_in, asked_in}
-use Rattle.disk_model.specs.Calls.{Call}
+use Rattle.disk_model.specs.DiskCalls.{DiskCall}
 use Rattle.disk_model.specs.declared.memory.MemoryDisk.{MemoryDisk}
-use Rattle.disk_model.specs.Kept.{content_of}
+use Rattle.disk_model.specs.CrashImages.{content_of}
 use Rattle.disk_model.specs.Pages.{pages_over}
 
 -- its writes and syncs, the newest first
-abbrev pub made_by : MemoryDisk → List Call
+abbrev pub made_by : MemoryDisk → List DiskCall
 made_by disk = reverse disk.calls.made
 
 -- the first of its writes and syncs, the newest first
-abbrev pub first_made_by : ℕ → MemoryDisk → List Call
+abbrev pub first_made_by : ℕ → MemoryDisk → List DiskCall
 first_made_by count disk = reverse (take count disk.calls.made)
 
 -- how many writes and syncs it made

@@ -2,14 +2,14 @@
 
 ghost use Rattle.std.specs.Prelude.{◌≡◌, ℕ, ◌+◌, ◌<◌, ◌≤◌, List, [], ◌∷◌, ◌++◌, length, take, drop, get_or, IfOk, IsOk, OnOk, OnErr};
 ghost use Rattle.std.specs.Option.{MatchOption};
-ghost use Rattle.disk_model.specs.Calls.{Call, Wrote, Synced};
+ghost use Rattle.disk_model.specs.DiskCalls.{DiskCall, Wrote, Synced};
 
 use std::alloc::{AllocError, Global};
 use std::marker::Model;
 
 /// A write, whose piece stands in the text of its list, or a sync.
 #[derive(Clone, Copy, Drop)]
-enum Made {
+enum KeptCall {
     Wrote { at: u64, start: usize, size: usize },
     Synced,
 }
@@ -18,14 +18,14 @@ enum Made {
 /// that room for a number of calls and of bytes is taken at once.
 #[derive(Drop)]
 pub struct CallList {
-    made: Vec<Made>,
+    made: Vec<KeptCall>,
     text: Vec<u8>,
 }
 
 impl Model for CallList {
     ghost use Rattle.std.specs.Prelude.{◌-◌, length, map, vec_len, vec_capacity};
     ghost use Rattle.std.specs.List.{AllByRecursion};
-    ghost use Rattle.disk_model.specs.Calls.{Calls};
+    ghost use Rattle.disk_model.specs.DiskCalls.{Calls};
     ghost use Rattle.disk_model.specs.Texts.{call_in, IsInFirst};
 
     ghost Value = { Calls };
@@ -84,7 +84,7 @@ impl CallList {
         let Ok(()) = self.text.extend_from_slice(piece) else {
             unreachable!()
         };
-        let write = Made::Wrote {
+        let write = KeptCall::Wrote {
             at,
             start,
             size: piece.len(),
@@ -102,7 +102,7 @@ impl CallList {
         ensures calls { self.old.calls_left ≤ self.new.calls_left + 1 }
         ensures bytes { self.old.bytes_left ≤ self.new.bytes_left }
     {
-        self.made.push(Made::Synced)?;
+        self.made.push(KeptCall::Synced)?;
         Ok(())
     }
 
@@ -113,8 +113,8 @@ impl CallList {
             (λ write. get_or self.now.made number Synced ≡ Wrote write.0 write.1.now) }
     {
         match self.made[number] {
-            Made::Wrote { at, start, size } => Some((at, &self.text[start..start + size])),
-            Made::Synced => None,
+            KeptCall::Wrote { at, start, size } => Some((at, &self.text[start..start + size])),
+            KeptCall::Synced => None,
         }
     }
 }

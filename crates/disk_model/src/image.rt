@@ -1,13 +1,13 @@
 //! One image that a crash may leave, as a disk that can be opened again.
 
 ghost use Rattle.std.specs.Prelude.{◌≡◌, ℕ, ◌+◌, ◌<◌, ◌≤◌, List, length, take, reverse, get_or, IfOk, OnOk};
-ghost use Rattle.disk_model.specs.Calls.{Synced};
+ghost use Rattle.disk_model.specs.DiskCalls.{Synced};
 ghost use Rattle.disk_model.specs.Chosen.{laid, image_of, IsSettled, IsWrite};
 ghost use Rattle.disk_model.specs.Words.{made_by, reads};
 ghost use Rattle.disk_model.specs.declared.image.Choice.TheVariants.{New};
 
 use crate::calls::CallList;
-use crate::memory::{MemoryDisk, Room};
+use crate::memory::{DiskRoom, MemoryDisk};
 use std::alloc::{AllocError, Global};
 
 /// What the range of a write that no sync followed holds after a crash.
@@ -88,7 +88,7 @@ pub fn replayed(
     ensures settled { IfOk result (λ d. IsSettled (made_by d)) }
 {
     let start = settled(calls, end);
-    let room = Room {
+    let room = DiskRoom {
         calls: end,
         bytes: 0,
         pages: 0,

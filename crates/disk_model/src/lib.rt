@@ -12,5 +12,5 @@ mod pages;
 mod stopped;
 
 pub use image::Choice;
-pub use memory::{MemoryDisk, Room};
+pub use memory::{DiskRoom, MemoryDisk};
 pub use stopped::StoppedDisk;

@@ -4,12 +4,12 @@ ghost use Rattle.std.specs.Prelude.{◌≡◌, ◌↔◌, [], ◌∷◌, ◌++�
 ghost use Rattle.ks_outside.specs.Faults.{HasCause, one_more};
 ghost use Rattle.ks_outside.specs.Ranges.{Holds, Torn, Gives, Becomes};
 ghost use Rattle.ks_outside.specs.Moments.{Follows, Elapses};
-ghost use Rattle.disk_model.specs.Kept.{overwritten, content_of, IsImage, WasImage};
+ghost use Rattle.disk_model.specs.CrashImages.{overwritten, content_of, IsImage, WasImage};
 ghost use Rattle.disk_model.specs.Laws.{content_is_image, counts_now, only_now};
 ghost use Rattle.disk_model.specs.Chosen.{chosen, image_of};
 ghost use Rattle.disk_model.specs.Limits.{IsWithin};
 ghost use Rattle.disk_model.specs.Pages.{AreBytes, pages_over};
-ghost use Rattle.disk_model.specs.Calls.{Wrote, Synced};
+ghost use Rattle.disk_model.specs.DiskCalls.{Wrote, Synced};
 
 use crate::calls::CallList;
 use crate::image::{Choice, replayed};
@@ -19,7 +19,7 @@ use std::alloc::{AllocError, Global};
 
 /// Room that a disk in memory takes when it is made.
 #[derive(Clone, Copy, Debug)]
-pub struct Room {
+pub struct DiskRoom {
     /// for so many writes and syncs
     pub calls: usize,
     /// for so many bytes, in all pieces that are written
@@ -52,7 +52,7 @@ impl<'a> MemoryDisk<'a> {
     /// An empty disk with this room. The calls with the numbers `to_fail`, counted from 1, are to fail.
     pub fn with_room(
         alloc: Global,
-        room: Room,
+        room: DiskRoom,
         to_fail: &'a [u64],
     ) -> Result<MemoryDisk<'a>, AllocError>
         ensures empty { IfOk result (λ d. made_by d ≡ []) }

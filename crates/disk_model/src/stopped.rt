@@ -1,6 +1,6 @@
 //! A disk that stops.
 
-ghost use Rattle.std.specs.Prelude.{◌≡◌, ◌+◌, ◌-◌, ◌^◌, ◌<◌, ◌≤◌, ℕ, List, min, length, is_some, IfOk, IsOk, IsErr, OnOk, OnErr, pred};
+ghost use Rattle.std.specs.Prelude.{◌≡◌, ◌+◌, ◌-◌, ◌^◌, ◌<◌, ◌≤◌, ℕ, List, min, length, IfOk, IsOk, IsErr, OnOk, OnErr, pred};
 ghost use Rattle.ks_outside.specs.Faults.{HasCause};
 ghost use Rattle.ks_outside.specs.Ranges.{Holds, Torn, Gives, Becomes};
 ghost use Rattle.ks_outside.specs.Moments.{Follows, Elapses};
@@ -95,7 +95,6 @@ impl<D: Disk> Disk for StoppedDisk<D> {
     fn write_at(&mut self, at: u64, piece: &[u8]) -> Result<(), Failed>
         ensures written { OnOk result (Becomes (Holds at piece.now) (D.Disk.content self.old.inner) (D.Disk.content self.new.inner)) }
         ensures torn { OnErr result (Becomes (Torn at (length piece.now)) (D.Disk.content self.old.inner) (D.Disk.content self.new.inner)) }
-        ensures telling { is_some (D.Disk.content self.new.inner) ≡ is_some (D.Disk.content self.old.inner) }
         ensures images { Follows (Torn at (length piece.now)) (D.Disk.images self.old.inner) (D.Disk.images self.new.inner) }
         ensures time { Elapses (D.Disk.moment self.old.inner) (D.Disk.moment self.new.inner) (D.Disk.images_since self.old.inner) (D.Disk.images_since self.new.inner) (D.Disk.images self.new.inner) }
         ensures cause { HasCause (min (D.Disk.fault_count self.old.inner + self.old.refused.count) (2 ^ 64 - 1)) (min (D.Disk.fault_count self.new.inner + self.new.refused.count) (2 ^ 64 - 1)) result }

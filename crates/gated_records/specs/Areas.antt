@@ -18,13 +18,17 @@ pub record IsArea (start : ℕ) (records image : List ℕ) : Type 0 where
   pub closed : gate ≢ 75
   pub is : HoldsAt start (records ++ gate ∷ []) image
 
+-- an open gate, 4b, and what stands behind it
+abbrev pub opened_before : List ℕ → List ℕ
+opened_before more = 75 ∷ more
+
 -- the records, an open gate, and what stands behind it
 abbrev pub with_more : List ℕ → List ℕ → List ℕ
-with_more records more = records ++ 75 ∷ more
+with_more records more = records ++ opened_before more
 
 -- what publishing is handed: an open gate, what is to count, and a shut gate
 abbrev pub closed_by : List ℕ → List ℕ
-closed_by more = 75 ∷ (more ++ 0 ∷ [])
+closed_by more = opened_before (more ++ 0 ∷ [])
 
 -- the area holds the records, or the records and more
 abbrev pub IsWithOrWithout : ℕ → List ℕ → List ℕ → List ℕ → Type 0

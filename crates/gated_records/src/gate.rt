@@ -1,8 +1,7 @@
 //! The gate protocol.
 
-ghost use Rattle.std.specs.Prelude.{◌≡◌, ◌<◌, ◌≤◌, ◌+◌, ◌-◌, ◌^◌, ◌++◌, ◌∷◌, [], ℕ, List, length, OnOk, OnErr, IfOk};
-ghost use Rattle.ks_outside.specs.Faults.{HasCause};
-ghost use Rattle.ks_outside.specs.Images.{AllImages, Passes, tells};
+ghost use Rattle.std.specs.Prelude.{◌≡◌, ◌<◌, ◌≤◌, ◌+◌, ◌-◌, ◌^◌, ◌++◌, ◌∷◌, [], ℕ, List, length, is_err, OnOk, OnErr, IfOk};
+ghost use Rattle.ks_outside.specs.Images.{AllImages, Goes, Passes, Reads};
 ghost use Rattle.gated_records.specs.Areas.{HoldsAt, IsOutside, IsArea, HasArea, IsWithOrWithout, closed_by, with_more, opened_to};
 
 use ks_outside::{Disk, Failed, read_synced_byte, write_synced};
@@ -38,9 +37,7 @@ pub fn publish<D: Disk>(disk: &mut D, at: u64, closed: &[u8]) -> Result<(), Fail
     ensures keeps_passing { (place : ℕ) (bytes : List ℕ) → IsOutside place bytes at (length closed.now)
         → AllImages D.Disk disk.old (HoldsAt place bytes)
         → Passes D.Disk disk.old disk.new (HoldsAt place bytes) }
-    ensures sure { D.is_sure disk.old → D.is_sure disk.new }
-    ensures telling { tells D.Disk disk.new ≡ tells D.Disk disk.old }
-    ensures cause { HasCause (D.fault_count disk.old) (D.fault_count disk.new) result }
+    ensures goes { Goes D.Disk disk.old disk.new (is_err result) }
 {
     let Ok(()) = write_synced(disk, at + 1, &closed[1..]) else {
         return Err(Failed);
@@ -57,11 +54,7 @@ pub fn is_published<D: Disk>(disk: &mut D, at: u64) -> Result<bool, Failed>
     ensures settled { (start : ℕ) (records more : List ℕ) → at ≡ start + length records
         → AllImages D.Disk disk.old (IsWithOrWithout start records more)
         → IfOk result (λ opened. AllImages D.Disk disk.new (IsArea start (opened_to opened records more))) }
-    ensures images { AllImages D.Disk disk.new (D.images disk.old) }
-    ensures passes { Passes D.Disk disk.old disk.new (D.images disk.old) }
-    ensures sure { D.is_sure disk.old → D.is_sure disk.new }
-    ensures telling { tells D.Disk disk.new ≡ tells D.Disk disk.old }
-    ensures cause { HasCause (D.fault_count disk.old) (D.fault_count disk.new) result }
+    ensures goes { Reads D.Disk disk.old disk.new (is_err result) }
 {
     let Ok(byte) = read_synced_byte(disk, at) else {
         return Err(Failed);

@@ -8,13 +8,13 @@ use std::marker::Model;
 /// The last bytes of a string, held back: as many as a tag has, or all where they are fewer. Contracts see the list
 /// and the tag's size.
 #[derive(Drop)]
-pub(crate) struct Held {
+pub(crate) struct HeldBack {
     bytes: [u8; 16],
     len: usize,
     most: usize,
 }
 
-impl Model for Held {
+impl Model for HeldBack {
     ghost use Rattle.std.specs.Prelude.{ℕ, ◌≤◌, take};
     ghost use Rattle.gcm_mode.specs.HeldBytes.{HeldBytes};
 
@@ -25,13 +25,13 @@ impl Model for Held {
     ghost invariant = { λ s. (s.len ≤ s.most) × (s.most ≤ 16) };
 }
 
-impl Held {
-    pub(crate) fn new(most: usize) -> Held
+impl HeldBack {
+    pub(crate) fn new(most: usize) -> HeldBack
         requires { most ≤ 16 }
         ensures bytes { result.bytes ≡ [] }
         ensures most { result.most ≡ most }
     {
-        Held {
+        HeldBack {
             bytes: [0; 16],
             len: 0,
             most,

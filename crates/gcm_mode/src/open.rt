@@ -6,7 +6,7 @@ ghost use Rattle.gcm_mode.specs.Holds.{HasTag, IsOpened, Opens, OpensNoText};
 
 use crate::authenticator::Authenticator;
 use crate::bytes::xor_blocks;
-use crate::held::Held;
+use crate::held::HeldBack;
 use crate::stream::Gctr;
 use aes_core::ManyBlocks;
 use byte_strings::same_bytes;
@@ -21,7 +21,7 @@ pub struct TagWrong;
 pub struct GcmOpen<C> {
     stream: Gctr<C>,
     hash: Authenticator,
-    held: Held,
+    held: HeldBack,
 }
 
 impl<C: ManyBlocks + Drop> GcmOpen<C> {
@@ -36,7 +36,7 @@ impl<C: ManyBlocks + Drop> GcmOpen<C> {
         GcmOpen {
             stream,
             hash,
-            held: Held::new(tag),
+            held: HeldBack::new(tag),
         }
     }
 

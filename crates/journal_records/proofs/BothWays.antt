@@ -6,7 +6,7 @@ use Rattle.journal_records.specs.declared.change.Change.{Change}
 use Rattle.journal_records.specs.declared.fault.RecordFault.{RecordFault}
 use Rattle.journal_records.specs.Spelling.{tail_of, framed, IsChange}
 use Rattle.journal_records.specs.Reading.{Says, record_at, record_in}
-use Rattle.journal_records.proofs.Codecs.{IsBytes}
+use Rattle.byte_strings.specs.Codecs.{IsBytes}
 use Rattle.journal_records.proofs.Bodies.{record_takes, record_again}
 
 -- reading again gives what was spelled

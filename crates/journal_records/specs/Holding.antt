@@ -3,8 +3,7 @@ use Rattle.std.specs.Prelude.{◌≡◌, ◌⊎◌, Result, Ok, Err}
 use Rattle.tags.specs.declared.settled.Settled.{Settled}
 use Rattle.tags.specs.declared.settled.Settled.TheVariants.{Kept, Lost}
 use Rattle.journal_records.specs.declared.change.Change.{Change}
-use Rattle.journal_records.specs.declared.fault.StoreFault.{StoreFault}
-use Rattle.journal_records.specs.declared.fault.StoreFault.TheVariants as faults
+use Rattle.journal_records.specs.Commits.{CommitState, Committed, InDoubt, NotBegun}
 use Rattle.journal_records.specs.LastingPart.{Lasting}
 use Rattle.journal_records.specs.Effects.{after}
 
@@ -40,15 +39,13 @@ settled_in settled (Sure part) = Sure part
 settled_in Kept (Unsure part later) = Sure later
 settled_in Lost (Unsure part later) = Sure part
 
--- what is known after a change, by the answer of the call that makes it
-abbrev pub after_apply : {T : Type 0} → Change → Result T StoreFault → Holding → Holding
-after_apply change (Ok done) held = changed_in change held
-after_apply change (Err faults.Device) held = torn_in change held
-after_apply change (Err (faults.Corrupted offset)) held = held
-after_apply change (Err faults.Full) held = held
-after_apply change (Err faults.Memory) held = held
+-- what is known after a change, by what became of it
+abbrev pub after_commit : Change → CommitState → Holding → Holding
+after_commit change Committed held = changed_in change held
+after_commit change InDoubt held = torn_in change held
+after_commit change NotBegun held = held
 
 -- what is known after a settling, by the answer of the call that makes it
-abbrev pub after_settle : Result Settled StoreFault → Holding → Holding
+abbrev pub after_settle : {E : Type 0} → Result Settled E → Holding → Holding
 after_settle (Ok settled) held = settled_in settled held
 after_settle (Err fault) held = held

@@ -1,12 +1,14 @@
 -- How a change is spelled in a record. Numbers are big-endian.
 use Rattle.std.specs.Prelude.{ℕ, ◌<◌, ◌^◌, List, [], ◌∷◌, ◌++◌, length}
 use Rattle.byteorder.specs.Endian.{big_bytes}
+use Rattle.byte_strings.specs.Fields as fields
+use Rattle.gated_records.specs.Areas.{closed_by, opened_before}
 use Rattle.journal_records.specs.declared.change.Change.{Change}
 use Rattle.journal_records.specs.declared.change.Change.TheVariants.{Create, Delete, Use, Grant, Ungrant, Clear, Removed}
 
 -- a length of four bytes, and so many bytes
 abbrev pub counted : List ℕ → List ℕ
-counted bytes = big_bytes 4 (length bytes) ++ bytes
+counted bytes = fields.counted 4 bytes
 
 -- a kind byte and the fields in their order: numbers of eight, four or one byte, and counted bytes
 abbrev pub body_of : Change → List ℕ
@@ -27,11 +29,11 @@ tail_of change = counted (body_of change)
 
 -- a record: the gate byte 4b, the body's length and the body
 abbrev pub framed : Change → List ℕ
-framed change = 75 ∷ tail_of change
+framed change = opened_before (tail_of change)
 
 -- a record with a byte 00 behind it, where the next gate stands
 abbrev pub closed_of : Change → List ℕ
-closed_of change = 75 ∷ (tail_of change ++ 0 ∷ [])
+closed_of change = closed_by (tail_of change)
 
 -- each number has its width, and each length of bytes four
 abbrev pub AreFields : Change → Type 0

@@ -15,7 +15,7 @@ mod writing;
 
 pub use change::Change;
 pub use changes::Changes;
-pub use fault::{RecordFault, StoreFault};
+pub use fault::{AppendFault, ApplyFault, RecordFault, StoreFault};
 pub use reading::{parse, read_record};
 pub use record::KeyRecord;
 pub use writing::{frame, frame_into, framed_length};

@@ -1,63 +1,13 @@
 //! Writing records.
 
-ghost use Rattle.std.specs.Prelude.{◌≡◌, ℕ, ◌≤◌, ◌+◌, ◌++◌, ◌∷◌, [], length, take, drop, IfOk, OnOk, ◌<◌, ◌^◌};
-ghost use Rattle.byteorder.specs.Endian.{big_bytes};
-ghost use Rattle.journal_records.specs.Spelling.{counted, body_of, tail_of, framed, closed_of, AreFields, IsShort};
+ghost use Rattle.std.specs.Prelude.{◌≡◌, ℕ, ◌≤◌, ◌+◌, ◌++◌, length, take, drop, IfOk, OnOk};
+ghost use Rattle.journal_records.specs.Spelling.{body_of, framed, closed_of, AreFields, IsShort};
 
 use crate::change::Change;
+use byte_strings::{place_bytes, place_counted_u32, place_u32, place_u64};
+use gated_records::OPEN;
 use std::alloc::Global;
 use tags::{Bytes, NoMemory};
-
-/// The byte of an open gate.
-pub(crate) const GATE: u8 = 0x4b;
-
-/// Writes a piece behind the first `at` bytes, and answers where it ends.
-fn put(out: &mut [u8], at: usize, piece: &[u8]) -> usize
-    requires { at + length piece.now ≤ length out.old }
-    ensures place { result ≡ at + length piece.now }
-    ensures front { take result out.new ≡ take at out.old ++ piece.now }
-    ensures rest { (n : ℕ) → result ≤ n → drop n out.new ≡ drop n out.old }
-    ensures size { length out.new ≡ length out.old }
-{
-    let end = at + piece.len();
-    out[at..end].copy_from_slice(piece);
-    end
-}
-
-/// Writes a number of eight bytes so.
-fn put_long(out: &mut [u8], at: usize, number: u64) -> usize
-    requires { at + 8 ≤ length out.old }
-    ensures place { result ≡ at + 8 }
-    ensures front { take result out.new ≡ take at out.old ++ big_bytes 8 number }
-    ensures rest { (n : ℕ) → result ≤ n → drop n out.new ≡ drop n out.old }
-    ensures size { length out.new ≡ length out.old }
-{
-    put(out, at, &number.to_be_bytes())
-}
-
-/// Writes a number of four bytes so.
-fn put_short(out: &mut [u8], at: usize, number: u32) -> usize
-    requires { at + 4 ≤ length out.old }
-    ensures place { result ≡ at + 4 }
-    ensures front { take result out.new ≡ take at out.old ++ big_bytes 4 number }
-    ensures rest { (n : ℕ) → result ≤ n → drop n out.new ≡ drop n out.old }
-    ensures size { length out.new ≡ length out.old }
-{
-    put(out, at, &number.to_be_bytes())
-}
-
-/// Writes counted bytes so.
-fn put_counted(out: &mut [u8], at: usize, bytes: &[u8]) -> usize
-    requires short { length bytes.now < 2 ^ 32 }
-    requires room { at + length (counted bytes.now) ≤ length out.old }
-    ensures place { result ≡ at + length (counted bytes.now) }
-    ensures front { take result out.new ≡ take at out.old ++ counted bytes.now }
-    ensures rest { (n : ℕ) → result ≤ n → drop n out.new ≡ drop n out.old }
-    ensures size { length out.new ≡ length out.old }
-{
-    let at = put_short(out, at, bytes.len() as u32);
-    put(out, at, bytes)
-}
 
 /// How many bytes a body has.
 fn body_length(change: &Change) -> usize
@@ -100,41 +50,41 @@ fn put_body(out: &mut [u8], at: usize, change: &Change) -> usize
             list,
             limit,
         } => {
-            let at = put(out, at, &[1]);
-            let at = put_long(out, at, *id);
-            let at = put(out, at, &[*domain]);
-            let at = put_long(out, at, *nspace);
-            let at = put_counted(out, at, alias.as_slice());
-            let at = put_counted(out, at, blob.as_slice());
-            let at = put_counted(out, at, list.as_slice());
-            put_short(out, at, *limit)
+            let at = place_bytes(out, at, &[1]);
+            let at = place_u64(out, at, *id);
+            let at = place_bytes(out, at, &[*domain]);
+            let at = place_u64(out, at, *nspace);
+            let at = place_counted_u32(out, at, alias.as_slice());
+            let at = place_counted_u32(out, at, blob.as_slice());
+            let at = place_counted_u32(out, at, list.as_slice());
+            place_u32(out, at, *limit)
         }
         Change::Delete { id } => {
-            let at = put(out, at, &[2]);
-            put_long(out, at, *id)
+            let at = place_bytes(out, at, &[2]);
+            place_u64(out, at, *id)
         }
         Change::Use { id } => {
-            let at = put(out, at, &[3]);
-            put_long(out, at, *id)
+            let at = place_bytes(out, at, &[3]);
+            place_u64(out, at, *id)
         }
         Change::Grant { row } => {
-            let at = put(out, at, &[4]);
-            let at = put_long(out, at, row.grant);
-            let at = put_long(out, at, row.key);
-            let at = put_short(out, at, row.uid);
-            put_short(out, at, row.bits.bits())
+            let at = place_bytes(out, at, &[4]);
+            let at = place_u64(out, at, row.grant);
+            let at = place_u64(out, at, row.key);
+            let at = place_u32(out, at, row.uid);
+            place_u32(out, at, row.bits.bits())
         }
         Change::Ungrant { grant } => {
-            let at = put(out, at, &[5]);
-            put_long(out, at, *grant)
+            let at = place_bytes(out, at, &[5]);
+            place_u64(out, at, *grant)
         }
         Change::Clear { domain, nspace } => {
-            let at = put(out, at, &[6, *domain]);
-            put_long(out, at, *nspace)
+            let at = place_bytes(out, at, &[6, *domain]);
+            place_u64(out, at, *nspace)
         }
         Change::Removed { user } => {
-            let at = put(out, at, &[7]);
-            put_short(out, at, *user)
+            let at = place_bytes(out, at, &[7]);
+            place_u32(out, at, *user)
         }
     }
 }
@@ -160,10 +110,10 @@ pub fn frame_into(change: &Change, out: &mut [u8]) -> usize
     ensures size { length out.new ≡ length out.old }
     ensures fields { AreFields change.now }
 {
-    let at = put(out, 0, &[GATE]);
-    let at = put_short(out, at, body_length(change) as u32);
+    let at = place_bytes(out, 0, &[OPEN]);
+    let at = place_u32(out, at, body_length(change) as u32);
     let at = put_body(out, at, change);
-    put(out, at, &[0])
+    place_bytes(out, at, &[0])
 }
 
 /// The record of a change, without a closing byte.

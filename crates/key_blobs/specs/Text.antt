@@ -1,8 +1,9 @@
 -- The text inside a blob: how it is spelled, and how it is read. Numbers are big-endian.
-use Rattle.std.specs.Prelude.{◌+◌, ◌<◌, ◌≤◌, ◌^◌, ℕ, List, [], ◌∷◌, ◌++◌, length, take, drop, Option, Some, None, Result, Ok, Err, nat_lt, ◌==◌, if◌then◌else◌, ⊤}
+use Rattle.std.specs.Prelude.{◌+◌, ◌<◌, ◌≤◌, ◌^◌, ℕ, List, ◌++◌, length, Option, Some, None, Result, Ok, Err, if◌then◌else◌, ⊤}
 use Rattle.std.specs.Option.{option_and_then, option_copied}
 use Rattle.std.specs.Str.{bytes_eq}
-use Rattle.byteorder.specs.Endian.{big_bytes, big_number}
+use Rattle.byte_strings.specs.Readers.{Reader, bytes_at, counted_at, optional_at, ◌>>=◌, done, ended}
+use Rattle.byte_strings.specs.Fields.{counted, optional}
 use Rattle.tags.specs.declared.param.Param.{Param}
 use Rattle.tag_lists.specs.declared.fault.ListFault.{ListFault}
 use Rattle.tag_lists.specs.Spelling.{spelling}
@@ -10,19 +11,10 @@ use Rattle.tag_lists.specs.Reading.{listed}
 use Rattle.key_blobs.specs.declared.sealed.Sealed.{Sealed}
 use Rattle.key_blobs.specs.declared.reading.TextParts.{TextParts}
 
--- a length of n bytes, and so many bytes
-abbrev pub counted : ℕ → List ℕ → List ℕ
-counted n bytes = big_bytes n (length bytes) ++ bytes
-
--- bytes that may be absent: 00, or 01 and the bytes behind their length of two bytes
-abbrev pub optional : Option (List ℕ) → List ℕ
-optional None = 0 ∷ []
-optional (Some bytes) = 1 ∷ counted 2 bytes
-
 -- the text: the root of trust, the application id, the application data, the list in its one canonical spelling, and the
 -- material
 unfoldable pub text_of : Sealed → List ℕ
-text_of x = x.root ++ (optional x.app_id ++ (optional x.app_bytes ++ (counted 4 (spelling x.list) ++ counted 1 x.material)))
+text_of x = x.root ++ (optional 2 x.app_id ++ (optional 2 x.app_bytes ++ (counted 4 (spelling x.list) ++ counted 1 x.material)))
 
 -- each length has its width
 abbrev pub IsShort : Option (List ℕ) → Type 0
@@ -44,21 +36,6 @@ id_size (Some bytes) = 3 + length bytes
 abbrev pub text_size : Sealed → ℕ
 text_size x = 37 + (id_size x.app_id + (id_size x.app_bytes + (length (spelling x.list) + length x.material)))
 
--- the first n bytes, and what stands behind them
-abbrev pub front_at : ℕ → List ℕ → Option (List ℕ × List ℕ)
-front_at n bytes = if nat_lt (length bytes) n then None else Some (take n bytes, drop n bytes)
-
--- so many bytes behind their length of n bytes, and what stands behind them
-unfoldable pub counted_at : ℕ → List ℕ → Option (List ℕ × List ℕ)
-counted_at n bytes = if nat_lt (length bytes) n then None else front_at (big_number n bytes) (drop n bytes)
-
--- bytes that may be absent, and what stands behind them
-abbrev pub optional_at : List ℕ → Option (Option (List ℕ) × List ℕ)
-optional_at [] = None
-optional_at (byte ∷ rest) =
-    if byte == 0 then Some (None, rest) else
-    if byte == 1 then option_and_then (λ x. Some (Some x.0, x.1)) (counted_at 2 rest) else None
-
 -- the parts of a text
 pub record Parts : Type 0 where
   pub root : List ℕ
@@ -67,24 +44,19 @@ pub record Parts : Type 0 where
   pub list : List ℕ
   pub material : List ℕ
 
--- the material, where nothing stands behind it
-abbrev pub ended : List ℕ × List ℕ → Option (List ℕ)
-ended material = if length material.1 == 0 then Some material.0 else None
+-- the parts that stand one behind the other, ids behind a length of two bytes, the list of four and the material of one
+unfoldable pub parts_at : Reader Parts
+parts_at = do
+  root ← bytes_at 32
+  app_id ← optional_at 2
+  app_bytes ← optional_at 2
+  list ← counted_at 4
+  material ← counted_at 1
+  done (record { root = root; app_id = app_id; app_bytes = app_bytes; list = list; material = material })
 
--- the parts that stand one behind the other, where nothing stands behind them
-unfoldable pub parts_in : List ℕ → Option Parts
-parts_in text =
-    option_and_then (λ root.
-    option_and_then (λ id.
-    option_and_then (λ bytes.
-    option_and_then (λ list.
-    option_and_then (λ material.
-    Some (record { root = root.0; app_id = id.0; app_bytes = bytes.0; list = list.0; material = material }))
-    (option_and_then ended (counted_at 1 list.1)))
-    (counted_at 4 bytes.1))
-    (optional_at id.1))
-    (optional_at root.1))
-    (front_at 32 text)
+-- the parts, where nothing stands behind them
+abbrev pub parts_in : List ℕ → Option Parts
+parts_in text = ended (parts_at text)
 
 -- the list that was read, where the bytes are its canonical spelling
 abbrev pub canonical_in : List ℕ → Result (List Param) ListFault → Option (List Param)

@@ -1,9 +1,11 @@
 //! Why a blob does not open.
 
 ghost use Rattle.std.specs.Prelude.{◌≡◌};
-ghost use Rattle.key_blobs.specs.declared.fault.BlobFault.TheVariants.{Memory};
+ghost use Rattle.key_blobs.specs.declared.fault.BlobFault.TheVariants.{Format, Memory};
 
+use byte_strings::Short;
 use std::alloc::AllocError;
+use std::fmt;
 use tags::NoMemory;
 
 /// Why a blob does not open: the first of these that there is, in the order `Format` of the bytes, `Tag`, `Format` of the
@@ -22,6 +24,14 @@ pub enum BlobFault {
     Memory,
 }
 
+impl From<Short> for BlobFault {
+    ghost from_gives = { λ _ fault. fault ≡ Format };
+
+    fn from(_fault: Short) -> BlobFault {
+        BlobFault::Format
+    }
+}
+
 impl From<AllocError> for BlobFault {
     ghost from_gives = { λ _ fault. fault ≡ Memory };
 
@@ -35,5 +45,19 @@ impl From<NoMemory> for BlobFault {
 
     fn from(_fault: NoMemory) -> BlobFault {
         BlobFault::Memory
+    }
+}
+
+impl fmt::Display for BlobFault {
+    fn fmt<W: fmt::Write>(&self, f: &mut fmt::Formatter<W>) -> fmt::Result {
+        match self {
+            BlobFault::Format => f.write_str("the bytes are no key blob"),
+            BlobFault::Tag => f.write_str("the key blob was changed, or another device sealed it"),
+            BlobFault::Root => f.write_str("the key blob belongs to another root of trust"),
+            BlobFault::App => f.write_str(
+                "the application id or the application data is another one",
+            ),
+            BlobFault::Memory => f.write_str("memory was wanting"),
+        }
     }
 }

@@ -6,11 +6,13 @@ ghost use Rattle.aes_core.specs.Cipher.{cipher};
 ghost use Rattle.aes_wide.specs.WideKey.{wide_key_of};
 ghost use Rattle.gcm_mode.specs.Gcm.{gcm_seal, gcm_open};
 ghost use Rattle.key_blobs.specs.declared.sealed.Sealed.{Sealed};
-ghost use Rattle.key_blobs.specs.Text.{counted, optional, text_of, sealed_in, text_size, IsShort, IsSealable};
+ghost use Rattle.byte_strings.specs.Fields.{optional};
+ghost use Rattle.key_blobs.specs.Text.{text_of, sealed_in, text_size, IsShort, IsSealable};
 ghost use Rattle.key_blobs.specs.Blobs.{START, blob_of, opened};
 
 use crate::sealed::Sealed;
 use aes_wide::WideAes;
+use byte_strings::{put_bytes, put_counted_u8, put_counted_u32, put_optional_u16};
 use gcm_mode::GcmSeal;
 use std::alloc::{AllocError, Global};
 use tags::{Bytes, DeviceSecrets, NoMemory};
@@ -29,36 +31,14 @@ pub(crate) fn aes_of(key: &[u8; 32]) -> WideAes
 }
 
 /// Adds bytes that may be absent.
-fn put_optional(out: &mut Vec<u8>, bytes: &Option<Bytes>) -> Result<(), AllocError>
-    requires { IsShort bytes.now }
-    ensures { OnOk result (out.new.items ≡ out.old.items ++ optional bytes.now) }
+fn put_id(out: &mut Vec<u8>, id: &Option<Bytes>) -> Result<(), AllocError>
+    requires { IsShort id.now }
+    ensures { OnOk result (out.new.items ≡ out.old.items ++ optional 2 id.now) }
 {
-    match bytes {
-        None => out.extend_from_slice(&[0]),
-        Some(bytes) => {
-            out.extend_from_slice(&[1])?;
-            out.extend_from_slice(&(bytes.len() as u16).to_be_bytes())?;
-            out.extend_from_slice(bytes.as_slice())
-        }
+    match id {
+        None => put_optional_u16(out, None),
+        Some(bytes) => put_optional_u16(out, Some(bytes.as_slice())),
     }
-}
-
-/// Adds bytes behind their length of four bytes.
-fn put_long(out: &mut Vec<u8>, bytes: &[u8]) -> Result<(), AllocError>
-    requires { length bytes.now < 2 ^ 32 }
-    ensures { OnOk result (out.new.items ≡ out.old.items ++ counted 4 bytes.now) }
-{
-    out.extend_from_slice(&(bytes.len() as u32).to_be_bytes())?;
-    out.extend_from_slice(bytes)
-}
-
-/// Adds bytes behind their length of one byte.
-fn put_short(out: &mut Vec<u8>, bytes: &[u8]) -> Result<(), AllocError>
-    requires { length bytes.now ≤ 255 }
-    ensures { OnOk result (out.new.items ≡ out.old.items ++ counted 1 bytes.now) }
-{
-    out.extend_from_slice(&[bytes.len() as u8])?;
-    out.extend_from_slice(bytes)
 }
 
 /// The text that is sealed, with these bytes for the list.
@@ -69,11 +49,11 @@ fn joined(alloc: Global, sealed: &Sealed, list: &[u8]) -> Result<Vec<u8>, NoMemo
     ensures { IfOk result (λ text. text.items ≡ text_of sealed.now) }
 {
     let mut text = Vec::new(alloc);
-    text.extend_from_slice(&sealed.root)?;
-    put_optional(&mut text, &sealed.app_id)?;
-    put_optional(&mut text, &sealed.app_bytes)?;
-    put_long(&mut text, list)?;
-    put_short(&mut text, sealed.material.as_slice())?;
+    put_bytes(&mut text, &sealed.root)?;
+    put_id(&mut text, &sealed.app_id)?;
+    put_id(&mut text, &sealed.app_bytes)?;
+    put_counted_u32(&mut text, list)?;
+    put_counted_u8(&mut text, sealed.material.as_slice())?;
     Ok(text)
 }
 

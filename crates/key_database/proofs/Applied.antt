@@ -1,18 +1,19 @@
 -- What is held after a change and after a settling, over plain variables.
-use Rattle.std.proofs.Common.{◌≡◌, ◌⊎◌, inl, inr, ⊎_elim, ℕ, List, ◌∷◌, true, false, Some, refl, ap, ◌∙◌, subst}
+use Rattle.std.proofs.Common.{◌≡◌, ◌⊎◌, inl, inr, ⊎_elim, ℕ, List, ◌∷◌, true, false, Some, refl, sym, ap, ◌∙◌, subst}
 use Rattle.ks_outside.specs.declared.disk.Disk.{Ghosts}
 use Rattle.ks_outside.specs.Images.{AllImages, Passes}
-use Rattle.ks_outside.proofs.Joins.{passes_as}
+use Rattle.ks_outside.proofs.Joins.{passes_as, passes_none}
 use Rattle.tags.specs.declared.settled.Settled.TheVariants.{Kept, Lost}
 use Rattle.journal_records.specs.declared.change.Change.{Change}
+use Rattle.journal_records.specs.Commits.{Committed, InDoubt, NotBegun}
 use Rattle.journal_records.specs.LastingPart.{Lasting}
 use Rattle.journal_records.specs.Needs.{is_met}
 use Rattle.journal_records.specs.Effects.{after, lasting_of}
 use Rattle.journal_records.specs.Holding.{Holding, Sure, Unsure, changed_in, torn_in, settled_in}
 use Rattle.use_journal.specs.Journal.{IsJournal, IsBeforeOrAfter, AreChanges}
-use Rattle.use_journal.specs.Holding.{IsSettledOn, IsUnsettledOn}
+use Rattle.use_journal.specs.Holding.{Appends, IsSettledOn, IsUnsettledOn}
 use Rattle.key_database.specs.Store.{StandsFor, MayBe, Between}
-use Rattle.key_database.specs.Stands.{IsSure, Holds, lasting, is_unsettled, left_after}
+use Rattle.key_database.specs.Stands.{Commits, IsSure, Holds, lasting, is_unsettled, left_after}
 use Rattle.key_database.specs.declared.database.KeyDatabase.{KeyDatabase}
 
 pub before_stands : (past : List Change) (part : Lasting) (c : List ℕ) → AreChanges past → lasting_of past ≡ Some part → IsJournal past c → StandsFor part c
@@ -86,6 +87,34 @@ module _ {D : Type 0} (g : Ghosts D) (old new : KeyDatabase) (disk disk' : D) (c
       → AllImages g disk' (MayBe before)
   nothing_done (Sure part) s nothing = λ c image. before_stands s.past part c s.settled.changes s.left (nothing s.past s.settled c image)
   nothing_done (Unsure part later) s nothing = absurd (cc (s.unsettled.waits, idle))
+
+  -- a change that went through, one that is torn, and one for which no call was made
+  pub commits_done : (before : Holding) → Holds g old disk before
+      → ((past : List Change) → IsSettledOn g old.journal disk past → Appends g new.journal disk disk' past change Committed)
+      → lasting new ≡ after (lasting old) change → Commits g new disk disk' change Committed before
+  commits_done before holds appends made = record {
+    holds = holds_changed before holds (λ past s. (appends past s).appended) made;
+    passes = passes_changed before holds (λ past s. (appends past s).passes) (λ past s. (appends past s).appended);
+    nothing = λ sure never. absurd (cc);
+  }
+
+  pub commits_torn : (before : Holding) → Holds g old disk before
+      → ((past : List Change) → IsSettledOn g old.journal disk past → Appends g new.journal disk disk' past change InDoubt)
+      → lasting new ≡ lasting old → new.pending ≡ Some change → Commits g new disk disk' change InDoubt before
+  commits_torn before holds appends same pending = record {
+    holds = holds_torn before holds (λ past s. (appends past s).appended) same pending;
+    passes = passes_torn before holds (λ past s. (appends past s).passes) (λ past s. (appends past s).appended);
+    nothing = λ sure doubt. nothing_done before holds (λ past s. (appends past s).nothing sure doubt);
+  }
+
+  pub commits_none : (before : Holding) → Holds g old disk before
+      → ((past : List Change) → IsSettledOn g old.journal disk past → Appends g new.journal disk disk' past change NotBegun)
+      → lasting new ≡ lasting old → disk' ≡ disk → Commits g new disk disk' change NotBegun before
+  commits_none before holds appends same still = record {
+    holds = holds_same before holds (λ past s. (appends past s).appended) same;
+    passes = subst (λ (d : D). Passes g disk d (Between before before)) (sym still) (passes_none g disk (Between before before));
+    nothing = λ sure never. absurd (cc);
+  }
 
 module _ {D : Type 0} (g : Ghosts D) (old new : KeyDatabase) (disk disk' : D) (waits : is_unsettled old ≡ true) where
   pub holds_kept : (before : Holding) → Holds g old disk before

@@ -1,5 +1,5 @@
 -- What an opening reads and finds.
-use Rattle.std.proofs.Common.{◌≡◌, ℕ, ◌+◌, ◌<◌, true, List, [], ◌∷◌, ◌++◌, length, take, drop, map, reverse, get_or, suc, Option, Some, None, Err, refl, sym, ap, ◌∙◌, arith, append_assoc}
+use Rattle.std.proofs.Common.{◌≡◌, ℕ, ◌+◌, ◌<◌, true, false, List, [], ◌∷◌, ◌++◌, length, take, drop, map, reverse, get_or, suc, Option, Some, None, Err, refl, sym, ap, ◌∙◌, arith, append_assoc}
 use Rattle.std.specs.Prelude.{is_some}
 use Rattle.std.proofs.Math.Seq.{split_at}
 use Rattle.std.proofs.lemmas.List.{reverse-append, length-reverse}
@@ -8,11 +8,12 @@ use Rattle.ks_outside.specs.Images.{tells}
 use Rattle.journal_records.specs.declared.change.Change.{Change}
 use Rattle.journal_records.specs.declared.fault.StoreFault.{StoreFault}
 use Rattle.journal_records.specs.declared.fault.StoreFault.TheVariants as faults
+use Rattle.journal_records.specs.Commits.{is_device_fault}
 use Rattle.journal_records.specs.LastingPart.{Lasting}
 use Rattle.journal_records.specs.Needs.{is_met}
 use Rattle.journal_records.specs.Effects.{after, lasting_of}
 use Rattle.use_journal.specs.Journal.{written, IsJournal, AreChanges, past_of, placed}
-use Rattle.use_journal.specs.Holding.{Reads}
+use Rattle.use_journal.specs.Holding.{ReadsJournal}
 use Rattle.key_database.specs.Store.{IsBadStore, NoJournal, UnmetNeed}
 use Rattle.key_database.specs.Stands.{IsUnmetAt, Replays, ReadsStore, FindsStore}
 
@@ -98,13 +99,17 @@ bad_needs changes (faults.Corrupted offset) image u places fits journal = UnmetN
   unmet = u.unmet;
   place = unmet_place changes offset places u;
 })
-bad_needs changes faults.Full image r places fits journal = r
 bad_needs changes faults.Memory image r places fits journal = tt
 
-pub bad_journal : (fault : StoreFault) (image : List ℕ) → Reads image (Err fault) → ReadsStore image (Err fault)
+-- what was read whole met no fault of the device
+pub replay_read : (changes : List (ℕ × Change)) (fault : StoreFault) → Replays changes (Err fault) → is_device_fault fault ≡ false
+replay_read changes faults.Device r = absurd r
+replay_read changes (faults.Corrupted offset) r = refl
+replay_read changes faults.Memory r = refl
+
+pub bad_journal : (fault : StoreFault) (image : List ℕ) → ReadsJournal image (Err fault) → ReadsStore image (Err fault)
 bad_journal faults.Device image r = tt
 bad_journal (faults.Corrupted offset) image r = NoJournal r
-bad_journal faults.Full image r = r
 bad_journal faults.Memory image r = tt
 
 -- a disk that tells what a read gives has an image
@@ -120,5 +125,4 @@ told_image g disk law told =
 pub no_fault_found : (part : Lasting) (fault : StoreFault) (image : List ℕ) → ((offset : ℕ) → IsBadStore image offset → ⊥) → ReadsStore image (Err fault) → FindsStore part (Err fault)
 no_fault_found part faults.Device image sound r = tt
 no_fault_found part (faults.Corrupted offset) image sound r = sound offset r
-no_fault_found part faults.Full image sound r = r
 no_fault_found part faults.Memory image sound r = tt

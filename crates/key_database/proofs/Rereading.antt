@@ -89,7 +89,6 @@ module _ {D : Type 0} (g : Ghosts D) (old : KeyDatabase) (disk disk' : D) (fewer
     by_fault : (f : StoreFault) → FindsStore part (Err f) → IsReadAgain (Err f)
     by_fault faults.Device finds = tt
     by_fault (faults.Corrupted offset) finds = finds
-    by_fault faults.Full finds = finds
     by_fault faults.Memory finds = tt
   no_other idle (Unsure part later) s fault found = absurd (cc (s.unsettled.waits, idle))
 

@@ -1,5 +1,5 @@
 pub mod First
-pub mod Held
+pub mod TableView
 pub mod Maps
 pub mod Names
 pub mod Parts

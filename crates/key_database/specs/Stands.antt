@@ -1,31 +1,32 @@
 -- When a database and a disk hold something.
-use Rattle.std.specs.Prelude.{◌≡◌, ◌≤◌, ℕ, List, ◌∷◌, ◌++◌, ◌+◌, ◌-◌, Bool, true, false, Option, Some, None, Result, Ok, Err, length, ⊤}
+use Rattle.std.specs.Prelude.{◌≡◌, ℕ, List, ◌∷◌, ◌++◌, ◌+◌, ◌-◌, Bool, true, false, Option, Some, None, Result, Ok, Err, length, ⊤}
 use Rattle.std.proofs.Common.{inl, inr, ⊎_elim, refl, ap, ◌∙◌}
-use Rattle.ks_outside.specs.Images.{AllImages}
+use Rattle.ks_outside.specs.Images.{AllImages, Passes}
 use Rattle.ks_outside.specs.declared.disk.Disk.{Ghosts}
-use Rattle.ks_outside.specs.Faults.{Rises}
+use Rattle.ks_outside.specs.declared.faults.Failed.{Failed}
 use Rattle.tags.specs.declared.settled.Settled.{Settled}
 use Rattle.tags.specs.declared.settled.Settled.TheVariants.{Kept, Lost}
 use Rattle.journal_records.specs.declared.change.Change.{Change}
 use Rattle.journal_records.specs.declared.fault.StoreFault.{StoreFault}
 use Rattle.journal_records.specs.declared.fault.StoreFault.TheVariants as faults
+use Rattle.journal_records.specs.Commits.{CommitState, Committed, InDoubt, NotBegun, is_in_doubt}
 use Rattle.journal_records.specs.LastingPart.{Lasting}
 use Rattle.journal_records.specs.Needs.{is_met}
 use Rattle.journal_records.specs.Effects.{after, lasting_of}
-use Rattle.journal_records.specs.Holding.{Holding, Sure, Unsure}
+use Rattle.journal_records.specs.Holding.{Holding, Sure, Unsure, after_commit}
 use Rattle.journal_records.specs.Spelling.{closed_of}
 use Rattle.use_journal.specs.Journal.{past_of}
 use Rattle.use_journal.specs.Holding.{is_waiting, end_after, end_of, IsSettledOn, IsUnsettledOn}
 use Rattle.key_database.specs.declared.database.KeyDatabase.{KeyDatabase}
-use Rattle.key_database.specs.Held.{Held, lasting_in}
-use Rattle.key_database.specs.Store.{StandsFor, IsBadStore, MayBe}
+use Rattle.key_database.specs.TableView.{TableView, lasting_in}
+use Rattle.key_database.specs.Store.{StandsFor, IsBadStore, MayBe, Between}
 
 -- the lasting part that its look-ups tell
 abbrev pub lasting : KeyDatabase → Lasting
 lasting database = lasting_in database.table
 
 -- the table of its keys and grants, with its room
-abbrev pub table_of : KeyDatabase → Held
+abbrev pub table_of : KeyDatabase → TableView
 table_of database = database.table
 
 -- whether a change waits to be settled
@@ -40,18 +41,25 @@ store_bytes database = end_of database.journal
 abbrev pub change_bytes : Change → ℕ
 change_bytes change = length (closed_of change)
 
--- how many bytes they have after a change, by the answer of the call that makes it
-abbrev pub bytes_after : {T : Type 0} → Change → Result T StoreFault → ℕ → ℕ
-bytes_after change result bytes = end_after (change_bytes change) result bytes
+-- how many bytes they have after a change, by what became of it
+abbrev pub bytes_after : Change → CommitState → ℕ → ℕ
+bytes_after change state bytes = end_after (change_bytes change) state bytes
+
+-- the lasting part after it: that with the change, where it is written
+abbrev pub part_after : Change → CommitState → Lasting → Lasting
+part_after change Committed part = after part change
+part_after change InDoubt part = part
+part_after change NotBegun part = part
 
 -- the change that waits to be settled, where there is one
 abbrev pub pending_of : KeyDatabase → Option Change
 pending_of database = database.pending
 
--- the change that waits after the call that makes one, by its answer
-abbrev pub waiting_after : {T : Type 0} → Change → Result T StoreFault → Option Change
-waiting_after change (Err faults.Device) = Some change
-waiting_after change _ = None
+-- the change that waits after the call that makes one
+abbrev pub waiting_after : Change → CommitState → Option Change
+waiting_after change Committed = None
+waiting_after change InDoubt = Some change
+waiting_after change NotBegun = None
 
 -- the same lasting part in the same journal, where the same change waits; the room may be another
 pub record SameStore (old new : KeyDatabase) : Type 0 where
@@ -60,7 +68,7 @@ pub record SameStore (old new : KeyDatabase) : Type 0 where
   pub pending_is : new.pending ≡ old.pending
 
 -- what a settling makes of a change that waits, by its answer: it is made, or not
-abbrev pub SettledBy : Change → Result Settled StoreFault → KeyDatabase → KeyDatabase → Type 0
+abbrev pub SettledBy : Change → Result Settled Failed → KeyDatabase → KeyDatabase → Type 0
 SettledBy change (Ok Kept) old new = (lasting new ≡ after (lasting old) change) × (store_bytes new ≡ store_bytes old + (change_bytes change - 1)) × (pending_of new ≡ None)
 SettledBy change (Ok Lost) old new = (lasting new ≡ lasting old) × (store_bytes new ≡ store_bytes old) × (pending_of new ≡ None)
 SettledBy change (Err fault) old new = ⊤
@@ -88,6 +96,13 @@ abbrev pub Holds : {D : Type 0} → Ghosts D → KeyDatabase → D → Holding �
 Holds g database disk (Sure part) = IsSure g database disk part
 Holds g database disk (Unsure part later) = IsUnsure g database disk part later
 
+-- A change of what is held, between the old disk and the new one: what is held then; at each moment each image stands for what was
+-- held before, or is then; and where a sure disk's call failed, each image stands for what was held before.
+pub record Commits {D : Type 0} (g : Ghosts D) (database : KeyDatabase) (old new : D) (change : Change) (state : CommitState) (before : Holding) : Type 0 where
+  pub holds : Holds g database new (after_commit change state before)
+  pub passes : Passes g old new (Between before (after_commit change state before))
+  pub nothing : g.is_sure old → is_in_doubt state ≡ true → AllImages g new (MayBe before)
+
 -- what a change leaves whose need is met
 pub left_after : (past : List Change) (change : Change) (part : Lasting) → lasting_of past ≡ Some part → is_met part change ≡ true → lasting_of (change ∷ past) ≡ Some (after part change)
 left_after past change part left met = rw (left, met) refl
@@ -105,7 +120,6 @@ abbrev pub ReadsStore : List ℕ → Result KeyDatabase StoreFault → Type 0
 ReadsStore image (Ok database) = StandsFor (lasting database) image
 ReadsStore image (Err faults.Device) = ⊤
 ReadsStore image (Err (faults.Corrupted offset)) = IsBadStore image offset
-ReadsStore image (Err faults.Full) = ⊥
 ReadsStore image (Err faults.Memory) = ⊤
 
 -- what an opening finds where the bytes stand for a lasting part
@@ -113,7 +127,6 @@ abbrev pub FindsStore : Lasting → Result KeyDatabase StoreFault → Type 0
 FindsStore part (Ok database) = lasting database ≡ part
 FindsStore part (Err faults.Device) = ⊤
 FindsStore part (Err (faults.Corrupted offset)) = ⊥
-FindsStore part (Err faults.Full) = ⊥
 FindsStore part (Err faults.Memory) = ⊤
 
 -- what reading a store again answers where the bytes are told: they stand for what was held
@@ -121,7 +134,6 @@ abbrev pub IsReadAgain : Result Bool StoreFault → Type 0
 IsReadAgain (Ok same) = same ≡ true
 IsReadAgain (Err faults.Device) = ⊤
 IsReadAgain (Err (faults.Corrupted offset)) = ⊥
-IsReadAgain (Err faults.Full) = ⊥
 IsReadAgain (Err faults.Memory) = ⊤
 
 -- what it read of these bytes, by its answer
@@ -130,7 +142,6 @@ Rereads part image (Ok true) = StandsFor part image
 Rereads part image (Ok false) = ⊤
 Rereads part image (Err faults.Device) = ⊤
 Rereads part image (Err (faults.Corrupted offset)) = IsBadStore image offset
-Rereads part image (Err faults.Full) = ⊥
 Rereads part image (Err faults.Memory) = ⊤
 
 -- a change of the list whose need is not met stands at this place, and the needs of those before it are met
@@ -144,18 +155,8 @@ pub record IsUnmetAt (changes : List (ℕ × Change)) (offset : ℕ) : Type 0 wh
   pub unmet : is_met part change ≡ false
 
 -- what the changes of a list leave, by the answer
-abbrev pub Replays : List (ℕ × Change) → Result Held StoreFault → Type 0
+abbrev pub Replays : List (ℕ × Change) → Result TableView StoreFault → Type 0
 Replays changes (Ok held) = lasting_of (past_of changes) ≡ Some (lasting_in held)
 Replays changes (Err faults.Device) = ⊥
 Replays changes (Err (faults.Corrupted offset)) = IsUnmetAt changes offset
-Replays changes (Err faults.Full) = ⊥
 Replays changes (Err faults.Memory) = ⊤
-
--- What each answer of a change says of the disk's count of faults: Device comes where it rose, and any other where it
--- stayed.
-abbrev pub ApplyCause : {T : Type 0} → ℕ → ℕ → Result T StoreFault → Type 0
-ApplyCause before now (Ok done) = now ≡ before
-ApplyCause before now (Err faults.Device) = (before ≤ now) × Rises before now
-ApplyCause before now (Err (faults.Corrupted offset)) = ⊥
-ApplyCause before now (Err faults.Full) = now ≡ before
-ApplyCause before now (Err faults.Memory) = now ≡ before

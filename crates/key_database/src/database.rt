@@ -2,24 +2,24 @@
 
 ghost use Rattle.std.specs.Prelude.{◌≡◌, ◌⊎◌, ◌<◌, ◌≤◌, ◌+◌, ◌-◌, ℕ, List, length, true, false, None, Some, IsErrOf, OnOk, OnErr, IfOk, is_err, not, ◌↔◌};
 ghost use Rattle.std.specs.Option.{ForSome, option_map};
-ghost use Rattle.ks_outside.specs.Images.{AllImages, Passes, TornFrom, tells};
+ghost use Rattle.ks_outside.specs.Images.{AllImages, Goes, Passes, Reads, TornFrom, tells};
 ghost use Rattle.journal_records.specs.declared.change.Change.{Change};
+ghost use Rattle.journal_records.specs.Commits.{append_failed, append_state, apply_failed, apply_state, open_failed};
 ghost use Rattle.journal_records.specs.LastingPart.{Lasting, empty_lasting};
 ghost use Rattle.journal_records.specs.Needs.{is_met};
-ghost use Rattle.journal_records.specs.Effects.{after};
-ghost use Rattle.journal_records.specs.Holding.{Holding, Sure, after_apply, after_settle};
+ghost use Rattle.journal_records.specs.Holding.{Holding, Sure, after_settle};
 ghost use Rattle.journal_records.specs.Spelling.{closed_of};
-ghost use Rattle.use_journal.specs.Holding.{end_of, end_with, is_waiting, waits_after, AppendCause, FormatCause, OpenCause};
-ghost use Rattle.key_database.specs.Held.{CanMake, HasRoomForGrant, HasRoomForKey, KeepsRoom, takes_memory};
-ghost use Rattle.key_database.specs.Store.{MayBe, Between, StandsFor};
+ghost use Rattle.use_journal.specs.Holding.{end_of, end_with, is_waiting};
+ghost use Rattle.key_database.specs.TableView.{CanMake, HasRoomForGrant, HasRoomForKey, KeepsRoom, takes_memory};
+ghost use Rattle.key_database.specs.Store.{MayBe, StandsFor};
 ghost use Rattle.tags.specs.declared.limits.TheConstants.{JOURNAL_BYTES};
 
 use crate::appending::append_change;
 use crate::lasting_table::LastingTable;
 use crate::law::one_store;
 use crate::opening::replay;
-use journal_records::{Change, StoreFault};
-use ks_outside::Disk;
+use journal_records::{AppendFault, ApplyFault, Change, StoreFault};
+use ks_outside::{Disk, Failed};
 use std::alloc::Global;
 use tags::{NoMemory, Settled};
 use use_journal::{Journal, one_reading};
@@ -36,7 +36,7 @@ pub struct KeyDatabase {
 }
 
 impl KeyDatabase {
-    ghost use Rattle.key_database.specs.Stands.{lasting, table_of, is_unsettled, pending_of, waiting_after, SettledBy, store_bytes, change_bytes, bytes_after, Holds, IsReadAgain, Rereads, SameStore, ReadsStore, FindsStore, ApplyCause};
+    ghost use Rattle.key_database.specs.Stands.{lasting, part_after, table_of, is_unsettled, pending_of, waiting_after, Commits, SettledBy, store_bytes, change_bytes, bytes_after, Holds, IsReadAgain, Rereads, SameStore, ReadsStore, FindsStore};
 
     /// Syncs, reads the store that the disk holds, and tests the need of each change. Corrupted has the place of what
     /// is wrong first: of what is no journal, and where it is one of the first change whose need is not met.
@@ -46,11 +46,7 @@ impl KeyDatabase {
         ensures reads { AllImages D.Disk disk.new (λ image. ReadsStore image result) }
         ensures stands { (part : Lasting) → AllImages D.Disk disk.old (StandsFor part)
             → tells D.Disk disk.old ≡ true → FindsStore part result }
-        ensures images { AllImages D.Disk disk.new (D.images disk.old) }
-        ensures passes { Passes D.Disk disk.old disk.new (D.images disk.old) }
-        ensures sure { D.is_sure disk.old → D.is_sure disk.new }
-        ensures telling { tells D.Disk disk.new ≡ tells D.Disk disk.old }
-        ensures cause { OpenCause (D.fault_count disk.old) (D.fault_count disk.new) result }
+        ensures goes { Reads D.Disk disk.old disk.new (open_failed result) }
     {
         one_store();
         match Journal::open(alloc, disk) {
@@ -73,15 +69,13 @@ impl KeyDatabase {
         self.journal.is_settled()
     }
 
-    /// Writes an empty store, and syncs. Device alone is its refusal. It takes no memory.
-    pub fn format<D: Disk>(disk: &mut D) -> Result<(), StoreFault>
+    /// Writes an empty store, and syncs. It takes no memory.
+    pub fn format<D: Disk>(disk: &mut D) -> Result<(), Failed>
         ensures formatted { OnOk result (AllImages D.Disk disk.new (StandsFor empty_lasting)) }
         ensures passes { Passes D.Disk disk.old disk.new (TornFrom D.Disk disk.old 0 9) }
         ensures torn { AllImages D.Disk disk.new (TornFrom D.Disk disk.old 0 9) }
         ensures nothing { D.is_sure disk.old → OnErr result (AllImages D.Disk disk.new (D.images disk.old)) }
-        ensures sure { D.is_sure disk.old → D.is_sure disk.new }
-        ensures telling { tells D.Disk disk.new ≡ tells D.Disk disk.old }
-        ensures cause { FormatCause (D.fault_count disk.old) (D.fault_count disk.new) result }
+        ensures goes { Goes D.Disk disk.old disk.new (is_err result) }
     {
         Journal::format(disk)
     }
@@ -108,71 +102,60 @@ impl KeyDatabase {
     /// part before, or for that with the change. It takes no memory.
     ///
     /// Full comes where the record and its closing byte would pass the journal's end, and no call is made then. After
-    /// Device the database is unsettled, and tells what it told before. There is no other refusal.
-    pub fn commit<D: Disk>(&mut self, disk: &mut D, change: Change) -> Result<(), StoreFault>
+    /// Device the database is unsettled, and tells what it told before.
+    pub fn commit<D: Disk>(&mut self, disk: &mut D, change: Change) -> Result<(), AppendFault>
         requires settled { is_unsettled self.old ≡ false }
         requires can { CanMake (table_of self.old) change }
-        ensures holds { (before : Holding) → Holds D.Disk self.old disk.old before
-            → Holds D.Disk self.new disk.new (after_apply change result before) }
-        ensures passes { (before : Holding) → Holds D.Disk self.old disk.old before
-            → Passes D.Disk disk.old disk.new (Between before (after_apply change result before)) }
-        ensures nothing { (before : Holding) → Holds D.Disk self.old disk.old before → D.is_sure disk.old
-            → OnErr result (AllImages D.Disk disk.new (MayBe before)) }
-        ensures made { OnOk result (lasting self.new ≡ after (lasting self.old) change) }
-        ensures kept { OnErr result (lasting self.new ≡ lasting self.old) }
-        ensures waiting { is_unsettled self.new ≡ waits_after result }
-        ensures bytes { store_bytes self.new ≡ bytes_after change result (store_bytes self.old) }
-        ensures pending { pending_of self.new ≡ waiting_after change result }
-        ensures full { IsErrOf result StoreFault.Full ↔ (JOURNAL_BYTES < store_bytes self.old + change_bytes change) }
-        ensures same { IsErrOf result StoreFault.Full → (disk.new ≡ disk.old) × SameStore self.old self.new }
-        ensures sure { D.is_sure disk.old → D.is_sure disk.new }
-        ensures telling { tells D.Disk disk.new ≡ tells D.Disk disk.old }
-        ensures cause { AppendCause (D.fault_count disk.old) (D.fault_count disk.new) result }
+        ensures commits { (before : Holding) → Holds D.Disk self.old disk.old before
+            → Commits D.Disk self.new disk.old disk.new change (append_state result) before }
+        ensures made { lasting self.new ≡ part_after change (append_state result) (lasting self.old) }
+        ensures waiting { is_unsettled self.new ≡ append_failed result }
+        ensures bytes { store_bytes self.new ≡ bytes_after change (append_state result) (store_bytes self.old) }
+        ensures pending { pending_of self.new ≡ waiting_after change (append_state result) }
+        ensures full { IsErrOf result AppendFault.Full ↔ (JOURNAL_BYTES < store_bytes self.old + change_bytes change) }
+        ensures same { IsErrOf result AppendFault.Full → (disk.new ≡ disk.old) × SameStore self.old self.new }
+        ensures goes { Goes D.Disk disk.old disk.new (append_failed result) }
     {
         match append_change(&mut self.journal, disk, &change) {
             Ok(()) => {
                 self.table.make(change);
                 Ok(())
             }
-            Err(StoreFault::Device) => {
+            Err(AppendFault::Device) => {
                 self.pending = Some(change);
-                Err(StoreFault::Device)
+                Err(AppendFault::Device)
             }
-            Err(StoreFault::Full) => Err(StoreFault::Full),
-            Err(_) => unreachable!(),
+            Err(AppendFault::Full) => Err(AppendFault::Full),
         }
     }
 
     /// Takes memory for a change, and makes it as `commit` does.
     ///
     /// Memory comes before the first call of the disk, and only at a change that makes a key or a grant.
-    pub fn apply<D: Disk>(&mut self, disk: &mut D, change: Change) -> Result<(), StoreFault>
+    pub fn apply<D: Disk>(&mut self, disk: &mut D, change: Change) -> Result<(), ApplyFault>
         requires settled { is_unsettled self.old ≡ false }
         requires met { is_met (lasting self.old) change ≡ true }
-        ensures holds { (before : Holding) → Holds D.Disk self.old disk.old before
-            → Holds D.Disk self.new disk.new (after_apply change result before) }
-        ensures passes { (before : Holding) → Holds D.Disk self.old disk.old before
-            → Passes D.Disk disk.old disk.new (Between before (after_apply change result before)) }
-        ensures nothing { (before : Holding) → Holds D.Disk self.old disk.old before → D.is_sure disk.old
-            → OnErr result (AllImages D.Disk disk.new (MayBe before)) }
-        ensures made { OnOk result (lasting self.new ≡ after (lasting self.old) change) }
-        ensures kept { OnErr result (lasting self.new ≡ lasting self.old) }
-        ensures waiting { is_unsettled self.new ≡ waits_after result }
-        ensures bytes { store_bytes self.new ≡ bytes_after change result (store_bytes self.old) }
-        ensures pending { pending_of self.new ≡ waiting_after change result }
-        ensures memory { IsErrOf result StoreFault.Memory → (takes_memory change ≡ true) × (disk.new ≡ disk.old) }
-        ensures full { IsErrOf result StoreFault.Full
+        ensures commits { (before : Holding) → Holds D.Disk self.old disk.old before
+            → Commits D.Disk self.new disk.old disk.new change (apply_state result) before }
+        ensures made { lasting self.new ≡ part_after change (apply_state result) (lasting self.old) }
+        ensures waiting { is_unsettled self.new ≡ apply_failed result }
+        ensures bytes { store_bytes self.new ≡ bytes_after change (apply_state result) (store_bytes self.old) }
+        ensures pending { pending_of self.new ≡ waiting_after change (apply_state result) }
+        ensures memory { IsErrOf result ApplyFault.Memory → (takes_memory change ≡ true) × (disk.new ≡ disk.old) }
+        ensures full { IsErrOf result ApplyFault.Full
             → (JOURNAL_BYTES < store_bytes self.old + change_bytes change) × (disk.new ≡ disk.old) }
         ensures past { JOURNAL_BYTES < store_bytes self.old + change_bytes change
-            → IsErrOf result StoreFault.Full ⊎ IsErrOf result StoreFault.Memory }
-        ensures sure { D.is_sure disk.old → D.is_sure disk.new }
-        ensures telling { tells D.Disk disk.new ≡ tells D.Disk disk.old }
-        ensures cause { ApplyCause (D.fault_count disk.old) (D.fault_count disk.new) result }
+            → IsErrOf result ApplyFault.Full ⊎ IsErrOf result ApplyFault.Memory }
+        ensures goes { Goes D.Disk disk.old disk.new (apply_failed result) }
     {
         let Ok(()) = self.table.reserve(&change) else {
-            return Err(StoreFault::Memory);
+            return Err(ApplyFault::Memory);
         };
-        self.commit(disk, change)
+        match self.commit(disk, change) {
+            Ok(()) => Ok(()),
+            Err(AppendFault::Device) => Err(ApplyFault::Device),
+            Err(AppendFault::Full) => Err(ApplyFault::Full),
+        }
     }
 
     /// Whether both hold the same lasting part, in as many bytes.
@@ -193,10 +176,7 @@ impl KeyDatabase {
         ensures same { (held : Holding) → Holds D.Disk self.now disk.old held → tells D.Disk disk.old ≡ true
             → IsReadAgain result }
         ensures reads { AllImages D.Disk disk.new (λ image. Rereads (lasting self.now) image result) }
-        ensures images { AllImages D.Disk disk.new (D.images disk.old) }
-        ensures sure { D.is_sure disk.old → D.is_sure disk.new }
-        ensures telling { tells D.Disk disk.new ≡ tells D.Disk disk.old }
-        ensures cause { OpenCause (D.fault_count disk.old) (D.fault_count disk.new) result }
+        ensures goes { Reads D.Disk disk.old disk.new (open_failed result) }
     {
         one_reading();
         match KeyDatabase::open(alloc, disk) {
@@ -205,21 +185,18 @@ impl KeyDatabase {
         }
     }
 
-    /// Finds out what became of a change that waits, and makes it here where the disk has it. Device alone is its
-    /// refusal, and the database stays unsettled then. It takes no memory.
-    pub fn settle<D: Disk>(&mut self, disk: &mut D) -> Result<Settled, StoreFault>
+    /// Finds out what became of a change that waits, and makes it here where the disk has it. Where a call of the disk fails,
+    /// the database stays unsettled. It takes no memory.
+    pub fn settle<D: Disk>(&mut self, disk: &mut D) -> Result<Settled, Failed>
         requires { is_unsettled self.old ≡ true }
         ensures holds { (before : Holding) → Holds D.Disk self.old disk.old before
             → Holds D.Disk self.new disk.new (after_settle result before) }
         ensures passes { (before : Holding) → Holds D.Disk self.old disk.old before
             → Passes D.Disk disk.old disk.new (MayBe before) }
-        ensures images { AllImages D.Disk disk.new (D.images disk.old) }
         ensures kept { OnErr result (SameStore self.old self.new) }
         ensures settled { (change : Change) → pending_of self.old ≡ Some change → SettledBy change result self.old self.new }
         ensures waiting { is_unsettled self.new ≡ is_err result }
-        ensures sure { D.is_sure disk.old → D.is_sure disk.new }
-        ensures telling { tells D.Disk disk.new ≡ tells D.Disk disk.old }
-        ensures cause { FormatCause (D.fault_count disk.old) (D.fault_count disk.new) result }
+        ensures goes { Reads D.Disk disk.old disk.new (is_err result) }
     {
         match self.journal.settle(disk) {
             Ok(Settled::Kept) => {
@@ -232,7 +209,7 @@ impl KeyDatabase {
                 self.pending = None;
                 Ok(Settled::Lost)
             }
-            Err(_) => Err(StoreFault::Device),
+            Err(Failed) => Err(Failed),
         }
     }
 }

@@ -6,7 +6,7 @@ ghost use Rattle.journal_records.specs.LastingPart.{empty_lasting, some_has_id};
 ghost use Rattle.journal_records.specs.Needs.{has_place_for, is_met};
 ghost use Rattle.journal_records.specs.Effects.{after};
 ghost use Rattle.journal_records.specs.Lookups.{row_of, key_of_id, key_of_name, key_count, next_key, named_in, numbered_in, granted_in, shared_in};
-ghost use Rattle.key_database.specs.Held.{lasting_in, HasRoomForKey, HasRoomForGrant, HasRoomFor, KeepsRoom, CanMake, takes_memory};
+ghost use Rattle.key_database.specs.TableView.{lasting_in, HasRoomForKey, HasRoomForGrant, HasRoomFor, KeepsRoom, CanMake, takes_memory};
 
 use crate::compared::same_part;
 use crate::part::Part;
@@ -28,10 +28,10 @@ pub struct LastingTable {
 }
 
 impl Model for LastingTable {
-    ghost use Rattle.key_database.specs.Held.{Held};
+    ghost use Rattle.key_database.specs.TableView.{TableView};
     ghost use Rattle.key_database.specs.Parts.{held_of};
 
-    ghost Value = { Held };
+    ghost Value = { TableView };
 
     ghost view = { λ table. held_of table.part };
 }

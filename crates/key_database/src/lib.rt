@@ -1,11 +1,11 @@
 //! The keys, grants and next numbers that last: as a table in memory, and over a journal.
 //!
-//! Its contract: `LastingTable` is seen as a lasting part (`lasting_in` of `specs/Held.antt`), each look-up is a search of
+//! Its contract: `LastingTable` is seen as a lasting part (`lasting_in` of `specs/TableView.antt`), each look-up is a search of
 //! it (`journal_records/specs/Lookups.antt`), and a change that is made leaves what `after` says. `KeyDatabase` is such a
 //! table (`lasting` of `specs/Stands.antt`) and the journal that it lies in. `open` reads the one that the bytes stand
 //! for, or tells the place of the first thing wrong; at each moment of `apply` each image stands for the lasting part
 //! before the change or with it; and `settle` makes of an unsettled database what the disk has. What is known of the disk
-//! goes on by `after_apply` and `after_settle` (`journal_records/specs/Holding.antt`). An image stands for one lasting
+//! goes on by `after_commit` and `after_settle` (`journal_records/specs/Holding.antt`). An image stands for one lasting
 //! part at most (`one_store`).
 //!
 //! ```rust

@@ -49,7 +49,7 @@ fn is_owner(domain: u8, nspace: u64) -> bool
 }
 
 impl Part {
-    ghost use Rattle.key_database.specs.Held.{HasRoomForKey, HasRoomForGrant, HasRoomFor, KeepsRoom as KeepsRooms, CanMake, takes_memory};
+    ghost use Rattle.key_database.specs.TableView.{HasRoomForKey, HasRoomForGrant, HasRoomFor, KeepsRoom as KeepsRooms, CanMake, takes_memory};
     ghost use Rattle.key_database.specs.Parts.{part_of, held_of};
     ghost use Rattle.journal_records.specs.LastingPart.{empty_lasting};
 

@@ -26,7 +26,7 @@ use Rattle.tag_lists.proofs.Sizes.{small_filter, small_with}
 use Rattle.key_rules.specs.declared.facts.ImportFacts.{ImportFacts}
 use Rattle.key_rules.specs.declared.facts.NewFacts.{NewFacts}
 use Rattle.key_rules.specs.Creation.{IsFit, drawn_size, new_key, plan_of}
-use Rattle.key_rules.specs.Kept.{is_kept, kept, origin, own, set, set_missing, with_size}
+use Rattle.key_rules.specs.KeptLists.{is_kept, kept, origin, own, set, set_missing, with_size}
 use Rattle.key_rules.specs.Rules.{each_short, has_allowed_size, has_short_ids, is_by_alias, list_in, names_algorithm, names_new_key, names_place, read_or_empty, takes_format}
 use Rattle.key_rules.specs.Table.{list_rules, rules_of}
 use Rattle.key_rules.proofs.Ids.{short_id}

@@ -11,7 +11,7 @@ use Rattle.tag_lists.specs.Lookups.{bytes_of, number_of}
 use Rattle.key_rules.specs.declared.facts.ImportFacts.{ImportFacts}
 use Rattle.key_rules.specs.declared.facts.NewFacts.{NewFacts}
 use Rattle.key_rules.specs.declared.plan.KeyPlan.{KeyPlan}
-use Rattle.key_rules.specs.Kept.{kept, limit}
+use Rattle.key_rules.specs.KeptLists.{kept, limit}
 use Rattle.key_rules.specs.Rules.{list_in, names_new_key}
 use Rattle.key_rules.specs.Table.{rules_of}
 

@@ -1,6 +1,6 @@
 pub mod Rules
 pub mod Table
 pub mod Asked
-pub mod Kept
+pub mod KeptLists
 pub mod Creation
 pub mod Gives

@@ -3,6 +3,7 @@
 ghost use Rattle.std.specs.Prelude.{◌≡◌};
 ghost use Rattle.key_rules.specs.declared.fault.NewFault.TheVariants.{Broken, Memory};
 
+use std::fmt;
 use tags::{Code, NoMemory, Rule};
 
 /// Why no key is made.
@@ -27,5 +28,14 @@ impl From<(Rule, Code)> for NewFault {
 
     fn from(broken: (Rule, Code)) -> NewFault {
         NewFault::Broken(broken.0, broken.1)
+    }
+}
+
+impl fmt::Display for NewFault {
+    fn fmt<W: fmt::Write>(&self, f: &mut fmt::Formatter<W>) -> fmt::Result {
+        match self {
+            NewFault::Broken(rule, _) => write!(f, "rule {rule} is broken"),
+            NewFault::Memory => f.write_str("memory was wanting"),
+        }
     }
 }

@@ -4,7 +4,7 @@ ghost use Rattle.std.specs.Prelude.{◌≡◌, ◌≤◌, ◌<◌, ◌+◌, leng
 ghost use Rattle.tags.specs.declared.param.ParamValue.TheVariants.{Number};
 ghost use Rattle.tag_lists.specs.Order.{Fits};
 ghost use Rattle.tag_lists.specs.Spelling.{spelling};
-ghost use Rattle.key_rules.specs.Kept as spec;
+ghost use Rattle.key_rules.specs.KeptLists as spec;
 ghost use Rattle.tags.specs.declared.limits.TheConstants.{LIST_BYTES};
 
 use crate::ImportFacts;
@@ -81,7 +81,7 @@ fn origin(import: Option<ImportFacts>) -> u64
 }
 
 /// The list that is kept with a new key.
-#[tactic(auto, unfolding(crate::specs::Kept::kept))]
+#[tactic(auto, unfolding(crate::specs::KeptLists::kept))]
 pub(crate) fn kept(
     list: AuthList,
     import: Option<ImportFacts>,
@@ -98,7 +98,7 @@ pub(crate) fn kept(
 }
 
 /// The use limit, or 0.
-#[tactic(auto, unfolding(crate::specs::Kept::limit))]
+#[tactic(auto, unfolding(crate::specs::KeptLists::limit))]
 pub(crate) fn limit(list: &AuthList) -> u32
     ensures { result ≡ spec.limit list.now }
 {

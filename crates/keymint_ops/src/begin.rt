@@ -10,6 +10,7 @@ ghost use Rattle.keymint_ops.specs.Begin as spec;
 
 use cipher_ops::CipherState;
 use std::alloc::Global;
+use std::fmt;
 use tags::{Bytes, Code, NoMemory, Plan, Rule};
 use use_rules::{BeginFacts, check_begin, nonce_given, nonce_wanted};
 
@@ -38,6 +39,15 @@ impl From<NoMemory> for BeginFault {
 
     fn from(_fault: NoMemory) -> BeginFault {
         BeginFault::Memory
+    }
+}
+
+impl fmt::Display for BeginFault {
+    fn fmt<W: fmt::Write>(&self, f: &mut fmt::Formatter<W>) -> fmt::Result {
+        match self {
+            BeginFault::Broken(rule, _) => write!(f, "rule {rule} is broken"),
+            BeginFault::Memory => f.write_str("memory was wanting"),
+        }
     }
 }
 

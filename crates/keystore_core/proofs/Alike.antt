@@ -2,7 +2,7 @@
 use Rattle.std.proofs.Common.{◌≡◌, ℕ, Bool, true, false, ◌==◌, ◌||◌, if◌then◌else◌, suc, List, [], ◌∷◌, ◌++◌, length, map, filter, find, Option, Some, refl, sym, ap, ◌∙◌, inl, inr, subst}
 use Rattle.std.specs.List.{list_any}
 use Rattle.std.proofs.lemmas.Bool.{cases_Bool, eqb-true}
-use Rattle.operation_slots.specs.Table.{AllDiffer, NoneIs}
+use Rattle.slot_chain.specs.Linked.{NoneIs, AllDiffer}
 use Rattle.keystore_core.specs.Alike.{Alike, BothFound}
 
 module _ {A B : Type 0} (R : A → B → Type 0) where

@@ -373,7 +373,5 @@ pub goes_into : {D : Type 0} (g : Ghosts D) (old middle new : KeyDatabase) (disk
 goes_into g old middle new disk later restarts change reply same goes = record {
   holds = λ held h. same_holds g middle new later (Rattle.rule_model.specs.Stored.after_reply restarts change reply held) same (goes.holds held h);
   passes = goes.passes;
-  sure = goes.sure;
-  telling = goes.telling;
-  cause = goes.cause;
+  goes = goes.goes;
 }

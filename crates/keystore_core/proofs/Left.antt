@@ -13,7 +13,8 @@ use Rattle.cipher_ops.specs.declared.room.Work.TheVariants.{Aad, Text, Last}
 use Rattle.cipher_ops.specs.declared.state.CipherState.{CipherState}
 use Rattle.operation_slots.specs.declared.operation.Operation.{Operation as Slot}
 use Rattle.operation_slots.specs.Table as table
-use Rattle.operation_slots.specs.Table.{AllDiffer, IsLater, given_back, held, numbers_of, operations_of}
+use Rattle.slot_chain.specs.Linked.{AllDiffer}
+use Rattle.operation_slots.specs.Table.{IsLater, given_back, held, numbers_of, operations_of}
 use Rattle.rule_model.specs.Kept.{has_busy, open_of, operation_at, operation_change}
 use Rattle.rule_model.specs.declared.entry.Entry.TheVariants.{Acted}
 use Rattle.rule_model.specs.declared.event.Act.TheVariants.{Disconnect, Leave}

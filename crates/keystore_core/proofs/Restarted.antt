@@ -4,8 +4,7 @@ use Rattle.tags.specs.declared.code.Code.{Code}
 use Rattle.tags.specs.declared.secrets.DeviceSecrets.{DeviceSecrets}
 use Rattle.tags.specs.declared.code.Code.TheVariants.{SystemError, ValueCorrupted}
 use Rattle.ks_outside.specs.declared.disk.Disk.{Ghosts}
-use Rattle.ks_outside.specs.Faults.{CountsFaults}
-use Rattle.ks_outside.specs.Images.{Passes, tells}
+use Rattle.ks_outside.specs.Images.{Goes, Passes}
 use Rattle.ks_outside.proofs.Joins.{passes_as}
 use Rattle.journal_records.specs.Holding.{Holding}
 use Rattle.key_database.specs.declared.database.KeyDatabase.{KeyDatabase}
@@ -114,12 +113,9 @@ restart_stays (Stopped code) held = by_code (is_system_error code) where
   by_code false = refl
 
 pub restart_goes : {D : Type 0} (g : Ghosts D) (old new : KeyDatabase) (disk later : D) (reply : Reply) → new ≡ old → ((held : Holding) → Holds g old disk held → Holds g old later held)
-    → ((held : Holding) → Holds g old disk held → Passes g disk later (MayBe held)) → (g.is_sure disk → g.is_sure later) → tells g later ≡ tells g disk
-    → CountsFaults (g.fault_count disk) (g.fault_count later) (is_disk_fault reply) → StoreGoes g old new disk later true None reply
-restart_goes g old new disk later reply same holds passes sure telling cause = record {
+    → ((held : Holding) → Holds g old disk held → Passes g disk later (MayBe held)) → Goes g disk later (is_disk_fault reply) → StoreGoes g old new disk later true None reply
+restart_goes g old new disk later reply same holds passes goes = record {
   holds = λ held h. subst (λ k. Holds g new later k) (sym (restart_stays reply held)) (subst (λ k. Holds g k later held) (sym same) (holds held h));
   passes = λ held h. passes_as g disk later (MayBe held) (Between held (after_reply true None reply held)) (passes held h) (λ c may. inl may);
-  sure = sure;
-  telling = telling;
-  cause = cause;
+  goes = goes;
 }

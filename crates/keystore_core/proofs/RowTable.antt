@@ -1,18 +1,14 @@
 -- The table of the open operations: one row is found, changes or goes, and the numbers go on rising.
-use Rattle.std.proofs.Common.{◌≡◌, ◌≤◌, ◌<◌, ◌+◌, ◌==◌, ℕ, zero, suc, Bool, true, false, not, if◌then◌else◌, List, [], ◌∷◌, ◌++◌, map, filter, length, take, drop, get_or, find, Some, None, Result, Ok, Err, refl, sym, ap, ◌∙◌, subst, arith, inl, inr}
+use Rattle.std.proofs.Common.{◌≡◌, ◌≤◌, ◌<◌, ◌+◌, ℕ, Bool, true, false, not, if◌then◌else◌, List, [], ◌∷◌, ◌++◌, map, filter, length, take, drop, get_or, find, Some, None, refl, sym, ap, ◌∙◌, subst, arith, inl, inr}
 use Rattle.std.proofs.Math.ListN.{set}
-use Rattle.std.specs.List.{remove}
-use Rattle.std.specs.List.Sorted.{IsSearchInRange, IsBinarySearchResult}
-use Rattle.std.specs.Ordering.{nat_cmp}
 use Rattle.std.proofs.Math.Seq.{take-append_seam}
-use Rattle.std.proofs.lemmas.Bool.{cases_Bool, ne_eqb}
+use Rattle.std.specs.List.{remove}
+use Rattle.std.proofs.lemmas.Bool.{cases_Bool}
 use Rattle.std.proofs.lemmas.List.{get_or_default}
 use Rattle.std.proofs.lemmas.List.Edits.{map_over_more}
-use Rattle.slot_chain.specs.Linked as linked
+use Rattle.slot_chain.specs.Linked.{NoneIs, AllDiffer}
 use Rattle.slot_chain.specs.Ordered.{IsAbove, IsRising, IsOrdered, IsAt, IsGap}
-use Rattle.slot_chain.proofs.Ordering.{Searched, searched, rising_differ, found_at, found_in_gap, none_named}
-use Rattle.operation_slots.specs.Table.{NoneIs, AllDiffer}
-use Rattle.operation_slots.proofs.Sorting.{set_is_change, remove_is_filter}
+use Rattle.slot_chain.proofs.Ordering.{rising_differ, found_at, found_in_gap, none_named, set_is_change, remove_is_filter, none_changed, none_out}
 use Rattle.auth_tokens.specs.declared.token.AuthToken.{AuthToken}
 use Rattle.keystore_core.specs.declared.operations.Operation.{Operation}
 use Rattle.keystore_core.specs.declared.operations.RowChange.{RowChange}
@@ -95,33 +91,14 @@ numbered_changed number change rows next h = numbered_same (has_row number) (cha
 pub numbered_shown : (token : AuthToken) (rows : List Operation) (next : ℕ) → AreNumbered rows next → AreNumbered (with_shown token rows) next
 numbered_shown token rows next h = numbered_same (is_for_row token) shown (λ row. refl) rows next h
 
--- ---- one row is found by halving
-
-module _ (n : ℕ) where
-  pub row_searched : (rows : List Operation) → IsOrdered row_number rows → (r : Result ℕ ℕ) → IsSearchInRange r (length rows) → IsBinarySearchResult (λ row. nat_cmp (row_number row) n) rows r → Searched row_number rows n r
-  row_searched (row ∷ rows) order r within result = searched row_number row (row ∷ rows) order n r within result
-  row_searched [] order (Ok at) within result = absurd (let less : at < 0 = within in omega arith)
-  row_searched [] order (Err at) within result = record {
-    found = tt;
-    absent = record { within = within; below = λ j d less. absurd (let none : at ≤ 0 = within in omega (arith, none, less)); above = λ j d le less. absurd (omega (arith, less)) };
-  }
-
--- ---- it changes, or goes
-
-table_none : (n : ℕ) (ks : List ℕ) → linked.NoneIs n ks → NoneIs n ks
-table_none n [] h = tt
-table_none n (k ∷ ks) h = (h.0, table_none n ks h.1)
-
-table_differ : (ks : List ℕ) → linked.AllDiffer ks → AllDiffer ks
-table_differ [] h = tt
-table_differ (k ∷ ks) h = (table_none k ks h.0, table_differ ks h.1)
+-- ---- one row is found, changes, or goes
 
 module _ (rows : List Operation) (order : IsOrdered row_number rows) (n at : ℕ) where
   differ : AllDiffer (map row_number rows)
-  differ = table_differ (map row_number rows) (rising_differ (map row_number rows) order)
+  differ = rising_differ (map row_number rows) order
 
   pub row_found : (row : Operation) → IsAt row_number rows n at → row ≡ get_or rows at row → Some row ≡ find (has_row n) rows
-  row_found row here is = ap (λ (r : Operation). Some r) is ∙ sym (found_at row_number rows n at row (rising_differ (map row_number rows) order) here)
+  row_found row here is = ap (λ (r : Operation). Some r) is ∙ sym (found_at row_number rows n at row differ here)
 
   pub row_changed : (change : RowChange) (row later : Operation) → IsAt row_number rows n at → row ≡ get_or rows at row → later ≡ changed change row → set rows at later ≡ with_row n (changed change) rows
   row_changed change row later here is made = ap (set rows at) (made ∙ ap (changed change) is) ∙ set_is_change row_number n (changed change) rows at row differ here.within (here.named row)
@@ -130,26 +107,18 @@ module _ (rows : List Operation) (order : IsOrdered row_number rows) (n at : ℕ
   row_dropped row here = remove_is_filter row_number n rows at row differ here.within (here.named row)
 
 -- no row has the number
-row_unchanged : (n : ℕ) (change : RowChange) (rows : List Operation) → linked.NoneIs n (map row_number rows) → with_row n (changed change) rows ≡ rows
-row_unchanged n change [] h = refl
-row_unchanged n change (r ∷ rs) h = rw (ne_eqb (row_number r) n h.0) (ap (λ (l : List Operation). r ∷ l) (row_unchanged n change rs h.1))
-
-row_kept : (n : ℕ) (rows : List Operation) → linked.NoneIs n (map row_number rows) → filter (λ row. not (has_row n row)) rows ≡ rows
-row_kept n [] h = refl
-row_kept n (r ∷ rs) h = rw (ne_eqb (row_number r) n h.0) (ap (λ (l : List Operation). r ∷ l) (row_kept n rs h.1))
-
 module _ (rows : List Operation) (n at : ℕ) (gap : IsGap row_number rows n at) where
   pub row_absent : None ≡ find (has_row n) rows
   row_absent = sym (found_in_gap row_number rows n at gap)
 
-  none : linked.NoneIs n (map row_number rows)
+  none : NoneIs n (map row_number rows)
   none = none_named row_number n rows (found_in_gap row_number rows n at gap)
 
-  pub none_changed : (change : RowChange) → rows ≡ with_row n (changed change) rows
-  none_changed change = sym (row_unchanged n change rows none)
+  pub row_unchanged : (change : RowChange) → rows ≡ with_row n (changed change) rows
+  row_unchanged change = sym (none_changed row_number n (changed change) rows none)
 
-  pub none_dropped : rows ≡ filter (λ row. not (has_row n row)) rows
-  none_dropped = sym (row_kept n rows none)
+  pub row_kept : rows ≡ filter (λ row. not (has_row n row)) rows
+  row_kept = sym (none_out row_number n rows none)
 
 -- ---- a token is shown to one row more
 

@@ -69,9 +69,7 @@ pub memory_goes : {D : Type 0} (g : Ghosts D) (old new : KeyDatabase) (disk late
 memory_goes g old new disk later restarts change goes = record {
   holds = goes.holds;
   passes = goes.passes;
-  sure = goes.sure;
-  telling = goes.telling;
-  cause = goes.cause;
+  goes = goes.goes;
 }
 
 -- ---- a step

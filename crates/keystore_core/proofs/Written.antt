@@ -6,7 +6,8 @@ use Rattle.std.proofs.lemmas.List.{length-append}
 use Rattle.tags.specs.declared.code.Code.{Code}
 use Rattle.tags.specs.declared.code.Code.TheVariants.{JournalFull, SystemError}
 use Rattle.ks_outside.specs.declared.disk.Disk.{Ghosts}
-use Rattle.ks_outside.specs.Faults.{CountsFaults, Rises}
+use Rattle.ks_outside.specs.Images.{Goes}
+use Rattle.ks_outside.proofs.Goings.{goes_none}
 use Rattle.ks_outside.proofs.Joins.{passes_none}
 use Rattle.journal_records.specs.declared.change.Change.{Change}
 use Rattle.journal_records.specs.Effects.{after}
@@ -69,12 +70,6 @@ has_made old new change made bytes settled fits = record {
   settled = settled;
   room = room_left (store_bytes old) change fits;
 }
-
-pub counts_same : (before now : ℕ) → now ≡ before → CountsFaults before now false
-counts_same before now e = record { later = omega (arith, e); rises = λ no. absurd cc; same = λ no. e }
-
-pub counts_rose : (before now : ℕ) → before ≤ now → Rises before now → CountsFaults before now true
-counts_rose before now later rises = record { later = later; rises = λ yes. rises; same = λ no. absurd cc }
 
 -- ---- the keys, and the answer
 
@@ -183,9 +178,7 @@ module _ {D : Type 0} (g : Ghosts D) (disk : D) where
   still_goes old new restarts change reply same no_fault stays = record {
     holds = λ held h. subst (λ k. Holds g new disk k) (sym (stays held)) (same_holds g old new disk held same h);
     passes = λ held h. passes_none g disk (Between held (after_reply restarts change reply held));
-    sure = λ s. s;
-    telling = refl;
-    cause = record { later = omega arith; rises = λ e. absurd cc; same = λ e. refl };
+    goes = subst (λ b. Goes g disk disk b) (sym no_fault) (goes_none g disk);
   }
 
   no_system_stays : (code : Code) (restarts : Bool) (change : Option Change) → is_system_error code ≡ false → (held : Holding) → after_reply restarts change (Stopped code) held ≡ held
@@ -222,7 +215,5 @@ pub goes_from : {D : Type 0} (g : Ghosts D) (old middle new : KeyDatabase) (disk
 goes_from g old middle new disk later restarts change reply same goes = record {
   holds = λ held h. goes.holds held (same_holds g old middle disk held same h);
   passes = λ held h. goes.passes held (same_holds g old middle disk held same h);
-  sure = goes.sure;
-  telling = goes.telling;
-  cause = goes.cause;
+  goes = goes.goes;
 }

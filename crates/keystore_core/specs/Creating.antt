@@ -8,7 +8,7 @@ use Rattle.tags.specs.declared.secrets.DeviceSecrets.{DeviceSecrets}
 use Rattle.key_domains.specs.Domains.{domain_blob}
 use Rattle.journal_records.specs.LastingPart.{Lasting}
 use Rattle.key_blobs.specs.Blobs.{blob_of}
-use Rattle.key_database.specs.Held.{CanMake, Held, lasting_in}
+use Rattle.key_database.specs.TableView.{CanMake, TableView, lasting_in}
 use Rattle.key_rules.specs.declared.plan.KeyPlan.{KeyPlan}
 use Rattle.keymint_ops.specs.Creation.{sealed_as}
 use Rattle.rule_model.specs.declared.reply.Fields.{Fields}
@@ -50,5 +50,5 @@ blob_made device plan import drawn =
     blob_of device.seal (drop plan.size drawn) (sealed_as device.root plan (material_of import (take plan.size drawn)))
 
 -- a key that is stored may be
-abbrev pub CanKeep : Held → ℕ → Descriptor → List ℕ → List ℕ → ℕ → Type 0
+abbrev pub CanKeep : TableView → ℕ → Descriptor → List ℕ → List ℕ → ℕ → Type 0
 CanKeep held uid key blob list limit = (key.domain == domain_blob) ≡ false → CanMake held (creates (lasting_in held).next_key uid key blob list limit)

@@ -1,5 +1,5 @@
 -- When an engine stands for a history.
-use Rattle.std.specs.Prelude.{◌≡◌, ◌≤◌, ◌⊎◌, ℕ, List, [], length, Option, Some, None, Result, Ok, Err}
+use Rattle.std.specs.Prelude.{◌≡◌, ◌⊎◌, ℕ, List, [], length, Option, Some, None, Result, Ok, Err}
 use Rattle.rule_model.specs.Entries.{History}
 use Rattle.rule_model.specs.Legal.{Legal}
 use Rattle.rule_model.specs.Uses.{IsStored}
@@ -7,18 +7,15 @@ use Rattle.tags.specs.declared.settled.Settled.{Settled}
 use Rattle.tags.specs.declared.policy.PolicyRow.{PolicyRow}
 use Rattle.tags.specs.declared.secrets.DeviceSecrets.{DeviceSecrets}
 use Rattle.ks_outside.specs.declared.disk.Disk.{Ghosts}
-use Rattle.ks_outside.specs.Faults.{Rises}
 use Rattle.journal_records.specs.LastingPart.{Lasting}
 use Rattle.journal_records.specs.declared.fault.StoreFault.{StoreFault}
-use Rattle.journal_records.specs.declared.fault.StoreFault.TheVariants as stores
+use Rattle.journal_records.specs.declared.fault.StoreFault.TheVariants as faults
 use Rattle.key_database.specs.declared.database.KeyDatabase.{KeyDatabase}
 use Rattle.key_database.specs.Stands.{Holds, lasting, store_bytes}
 use Rattle.key_database.specs.Store.{IsBadStore, MayBe, StandsFor}
 use Rattle.rule_model.specs.Stored.{holding_of}
 use Rattle.rule_model.specs.Setup.{Setup}
 use Rattle.keystore_core.specs.declared.engine.Engine.{Engine}
-use Rattle.keystore_core.specs.declared.engine.OpenFault.{OpenFault}
-use Rattle.keystore_core.specs.declared.engine.OpenFault.TheVariants as faults
 use Rattle.keystore_core.specs.Tables.{TablesStand}
 use Rattle.keystore_core.specs.Tickets.{tickets_given}
 use Rattle.cipher_ops.specs.declared.job.Done.{Done}
@@ -45,32 +42,18 @@ abbrev pub IsOpened : Setup → DeviceSecrets → List PolicyRow → ℕ → Eng
 IsOpened setup device policy slots engine = IsOver setup device policy slots engine.tables.keys
 
 -- what an opening read of these bytes, by its answer
-abbrev pub OpensStore : List ℕ → Result Engine OpenFault → Type 0
+abbrev pub OpensStore : List ℕ → Result Engine StoreFault → Type 0
 OpensStore image (Ok engine) = StandsFor (lasting_of engine) image
 OpensStore image (Err faults.Device) = Unit {0}
 OpensStore image (Err (faults.Corrupted offset)) = IsBadStore image offset
 OpensStore image (Err faults.Memory) = Unit {0}
 
 -- what it finds where the bytes stand for a lasting part
-abbrev pub OpensFor : Lasting → Result Engine OpenFault → Type 0
+abbrev pub OpensFor : Lasting → Result Engine StoreFault → Type 0
 OpensFor part (Ok engine) = lasting_of engine ≡ part
 OpensFor part (Err faults.Device) = Unit {0}
 OpensFor part (Err (faults.Corrupted offset)) = ⊥
 OpensFor part (Err faults.Memory) = Unit {0}
-
--- what it says of the disk's count of faults: Device comes where it rose, and any other where it stayed
-abbrev pub OpenFaults : ℕ → ℕ → Result Engine OpenFault → Type 0
-OpenFaults before now (Ok engine) = now ≡ before
-OpenFaults before now (Err faults.Device) = (before ≤ now) × Rises before now
-OpenFaults before now (Err (faults.Corrupted offset)) = now ≡ before
-OpenFaults before now (Err faults.Memory) = now ≡ before
-
--- why a store was not opened
-abbrev pub fault_of : StoreFault → OpenFault
-fault_of stores.Device = faults.Device
-fault_of (stores.Corrupted offset) = faults.Corrupted offset
-fault_of stores.Full = faults.Memory
-fault_of stores.Memory = faults.Memory
 
 -- how many entries an engine made
 abbrev pub entries_of : Engine → ℕ

@@ -1,6 +1,6 @@
 -- What a store that was opened holds, and what is fixed in a run over it.
-use Rattle.std.proofs.Common.{◌≡◌, ℕ, List, [], length, true, Some, refl, ◌∙◌}
-use Rattle.ks_outside.specs.Images.{AllImages, Passes, tells}
+use Rattle.std.proofs.Common.{◌≡◌, ℕ, List, [], length, true, false, Some, refl, ◌∙◌}
+use Rattle.ks_outside.specs.Images.{AllImages, Passes, Reads, tells}
 use Rattle.ks_outside.specs.declared.disk.Disk.{Ghosts as DiskGhosts}
 use Rattle.tags.specs.declared.policy.PolicyRow.{PolicyRow}
 use Rattle.tags.specs.declared.secrets.DeviceSecrets.{DeviceSecrets}
@@ -29,6 +29,10 @@ pub record IsUnwritten {D : Type 0} (d : DiskGhosts D) (old new : D) : Type 0 wh
   pub passes : Passes d old new (d.images old)
   pub count : d.fault_count new ≡ d.fault_count old
   pub telling : tells d new ≡ tells d old
+
+-- what an opening that was not refused leaves alone
+pub unwritten_of : {D : Type 0} (d : DiskGhosts D) (old new : D) → Reads d old new false → IsUnwritten d old new
+unwritten_of d old new reads = record { passes = reads.passes; count = reads.goes.cause.same refl; telling = reads.goes.telling }
 
 -- The store was read, and nothing was written: each image is one of those before, and the store of the start. Where all images stood
 -- for one lasting part and the disk tells its content, it is the start's.

@@ -19,7 +19,7 @@ use Rattle.operation_slots.specs.Table.{FindsChanged, FindsNoMore, Gives, IsSoun
 use Rattle.journal_records.specs.declared.change.Change.{Change}
 use Rattle.journal_records.specs.declared.change.Change.TheVariants as changes
 use Rattle.key_database.specs.declared.database.KeyDatabase.{KeyDatabase}
-use Rattle.key_database.specs.Held.{CanMake}
+use Rattle.key_database.specs.TableView.{CanMake}
 use Rattle.key_database.specs.Stands.{table_of}
 use Rattle.keystore_core.specs.Writing.{used_of}
 use Rattle.rule_model.specs.declared.event.Act.{Act}

@@ -4,8 +4,7 @@ use Rattle.std.specs.Option.{option_or}
 use Rattle.tags.specs.declared.bytes.NoMemory.{NoMemory}
 use Rattle.tags.specs.declared.code.Code.TheVariants.{JournalFull, MemoryAllocationFailed, SystemError}
 use Rattle.ks_outside.specs.declared.disk.Disk.{Ghosts}
-use Rattle.ks_outside.specs.Faults.{CountsFaults}
-use Rattle.ks_outside.specs.Images.{Passes, tells}
+use Rattle.ks_outside.specs.Images.{Goes, Passes}
 use Rattle.journal_records.specs.declared.change.Change.{Change}
 use Rattle.journal_records.specs.declared.change.Change.TheVariants as changes
 use Rattle.journal_records.specs.Effects.{after}
@@ -62,9 +61,7 @@ IsWrittenIf old new (Some change) fields reply = IsWritten old new change fields
 pub record StoreGoes {D : Type 0} (g : Ghosts D) (old new : KeyDatabase) (disk later : D) (restarts : Bool) (change : Option Change) (reply : Reply) : Type 0 where
   pub holds : (held : Holding) → Holds g old disk held → Holds g new later (after_reply restarts change reply held)
   pub passes : (held : Holding) → Holds g old disk held → Passes g disk later (Between held (after_reply restarts change reply held))
-  pub sure : g.is_sure disk → g.is_sure later
-  pub telling : tells g later ≡ tells g disk
-  pub cause : CountsFaults (g.fault_count disk) (g.fault_count later) (is_disk_fault reply)
+  pub goes : Goes g disk later (is_disk_fault reply)
 
 -- an act leaves the store alone: the keys and grants are as they were, and no device call failed
 pub record LeavesStore (old new : Tables) (answered : Answered) : Type 0 where

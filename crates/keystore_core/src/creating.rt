@@ -2,7 +2,7 @@
 
 ghost use Rattle.std.specs.Prelude.{◌≡◌, ◌+◌, ◌^◌, ◌<◌, ◌≤◌, length, take, false, None, IfOk, OnOk};
 ghost use Rattle.std.specs.Option.{option_map};
-ghost use Rattle.key_database.specs.Held.{HasRoomForKey};
+ghost use Rattle.key_database.specs.TableView.{HasRoomForKey};
 ghost use Rattle.key_database.specs.Stands.{SameStore, is_unsettled, lasting, table_of};
 ghost use Rattle.key_rules.specs.Creation.{IsSmall};
 ghost use Rattle.rule_model.specs.NewFacts as model;

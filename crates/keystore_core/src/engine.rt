@@ -1,6 +1,6 @@
 //! The engine's step.
 
-ghost use Rattle.std.specs.Prelude.{◌≡◌, ℕ, ◌+◌, ◌^◌, ◌<◌, ◌≤◌, [], List, None, true, false, length, IfOk, IfSome, OnOk};
+ghost use Rattle.std.specs.Prelude.{◌≡◌, ℕ, ◌+◌, ◌^◌, ◌<◌, ◌≤◌, [], List, None, true, false, is_err, length, IfOk, IfSome, OnOk};
 ghost use Rattle.cipher_ops.specs.Jobs.{ticket_of};
 ghost use Rattle.ks_outside.specs.Shown.{Drew};
 ghost use Rattle.tags.specs.declared.code.Code.TheVariants.{SystemError};
@@ -15,11 +15,11 @@ ghost use Rattle.rule_model.specs.Setup.{Setup};
 ghost use Rattle.rule_model.specs.Settling.{is_disk_fault};
 ghost use Rattle.journal_records.specs.LastingPart.{Lasting, empty_lasting};
 ghost use Rattle.key_database.specs.Store.{StandsFor};
-ghost use Rattle.ks_outside.specs.Faults.{CountsFaults, HasCause};
-ghost use Rattle.ks_outside.specs.Images.{AllImages, Passes, TornFrom, tells};
+ghost use Rattle.ks_outside.specs.Images.{AllImages, Goes, Passes, Reads, TornFrom, tells};
+ghost use Rattle.journal_records.specs.Commits.{open_failed};
 ghost use Rattle.keystore_core.specs.Complete.{GivesAnswer, HasNoFault};
 ghost use Rattle.keystore_core.specs.Restarting.{HasRead, is_other_store};
-ghost use Rattle.keystore_core.specs.Engine.{entries_made as made_by, fault_of};
+ghost use Rattle.keystore_core.specs.Engine.{entries_made as made_by};
 ghost use Rattle.keystore_core.specs.Outputs.{HasOutRoom};
 ghost use Rattle.keystore_core.specs.Tables.{IsTables};
 ghost use Rattle.tags.specs.declared.limits.TheConstants.{MOST_SLOTS};
@@ -42,29 +42,6 @@ pub struct Engine {
     /// how many entries were made
     entries: u64,
     tables: Tables,
-}
-
-/// Why a store was not opened.
-#[derive(Clone, Copy, Debug, PartialEq, Eq)]
-pub enum OpenFault {
-    /// a call of the disk failed
-    Device,
-    /// the bytes stand for no lasting part; the place, in bytes, of what is wrong first
-    Corrupted { offset: u64 },
-    /// memory was wanting
-    Memory,
-}
-
-/// The same of an opening that was refused.
-fn open_fault(fault: StoreFault) -> OpenFault
-    ensures { result ≡ fault_of fault }
-{
-    match fault {
-        StoreFault::Device => OpenFault::Device,
-        StoreFault::Corrupted { offset } => OpenFault::Corrupted { offset },
-        StoreFault::Memory => OpenFault::Memory,
-        StoreFault::Full => OpenFault::Memory,
-    }
 }
 
 /// The same policy once more.
@@ -97,20 +74,15 @@ fn root_is_whole(device: &DeviceSecrets)
 }
 
 impl Engine {
-    ghost use Rattle.keystore_core.specs.Engine.{IsOpened, MayHoldEither, MayTake, OpensFor, OpensStore, OpenFaults, Stands, StandsAtFirst, StandsForSome, StoreStands, entries_made, entries_of, lasting_of, tickets_of};
+    ghost use Rattle.keystore_core.specs.Engine.{IsOpened, MayHoldEither, MayTake, OpensFor, OpensStore, Stands, StandsAtFirst, StandsForSome, StoreStands, entries_made, entries_of, lasting_of, tickets_of};
 
     /// Writes an empty store, and syncs. It takes no memory.
     pub fn format<D: Disk>(disk: &mut D) -> Result<(), Failed>
         ensures formatted { OnOk result (AllImages D.Disk disk.new (StandsFor empty_lasting)) }
         ensures passes { Passes D.Disk disk.old disk.new (TornFrom D.Disk disk.old 0 9) }
-        ensures sure { D.is_sure disk.old → D.is_sure disk.new }
-        ensures telling { tells D.Disk disk.new ≡ tells D.Disk disk.old }
-        ensures cause { HasCause (D.fault_count disk.old) (D.fault_count disk.new) result }
+        ensures goes { Goes D.Disk disk.old disk.new (is_err result) }
     {
-        match KeyDatabase::format(disk) {
-            Ok(()) => Ok(()),
-            Err(_) => Err(Failed),
-        }
+        KeyDatabase::format(disk)
     }
 
     /// Reads the store that the disk holds, for an engine under a policy, without clients and operations, with 1 to `MOST_SLOTS`
@@ -122,7 +94,7 @@ impl Engine {
         policy: &Policy,
         slots: usize,
         disk: &mut D,
-    ) -> Result<Engine, OpenFault>
+    ) -> Result<Engine, StoreFault>
         requires some { 0 < slots }
         requires few { slots ≤ MOST_SLOTS }
         ensures stands { IfOk result (λ engine. (setup : Setup) → IsOpened setup device.now policy.now slots engine → Stands setup engine []) }
@@ -132,18 +104,14 @@ impl Engine {
         ensures reads { AllImages D.Disk disk.new (λ image. OpensStore image result) }
         ensures finds { (part : Lasting) → AllImages D.Disk disk.old (StandsFor part) → tells D.Disk disk.old ≡ true → OpensFor part result }
         ensures entries { IfOk result (λ engine. entries_of engine ≡ 0) }
-        ensures images { AllImages D.Disk disk.new (D.images disk.old) }
-        ensures passes { Passes D.Disk disk.old disk.new (D.images disk.old) }
-        ensures sure { D.is_sure disk.old → D.is_sure disk.new }
-        ensures telling { tells D.Disk disk.new ≡ tells D.Disk disk.old }
-        ensures cause { OpenFaults (D.fault_count disk.old) (D.fault_count disk.new) result }
+        ensures goes { Reads D.Disk disk.old disk.new (open_failed result) }
     {
         let Ok(policy) = copied(alloc, policy) else {
-            return Err(OpenFault::Memory);
+            return Err(StoreFault::Memory);
         };
         let keys = match KeyDatabase::open(alloc, disk) {
             Ok(keys) => keys,
-            Err(fault) => return Err(open_fault(fault)),
+            Err(fault) => return Err(fault),
         };
         match Tables::new(alloc, device, policy, slots, keys) {
             Ok(tables) => Ok(Engine {
@@ -151,7 +119,7 @@ impl Engine {
                 entries: 0,
                 tables,
             }),
-            Err(NoMemory) => Err(OpenFault::Memory),
+            Err(NoMemory) => Err(StoreFault::Memory),
         }
     }
 
@@ -219,9 +187,7 @@ impl Engine {
         ensures complete { (setup : Setup) (past : History) → Stands setup self.old past → HasDone setup past event.act done →
             HasNoFault (D.fault_count disk.old) (D.fault_count disk.new) → HasNoFault (N.fault_count entropy.old) (N.fault_count entropy.new) →
             GivesAnswer setup (after_settling result.settled past) event result.drawn result.reply }
-        ensures sure { D.is_sure disk.old → D.is_sure disk.new }
-        ensures telling { tells D.Disk disk.new ≡ tells D.Disk disk.old }
-        ensures cause { CountsFaults (D.fault_count disk.old) (D.fault_count disk.new) (is_disk_fault result.reply) }
+        ensures goes { Goes D.Disk disk.old disk.new (is_disk_fault result.reply) }
         ensures drew { Drew N.Entropy entropy.old entropy.new result.drawn (is_entropy_fault result.reply) }
     {
         root_is_whole(&self.tables.device);

@@ -37,4 +37,5 @@ mod tokens;
 mod victims;
 mod writing;
 
-pub use engine::{Engine, OpenFault};
+pub use engine::Engine;
+pub use journal_records::StoreFault as OpenFault;

@@ -62,7 +62,6 @@ impl Tables {
             }
             Err(StoreFault::Memory) => Err(NoMemory),
             Err(StoreFault::Device) => Ok(Answered::stopped(alloc, Code::SystemError)),
-            Err(StoreFault::Full) => unreachable!(),
         }
     }
 }

@@ -1,8 +1,7 @@
 //! Settling: what became of a change whose device call failed is found out before an act that settles first.
 
-ghost use Rattle.std.specs.Prelude.{◌≡◌, true, IfOk};
-ghost use Rattle.ks_outside.specs.Faults.{HasCause};
-ghost use Rattle.ks_outside.specs.Images.{Passes, tells};
+ghost use Rattle.std.specs.Prelude.{◌≡◌, true, is_err, IfOk};
+ghost use Rattle.ks_outside.specs.Images.{Goes, Passes};
 ghost use Rattle.journal_records.specs.Holding.{Holding};
 ghost use Rattle.key_database.specs.Stands.{Holds};
 ghost use Rattle.key_database.specs.Store.{MayBe};
@@ -28,16 +27,14 @@ impl Tables {
         ensures ready { IfOk result (λ settled. (fixed_for act.now).settles ≡ true → AreSettled self.new) }
         ensures holds { (held : Holding) → Holds D.Disk self.old.keys disk.old held → Holds D.Disk self.new.keys disk.new (spec.after_first result held) }
         ensures passes { (held : Holding) → Holds D.Disk self.old.keys disk.old held → Passes D.Disk disk.old disk.new (MayBe held) }
-        ensures sure { D.is_sure disk.old → D.is_sure disk.new }
-        ensures telling { tells D.Disk disk.new ≡ tells D.Disk disk.old }
-        ensures cause { HasCause (D.fault_count disk.old) (D.fault_count disk.new) result }
+        ensures goes { Goes D.Disk disk.old disk.new (is_err result) }
     {
         if self.keys.is_settled() || !act.settles() {
             return Ok(None);
         }
         match self.keys.settle(disk) {
             Ok(settled) => Ok(Some(settled)),
-            Err(_) => Err(Failed),
+            Err(Failed) => Err(Failed),
         }
     }
 }

@@ -1,11 +1,11 @@
 //! A change of what lasts, on the disk and in the tables.
 
 ghost use Rattle.std.specs.Prelude.{◌≡◌, Some, false};
-ghost use Rattle.key_database.specs.Held.{CanMake};
+ghost use Rattle.key_database.specs.TableView.{CanMake};
 ghost use Rattle.key_database.specs.Stands.{is_unsettled, table_of};
 ghost use Rattle.keystore_core.specs.Writing.{IsWritten, StoreGoes};
 
-use journal_records::{Change, StoreFault};
+use journal_records::{AppendFault, Change};
 use key_database::KeyDatabase;
 use ks_outside::Disk;
 use rule_model::{Fields, Reply};
@@ -26,13 +26,13 @@ pub fn write_change<D: Disk>(
 {
     match keys.commit(disk, change) {
         Ok(()) => Reply::Done(fields),
-        Err(StoreFault::Full) => {
+        Err(AppendFault::Full) => {
             drop(fields);
             Reply::Stopped {
                 code: Code::JournalFull,
             }
         }
-        Err(_) => {
+        Err(AppendFault::Device) => {
             drop(fields);
             Reply::Stopped {
                 code: Code::SystemError,

@@ -1,6 +1,6 @@
 //! Which of the words is wrong, where they are no form.
 
-use command_words::number_in;
+use byte_strings::number_in;
 use std::alloc::{AllocError, Global};
 use std::fmt;
 use std::fmt::{Display, Formatter};

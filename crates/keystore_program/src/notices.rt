@@ -1,7 +1,7 @@
 //! What is said on standard error behind a status: its cause in words, and what a user should know. A line that cannot be written is left.
 
 use crate::misuse::misuse_of;
-use crate::tally::{Counts, Told};
+use crate::tally::{ReplyCounts, Told};
 use device_files::FileTrouble;
 use file_disk::{FileDisk, StoreFile};
 use keystore_run::Status;
@@ -89,7 +89,7 @@ fn tell_one(rt: &HostRuntime, told: Told, what: &str) {
 }
 
 /// What the replies of a run told.
-pub fn tell_counts(rt: &HostRuntime, counts: Counts) {
+pub fn tell_counts(rt: &HostRuntime, counts: ReplyCounts) {
     tell_one(
         rt,
         counts.malformed,

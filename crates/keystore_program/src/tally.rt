@@ -39,7 +39,7 @@ impl Told {
 
 /// What the replies told.
 #[derive(Clone, Copy, Debug, PartialEq, Eq)]
-pub struct Counts {
+pub struct ReplyCounts {
     /// lines that were malformed
     pub malformed: Told,
     /// calls of which a device call failed
@@ -50,8 +50,8 @@ pub struct Counts {
     answered: u64,
 }
 
-impl Counts {
-    const NONE: Counts = Counts {
+impl ReplyCounts {
+    const NONE: ReplyCounts = ReplyCounts {
         malformed: Told::NEVER,
         faulted: Told::NEVER,
         wanting: Told::NEVER,
@@ -98,12 +98,12 @@ struct Lines {
     faulted: Likeness,
     wanting: Likeness,
     settled: Likeness,
-    counts: Counts,
+    counts: ReplyCounts,
 }
 
 impl Lines {
     /// A line of which nothing was seen, behind these.
-    fn behind(counts: Counts) -> Lines {
+    fn behind(counts: ReplyCounts) -> Lines {
         Lines {
             size: 0,
             malformed: Likeness::of(MALFORMED),
@@ -115,7 +115,7 @@ impl Lines {
     }
 
     /// What the lines told, this one among them.
-    fn ended(&self) -> Counts {
+    fn ended(&self) -> ReplyCounts {
         let mut counts = self.counts;
         if self.settled.is_front(self.size) {
             return counts;
@@ -164,12 +164,12 @@ impl<K> Tally<K> {
     pub fn new(sink: K) -> Tally<K> {
         Tally {
             sink,
-            lines: Lines::behind(Counts::NONE),
+            lines: Lines::behind(ReplyCounts::NONE),
         }
     }
 
     /// What was told so far.
-    pub fn counts(&self) -> Counts {
+    pub fn counts(&self) -> ReplyCounts {
         self.lines.counts
     }
 }

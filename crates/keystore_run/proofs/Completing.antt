@@ -33,7 +33,7 @@ use Rattle.keystore_run.specs.Complete.{AreFaultless, Completes, GivesAll, IsOpe
 use Rattle.keystore_run.specs.Drawn.{DrewAll}
 use Rattle.keystore_run.specs.Ends.{Ends, EndsOk}
 use Rattle.keystore_run.specs.Follows.{Follows}
-use Rattle.keystore_run.specs.Kept.{Keeps, failed_of}
+use Rattle.keystore_run.specs.KeptStores.{Keeps, failed_of}
 use Rattle.keystore_run.specs.Lines.{AreLines, IsFree, begun_with, ended, lines_of}
 use Rattle.keystore_run.specs.Runs.{Does, Formatted, Given, IsRefused, Opened, Refused, Runs, RunsFresh, Unformatted, given}
 use Rattle.keystore_run.proofs.LineLemmas.{lines_of-ended}

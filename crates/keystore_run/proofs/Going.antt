@@ -23,7 +23,7 @@ use Rattle.keystore_run.specs.Follows.{Follows}
 use Rattle.keystore_run.specs.Halts.{status_of}
 use Rattle.keystore_run.specs.Lines.{AreLines, IsFree, ended, lines_of}
 use Rattle.keystore_run.specs.Serving.{IsServed, IsServedInPart, IsUnserved, ServesLine}
-use Rattle.keystore_run.specs.Kept.{Keeps}
+use Rattle.keystore_run.specs.KeptStores.{Keeps}
 use Rattle.keystore_run.specs.Session.{GoesOn, StandsFor, devices}
 use Rattle.keystore_run.specs.Window.{HasNoFeedBelow, IsFirstFeed}
 use Rattle.keystore_run.proofs.DrawLemmas.{drew_none, drew_nothing, drew_on}

@@ -15,7 +15,7 @@ use Rattle.rule_model.specs.Setup.{Setup}
 use Rattle.keystore_core.specs.Engine.{MayHold, MayHoldEither}
 use Rattle.keystore_core.specs.Opening.{IsUnwritten}
 use Rattle.keystore_core.specs.Restarting.{is_other_store}
-use Rattle.keystore_run.specs.Kept.{AtSome, AtSomeSince, IsFront, Keeps, KeepsMore, estranged_of, failed_of}
+use Rattle.keystore_run.specs.KeptStores.{AtSome, AtSomeSince, IsFront, Keeps, KeepsMore, estranged_of, failed_of}
 use Rattle.keystore_run.proofs.DrawLemmas.{counted, unchanged}
 
 -- ---- fronts

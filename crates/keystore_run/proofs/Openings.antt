@@ -1,20 +1,21 @@
 -- A store that was opened, and the run over it.
 use Rattle.std.proofs.Common.{◌≡◌, ℕ, ◌≤◌, Bool, true, false, [], Option, Some, None, Err, refl, sym, ◌∙◌, subst, arith}
 use Rattle.ks_outside.specs.Faults.{Rises}
-use Rattle.ks_outside.specs.Images.{AllImages, Passes, tells}
+use Rattle.ks_outside.specs.Images.{AllImages, Reads, tells}
 use Rattle.ks_outside.specs.Shown.{Outside}
 use Rattle.ks_outside.specs.declared.disk.Disk.{Ghosts as DiskGhosts}
 use Rattle.ks_outside.specs.declared.entropy.Entropy.{Ghosts as EntropyGhosts}
 use Rattle.ks_outside.specs.declared.sink.Sink.{Ghosts as SinkGhosts}
 use Rattle.ks_outside.specs.declared.source.Source.{Ghosts as SourceGhosts}
 use Rattle.ks_outside.proofs.Joins.{passes_none}
+use Rattle.journal_records.specs.Commits.{open_failed}
 use Rattle.journal_records.specs.LastingPart.{Lasting}
 use Rattle.key_database.specs.Store.{StandsFor as IsStoreOf}
 use Rattle.rule_model.specs.Setup.{Setup}
 use Rattle.keystore_core.specs.declared.engine.Engine.{Engine}
-use Rattle.keystore_core.specs.declared.engine.OpenFault.{OpenFault}
-use Rattle.keystore_core.specs.declared.engine.OpenFault.TheVariants as faults
-use Rattle.keystore_core.specs.Engine.{OpenFaults, OpensFor, OpensStore, Stands, StoreStands}
+use Rattle.journal_records.specs.declared.fault.StoreFault.{StoreFault}
+use Rattle.journal_records.specs.declared.fault.StoreFault.TheVariants as faults
+use Rattle.keystore_core.specs.Engine.{OpensFor, OpensStore, Stands, StoreStands}
 use Rattle.keystore_core.specs.Opening.{IsRead, IsUnwritten}
 use Rattle.keystore_run.specs.declared.session.Session.{Session}
 use Rattle.keystore_run.specs.declared.status.Status.{Status}
@@ -34,19 +35,17 @@ session_stands d setup engine session disk same stands store held = record {
 }
 
 module _ {D : Type 0} (d : DiskGhosts D) where
-  pub unwritten : (old new : D) → Passes d old new (d.images old) → d.fault_count new ≡ d.fault_count old → tells d new ≡ tells d old → IsUnwritten d old new
-  unwritten old new passes count telling = record { passes = passes; count = count; telling = telling }
-
   pub unwritten_none : (disk : D) → IsUnwritten d disk disk
   unwritten_none disk = record { passes = passes_none d disk (d.images disk); count = refl; telling = refl }
 
   -- a run whose store was not opened, by why it was not
-  pub refused : (old new : D) (fault : OpenFault) → AllImages d new (d.images old) → Passes d old new (d.images old) → OpenFaults (d.fault_count old) (d.fault_count new) (Err fault)
+  pub refused : (old new : D) (fault : StoreFault) → Reads d old new (open_failed {T = Engine} (Err fault))
       → AllImages d new (λ image. OpensStore image (Err fault)) → ((part : Lasting) → AllImages d old (IsStoreOf part) → tells d old ≡ true → OpensFor part (Err fault))
       → IsRefused d old new (refusal_of fault)
-  refused old new faults.Device images passes cause reads finds = record { images = images; passes = passes; later = cause.0; refuses = cause.1 }
-  refused old new (faults.Corrupted offset) images passes cause reads finds = record { images = images; passes = passes; later = omega (arith, cause); refuses = record { bad = reads; same = cause; no_store = finds } }
-  refused old new faults.Memory images passes cause reads finds = record { images = images; passes = passes; later = omega (arith, cause); refuses = cause }
+  refused old new faults.Device only reads finds = record { images = only.images; passes = only.passes; later = only.goes.cause.later; refuses = only.goes.cause.rises refl }
+  refused old new (faults.Corrupted offset) only reads finds =
+      record { images = only.images; passes = only.passes; later = only.goes.cause.later; refuses = record { bad = reads; same = only.goes.cause.same refl; no_store = finds } }
+  refused old new faults.Memory only reads finds = record { images = only.images; passes = only.passes; later = only.goes.cause.later; refuses = only.goes.cause.same refl }
 
   -- one that found no memory before it called the disk
   pub refused_early : (disk : D) → IsRefused d disk disk statuses.Memory

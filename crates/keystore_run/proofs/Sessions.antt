@@ -25,7 +25,7 @@ use Rattle.keystore_run.specs.declared.answer.Answer.{Answer}
 use Rattle.keystore_run.specs.Answers.{text_in}
 use Rattle.keystore_run.specs.Follows.{SaysStep, leave_at, ticket_due}
 use Rattle.keystore_run.specs.Serving.{IsServedInPart, IsUnserved}
-use Rattle.keystore_run.specs.Kept.{KeepsMore}
+use Rattle.keystore_run.specs.KeptStores.{KeepsMore}
 use Rattle.keystore_run.specs.Session.{Devices, StandsFor, GoesBy, GoesOn, Serves, ServesBy, Stays, StepsTo, devices}
 use Rattle.keystore_run.proofs.DrawLemmas.{drew_both, drew_nothing, drew_step, one_more, undrawn_both, undrawn_step}
 use Rattle.keystore_run.proofs.KeepLemmas.{keeps_both, keeps_nothing}

@@ -7,8 +7,8 @@ use Rattle.ks_outside.specs.Shown.{Put}
 use Rattle.ks_outside.specs.declared.disk.Disk.{Ghosts as DiskGhosts}
 use Rattle.ks_outside.specs.declared.entropy.Entropy.{Ghosts as EntropyGhosts}
 use Rattle.ks_outside.specs.declared.sink.Sink.{Ghosts as SinkGhosts}
-use Rattle.disk_model.specs.Calls.{Call}
-use Rattle.disk_model.specs.Kept.{IsImage, WasImage}
+use Rattle.disk_model.specs.DiskCalls.{Call}
+use Rattle.disk_model.specs.CrashImages.{IsImage, WasImage}
 use Rattle.rand_chacha.specs.ChaCha.{of_seed}
 use Rattle.tags.specs.declared.code.Code.{Code}
 use Rattle.tags.specs.declared.policy.PolicyRow.{PolicyRow}

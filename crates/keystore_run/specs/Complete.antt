@@ -21,7 +21,7 @@ use Rattle.keystore_run.specs.declared.status.Status.{Status}
 use Rattle.keystore_run.specs.declared.status.Status.TheVariants as statuses
 use Rattle.keystore_run.specs.Drawn.{DrewAll}
 use Rattle.keystore_run.specs.Follows.{Follows}
-use Rattle.keystore_run.specs.Kept.{estranged_of, failed_of}
+use Rattle.keystore_run.specs.KeptStores.{estranged_of, failed_of}
 use Rattle.keystore_run.specs.Lines.{AreLines, lines_of}
 use Rattle.keystore_run.specs.Runs.{Given, IsFormatted}
 use Rattle.tags.specs.declared.limits.TheConstants.{SCRIPT_BYTES}

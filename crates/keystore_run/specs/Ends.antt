@@ -14,7 +14,7 @@ use Rattle.keystore_run.specs.declared.status.Status.{Status}
 use Rattle.keystore_run.specs.declared.status.Status.TheVariants as statuses
 use Rattle.keystore_run.specs.Drawn.{DrewAll}
 use Rattle.keystore_run.specs.Follows.{Follows}
-use Rattle.keystore_run.specs.Kept.{Keeps}
+use Rattle.keystore_run.specs.KeptStores.{Keeps}
 use Rattle.keystore_run.specs.Lines.{AreLines, IsFree, ended, lines_of}
 use Rattle.tags.specs.declared.limits.TheConstants.{LINE_BYTES, SCRIPT_BYTES}
 

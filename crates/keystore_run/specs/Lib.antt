@@ -5,9 +5,9 @@ pub mod Ends
 pub mod Finds
 pub mod Follows
 pub mod Halts
-pub mod Held
+pub mod Readers
 pub mod Jobs
-pub mod Kept
+pub mod KeptStores
 pub mod Lines
 pub mod Loading
 pub mod Runs

@@ -12,8 +12,8 @@ use Rattle.tags.specs.declared.secrets.DeviceSecrets.{DeviceSecrets}
 use Rattle.journal_records.specs.LastingPart.{Lasting, empty_lasting}
 use Rattle.key_database.specs.Store.{IsBadStore, StandsFor}
 use Rattle.rule_model.specs.Setup.{Setup}
-use Rattle.keystore_core.specs.declared.engine.OpenFault.{OpenFault}
-use Rattle.keystore_core.specs.declared.engine.OpenFault.TheVariants as faults
+use Rattle.journal_records.specs.declared.fault.StoreFault.{StoreFault}
+use Rattle.journal_records.specs.declared.fault.StoreFault.TheVariants as faults
 use Rattle.keystore_core.specs.Opening.{IsRead, IsSetup}
 use Rattle.keystore_run.specs.declared.status.Status.{Status}
 use Rattle.keystore_run.specs.declared.status.Status.TheVariants as statuses
@@ -38,7 +38,7 @@ abbrev pub given : DeviceSecrets → List PolicyRow → ℕ → Given
 given device policy slots = record { device = device; policy = policy; slots = slots }
 
 -- the status of a run whose store was not opened
-abbrev pub refusal_of : OpenFault → Status
+abbrev pub refusal_of : StoreFault → Status
 refusal_of faults.Device = statuses.DiskFault
 refusal_of (faults.Corrupted offset) = statuses.Corrupted offset
 refusal_of faults.Memory = statuses.Memory

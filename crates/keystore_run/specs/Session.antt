@@ -20,7 +20,7 @@ use Rattle.keystore_run.specs.declared.session.Session.{Session}
 use Rattle.keystore_run.specs.Drawn.{DrewMore}
 use Rattle.keystore_run.specs.Follows.{Says}
 use Rattle.keystore_run.specs.Jobs.{HasRoomForJob, JobsStand}
-use Rattle.keystore_run.specs.Kept.{KeepsMore, failed_of}
+use Rattle.keystore_run.specs.KeptStores.{KeepsMore, failed_of}
 
 -- the disk and the entropy that a session is handed, at one moment
 pub record Devices (D N : Type 0) : Type 0 where

@@ -2,7 +2,7 @@
 use Rattle.std.specs.Prelude.{◌≡◌, ◌≢◌, ℕ, ◌<◌, List, length, slice_index}
 
 -- the bytes that are held, and how many were taken in all
-pub record Held : Type 0 where
+pub record ReaderView : Type 0 where
   pub bytes : List ℕ
   pub taken : ℕ
 

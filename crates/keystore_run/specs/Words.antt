@@ -2,7 +2,7 @@
 use Rattle.std.specs.Prelude.{ℕ, ◌-◌, ◌^◌, ◌<◌, ◌≤◌, Bool, true, false, ◌&&◌, List, [], ◌∷◌, Option, Some, None, option_map, if◌then◌else◌, codes, string_bytes}
 use Rattle.std.specs.declared.string.String.{String}
 use Rattle.std.specs.declared.alloc.Global.{Global}
-use Rattle.command_words.specs.Numbers.{is_word, number_in}
+use Rattle.byte_strings.specs.Numbers.{is_word, number_in}
 use Rattle.keystore_run.specs.declared.words.Form.{Form}
 use Rattle.keystore_run.specs.declared.words.Form.TheVariants.{Init, Run, Soak}
 use Rattle.tags.specs.declared.limits.TheConstants.{MOST_SLOTS}

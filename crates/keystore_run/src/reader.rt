@@ -39,11 +39,11 @@ pub struct LineReader {
 }
 
 impl Model for LineReader {
-    ghost use Rattle.keystore_run.specs.Window.{Held};
+    ghost use Rattle.keystore_run.specs.Window.{ReaderView};
 
-    ghost Value = { Held };
+    ghost Value = { ReaderView };
 
-    ghost use Rattle.keystore_run.specs.Held.{held_of, IsReader};
+    ghost use Rattle.keystore_run.specs.Readers.{held_of, IsReader};
 
     ghost view = { held_of };
 

@@ -13,7 +13,7 @@ use crate::answer::Answer;
 use crate::session::Session;
 use crate::status::Status;
 use crate::writer::write_all;
-use disk_model::{MemoryDisk, Room};
+use disk_model::{DiskRoom, MemoryDisk};
 use keystore_core::Engine;
 use ks_outside::{Disk, Entropy, SeededEntropy, Sink};
 use soak_lines::{SoakScript, Summary, seed_of};
@@ -24,7 +24,7 @@ use tags::{Code, DeviceSecrets, NoMemory, Policy};
 const SLOTS: usize = 16;
 
 /// Room that the disk of a load takes as it goes.
-const NO_ROOM: Room = Room {
+const NO_ROOM: DiskRoom = DiskRoom {
     calls: 0,
     bytes: 0,
     pages: 0,

@@ -5,7 +5,7 @@ ghost use Rattle.std.specs.Str.{bytes_eq};
 ghost use Rattle.keystore_run.specs.Words as spec;
 ghost use Rattle.keystore_run.specs.Words.{IsWithin};
 
-use command_words::number_in;
+use byte_strings::number_in;
 use soak_lines::MOST_LINES;
 use tags::MOST_SLOTS;
 

@@ -17,7 +17,7 @@ use Rattle.atomic_table.specs.Seated.{TableId, table_id_coded}
 use Rattle.turn_lock.specs.declared.lock.RestingMaker.{RestingMaker}
 use Rattle.turn_lock.specs.declared.view.Hand.{Hand}
 use Rattle.turn_lock.specs.Views.{AllNamed}
-use Rattle.shared_service.specs.declared.name.Name.{Name}
+use Rattle.shared_service.specs.declared.name.ServiceId.{ServiceId}
 use Rattle.shared_service.specs.declared.pass.Pass.{Pass}
 use Rattle.shared_service.specs.declared.shared.Shared.{Shared}
 use Rattle.shared_service.specs.Kinds.{connected_after}
@@ -87,12 +87,12 @@ named_prop : {E K : Type 0} → IsEqualInOneWay K → (name : K) (hands : List (
 named_prop set name [] = Unit-prop
 named_prop set name (h ∷ hs) = ×_prop (set h.name name) (named_prop set name hs)
 
-rests_prop : IsEqualInOneWay Name → (lock : TableId) (name : Name) (pass : Pass) → IsProp (RestsAt lock name pass)
-rests_prop set lock name pass = hlevel (props, Coded-set table_id_coded, named_prop {E = BookEntry} {K = Name} set)
+rests_prop : IsEqualInOneWay ServiceId → (lock : TableId) (name : ServiceId) (pass : Pass) → IsProp (RestsAt lock name pass)
+rests_prop set lock name pass = hlevel (props, Coded-set table_id_coded, named_prop {E = BookEntry} {K = ServiceId} set)
 
-holds_prop : IsEqualInOneWay Name → (lock : TableId) (name : Name) (count number : ℕ) (maker : Option (RestingMaker BookEntry Name)) → IsProp (HoldsMaker lock name count number maker)
+holds_prop : IsEqualInOneWay ServiceId → (lock : TableId) (name : ServiceId) (count number : ℕ) (maker : Option (RestingMaker BookEntry ServiceId)) → IsProp (HoldsMaker lock name count number maker)
 holds_prop set lock name count number None = hlevel props
-holds_prop set lock name count number (Some maker) = hlevel (props, Coded-set table_id_coded, named_prop {E = BookEntry} {K = Name} set)
+holds_prop set lock name count number (Some maker) = hlevel (props, Coded-set table_id_coded, named_prop {E = BookEntry} {K = ServiceId} set)
 
-pub ours_prop : {D N : Type 0} {d : DiskGhosts D} {n : EntropyGhosts N} → IsEqualInOneWay Name → (shared : Shared D N d n) (pass : Pass) → IsProp (IsOurs shared pass)
+pub ours_prop : {D N : Type 0} {d : DiskGhosts D} {n : EntropyGhosts N} → IsEqualInOneWay ServiceId → (shared : Shared D N d n) (pass : Pass) → IsProp (IsOurs shared pass)
 ours_prop set shared pass = hlevel (rests_prop set, holds_prop set)

@@ -14,8 +14,8 @@ use Rattle.key_database.specs.Store.{StandsFor}
 use Rattle.rule_model.specs.Legal.{Legal}
 use Rattle.rule_model.specs.Setup.{Setup}
 use Rattle.keystore_core.specs.declared.engine.Engine.{Engine}
-use Rattle.keystore_core.specs.declared.engine.OpenFault.{OpenFault}
-use Rattle.keystore_core.specs.declared.engine.OpenFault.TheVariants as faults
+use Rattle.journal_records.specs.declared.fault.StoreFault.{StoreFault}
+use Rattle.journal_records.specs.declared.fault.StoreFault.TheVariants as faults
 use Rattle.keystore_core.specs.Engine.{MayHold, StoreStands}
 use Rattle.rule_model.specs.Entries.{History}
 use Rattle.service_book.specs.declared.entry.BookEntry.{BookEntry}
@@ -99,22 +99,22 @@ module _ {B L D N : Type 0} (b : ListenerGhosts B L) (l : LinkGhosts L) (d : Dis
 
 -- ---- a store that was not opened
 
-pub refused_listens : (fault : OpenFault) → is_listen_fault (refusal_of fault) ≡ false
+pub refused_listens : (fault : StoreFault) → is_listen_fault (refusal_of fault) ≡ false
 refused_listens faults.Device = refl
 refused_listens (faults.Corrupted offset) = refl
 refused_listens faults.Memory = refl
 
-pub refused_usage : (fault : OpenFault) → refusal_of fault ≡ statuses.Usage → ⊥
+pub refused_usage : (fault : StoreFault) → refusal_of fault ≡ statuses.Usage → ⊥
 refused_usage faults.Device e = cc
 refused_usage (faults.Corrupted offset) e = cc
 refused_usage faults.Memory e = cc
 
-pub refused_disk : {D : Type 0} (d : DiskGhosts D) (old new : D) (fault : OpenFault) → IsRefused d old new fault → refusal_of fault ≡ statuses.DiskFault → Rises (d.fault_count old) (d.fault_count new)
-refused_disk d old new faults.Device is e = is.cause.1
+pub refused_disk : {D : Type 0} (d : DiskGhosts D) (old new : D) (fault : StoreFault) → IsRefused d old new fault → refusal_of fault ≡ statuses.DiskFault → Rises (d.fault_count old) (d.fault_count new)
+refused_disk d old new faults.Device is e = is.goes.goes.cause.rises refl
 refused_disk d old new (faults.Corrupted offset) is e = absurd (cc)
 refused_disk d old new faults.Memory is e = absurd (cc)
 
-pub refused_completed : {D : Type 0} (d : DiskGhosts D) (old new : D) (fault : OpenFault) → IsRefused d old new fault → (part : Lasting) → AllImages d old (StandsFor part) → tells d old ≡ true → IsCompleted (refusal_of fault)
+pub refused_completed : {D : Type 0} (d : DiskGhosts D) (old new : D) (fault : StoreFault) → IsRefused d old new fault → (part : Lasting) → AllImages d old (StandsFor part) → tells d old ≡ true → IsCompleted (refusal_of fault)
 refused_completed d old new faults.Device is part stands told = tt
 refused_completed d old new (faults.Corrupted offset) is part stands told = is.finds part stands told
 refused_completed d old new faults.Memory is part stands told = tt

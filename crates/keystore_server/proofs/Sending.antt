@@ -3,7 +3,7 @@ use denote.Param.Send.{IsSend, IsSync, recorded_send, sendable, struct_send}
 use denote.Struct.Declared.{shape}
 use denote.RattleType.{RattleType}
 use denote.Ref.{NamedLft}
-use Rattle.keystore_server.specs.contracts.caller.Caller as caller_type
+use Rattle.keystore_server.specs.contracts.caller.ServicePass as caller_type
 use Rattle.ks_outside.specs.declared.disk.Disk.{Ghosts as DiskGhosts}
 use Rattle.ks_outside.specs.declared.entropy.Entropy.{Ghosts as EntropyGhosts}
 use Rattle.shared_service.specs.contracts.shared.Shared as shared_type

@@ -1,6 +1,6 @@
 -- How a service over a listener ends: what was opened, what was served, what its book says, and what is on the disk.
 use Rattle.std.specs.Prelude.{◌≡◌, ◌<◌, ℕ, All, Bool, true, false, List, [], Some, None, Err}
-use Rattle.ks_outside.specs.Images.{AllImages, Passes, tells}
+use Rattle.ks_outside.specs.Images.{AllImages, Reads, tells}
 use Rattle.ks_outside.specs.declared.clock.Reading.{Reading}
 use Rattle.ks_outside.specs.declared.disk.Disk.{Ghosts as DiskGhosts}
 use Rattle.ks_outside.specs.declared.entropy.Entropy.{Ghosts as EntropyGhosts}
@@ -14,9 +14,11 @@ use Rattle.rule_model.specs.declared.event.Act.{Act}
 use Rattle.rule_model.specs.declared.reply.Reply.{Reply}
 use Rattle.rule_model.specs.Legal.{Legal}
 use Rattle.rule_model.specs.Setup.{Setup}
-use Rattle.keystore_core.specs.declared.engine.OpenFault.{OpenFault}
-use Rattle.keystore_core.specs.declared.engine.OpenFault.TheVariants as faults
-use Rattle.keystore_core.specs.Engine.{MayHold, OpenFaults, OpensFor, OpensStore}
+use Rattle.journal_records.specs.Commits.{open_failed}
+use Rattle.journal_records.specs.declared.fault.StoreFault.{StoreFault}
+use Rattle.journal_records.specs.declared.fault.StoreFault.TheVariants as faults
+use Rattle.keystore_core.specs.declared.engine.Engine.{Engine}
+use Rattle.keystore_core.specs.Engine.{MayHold, OpensFor, OpensStore}
 use Rattle.keystore_core.specs.Opening.{IsRead, IsSetup}
 use Rattle.service_book.specs.declared.entry.BookEntry.{BookEntry}
 use Rattle.service_book.specs.Book.{AreLater, Counts, IsCaused, counts_after, history_of, log_of}
@@ -35,7 +37,7 @@ use Rattle.keystore_server.specs.declared.words.ServeForm.{ServeForm}
 -- ---- statuses
 
 -- the status of a service whose store was not opened
-abbrev pub refusal_of : OpenFault → ServeStatus
+abbrev pub refusal_of : StoreFault → ServeStatus
 refusal_of faults.Device = statuses.DiskFault
 refusal_of (faults.Corrupted offset) = statuses.Corrupted offset
 refusal_of faults.Memory = statuses.Memory
@@ -61,12 +63,10 @@ IsCompleted _ = Unit {0}
 module _ {D : Type 0} (d : DiskGhosts D) where
   -- The store was not opened, and nothing was written: each image, at each moment, is one of those before, and has wrong what the fault
   -- says; over a disk that tells its content where all images stood for one lasting part nothing is wrong.
-  pub record IsRefused (old new : D) (fault : OpenFault) : Type 0 where
-    pub images : AllImages d new (d.images old)
-    pub passes : Passes d old new (d.images old)
+  pub record IsRefused (old new : D) (fault : StoreFault) : Type 0 where
+    pub goes : Reads d old new (open_failed {T = Engine} (Err fault))
     pub reads : AllImages d new (λ image. OpensStore image (Err fault))
     pub finds : (part : Lasting) → AllImages d old (StandsFor part) → tells d old ≡ true → OpensFor part (Err fault)
-    pub cause : OpenFaults (d.fault_count old) (d.fault_count new) (Err fault)
 
 -- ---- a worker
 
@@ -126,4 +126,4 @@ module _ {B L D N : Type 0} (b : ListenerGhosts B L) (l : LinkGhosts L) (d : Dis
   -- What the service came to: the store was opened, with 16 slots, and served over; or it was not opened, and nothing else was touched.
   pub data Serves (device : DeviceSecrets) (policy : List PolicyRow) (form : ServeForm) (listener : B) (disk : D) (entropy : N) (end : ServeEnd B D N) : Type 0 where
     Opened : (opened : D) (setup : Setup) → IsSetup setup device policy 16 → IsRead d setup disk opened → ServesOn setup form listener opened entropy end → Serves device policy form listener disk entropy end
-    Refused : (fault : OpenFault) → IsRefused d disk end.disk fault → end.status ≡ refusal_of fault → IsApart listener entropy end → Serves device policy form listener disk entropy end
+    Refused : (fault : StoreFault) → IsRefused d disk end.disk fault → end.status ≡ refusal_of fault → IsApart listener entropy end → Serves device policy form listener disk entropy end

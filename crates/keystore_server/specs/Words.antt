@@ -2,7 +2,7 @@
 use Rattle.std.specs.Prelude.{ℕ, ◌<◌, ◌≤◌, List, [], ◌∷◌, Option, Some, None, if◌then◌else◌, codes, string_bytes}
 use Rattle.std.specs.declared.string.String.{String}
 use Rattle.std.specs.declared.alloc.Global.{Global}
-use Rattle.command_words.specs.Numbers.{is_word, number_in, threads_in}
+use Rattle.byte_strings.specs.Numbers.{is_word, number_in, threads_in}
 use Rattle.keystore_server.specs.declared.words.ServeForm.{ServeForm}
 
 -- the form of a port, connections and workers, where there are all three

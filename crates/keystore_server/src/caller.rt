@@ -7,13 +7,13 @@ ghost use Rattle.keystore_server.specs.Equality.{IsEqualInOneWay};
 use connections::Answerer;
 use ks_outside::{Clock, Disk, Entropy, Gate};
 use rule_model::Reply;
-use shared_service::{Name, Pass, Served, Shared};
+use shared_service::{Pass, Served, ServiceId, Shared};
 use std::sync::Wait;
 use wire_frames::Request;
 
 /// A pass of a service, with the clocks and the gate of its calls.
 #[derive(Drop)]
-pub struct Caller<'a, D: Disk, N: Entropy, C, G> {
+pub struct ServicePass<'a, D: Disk, N: Entropy, C, G> {
     pub(crate) shared: &'a Shared<D, N>,
     pub(crate) pass: Pass,
     pub(crate) clock: &'a C,
@@ -21,19 +21,19 @@ pub struct Caller<'a, D: Disk, N: Entropy, C, G> {
     ghost ours: { ∥ IsOurs shared.now pass ∥₁ },
 }
 
-impl<'a, D: Disk, N: Entropy, C, G> Caller<'a, D, N, C, G> {
+impl<'a, D: Disk, N: Entropy, C, G> ServicePass<'a, D, N, C, G> {
     /// A caller by a pass of the service.
     pub(crate) fn new(
         shared: &'a Shared<D, N>,
         pass: Pass,
         clock: &'a C,
         gate: &'a G,
-    ) -> Caller<'a, D, N, C, G>
+    ) -> ServicePass<'a, D, N, C, G>
         requires ours { IsOurs shared.now pass }
         ensures shared { result.shared.now ≡ shared.now }
         ensures pass { result.pass ≡ pass }
     {
-        Caller {
+        ServicePass {
             shared,
             pass,
             clock,
@@ -45,7 +45,7 @@ impl<'a, D: Disk, N: Entropy, C, G> Caller<'a, D, N, C, G> {
     pub(crate) fn into_pass(self) -> Pass
         ensures { result ≡ self.entry.pass }
     {
-        let Caller { pass, .. } = self;
+        let ServicePass { pass, .. } = self;
         pass
     }
 }
@@ -56,7 +56,7 @@ fn equal_in_one_way<T>()
     ensures { IsEqualInOneWay T }
 {}
 
-impl<'a, D: Disk, N: Entropy, C: Clock, G: Gate> Answerer for Caller<'a, D, N, C, G> {
+impl<'a, D: Disk, N: Entropy, C: Clock, G: Gate> Answerer for ServicePass<'a, D, N, C, G> {
     ghost use Rattle.std.specs.Prelude.{◌≡◌};
     ghost use Rattle.shared_service.specs.Passes.{connected_of};
     ghost use Rattle.keystore_server.specs.Calling.{IsAnswered};
@@ -66,8 +66,8 @@ impl<'a, D: Disk, N: Entropy, C: Clock, G: Gate> Answerer for Caller<'a, D, N, C
     ghost connected = { λ caller. connected_of caller.pass };
 
     fn answer<R: Wait>(self, rt: &R, request: Request) -> (Self, Reply) {
-        equal_in_one_way::<Name>();
-        let Caller {
+        equal_in_one_way::<ServiceId>();
+        let ServicePass {
             shared,
             pass,
             clock,
@@ -76,7 +76,7 @@ impl<'a, D: Disk, N: Entropy, C: Clock, G: Gate> Answerer for Caller<'a, D, N, C
         let reading = clock.now();
         let (pass, served) = shared.call(rt, pass, reading, request, gate);
         let Served { reply, .. } = served;
-        let caller = Caller::new(shared, pass, clock, gate);
+        let caller = ServicePass::new(shared, pass, clock, gate);
         (caller, reply)
     }
 }

@@ -9,7 +9,7 @@ ghost use Rattle.connections.specs.Ends.{EndsWhole, Serves};
 ghost use Rattle.shared_service.specs.Passes.{IsOurs, connected_of, number_of};
 ghost use Rattle.keystore_server.specs.Calling.{IsAnswered};
 
-use crate::caller::Caller;
+use crate::caller::ServicePass;
 use connections::{End, serve_link};
 use ks_outside::{Clock, Disk, Entropy, Gate, Link};
 use shared_service::{Pass, Shared};
@@ -38,7 +38,7 @@ pub fn serve_connection<R: Wait, L: Link, D: Disk, N: Entropy, C: Clock, G: Gate
     ensures number { number_of result.0 ≡ number_of pass }
     ensures free { connected_of result.0 ≡ false }
 {
-    let caller = Caller::new(shared, pass, clock, gate);
+    let caller = ServicePass::new(shared, pass, clock, gate);
     let (caller, end) = serve_link(rt, alloc, link, caller);
     (caller.into_pass(), end)
 }

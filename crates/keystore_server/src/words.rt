@@ -4,7 +4,7 @@ ghost use Rattle.std.specs.Prelude.{◌≡◌, IfSome};
 ghost use Rattle.keystore_server.specs.Words as spec;
 ghost use Rattle.keystore_server.specs.Words.{IsWithin};
 
-use command_words::{number_in, threads_in};
+use byte_strings::{number_in, threads_in};
 
 /// What the words of a service ask for.
 #[derive(Clone, Copy, Debug, PartialEq, Eq)]

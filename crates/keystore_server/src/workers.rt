@@ -5,7 +5,7 @@ ghost use Rattle.connection_workers.specs.Workers.{answerer_of};
 ghost use Rattle.shared_service.specs.Passes.{IsOurs};
 ghost use Rattle.keystore_server.specs.Listening.{AllAnswered, ArePaired};
 
-use crate::caller::Caller;
+use crate::caller::ServicePass;
 use connection_workers::Worker;
 use ks_outside::{Disk, Entropy};
 use shared_service::{Pass, Shared};
@@ -28,7 +28,7 @@ pub(crate) fn add_workers<'a, B: Drop, D: Disk + Drop, N: Entropy + Drop, C, G>(
     passes: Vec<Pass>,
     clock: &'a C,
     gate: &'a G,
-    workers: &mut Vec<Worker<B, Caller<'a, D, N, C, G>>>,
+    workers: &mut Vec<Worker<B, ServicePass<'a, D, N, C, G>>>,
 )
     requires none { length workers.old.items ≡ 0 }
     requires places { length passes.items ≤ vec_capacity workers.old }
@@ -37,7 +37,7 @@ pub(crate) fn add_workers<'a, B: Drop, D: Disk + Drop, N: Entropy + Drop, C, G>(
 {
     let mut left = passes.into_iter();
     'passes: while let Some(pass) = left.next() {
-        let caller = Caller::new(shared, pass, clock, gate);
+        let caller = ServicePass::new(shared, pass, clock, gate);
         add(workers, Worker::of(caller));
     }
 }
@@ -55,7 +55,7 @@ fn answerer_in<B, A>(worker: Worker<B, A>) -> A
 
 /// Takes the passes of the workers back, in their order, where there were none and are places for them.
 pub(crate) fn take_passes<'a, B: Drop, D: Disk + Drop, N: Entropy + Drop, C, G>(
-    workers: Vec<Worker<B, Caller<'a, D, N, C, G>>>,
+    workers: Vec<Worker<B, ServicePass<'a, D, N, C, G>>>,
     passes: &mut Vec<Pass>,
 )
     requires none { length passes.old.items ≡ 0 }

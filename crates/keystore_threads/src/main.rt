@@ -17,9 +17,9 @@ mod rows;
 mod words;
 
 use crate::rows::{full, held, limited, pair, run_row, show};
-use crate::words::Words;
+use crate::words::LoadWords;
 use service_book::Book;
-use service_load::{Board, Kind, Load, run};
+use service_load::{Board, Load, LoadKind, run};
 use std::io;
 use std::process::ExitCode;
 
@@ -29,7 +29,7 @@ fn show_load(rt: &HostRuntime, load: Load, right: u64, book: Option<Book>) -> io
         println!(rt; "keystore_threads: want of memory")?;
         return Ok(ExitCode::from(1));
     };
-    if load.kind == Kind::Book {
+    if load.kind == LoadKind::Book {
         for entry in book.entries() {
             println!(rt; "{entry:?}")?;
         }
@@ -40,15 +40,15 @@ fn show_load(rt: &HostRuntime, load: Load, right: u64, book: Option<Book>) -> io
 }
 
 fn main(rt: HostRuntime) -> io::Result<ExitCode> {
-    match Words::read(&rt)? {
-        Some(Words::Check) => {
+    match LoadWords::read(&rt)? {
+        Some(LoadWords::Check) => {
             show(&rt, pair(), run_row(&rt, rt.alloc(), pair(), 2))?;
             show(&rt, held(), run_row(&rt, rt.alloc(), held(), 2))?;
             show(&rt, limited(), run_row(&rt, rt.alloc(), limited(), 8))?;
             show(&rt, full(), run_row(&rt, rt.alloc(), full(), 1))?;
             Ok(ExitCode::SUCCESS)
         }
-        Some(Words::Load(load)) => {
+        Some(LoadWords::Load(load)) => {
             let board = Board::new(load.kind.plan(), load.rounds);
             let book = run(&rt, rt.alloc(), &board, load.threads);
             show_load(&rt, load, board.counts().right, book)

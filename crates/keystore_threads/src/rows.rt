@@ -2,26 +2,31 @@
 
 ghost use Rattle.std.specs.Prelude.{◌<◌};
 
-use service_load::{Board, Call, Counts, MACS, Plan, USES, run};
+use service_load::{Board, Counts, LoadCall, LoadPlan, MACS, USES, run};
 use std::alloc::Global;
 use std::io;
 use std::sync::Wait;
 use std::thread::Threads;
 
 /// One thread fills the book, whose last places are those of a call that is too many and of the disconnect.
-static FILLS: Plan = Plan {
-    first: &[Call::Connect],
+static FILLS: LoadPlan = LoadPlan {
+    first: &[LoadCall::Connect],
     others: &[],
-    round: &[Call::Count],
-    last: &[Call::Count, Call::Disconnect],
+    round: &[LoadCall::Count],
+    last: &[LoadCall::Count, LoadCall::Disconnect],
     holds: false,
 };
 
 /// One thread's update is held until a call of another was answered. A service that did the work of a cipher, or called the gate,
 /// under its lock would never answer that call.
-static HOLDS: Plan = Plan {
-    first: &[Call::Connect, Call::Import, Call::Begin, Call::Update],
-    others: &[Call::Connect],
+static HOLDS: LoadPlan = LoadPlan {
+    first: &[
+        LoadCall::Connect,
+        LoadCall::Import,
+        LoadCall::Begin,
+        LoadCall::Update,
+    ],
+    others: &[LoadCall::Connect],
     round: &[],
     last: &[],
     holds: true,
@@ -31,7 +36,7 @@ static HOLDS: Plan = Plan {
 #[derive(Clone, Copy)]
 pub struct Row {
     name: &'static str,
-    plan: &'static Plan,
+    plan: &'static LoadPlan,
     rounds: u32,
 }
 
@@ -73,14 +78,19 @@ pub fn full() -> Row {
 
 /// What the calls of a row came to: the sum of the tickets with which the gate was called, and how many entries the book has.
 #[derive(Clone, Copy)]
-pub struct Outcome {
+pub struct RowOutcome {
     counts: Counts,
     tickets: u64,
     entries: usize,
 }
 
 /// Makes the calls of a row.
-pub fn run_row<R: Threads + Wait + Sync>(rt: &R, alloc: Global, row: Row, threads: u32) -> Outcome
+pub fn run_row<R: Threads + Wait + Sync>(
+    rt: &R,
+    alloc: Global,
+    row: Row,
+    threads: u32,
+) -> RowOutcome
     requires some { 0 < threads }
 {
     let board = Board::new(row.plan, row.rounds);
@@ -88,7 +98,7 @@ pub fn run_row<R: Threads + Wait + Sync>(rt: &R, alloc: Global, row: Row, thread
         Some(book) => book.entries().len(),
         None => 0,
     };
-    Outcome {
+    RowOutcome {
         counts: board.counts(),
         tickets: board.tickets(),
         entries,
@@ -96,8 +106,8 @@ pub fn run_row<R: Threads + Wait + Sync>(rt: &R, alloc: Global, row: Row, thread
 }
 
 /// Says what the calls of a row came to.
-pub fn show(rt: &HostRuntime, row: Row, outcome: Outcome) -> io::Result<()> {
-    let Outcome {
+pub fn show(rt: &HostRuntime, row: Row, outcome: RowOutcome) -> io::Result<()> {
+    let RowOutcome {
         counts,
         tickets,
         entries,

@@ -1,6 +1,7 @@
 -- Lemmas of the crate.
 pub mod Carried
 pub mod DrawLaws
+pub mod Goings
 pub mod Joins
 pub mod Pairs
 pub mod Shown

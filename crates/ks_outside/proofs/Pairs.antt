@@ -1,5 +1,6 @@
 -- What two device calls in a row do to the images.
 use Rattle.std.proofs.Common.{◌≡◌, inl, inr, ℕ, zero, suc, ◌+◌, ◌<◌, ◌≤◌, List, [], ◌∷◌, ◌++◌, length, length-append, take, drop, get_or, Option, Some, None, slice_get, refl, sym, ap, ◌∙◌, subst, arith}
+use Rattle.std.specs.Prelude.{is_some}
 use Rattle.std.proofs.lemmas.Bool.{cases_lt}
 use Rattle.std.proofs.lemmas.List.{length-take-le, take_all}
 use Rattle.ks_outside.specs.declared.disk.Disk.{Ghosts}
@@ -15,6 +16,13 @@ becomes_back step None None c h e = absurd (cc)
 becomes_back step None (Some n) c h e = absurd h
 becomes_back step (Some b) None c h e = absurd h
 becomes_back step (Some b) (Some n) c h e = let same : n ≡ c = cc in (b, refl, subst (step b) same h)
+
+-- a write leaves a disk telling what a read gives, or nothing
+pub becomes_told : (step : List ℕ → List ℕ → Type 0) (old new : Option (List ℕ)) → Becomes step old new → is_some new ≡ is_some old
+becomes_told step None None h = refl
+becomes_told step None (Some n) h = absurd h
+becomes_told step (Some b) None h = absurd h
+becomes_told step (Some b) (Some n) h = refl
 
 module _ {D : Type 0} (g : Ghosts D) where
   pub write_written : ((disk : D) (c : List ℕ) → g.content disk ≡ Some c → g.images disk c) → (old mid new : D) (at : ℕ) (piece : List ℕ)

@@ -1,5 +1,6 @@
 -- Words for the layers above a disk. Each is over all that the trait tells (`D.Disk`), so that no layer names what a read gives.
-use Rattle.std.specs.Prelude.{◌⊎◌, ℕ, ◌≤◌, List, Bool, is_some}
+use Rattle.std.specs.Prelude.{◌≡◌, ◌⊎◌, ℕ, ◌≤◌, List, Bool, is_some}
+use Rattle.ks_outside.specs.Faults.{CountsFaults}
 use Rattle.ks_outside.specs.Ranges.{Torn}
 use Rattle.ks_outside.specs.declared.disk.Disk.{Ghosts}
 
@@ -23,3 +24,16 @@ TornFrom g disk at n c = (b : List ℕ) × g.images disk b × Torn at n b c
 -- whether the disk tells what a read gives
 abbrev pub tells : {D : Type 0} → Ghosts D → D → Bool
 tells g disk = is_some (g.content disk)
+
+-- What each call of a disk leaves alone, also one that writes: a sure disk stays sure, and it goes on telling what a read gives, or
+-- nothing. Its count of faults never falls; it rose where a call of the disk failed, and stayed where none did.
+pub record Goes {D : Type 0} (g : Ghosts D) (old new : D) (failed : Bool) : Type 0 where
+  pub sure : g.is_sure old → g.is_sure new
+  pub telling : tells g new ≡ tells g old
+  pub cause : CountsFaults (g.fault_count old) (g.fault_count new) failed
+
+-- What a call leaves alone that writes nothing: the same, and no image came, now or at a moment meanwhile.
+pub record Reads {D : Type 0} (g : Ghosts D) (old new : D) (failed : Bool) : Type 0 where
+  pub goes : Goes g old new failed
+  pub images : AllImages g new (g.images old)
+  pub passes : Passes g old new (g.images old)

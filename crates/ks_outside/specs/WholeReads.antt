@@ -1,16 +1,14 @@
 -- The reading of a whole disk: how far it has come, and why it ends.
-use Rattle.std.specs.Prelude.{◌≡◌, ℕ, ◌≤◌, List, length, take, Some, Result, Ok, Err}
+use Rattle.std.specs.Prelude.{◌≡◌, ℕ, List, length, take, Bool, true, false, Some, Result, Err}
 use Rattle.ks_outside.specs.declared.disk.Disk.{Ghosts}
 use Rattle.ks_outside.specs.declared.whole.ReadFault.{ReadFault}
-use Rattle.ks_outside.specs.declared.whole.ReadFault.TheVariants.{Device, Memory}
-use Rattle.ks_outside.specs.Faults.{Rises}
+use Rattle.ks_outside.specs.declared.whole.ReadFault.TheVariants.{Device}
 use Rattle.ks_outside.specs.Images.{AllImages, Passes}
 
--- the disk's count of faults rose where the device failed, and stayed where all was read or memory was wanting
-abbrev pub ReadCause : {T : Type 0} → ℕ → ℕ → Result T ReadFault → Type 0
-ReadCause before now (Ok _) = now ≡ before
-ReadCause before now (Err Device) = (before ≤ now) × Rises before now
-ReadCause before now (Err Memory) = now ≡ before
+-- whether a call of the disk failed in a reading, by its answer
+abbrev pub read_failed : {T : Type 0} → Result T ReadFault → Bool
+read_failed (Err Device) = true
+read_failed _ = false
 
 -- the bytes so far are a front of what a read gives; since the start nothing was written and no call failed
 pub record IsReading {D : Type 0} (g : Ghosts D) (old now : D) (size : ℕ) (bytes : List ℕ) : Type 0 where

@@ -1,6 +1,6 @@
 //! The disk that a store lies on, and what a crash may leave of it.
 
-ghost use Rattle.std.specs.Prelude.{◌≡◌, ◌≤◌, ◌<◌, ℕ, List, Option, Some, length, is_some, IfOk, OnOk, OnErr, IsOk};
+ghost use Rattle.std.specs.Prelude.{◌≡◌, ◌≤◌, ◌<◌, ℕ, List, Option, Some, length, IfOk, OnOk, OnErr, IsOk};
 ghost use Rattle.ks_outside.specs.Faults.{HasCause};
 ghost use Rattle.ks_outside.specs.Ranges.{Holds, Torn, Becomes, Gives};
 ghost use Rattle.ks_outside.specs.Moments.{Follows, Elapses};
@@ -47,7 +47,6 @@ pub trait Disk {
     fn write_at(&mut self, at: u64, piece: &[u8]) -> Result<(), Failed>
         ensures written { OnOk result (Becomes (Holds at piece.now) (content self.old) (content self.new)) }
         ensures torn { OnErr result (Becomes (Torn at (length piece.now)) (content self.old) (content self.new)) }
-        ensures telling { is_some (content self.new) ≡ is_some (content self.old) }
         ensures images { Follows (Torn at (length piece.now)) (images self.old) (images self.new) }
         ensures nothing { is_sure self.old → OnErr result ((content self.new ≡ content self.old) × ((c : List ℕ) → images self.new c → images self.old c)) }
         ensures sure { is_sure self.old → is_sure self.new }

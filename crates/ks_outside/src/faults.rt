@@ -3,9 +3,17 @@
 ghost use Rattle.std.specs.Prelude.{◌≡◌};
 ghost use Rattle.ks_outside.specs.Faults.{HasCause, Rises, count_after, one_more};
 
+use std::fmt;
+
 /// A call on the outside failed. It says nothing more: the object's count of faults rose.
 #[derive(Clone, Copy, Debug, PartialEq, Eq)]
 pub struct Failed;
+
+impl fmt::Display for Failed {
+    fn fmt<W: fmt::Write>(&self, f: &mut fmt::Formatter<W>) -> fmt::Result {
+        f.write_str("a call of a device failed")
+    }
+}
 
 /// A count of faults. It never falls, and stands still at 2^64 - 1.
 #[derive(Clone, Copy, Debug, PartialEq, Eq)]

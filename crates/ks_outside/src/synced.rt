@@ -1,10 +1,9 @@
 //! Calls that end a change with a sync, and that read what was synced. Their contracts speak of images alone.
 
-ghost use Rattle.std.specs.Prelude.{◌≡◌, ℕ, ◌<◌, List, Option, slice_get, length, IfOk, OnOk, OnErr};
-ghost use Rattle.ks_outside.specs.Faults.{HasCause};
+ghost use Rattle.std.specs.Prelude.{◌≡◌, ℕ, ◌<◌, List, Option, slice_get, length, is_err, IfOk, OnOk, OnErr};
 ghost use Rattle.ks_outside.specs.Ranges.{Holds, Torn};
 ghost use Rattle.ks_outside.specs.Moments.{Follows};
-ghost use Rattle.ks_outside.specs.Images.{AllImages, Passes, TornFrom, tells};
+ghost use Rattle.ks_outside.specs.Images.{AllImages, Passes, TornFrom, Goes, Reads};
 
 use crate::disk::Disk;
 use crate::faults::Failed;
@@ -16,9 +15,7 @@ pub fn write_synced<D: Disk>(disk: &mut D, at: u64, piece: &[u8]) -> Result<(), 
     ensures torn { AllImages D.Disk disk.new (TornFrom D.Disk disk.old at (length piece.now)) }
     ensures passes { Passes D.Disk disk.old disk.new (TornFrom D.Disk disk.old at (length piece.now)) }
     ensures nothing { D.is_sure disk.old → OnErr result (AllImages D.Disk disk.new (D.images disk.old)) }
-    ensures sure { D.is_sure disk.old → D.is_sure disk.new }
-    ensures telling { tells D.Disk disk.new ≡ tells D.Disk disk.old }
-    ensures cause { HasCause (D.fault_count disk.old) (D.fault_count disk.new) result }
+    ensures goes { Goes D.Disk disk.old disk.new (is_err result) }
 {
     let Ok(()) = disk.write_at(at, piece) else {
         return Err(Failed);
@@ -30,11 +27,7 @@ pub fn write_synced<D: Disk>(disk: &mut D, at: u64, piece: &[u8]) -> Result<(), 
 /// not, has no image that it did not have.
 pub fn read_synced_byte<D: Disk>(disk: &mut D, at: u64) -> Result<Option<u8>, Failed>
     ensures byte { IfOk result (λ byte. AllImages D.Disk disk.new (λ c. slice_get c at ≡ byte)) }
-    ensures images { AllImages D.Disk disk.new (D.images disk.old) }
-    ensures passes { Passes D.Disk disk.old disk.new (D.images disk.old) }
-    ensures sure { D.is_sure disk.old → D.is_sure disk.new }
-    ensures telling { tells D.Disk disk.new ≡ tells D.Disk disk.old }
-    ensures cause { HasCause (D.fault_count disk.old) (D.fault_count disk.new) result }
+    ensures goes { Reads D.Disk disk.old disk.new (is_err result) }
 {
     let Ok(()) = disk.sync() else {
         return Err(Failed);

@@ -1,11 +1,12 @@
 //! All bytes of a disk.
 
 ghost use Rattle.std.specs.Prelude.{◌≡◌, List, ℕ, Some, IfOk};
-ghost use Rattle.ks_outside.specs.Images.{AllImages, Passes, tells};
-ghost use Rattle.ks_outside.specs.WholeReads.{ReadCause};
+ghost use Rattle.ks_outside.specs.Images.{AllImages, Reads};
+ghost use Rattle.ks_outside.specs.WholeReads.{read_failed};
 
 use crate::disk::Disk;
 use std::alloc::Global;
+use std::fmt;
 
 /// Why the bytes of a disk were not read.
 #[derive(Clone, Copy, Debug, PartialEq, Eq)]
@@ -16,16 +17,21 @@ pub enum ReadFault {
     Memory,
 }
 
+impl fmt::Display for ReadFault {
+    fn fmt<W: fmt::Write>(&self, f: &mut fmt::Formatter<W>) -> fmt::Result {
+        f.write_str(match self {
+            ReadFault::Device => "a call of the disk failed",
+            ReadFault::Memory => "memory was wanting",
+        })
+    }
+}
+
 /// Syncs, and reads all bytes. Each image then is these bytes; and where the disk tells what a read gives, it is these bytes.
 pub fn read_synced<D: Disk>(alloc: Global, disk: &mut D) -> Result<Vec<u8>, ReadFault>
     ensures bytes { IfOk result (λ bytes. AllImages D.Disk disk.new (λ c. c ≡ bytes.items)) }
     ensures told { (c : List ℕ) → D.content disk.old ≡ Some c → IfOk result (λ bytes. bytes.items ≡ c) }
     ensures content { D.content disk.new ≡ D.content disk.old }
-    ensures images { AllImages D.Disk disk.new (D.images disk.old) }
-    ensures passes { Passes D.Disk disk.old disk.new (D.images disk.old) }
-    ensures sure { D.is_sure disk.old → D.is_sure disk.new }
-    ensures telling { tells D.Disk disk.new ≡ tells D.Disk disk.old }
-    ensures cause { ReadCause (D.fault_count disk.old) (D.fault_count disk.new) result }
+    ensures goes { Reads D.Disk disk.old disk.new (read_failed result) }
 {
     let Ok(()) = disk.sync() else {
         return Err(ReadFault::Device);

@@ -9,36 +9,19 @@ use Rattle.std.proofs.lemmas.Bool.{cases_Bool, eqb-true, eq-eqb, ne_eqb}
 use Rattle.slot_chain.specs.Ordered.{IsAt, IsGap}
 use Rattle.slot_chain.specs.Table.{ChainTable, list_in, places_count, Pushes, Unlinks, without as without_place, IsInNone, IsInOne, is_in}
 use Rattle.slot_chain.specs.Table as chains
-use Rattle.slot_chain.specs.Linked as linked
-use Rattle.slot_chain.proofs.Ordering.{rising_differ, found_at, found_in_gap, none_named, not_found, rising_inserted, rising_removed, keys_set}
+use Rattle.slot_chain.proofs.Ordering.{rising_differ, found_at, found_in_gap, none_named, not_found, rising_inserted, rising_removed, keys_set, set_is_change, remove_is_filter}
 use Rattle.operation_slots.specs.declared.operation.Operation.{Operation}
 use Rattle.operation_slots.specs.declared.cells.Cell.{Cell}
 use Rattle.operation_slots.specs.declared.index.Numbered.{Numbered}
 use Rattle.operation_slots.specs.Counted.{CountTable, count_in, Raises, Lowers}
-use Rattle.operation_slots.specs.Table.{NoneIs, AllDiffer, has_number, is_idle, with_change, without, made_busy, given_back}
+use Rattle.slot_chain.specs.Linked.{NoneIs, AllDiffer}
+use Rattle.operation_slots.specs.Table.{has_number, is_idle, with_change, without, made_busy, given_back}
 use Rattle.operation_slots.specs.Sorted.{in_order}
-use Rattle.operation_slots.specs.Kept.{Entry, Lays, PutsCell, IsLinked, cell_at, times, entry, entries, place_of, operation_of, number_of, stamp_of, begun_of, BeganBefore, index_number, index_place, operations_in, idle_places, is_idle_entry, is_entry_of, taken_cell, given_cell}
-use Rattle.operation_slots.proofs.Sorting.{all_filter, all_in_order, any_in_order, all_at, set_is_change, remove_is_filter, order_filter, order_map, order_inserted}
+use Rattle.operation_slots.specs.Boards.{PlacedOperation, Lays, PutsCell, IsLinked, cell_at, times, entry, entries, place_of, operation_of, number_of, stamp_of, begun_of, BeganBefore, index_number, index_place, operations_in, idle_places, is_idle_entry, is_entry_of, taken_cell, given_cell}
+use Rattle.operation_slots.proofs.Sorting.{all_filter, all_in_order, any_in_order, all_at, order_filter, order_map, order_inserted}
 use Rattle.std.proofs.lemmas.Option.{slice_get-get_or}
 use Rattle.operation_slots.proofs.Entries.{map_insert, map_remove, map_at, any_map, map_push, filter_map_is, all_pass, all_put, all_less, all_over, one_if, none_if, none_of_times, times_at, differ_of_times, once_at_most, once_within, put_there, put_other, entries_inserted, entries_set, entries_removed, places_are, all_entries, found_operation, length_operations}
 use Rattle.operation_slots.proofs.Idle.{idle_begun, idle_given, idle_removed, idle_taken, idle_left, idle_busy}
-
--- the two words for numbers that differ are one
-same_none : (n : ℕ) (ks : List ℕ) → linked.NoneIs n ks → NoneIs n ks
-same_none n [] h = tt
-same_none n (k ∷ ks) h = (h.0, same_none n ks h.1)
-
-none_same : (n : ℕ) (ks : List ℕ) → NoneIs n ks → linked.NoneIs n ks
-none_same n [] h = tt
-none_same n (k ∷ ks) h = (h.0, none_same n ks h.1)
-
-same_differ : (ks : List ℕ) → linked.AllDiffer ks → AllDiffer ks
-same_differ [] h = tt
-same_differ (k ∷ ks) h = (same_none k ks h.0, same_differ ks h.1)
-
-differ_same : (ks : List ℕ) → AllDiffer ks → linked.AllDiffer ks
-differ_same [] h = tt
-differ_same (k ∷ ks) h = (none_same k ks h.0, differ_same ks h.1)
 
 -- what is left out of a list of places is in no chain
 none_left : (ks : List ℕ) (i d p : ℕ) → AllDiffer ks → i < length ks → get_or ks i d ≡ p → NoneIs p (remove ks i)
@@ -54,45 +37,45 @@ pub times_more : (n p : ℕ) (ks : List ℕ) → times n (ks ++ p ∷ []) ≡ ti
 times_more n p ks = omega (arith, sum_by-append (λ k. cond {A = ℕ} (k == n) 1 0) ks (p ∷ []))
 
 module _ {T : Type 0} where
-  count_set : (p : Entry T → Bool) (es : List (Entry T)) (i : ℕ) (d e : Entry T) → i < length es → p e ≡ p (get_or es i d) → count_by p (set es i e) ≡ count_by p es
+  count_set : (p : PlacedOperation T → Bool) (es : List (PlacedOperation T)) (i : ℕ) (d e : PlacedOperation T) → i < length es → p e ≡ p (get_or es i d) → count_by p (set es i e) ≡ count_by p es
   count_set p es i d e within same = omega (arith, sum_by-set (λ x. cond (p x) 1 0) es i e d within, ap (λ (b : Bool). cond {A = ℕ} b 1 0) same)
 
-  abbrev BeganFirst : ℕ → Entry T → Type 0
+  abbrev BeganFirst : ℕ → PlacedOperation T → Type 0
   BeganFirst stamp e = stamp_of e < stamp
 
-  began_first : (stamp : ℕ) (es : List (Entry T)) → AllByRecursion BeganBefore es → AllByRecursion (BeganFirst stamp) es → AllByRecursion (λ e. begun_of e < stamp) es
+  began_first : (stamp : ℕ) (es : List (PlacedOperation T)) → AllByRecursion BeganBefore es → AllByRecursion (BeganFirst stamp) es → AllByRecursion (λ e. begun_of e < stamp) es
   began_first stamp [] h k = tt
   began_first stamp (e ∷ es) h k = ((let one : begun_of e ≤ stamp_of e = h.0 in let two : stamp_of e < stamp = k.0 in omega arith), began_first stamp es h.1 k.1)
 
   -- the operations with a change of the one of this number
-  pub changed_operations : (n : ℕ) (f : Entry T → Entry T) (g : Operation T → Operation T) → ((e : Entry T) → begun_of (f e) ≡ begun_of e) → ((e : Entry T) → operation_of (f e) ≡ g (operation_of e)) → (es : List (Entry T))
+  pub changed_operations : (n : ℕ) (f : PlacedOperation T → PlacedOperation T) (g : Operation T → Operation T) → ((e : PlacedOperation T) → begun_of (f e) ≡ begun_of e) → ((e : PlacedOperation T) → operation_of (f e) ≡ g (operation_of e)) → (es : List (PlacedOperation T))
       → operations_in (map (λ e. cond (number_of e == n) (f e) e) es) ≡ with_change n g (operations_in es)
   changed_operations n f g same is es = ap (map operation_of) (order_map begun_of (λ e. cond (number_of e == n) (f e) e) kept es) ∙ mapped (in_order begun_of es) where
-    kept : (e : Entry T) → begun_of (cond (number_of e == n) (f e) e) ≡ begun_of e
+    kept : (e : PlacedOperation T) → begun_of (cond (number_of e == n) (f e) e) ≡ begun_of e
     kept e = elim (cases_Bool (number_of e == n)) [ inl b ↦ rw b (same e) | inr b ↦ rw b refl ]
 
-    one : (e : Entry T) → operation_of (cond (number_of e == n) (f e) e) ≡ cond (has_number n (operation_of e)) (g (operation_of e)) (operation_of e)
+    one : (e : PlacedOperation T) → operation_of (cond (number_of e == n) (f e) e) ≡ cond (has_number n (operation_of e)) (g (operation_of e)) (operation_of e)
     one e = elim (cases_Bool (number_of e == n)) [ inl b ↦ rw b (is e) | inr b ↦ rw b refl ]
 
-    mapped : (xs : List (Entry T)) → map operation_of (map (λ e. cond (number_of e == n) (f e) e) xs) ≡ with_change n g (map operation_of xs)
+    mapped : (xs : List (PlacedOperation T)) → map operation_of (map (λ e. cond (number_of e == n) (f e) e) xs) ≡ with_change n g (map operation_of xs)
     mapped [] = refl
     mapped (x ∷ xs) = (λ i. one x i ∷ mapped xs i)
 
-  pub fewer_operations : (p : Operation T → Bool) (es : List (Entry T)) → operations_in (filter (λ e. p (operation_of e)) es) ≡ filter p (operations_in es)
+  pub fewer_operations : (p : Operation T → Bool) (es : List (PlacedOperation T)) → operations_in (filter (λ e. p (operation_of e)) es) ≡ filter p (operations_in es)
   fewer_operations p es = ap (map operation_of) (order_filter begun_of (λ e. p (operation_of e)) es) ∙ sym (filter_map_is operation_of p (in_order begun_of es))
 
-  none_all : (p : ℕ) (xs : List (Entry T)) → NoneIs p (map place_of xs) → AllByRecursion (λ x. place_of x ≢ p) xs
+  none_all : (p : ℕ) (xs : List (PlacedOperation T)) → NoneIs p (map place_of xs) → AllByRecursion (λ x. place_of x ≢ p) xs
   none_all p [] h = tt
   none_all p (x ∷ xs) h = (h.0, none_all p xs h.1)
 
-  all_none : (p : ℕ) (xs : List (Entry T)) → AllByRecursion (λ x. place_of x ≢ p) xs → linked.NoneIs p (map place_of xs)
+  all_none : (p : ℕ) (xs : List (PlacedOperation T)) → AllByRecursion (λ x. place_of x ≢ p) xs → NoneIs p (map place_of xs)
   all_none p [] h = tt
   all_none p (x ∷ xs) h = (h.0, all_none p xs h.1)
 
-  none_idle : (p uid : ℕ) (xs : List (Entry T)) → NoneIs p (map place_of xs) → linked.NoneIs p (idle_places xs uid)
+  none_idle : (p uid : ℕ) (xs : List (PlacedOperation T)) → NoneIs p (map place_of xs) → NoneIs p (idle_places xs uid)
   none_idle p uid xs h = all_none p (in_order stamp_of (filter (is_idle_entry uid) xs)) (all_in_order stamp_of (λ x. place_of x ≢ p) (filter (is_idle_entry uid) xs) (all_filter (λ x. place_of x ≢ p) (is_idle_entry uid) xs (none_all p xs h)))
 
-  any_kept : (p q : Entry T → Bool) (xs : List (Entry T)) (i : ℕ) (d : Entry T) → i < length xs → p (get_or xs i d) ≡ true → q (get_or xs i d) ≡ true → list_any q (filter p xs) ≡ true
+  any_kept : (p q : PlacedOperation T → Bool) (xs : List (PlacedOperation T)) (i : ℕ) (d : PlacedOperation T) → i < length xs → p (get_or xs i d) ≡ true → q (get_or xs i d) ≡ true → list_any q (filter p xs) ≡ true
   any_kept p q [] i d l a b = absurd (omega arith)
   any_kept p q (x ∷ xs) zero d l a b = rw (a, b) refl
   any_kept p q (x ∷ xs) (suc i) d l a b = elim (cases_Bool (p x)) [
@@ -104,11 +87,11 @@ module _ {T : Type 0} where
     or_true false n h = h
 
   module _ (cells : List (Cell T)) (index : List Numbered) (free : List ℕ) (counts : CountTable) (idle : ChainTable) (capacity : ℕ) (kept : IsLinked cells index free counts idle capacity) where
-    es : List (Entry T)
+    es : List (PlacedOperation T)
     es = entries cells index
 
     pub numbers_differ : AllDiffer (map number_of (entries cells index))
-    numbers_differ = subst AllDiffer (sym kept.named) (same_differ (map index_number index) (rising_differ (map index_number index) kept.order))
+    numbers_differ = subst AllDiffer (sym kept.named) (rising_differ (map index_number index) kept.order)
 
     places_differ : AllDiffer (map index_place index)
     places_differ = differ_of_times (map index_place index) (λ n. omega (arith, kept.apart n, once_at_most n (length cells)))
@@ -126,7 +109,7 @@ module _ {T : Type 0} where
 
     pub absent : (n at : ℕ) → IsGap index_number index n at → find (has_number n) (operations_in (entries cells index)) ≡ None
     absent n at gap = found_operation n (entries cells index) numbers_differ
-        ∙ ap (option_map operation_of) (not_found number_of n (entries cells index) (subst (linked.NoneIs n) (sym kept.named) (none_named index_number n index (found_in_gap index_number index n at gap))))
+        ∙ ap (option_map operation_of) (not_found number_of n (entries cells index) (subst (NoneIs n) (sym kept.named) (none_named index_number n index (found_in_gap index_number index n at gap))))
 
     module _ (at : ℕ) (row : Numbered) (within : at < length index) (row_is : row ≡ get_or index at row) where
       place_is : get_or (map index_place index) at 0 ≡ row.place
@@ -144,7 +127,7 @@ module _ {T : Type 0} where
       entry_within : at < length (entries cells index)
       entry_within = omega (arith, within, length_entries)
 
-      pub entry_is : (d : Entry T) → get_or (entries cells index) at d ≡ entry cells row
+      pub entry_is : (d : PlacedOperation T) → get_or (entries cells index) at d ≡ entry cells row
       entry_is d = map_at (entry cells) index at row d within ∙ ap (entry cells) (sym row_is)
 
       pub number_is : row.number ≡ number_of (entry cells row)
@@ -154,7 +137,7 @@ module _ {T : Type 0} where
       present n here =
           let named : number_of (entry cells row) ≡ n = sym number_is ∙ ap index_number row_is ∙ here.named row in
           let there : IsAt number_of (entries cells index) n at = record { within = entry_within; named = λ d. ap number_of (entry_is d) ∙ named } in
-          found_operation n (entries cells index) numbers_differ ∙ ap (option_map operation_of) (found_at number_of (entries cells index) n at (entry cells row) (differ_same (map number_of (entries cells index)) numbers_differ) there ∙ ap (λ (e : Entry T). Some e) (entry_is (entry cells row)))
+          found_operation n (entries cells index) numbers_differ ∙ ap (option_map operation_of) (found_at number_of (entries cells index) n at (entry cells row) numbers_differ there ∙ ap (λ (e : PlacedOperation T). Some e) (entry_is (entry cells row)))
 
       -- ---- a change of its cell
 
@@ -174,24 +157,24 @@ module _ {T : Type 0} where
           rest = kept.rest ∙ sym size;
           cells_few = omega (arith, kept.cells_few, size);
           begun = rw changed (all_over BeganBefore (entries cells index) at (record { place = row.place; cell = cell }) began kept.begun);
-          counts_are = λ other. kept.counts_are other ∙ sym (ap (count_by (is_entry_of other)) changed ∙ count_set (is_entry_of other) (entries cells index) at (entry cells row) (record { place = row.place; cell = cell }) entry_within (ap (λ (m : ℕ). m == other) (uid ∙ ap (λ (x : Entry T). x.cell.operation.uid) (sym (entry_is (entry cells row))))));
+          counts_are = λ other. kept.counts_are other ∙ sym (ap (count_by (is_entry_of other)) changed ∙ count_set (is_entry_of other) (entries cells index) at (entry cells row) (record { place = row.place; cell = cell }) entry_within (ap (λ (m : ℕ). m == other) (uid ∙ ap (λ (x : PlacedOperation T). x.cell.operation.uid) (sym (entry_is (entry cells row))))));
           all = kept.all;
-          idle_are = λ other. chain other ∙ sym (ap (λ (l : List (Entry T)). idle_places l other) changed);
+          idle_are = λ other. chain other ∙ sym (ap (λ (l : List (PlacedOperation T)). idle_places l other) changed);
           idle_sound = sound;
           idle_room = room ∙ kept.idle_room;
         }
 
       -- what is read at its place of the index
       pub slice_is : slice_get (entries cells index) at ≡ Some (entry cells row)
-      slice_is = slice_get-get_or (entries cells index) at (entry cells row) entry_within ∙ ap (λ (e : Entry T). Some e) (entry_is (entry cells row))
+      slice_is = slice_get-get_or (entries cells index) at (entry cells row) entry_within ∙ ap (λ (e : PlacedOperation T). Some e) (entry_is (entry cells row))
 
-      pub read_at : (e : Entry T) → slice_get (entries cells index) at ≡ Some e → entry cells row ≡ e
-      read_at e h = let both : ◌≡◌ {A = Option (Entry T)} (Some (entry cells row)) (Some e) = sym slice_is ∙ h in cc
+      pub read_at : (e : PlacedOperation T) → slice_get (entries cells index) at ≡ Some e → entry cells row ≡ e
+      read_at e h = let both : ◌≡◌ {A = Option (PlacedOperation T)} (Some (entry cells row)) (Some e) = sym slice_is ∙ h in cc
 
       pub found_entry : find (λ e. number_of e == row.number) (entries cells index) ≡ Some (entry cells row)
       found_entry =
           let there : IsAt number_of (entries cells index) row.number at = record { within = entry_within; named = λ d. ap number_of (entry_is d) ∙ sym number_is } in
-          found_at number_of (entries cells index) row.number at (entry cells row) (differ_same (map number_of (entries cells index)) numbers_differ) there ∙ ap (λ (e : Entry T). Some e) (entry_is (entry cells row))
+          found_at number_of (entries cells index) row.number at (entry cells row) numbers_differ there ∙ ap (λ (e : PlacedOperation T). Some e) (entry_is (entry cells row))
 
       began_here : BeganBefore (entry cells row)
       began_here = subst BeganBefore (entry_is (entry cells row)) (all_at BeganBefore (entries cells index) at (entry cells row) entry_within kept.begun)
@@ -199,13 +182,13 @@ module _ {T : Type 0} where
       -- ---- its value is taken out
 
       module _ (later : List (Cell T)) (size : length later ≡ length cells) (puts : PutsCell cells later row.place (taken_cell (cell_at cells row.place))) where
-        busy_now : Entry T
+        busy_now : PlacedOperation T
         busy_now = record { place = row.place; cell = taken_cell (cell_at cells row.place) }
 
         pub operations_taken : (n : ℕ) → row.number ≡ n → operations_in (entries later index) ≡ with_change n made_busy (operations_in (entries cells index))
         unfolding busy_now
         operations_taken n named =
-            let f : Entry T → Entry T = λ e. record { place = e.place; cell = taken_cell e.cell } in
+            let f : PlacedOperation T → PlacedOperation T = λ e. record { place = e.place; cell = taken_cell e.cell } in
             ap operations_in (changed later (taken_cell (cell_at cells row.place)) size puts idle
             ∙ ap (set (entries cells index) at) (sym (ap f (entry_is (entry cells row))))
             ∙ set_is_change number_of n f (entries cells index) at (entry cells row) numbers_differ entry_within (ap number_of (entry_is (entry cells row)) ∙ sym number_is ∙ named))
@@ -219,7 +202,7 @@ module _ {T : Type 0} where
         -- a busy one stays so
         module _ (busy : (cell_at cells row.place).operation.value ≡ None) where
           is_busy_entry : is_idle (operation_of (get_or (entries cells index) at (entry cells row))) ≡ false
-          is_busy_entry = ap (λ (e : Entry T). is_idle (operation_of e)) (entry_is (entry cells row)) ∙ ap (λ (v : Option T). is_some v) busy
+          is_busy_entry = ap (λ (e : PlacedOperation T). is_idle (operation_of e)) (entry_is (entry cells row)) ∙ ap (λ (v : Option T). is_some v) busy
 
           pub linked_busy : IsLinked later index free counts idle capacity
           linked_busy = linked_changed later (taken_cell (cell_at cells row.place)) size puts idle refl refl began_here
@@ -245,11 +228,11 @@ module _ {T : Type 0} where
       -- a busy one is in none
       pub in_no_chain : (cell_at cells row.place).operation.value ≡ None → IsInNone idle row.place
       in_no_chain busy uid =
-          let left : is_idle (operation_of (get_or (entries cells index) at (entry cells row))) ≡ false = ap (λ (e : Entry T). is_idle (operation_of e)) (entry_is (entry cells row)) ∙ ap (λ (v : Option T). is_some v) busy in
+          let left : is_idle (operation_of (get_or (entries cells index) at (entry cells row))) ≡ false = ap (λ (e : PlacedOperation T). is_idle (operation_of e)) (entry_is (entry cells row)) ∙ ap (λ (v : Option T). is_some v) busy in
           let places : map place_of (remove (entries cells index) at) ≡ remove (map place_of (entries cells index)) at = map_remove place_of (entries cells index) at in
           let gone : NoneIs row.place (map place_of (remove (entries cells index) at)) = subst (NoneIs row.place) (sym places)
           (none_left (map place_of (entries cells index)) at 0 row.place entries_differ (omega (arith, entry_within, length-map (entries cells index) place_of)) (map_at place_of (entries cells index) at (entry cells row) 0 entry_within ∙ ap place_of (entry_is (entry cells row)))) in
-          subst (linked.NoneIs row.place) (sym (kept.idle_are uid ∙ sym (idle_left (entries cells index) at (entry cells row) uid entry_within left))) (none_idle row.place uid (remove (entries cells index) at) gone)
+          subst (NoneIs row.place) (sym (kept.idle_are uid ∙ sym (idle_left (entries cells index) at (entry cells row) uid entry_within left))) (none_idle row.place uid (remove (entries cells index) at) gone)
 
       -- ---- its value comes back
 
@@ -260,7 +243,7 @@ module _ {T : Type 0} where
 
         pub operations_given : (n : ℕ) → row.number ≡ n → operations_in (entries later index) ≡ with_change n (given_back stamp value) (operations_in (entries cells index))
         operations_given n named =
-            let f : Entry T → Entry T = λ e. record { place = e.place; cell = given_cell stamp value e.cell } in
+            let f : PlacedOperation T → PlacedOperation T = λ e. record { place = e.place; cell = given_cell stamp value e.cell } in
             ap operations_in (changed later (given_cell stamp value (cell_at cells row.place)) size puts idle
             ∙ ap (set (entries cells index) at) (sym (ap f (entry_is (entry cells row))))
             ∙ set_is_change number_of n f (entries cells index) at (entry cells row) numbers_differ entry_within (ap number_of (entry_is (entry cells row)) ∙ sym number_is ∙ named))
@@ -268,10 +251,10 @@ module _ {T : Type 0} where
 
         pub linked_given : (idle' : ChainTable) → Pushes idle idle' (cell_at cells row.place).operation.uid row.place → chains.IsSound idle' → IsLinked later index free counts idle' capacity
         linked_given idle' pushes sound =
-            let e' : Entry T = record { place = row.place; cell = given_cell stamp value (cell_at cells row.place) } in
+            let e' : PlacedOperation T = record { place = row.place; cell = given_cell stamp value (cell_at cells row.place) } in
             let own : ℕ = (cell_at cells row.place).operation.uid in
-            let left : is_idle (operation_of (get_or (entries cells index) at (entry cells row))) ≡ false = ap (λ (e : Entry T). is_idle (operation_of e)) (entry_is (entry cells row)) ∙ ap (λ (v : Option T). is_some v) busy in
-            let old : (cell_at cells row.place).operation.stamp < stamp = subst (λ (e : Entry T). stamp_of e < stamp) (entry_is (entry cells row)) (all_at (λ e. stamp_of e < stamp) (entries cells index) at (entry cells row) entry_within before) in
+            let left : is_idle (operation_of (get_or (entries cells index) at (entry cells row))) ≡ false = ap (λ (e : PlacedOperation T). is_idle (operation_of e)) (entry_is (entry cells row)) ∙ ap (λ (v : Option T). is_some v) busy in
+            let old : (cell_at cells row.place).operation.stamp < stamp = subst (λ (e : PlacedOperation T). stamp_of e < stamp) (entry_is (entry cells row)) (all_at (λ e. stamp_of e < stamp) (entries cells index) at (entry cells row) entry_within before) in
             let began : (cell_at cells row.place).begun ≤ stamp = (let first : (cell_at cells row.place).begun ≤ (cell_at cells row.place).operation.stamp = began_here in omega arith) in
             linked_changed later (given_cell stamp value (cell_at cells row.place)) size puts idle' refl refl began
             (λ uid. pushes.lists uid ∙ (λ i. cond (uid == own) (kept.idle_are uid i ++ row.place ∷ []) (kept.idle_are uid i)) ∙ sym (idle_given (entries cells index) at (entry cells row) e' uid entry_within left before refl))
@@ -284,7 +267,7 @@ module _ {T : Type 0} where
         entries_less = entries_removed cells later row.place (taken_cell (cell_at cells row.place)) puts index at row places_differ within (ap index_place (sym row_is))
 
         count_less : (uid : ℕ) → count_by (is_entry_of uid) (remove (entries cells index) at) + cond (is_entry_of uid (entry cells row)) 1 0 ≡ count_by (is_entry_of uid) (entries cells index)
-        count_less uid = omega (arith, sum_by-remove (λ x. cond {A = ℕ} (is_entry_of uid x) 1 0) (entries cells index) at (entry cells row) entry_within, ap (λ (e : Entry T). cond {A = ℕ} (is_entry_of uid e) 1 0) (entry_is (entry cells row)))
+        count_less uid = omega (arith, sum_by-remove (λ x. cond {A = ℕ} (is_entry_of uid x) 1 0) (entries cells index) at (entry cells row) entry_within, ap (λ (e : PlacedOperation T). cond {A = ℕ} (is_entry_of uid e) 1 0) (entry_is (entry cells row)))
 
         linked_less : (counts' : CountTable) (idle' : ChainTable) → Lowers counts counts' (cell_at cells row.place).operation.uid → ((uid : ℕ) → list_in idle' uid ≡ idle_places (remove (entries cells index) at) uid) → chains.IsSound idle' → places_count idle' ≡ places_count idle
             → IsLinked later (remove index at) (free ++ row.place ∷ []) counts' idle' capacity
@@ -306,7 +289,7 @@ module _ {T : Type 0} where
               begun = rw entries_less (all_less BeganBefore (entries cells index) at kept.begun);
               counts_are = λ other. lowers.counts other ∙ lower other (count_in counts other) (kept.counts_are other) ∙ sym (ap (count_by (is_entry_of other)) entries_less);
               all = omega (arith, lowers.all, kept.all, fewer);
-              idle_are = λ other. chain other ∙ sym (ap (λ (l : List (Entry T)). idle_places l other) entries_less);
+              idle_are = λ other. chain other ∙ sym (ap (λ (l : List (PlacedOperation T)). idle_places l other) entries_less);
               idle_sound = sound;
               idle_room = room ∙ kept.idle_room;
             } where
@@ -323,13 +306,13 @@ module _ {T : Type 0} where
 
         pub linked_ended : (counts' : CountTable) → Lowers counts counts' (cell_at cells row.place).operation.uid → (cell_at cells row.place).operation.value ≡ None → IsLinked later (remove index at) (free ++ row.place ∷ []) counts' idle capacity
         linked_ended counts' lowers busy = linked_less counts' idle lowers
-            (λ uid. kept.idle_are uid ∙ sym (idle_left (entries cells index) at (entry cells row) uid entry_within (ap (λ (e : Entry T). is_idle (operation_of e)) (entry_is (entry cells row)) ∙ ap (λ (v : Option T). is_some v) busy))) kept.idle_sound refl
+            (λ uid. kept.idle_are uid ∙ sym (idle_left (entries cells index) at (entry cells row) uid entry_within (ap (λ (e : PlacedOperation T). is_idle (operation_of e)) (entry_is (entry cells row)) ∙ ap (λ (v : Option T). is_some v) busy))) kept.idle_sound refl
 
       -- its uid has one
       pub is_counted : 0 < count_in counts (cell_at cells row.place).operation.uid
       is_counted =
           let own : ℕ = (cell_at cells row.place).operation.uid in
-          omega (arith, kept.counts_are own, sum_by-remove (λ x. cond {A = ℕ} (is_entry_of own x) 1 0) (entries cells index) at (entry cells row) entry_within, ap (λ (e : Entry T). cond {A = ℕ} (is_entry_of own e) 1 0) (entry_is (entry cells row)), one_if (own == own) (eq-eqb own own refl))
+          omega (arith, kept.counts_are own, sum_by-remove (λ x. cond {A = ℕ} (is_entry_of own x) 1 0) (entries cells index) at (entry cells row) entry_within, ap (λ (e : PlacedOperation T). cond {A = ℕ} (is_entry_of own e) 1 0) (entry_is (entry cells row)), one_if (own == own) (eq-eqb own own refl))
 
       pub operations_less : (n : ℕ) → row.number ≡ n → operations_in (remove (entries cells index) at) ≡ without n (operations_in (entries cells index))
       operations_less n named =
@@ -340,7 +323,7 @@ module _ {T : Type 0} where
 
     module _ (later : List (Cell T)) (left : List ℕ) (place : ℕ) (operation : Operation T) (at : ℕ) (lays : Lays cells free later left place (record { operation = operation; begun = operation.stamp }))
         (gap : IsGap index_number index operation.number at) (newest : All (λ o. o.stamp < operation.stamp) (operations_in (entries cells index))) (idles : is_idle operation ≡ true) where
-      abbrev new_entry : Entry T
+      abbrev new_entry : PlacedOperation T
       new_entry = record { place = place; cell = record { operation = operation; begun = operation.stamp } }
 
       abbrev new_row : Numbered
@@ -356,15 +339,15 @@ module _ {T : Type 0} where
       before_it = all_entries (λ o. o.stamp < operation.stamp) (entries cells index) newest
 
       pub out_of_chains : IsInNone idle place
-      out_of_chains uid = subst (linked.NoneIs place) (sym (kept.idle_are uid)) (none_idle place uid (entries cells index) (subst (NoneIs place) (sym (places_are cells index)) unused))
+      out_of_chains uid = subst (NoneIs place) (sym (kept.idle_are uid)) (none_idle place uid (entries cells index) (subst (NoneIs place) (sym (places_are cells index)) unused))
 
       pub operations_begun : operations_in (entries later (insert index at (record { number = operation.number; place = place }))) ≡ operations_in (entries cells index) ++ operation ∷ []
       operations_begun =
           let put = insert (entries cells index) at new_entry in
           let sorted = order_inserted begun_of (λ _. true) new_entry refl (entries cells index) at (began_first operation.stamp (entries cells index) kept.begun before_it) in
           ap operations_in entries_more
-          ∙ ap (λ (l : List (Entry T)). operations_in l) (sym (all_pass put))
-          ∙ ap (map operation_of) (sorted ∙ ap (λ (l : List (Entry T)). in_order begun_of l ++ new_entry ∷ []) (all_pass (entries cells index)))
+          ∙ ap (λ (l : List (PlacedOperation T)). operations_in l) (sym (all_pass put))
+          ∙ ap (map operation_of) (sorted ∙ ap (λ (l : List (PlacedOperation T)). in_order begun_of l ++ new_entry ∷ []) (all_pass (entries cells index)))
           ∙ map_push operation_of (in_order begun_of (entries cells index)) new_entry
 
       pub linked_begun : length index < capacity → (counts' : CountTable) (idle' : ChainTable) → Raises counts counts' operation.uid → Pushes idle idle' operation.uid place → chains.IsSound idle' → IsLinked later (insert index at (record { number = operation.number; place = place })) left counts' idle' capacity
@@ -381,7 +364,7 @@ module _ {T : Type 0} where
             counts_are = λ other. raises.counts other ∙ higher other (count_in counts other) (kept.counts_are other) ∙ sym (ap (count_by (is_entry_of other)) entries_more);
             all = omega (arith, raises.all, kept.all, more);
             idle_are = λ other. pushes.lists other ∙ (λ i. cond (other == operation.uid) (kept.idle_are other i ++ place ∷ []) (kept.idle_are other i))
-                ∙ sym (idle_begun (entries cells index) at new_entry other before_it idles) ∙ sym (ap (λ (l : List (Entry T)). idle_places l other) entries_more);
+                ∙ sym (idle_begun (entries cells index) at new_entry other before_it idles) ∙ sym (ap (λ (l : List (PlacedOperation T)). idle_places l other) entries_more);
             idle_sound = sound;
             idle_room = pushes.places ∙ kept.idle_room;
           } where

@@ -6,7 +6,7 @@ use Rattle.operation_slots.specs.Table.{is_client}
 use Rattle.std.proofs.lemmas.List.{length-map}
 use Rattle.std.proofs.lemmas.Option.{slice_get-get_or}
 use Rattle.std.proofs.lemmas.Bool.{cases_Bool}
-use Rattle.operation_slots.specs.Kept.{Entry, IsKept, entries_of, entry, blank, operation_of, operations_in, operations_on}
+use Rattle.operation_slots.specs.Boards.{PlacedOperation, IsKept, entries_of, entry, blank, operation_of, operations_in, operations_on}
 use Rattle.operation_slots.proofs.Boards.{fewer_operations}
 
 module _ {A : Type 0} (out : A → Bool) where
@@ -39,7 +39,7 @@ module _ {A : Type 0} (out : A → Bool) where
   left_in (x ∷ xs) (suc at) d l e = ap (λ (l : List A). x ∷ l) (left_in xs at d (omega arith) e)
 
 module _ {T : Type 0} where
-  abbrev pub is_entry_of_client : ℕ → Entry T → Bool
+  abbrev pub is_entry_of_client : ℕ → PlacedOperation T → Bool
   is_entry_of_client client e = is_client client (operation_of e)
 
   pub record IsClosing (old now : Board T) (client at : ℕ) : Type 0 where
@@ -52,27 +52,27 @@ module _ {T : Type 0} where
   closing_within old now client at so some =
       let E = entries_of old in
       let next : suc (at - 1) ≡ at = omega (arith, some) in
-      subst (λ (l : List (Entry T)). at - 1 < length l) (sym (so.entries ∙ ap (left_from (is_entry_of_client client) E) (sym next))) (left_within (is_entry_of_client client) E (at - 1) (omega (arith, some, so.within)))
+      subst (λ (l : List (PlacedOperation T)). at - 1 < length l) (sym (so.entries ∙ ap (left_from (is_entry_of_client client) E) (sym next))) (left_within (is_entry_of_client client) E (at - 1) (omega (arith, some, so.within)))
 
   pub closing_step : (old now later : Board T) (client at : ℕ) → IsClosing old now client at → 0 < at → IsKept later → later.capacity ≡ now.capacity
-      → ((e : Entry T) → slice_get (entries_of now) (at - 1) ≡ Some e → entries_of later ≡ cond (is_client client (operation_of e)) (remove (entries_of now) (at - 1)) (entries_of now)) → IsClosing old later client (at - 1)
+      → ((e : PlacedOperation T) → slice_get (entries_of now) (at - 1) ≡ Some e → entries_of later ≡ cond (is_client client (operation_of e)) (remove (entries_of now) (at - 1)) (entries_of now)) → IsClosing old later client (at - 1)
   closing_step old now later client at so some kept capacity does =
-      let out : Entry T → Bool = is_entry_of_client client in
+      let out : PlacedOperation T → Bool = is_entry_of_client client in
       let next : suc (at - 1) ≡ at = omega (arith, some) in
       let within : at - 1 < length (entries_of old) = omega (arith, some, so.within) in
       let before : entries_of now ≡ left_from out (entries_of old) (suc (at - 1)) = so.entries ∙ ap (left_from out (entries_of old)) (sym next) in
-      let d : Entry T = get_or (entries_of old) (at - 1) blank_entry in
-      let here : slice_get (entries_of now) (at - 1) ≡ Some d = ap (λ (l : List (Entry T)). slice_get l (at - 1)) before ∙ left_at out (entries_of old) (at - 1) within ∙ slice_get-get_or (entries_of old) (at - 1) blank_entry within in
+      let d : PlacedOperation T = get_or (entries_of old) (at - 1) blank_entry in
+      let here : slice_get (entries_of now) (at - 1) ≡ Some d = ap (λ (l : List (PlacedOperation T)). slice_get l (at - 1)) before ∙ left_at out (entries_of old) (at - 1) within ∙ slice_get-get_or (entries_of old) (at - 1) blank_entry within in
       record {
         kept = kept;
         entries = does d here ∙ elim (cases_Bool (is_client client (operation_of d))) [
-          | inl e ↦ rw e (ap (λ (l : List (Entry T)). remove l (at - 1)) before ∙ left_out out (entries_of old) (at - 1) blank_entry within e)
+          | inl e ↦ rw e (ap (λ (l : List (PlacedOperation T)). remove l (at - 1)) before ∙ left_out out (entries_of old) (at - 1) blank_entry within e)
           | inr e ↦ rw e (before ∙ left_in out (entries_of old) (at - 1) blank_entry within e)
         ];
         within = omega (arith, within);
         capacity = capacity ∙ so.capacity;
       } where
-        blank_entry : Entry T
+        blank_entry : PlacedOperation T
         blank_entry = record { place = 0; cell = blank }
 
   pub closing_start : (old : Board T) (client at : ℕ) → IsKept old → at ≡ length old.index.items → IsClosing old old client at

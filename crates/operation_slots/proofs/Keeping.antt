@@ -4,8 +4,9 @@ use Rattle.std.proofs.lemmas.List.Elements.{All-head, All-tail, All-push, All-ma
 use Rattle.std.proofs.lemmas.List.Sums.{length-filter, count_by-le-length}
 use Rattle.std.proofs.lemmas.Bool.{cases_Bool, eqb-true}
 use Rattle.operation_slots.specs.declared.operation.Operation.{Operation}
-use Rattle.operation_slots.specs.Table.{has_number, idle_value, with_change, made_busy, given_back, without, numbers_of, stamps_of, NoneIs, AllDiffer}
-use Rattle.operation_slots.specs.Kept.{IsHeld}
+use Rattle.slot_chain.specs.Linked.{NoneIs, AllDiffer}
+use Rattle.operation_slots.specs.Table.{has_number, idle_value, with_change, made_busy, given_back, without, numbers_of, stamps_of}
+use Rattle.operation_slots.specs.Boards.{IsHeld}
 use Rattle.operation_slots.proofs.Lists.{not_found, unchanged}
 
 none_more : (n k : ℕ) (ks : List ℕ) → NoneIs n ks → k ≢ n → NoneIs n (ks ++ k ∷ [])

@@ -4,7 +4,7 @@ use Rattle.std.proofs.Math.ListN.{set}
 use Rattle.std.proofs.lemmas.List.{length-set, length_push, get_or-set_same, get_or-set_other}
 use Rattle.std.proofs.lemmas.Bool.{cases_Bool, eqb-true, eq-eqb}
 use Rattle.operation_slots.specs.declared.cells.Cell.{Cell}
-use Rattle.operation_slots.specs.Kept.{Lays, PutsCell, cell_at, blank, times, once_in}
+use Rattle.operation_slots.specs.Boards.{Lays, PutsCell, cell_at, blank, times, once_in}
 use Rattle.operation_slots.proofs.Entries.{one_if, once_at_most, once_within, put_other}
 use Rattle.operation_slots.proofs.Boards.{times_more}
 

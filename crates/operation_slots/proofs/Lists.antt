@@ -6,13 +6,8 @@ use Rattle.std.specs.Option.{option_or}
 use Rattle.std.proofs.lemmas.List.Folds.{find-append}
 use Rattle.std.proofs.lemmas.Bool.{eqb-true, ne_eqb, cases_Bool, eq-eqb}
 use Rattle.operation_slots.specs.declared.operation.Operation.{Operation}
-use Rattle.operation_slots.specs.Table.{has_number, with_change, without, numbers_of, NoneIs, AllDiffer}
-
--- a number that is none of these is not the one at a place
-pub none_at : (n : ℕ) (ks : List ℕ) (i d : ℕ) → NoneIs n ks → i < length ks → get_or ks i d ≢ n
-none_at n [] i d h l = absurd (omega arith)
-none_at n (k ∷ ks) zero d h l = h.0
-none_at n (k ∷ ks) (suc i) d h l = none_at n ks i d h.1 (omega arith)
+use Rattle.slot_chain.specs.Linked.{NoneIs}
+use Rattle.operation_slots.specs.Table.{has_number, with_change, without, numbers_of}
 
 module _ {T : Type 0} where
   -- what has none of this number stays
@@ -20,44 +15,12 @@ module _ {T : Type 0} where
   unchanged n f [] h = refl
   unchanged n f (x ∷ xs) h = rw (ne_eqb x.number n h.0) (ap (λ ys. x ∷ ys) (unchanged n f xs h.1))
 
-  pub all_stay : (n : ℕ) (xs : List (Operation T)) → NoneIs n (numbers_of xs) → without n xs ≡ xs
-  all_stay n [] h = refl
-  all_stay n (x ∷ xs) h = rw (ne_eqb x.number n h.0) (ap (λ ys. x ∷ ys) (all_stay n xs h.1))
-
   pub not_found : (n : ℕ) (xs : List (Operation T)) → find (has_number n) xs ≡ None → NoneIs n (numbers_of xs)
   not_found n [] h = tt
   not_found n (x ∷ xs) h = elim (cases_Bool (has_number n x)) [
     | inl e ↦ absurd (let h' : Some x ≡ None = rw e at h in cc)
     | inr e ↦ ((λ (s : x.number ≡ n). absurd (let t = eq-eqb x.number n s in cc)), not_found n xs (rw e at h))
   ]
-
-  -- one whose number is none of the others' has not the number of one of them
-  pub apart : (x : Operation T) (xs : List (Operation T)) (i : ℕ) (d : Operation T) → NoneIs x.number (numbers_of xs) → i < length xs → (n : ℕ) → has_number n (get_or xs i d) ≡ true → x.number ≡ n → ⊥
-  apart x [] i d h l n e s = absurd (omega arith)
-  apart x (y ∷ ys) zero d h l n e s = h.0 (eqb-true y.number n e ∙ sym s)
-  apart x (y ∷ ys) (suc i) d h l n e s = apart x ys i d h.1 (omega arith) n e s
-
-  -- a write of the changed one at its place is the change
-  pub changed_at : (n : ℕ) (f : Operation T → Operation T) (xs : List (Operation T)) (i : ℕ) (d : Operation T) → AllDiffer (numbers_of xs) → i < length xs → has_number n (get_or xs i d) ≡ true → set xs i (f (get_or xs i d)) ≡ with_change n f xs
-  changed_at n f [] i d h l e = absurd (omega arith)
-  changed_at n f (x ∷ xs) zero d h l e =
-      let same : x.number ≡ n = eqb-true x.number n e in
-      let none : NoneIs n (numbers_of xs) = subst (λ (k : ℕ). NoneIs k (numbers_of xs)) same h.0 in
-      rw e (ap (λ ys. f x ∷ ys) (sym (unchanged n f xs none)))
-  changed_at n f (x ∷ xs) (suc i) d h l e =
-      let other : has_number n x ≡ false = ne_eqb x.number n (apart x xs i d h.0 (omega arith) n e) in
-      rw other (ap (λ ys. x ∷ ys) (changed_at n f xs i d h.1 (omega arith) e))
-
-  -- the one that stands at its place, taken out
-  pub removed_at : (n : ℕ) (xs : List (Operation T)) (i : ℕ) (d : Operation T) → AllDiffer (numbers_of xs) → i < length xs → has_number n (get_or xs i d) ≡ true → remove xs i ≡ without n xs
-  removed_at n [] i d h l e = absurd (omega arith)
-  removed_at n (x ∷ xs) zero d h l e =
-      let same : x.number ≡ n = eqb-true x.number n e in
-      let none : NoneIs n (numbers_of xs) = subst (λ (k : ℕ). NoneIs k (numbers_of xs)) same h.0 in
-      rw e (sym (all_stay n xs none))
-  removed_at n (x ∷ xs) (suc i) d h l e =
-      let other : has_number n x ≡ false = ne_eqb x.number n (apart x xs i d h.0 (omega arith) n e) in
-      rw other (ap (λ ys. x ∷ ys) (removed_at n xs i d h.1 (omega arith) e))
 
   -- ---- what a look-up finds afterwards
 

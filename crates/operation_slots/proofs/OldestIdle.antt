@@ -9,7 +9,7 @@ use Rattle.operation_slots.specs.declared.index.Numbered.{Numbered}
 use Rattle.operation_slots.specs.Counted.{CountTable}
 use Rattle.operation_slots.specs.Table.{has_number, is_idle_of, IsOldestAmong}
 use Rattle.operation_slots.specs.Sorted.{in_order}
-use Rattle.operation_slots.specs.Kept.{Entry, IsLinked, cell_at, entry, entries, place_of, operation_of, number_of, stamp_of, operations_in, idle_places, is_idle_entry}
+use Rattle.operation_slots.specs.Boards.{PlacedOperation, IsLinked, cell_at, entry, entries, place_of, operation_of, number_of, stamp_of, operations_in, idle_places, is_idle_entry}
 use Rattle.operation_slots.proofs.Sorting.{Rises, rises_in_order, all_in_order, in_order_all, any_in_order}
 use Rattle.operation_slots.proofs.Entries.{all_operations, any_operation, found_operation}
 use Rattle.operation_slots.proofs.Boards.{numbers_differ, length_entries, found_entry, place_within, number_is, entry_is}
@@ -39,23 +39,23 @@ module _ {A : Type 0} where
 
 module _ {T : Type 0} where
   -- a uid's chain has a place where the uid has an idle operation
-  pub chain_has : (es : List (Entry T)) (uid : ℕ) → has_place (idle_places es uid) ≡ list_any (is_idle_of uid) (operations_in es)
+  pub chain_has : (es : List (PlacedOperation T)) (uid : ℕ) → has_place (idle_places es uid) ≡ list_any (is_idle_of uid) (operations_in es)
   chain_has es uid = by_list (in_order stamp_of (filter (is_idle_entry uid) es)) ∙ any_in_order stamp_of (λ _. true) (filter (is_idle_entry uid) es) ∙ any_left (is_idle_entry uid) es ∙ sym (any_operation (is_idle_of uid) es) where
-    by_list : (ys : List (Entry T)) → has_place (map place_of ys) ≡ list_any (λ _. true) ys
+    by_list : (ys : List (PlacedOperation T)) → has_place (map place_of ys) ≡ list_any (λ _. true) ys
     by_list [] = refl
     by_list (y ∷ ys) = refl
 
-  pub record IsFirst (cells : List (Cell T)) (es : List (Entry T)) (uid place : ℕ) : Type 0 where
+  pub record IsFirst (cells : List (Cell T)) (es : List (PlacedOperation T)) (uid place : ℕ) : Type 0 where
     pub within : place < length cells
     pub oldest : IsOldestAmong (operations_in es) uid (cell_at cells place).operation.number (cell_at cells place).operation.stamp
 
   module _ (cells : List (Cell T)) (index : List Numbered) (free : List ℕ) (counts : CountTable) (idle : ChainTable) (capacity : ℕ) (kept : IsLinked cells index free counts idle capacity) (uid : ℕ) where
-    abbrev IsThere : Entry T → Type 0
+    abbrev IsThere : PlacedOperation T → Type 0
     IsThere x = (cell_at cells x.place ≡ x.cell) × (x.place < length cells) × (find (has_number (number_of x)) (operations_in (entries cells index)) ≡ Some (operation_of x))
 
     each_there : AllByRecursion IsThere (entries cells index)
     each_there = all_of_each IsThere (entries cells index) (λ i d l. at_index i d (omega (arith, l, length_entries cells index free counts idle capacity kept))) where
-      at_index : (i : ℕ) (d : Entry T) → i < length index → IsThere (get_or (entries cells index) i d)
+      at_index : (i : ℕ) (d : PlacedOperation T) → i < length index → IsThere (get_or (entries cells index) i d)
       at_index i d l =
           let row : Numbered = get_or index i (record { number = 0; place = 0 }) in
           let row_is : row ≡ get_or index i row = get_or_default index i (record { number = 0; place = 0 }) row l in
@@ -69,7 +69,7 @@ module _ {T : Type 0} where
       by_list [] e = refl
       by_list (p ∷ ps) e = absurd (let no : ◌≡◌ {A = Option ℕ} None (Some p) = e in cc)
 
-    first_of : (place : ℕ) (ys : List (Entry T)) → ys ≡ in_order stamp_of (filter (is_idle_entry uid) (entries cells index)) → AllByRecursion (λ x. IsThere x × (is_idle_entry uid x ≡ true)) ys → Some place ≡ slice_get (map place_of ys) 0 → IsFirst cells (entries cells index) uid place
+    first_of : (place : ℕ) (ys : List (PlacedOperation T)) → ys ≡ in_order stamp_of (filter (is_idle_entry uid) (entries cells index)) → AllByRecursion (λ x. IsThere x × (is_idle_entry uid x ≡ true)) ys → Some place ≡ slice_get (map place_of ys) 0 → IsFirst cells (entries cells index) uid place
     first_of place [] is all e = absurd (let no : ◌≡◌ {A = Option ℕ} (Some place) None = e in cc)
     first_of place (y ∷ ys) is all e =
         let here : place ≡ y.place = (let both : ◌≡◌ {A = Option ℕ} (Some place) (Some y.place) = e in cc) in

@@ -4,7 +4,7 @@ use Rattle.std.proofs.lemmas.List.{get_or_default}
 use Rattle.operation_slots.specs.declared.cells.Cell.{Cell}
 use Rattle.operation_slots.specs.declared.index.Numbered.{Numbered}
 use Rattle.slot_chain.specs.Ordered.{IsAt}
-use Rattle.operation_slots.specs.Kept.{cell_at, blank, index_number}
+use Rattle.operation_slots.specs.Boards.{cell_at, blank, index_number}
 
 module _ {T : Type 0} where
   pub none_of_busy : (v : Option T) → not (is_some v) ≡ true → v ≡ None

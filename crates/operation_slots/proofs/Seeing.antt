@@ -8,7 +8,7 @@ use Rattle.operation_slots.specs.declared.operation.Operation.{Operation}
 use Rattle.operation_slots.specs.declared.operation.Taken.{Taken}
 use Rattle.operation_slots.specs.Counted.{count_in, total}
 use Rattle.operation_slots.specs.Table.{IsSound, MatchTaken, has_number, is_idle_of, is_of, idle_value, is_busy, made_busy, taken, without}
-use Rattle.operation_slots.specs.Kept.{IsKept, entries_of, operations_on, seen}
+use Rattle.operation_slots.specs.Boards.{IsKept, entries_of, operations_on, seen}
 use Rattle.operation_slots.proofs.Keeping.{later_without, one_fewer}
 use Rattle.operation_slots.proofs.Lists.{found_without}
 use Rattle.operation_slots.proofs.Entries.{count_operations}

@@ -4,7 +4,7 @@ use Rattle.std.proofs.Math.ListN.{set}
 use Rattle.std.specs.List.{AllByRecursion, insert, remove, list_any}
 use Rattle.std.proofs.lemmas.List.Sums.{sum_by-append}
 use Rattle.std.proofs.lemmas.Bool.{cases_Bool, ltb-true, lt-ltb, le-ltb, eqb-true, eq-eqb, ne_eqb, cases_lt}
-use Rattle.operation_slots.specs.Table.{NoneIs, AllDiffer}
+use Rattle.slot_chain.specs.Linked.{NoneIs, AllDiffer}
 use Rattle.operation_slots.specs.Sorted.{placed, in_order}
 
 module _ {A : Type 0} where
@@ -77,36 +77,6 @@ module _ {A : Type 0} where
       | inr b ↦ rw (a, b) (filter_comm p q xs)
     ]
   ]
-
-  -- ---- one of its number, written over or taken out
-
-  module _ (name : A → ℕ) where
-    key_none : (n : ℕ) (xs : List A) (i : ℕ) (d : A) → NoneIs n (map name xs) → i < length xs → name (get_or xs i d) ≢ n
-    key_none n [] i d h l = absurd (omega arith)
-    key_none n (x ∷ xs) zero d h l = h.0
-    key_none n (x ∷ xs) (suc i) d h l = key_none n xs i d h.1 (omega arith)
-
-    none_changed : (n : ℕ) (f : A → A) (xs : List A) → NoneIs n (map name xs) → map (λ x. cond (name x == n) (f x) x) xs ≡ xs
-    none_changed n f [] h = refl
-    none_changed n f (x ∷ xs) h = rw (ne_eqb (name x) n h.0) (ap (λ (l : List A). x ∷ l) (none_changed n f xs h.1))
-
-    pub set_is_change : (n : ℕ) (f : A → A) (xs : List A) (i : ℕ) (d : A) → AllDiffer (map name xs) → i < length xs → name (get_or xs i d) ≡ n → set xs i (f (get_or xs i d)) ≡ map (λ x. cond (name x == n) (f x) x) xs
-    set_is_change n f [] i d h l e = absurd (omega arith)
-    set_is_change n f (x ∷ xs) zero d h l e = rw (eq-eqb (name x) n e) (ap (λ (l : List A). f x ∷ l) (sym (none_changed n f xs (subst (λ (k : ℕ). NoneIs k (map name xs)) e h.0))))
-    set_is_change n f (x ∷ xs) (suc i) d h l e =
-        let other : name x ≢ n = (λ (s : name x ≡ n). key_none (name x) xs i d h.0 (omega arith) (e ∙ sym s)) in
-        rw (ne_eqb (name x) n other) (ap (λ (l : List A). x ∷ l) (set_is_change n f xs i d h.1 (omega arith) e))
-
-    none_out : (n : ℕ) (xs : List A) → NoneIs n (map name xs) → filter (λ x. not (name x == n)) xs ≡ xs
-    none_out n [] h = refl
-    none_out n (x ∷ xs) h = rw (ne_eqb (name x) n h.0) (ap (λ (l : List A). x ∷ l) (none_out n xs h.1))
-
-    pub remove_is_filter : (n : ℕ) (xs : List A) (i : ℕ) (d : A) → AllDiffer (map name xs) → i < length xs → name (get_or xs i d) ≡ n → remove xs i ≡ filter (λ x. not (name x == n)) xs
-    remove_is_filter n [] i d h l e = absurd (omega arith)
-    remove_is_filter n (x ∷ xs) zero d h l e = rw (eq-eqb (name x) n e) (sym (none_out n xs (subst (λ (k : ℕ). NoneIs k (map name xs)) e h.0)))
-    remove_is_filter n (x ∷ xs) (suc i) d h l e =
-        let other : name x ≢ n = (λ (s : name x ≡ n). key_none (name x) xs i d h.0 (omega arith) (e ∙ sym s)) in
-        rw (ne_eqb (name x) n other) (ap (λ (l : List A). x ∷ l) (remove_is_filter n xs i d h.1 (omega arith) e))
 
   -- ---- the order
 

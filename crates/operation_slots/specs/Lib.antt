@@ -1,4 +1,4 @@
 pub mod Table
 pub mod Counted
 pub mod Sorted
-pub mod Kept
+pub mod Boards

@@ -1,6 +1,7 @@
 -- What contracts see of the slots: the operations that are held, what a look-up finds among them, and what each call makes of them.
 use Rattle.std.specs.Prelude.{◌≡◌, option_map, ◌≢◌, ◌<◌, ◌≤◌, ◌^◌, ℕ, Bool, true, false, ◌&&◌, not, ◌==◌, nat_lt, is_some, List, [], ◌∷◌, ◌++◌, Option, Some, None, length, map, filter, find, count_by, All, if◌then◌else◌}
 use Rattle.std.specs.List.{list_any}
+use Rattle.slot_chain.specs.Linked.{AllDiffer}
 use Rattle.operation_slots.specs.declared.operation.Operation.{Operation}
 use Rattle.operation_slots.specs.declared.operation.Taken.{Taken}
 use Rattle.operation_slots.specs.declared.operation.Taken.TheVariants.{Found, Busy, Absent}
@@ -13,16 +14,6 @@ pub record SlotTable (T : Type 0) : Type 0 where
   pub capacity : ℕ
   -- the uids that have an idle operation, in an order of which nothing is said
   pub owners : List ℕ
-
--- a number is none of these
-abbrev pub NoneIs : ℕ → List ℕ → Type 0
-NoneIs n [] = Unit {0}
-NoneIs n (k ∷ ks) = (k ≢ n) × NoneIs n ks
-
--- no two numbers are the same
-abbrev pub AllDiffer : List ℕ → Type 0
-AllDiffer [] = Unit {0}
-AllDiffer (k ∷ ks) = NoneIs k ks × AllDiffer ks
 
 module _ {T : Type 0} where
   -- ---- one operation

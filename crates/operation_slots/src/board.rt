@@ -3,10 +3,10 @@
 ghost use Rattle.std.specs.Prelude.{◌≡◌, ◌<◌, ◌≤◌, ◌+◌, ◌++◌, ℕ, [], ◌∷◌, not, false, true, filter, find, length, slice_get, if◌then◌else◌, Some, None, IfOk, IfSome, IfNone, OnSome, IsSome, IsNone, All};
 ghost use Rattle.std.specs.List.{list_any, remove};
 ghost use Rattle.operation_slots.specs.Table.{IsOldestAmong, given_back, has_number, idle_value, is_busy, is_client, is_idle_of, is_of, is_taken, made_busy, taken, with_change, without};
-ghost use Rattle.operation_slots.specs.Kept.{IsKept, entries_of, operation_of, operations_on};
+ghost use Rattle.operation_slots.specs.Boards.{IsKept, entries_of, operation_of, operations_on};
 
 use crate::cells::{Cell, give_value, lay, set_free, take_value};
-use crate::counts::Counts;
+use crate::counts::UidCounts;
 use crate::index::{Numbered, number_at, put_number};
 use crate::{OpId, Operation, Steps, Taken};
 use slot_chain::Chains;
@@ -24,7 +24,7 @@ pub struct Board<T> {
     /// the places of the cells that have no operation
     pub free: Vec<u32>,
     /// of idle and busy operations
-    pub counts: Counts,
+    pub counts: UidCounts,
     /// the places of each uid's idle operations
     pub idle: Chains,
     /// how many slots there are
@@ -42,7 +42,7 @@ impl<T> Board<T> {
     {
         let index = Vec::with_capacity(alloc, capacity)?;
         let free = Vec::with_capacity(alloc, capacity)?;
-        let counts = Counts::with_room(alloc, capacity)?;
+        let counts = UidCounts::with_room(alloc, capacity)?;
         let idle = Chains::with_places(alloc, capacity)?;
         let cells = Vec::with_capacity(alloc, capacity)?;
         Ok(Board {

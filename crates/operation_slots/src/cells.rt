@@ -1,7 +1,7 @@
 //! The operations in their places.
 
 ghost use Rattle.std.specs.Prelude.{◌≡◌, ◌<◌, ◌≤◌, ◌++◌, ◌+◌, ◌^◌, ◌-◌, ℕ, [], ◌∷◌, length, None, vec_capacity};
-ghost use Rattle.operation_slots.specs.Kept.{Lays, PutsCell, cell_at, given_cell, once_in, taken_cell, times};
+ghost use Rattle.operation_slots.specs.Boards.{Lays, PutsCell, cell_at, given_cell, once_in, taken_cell, times};
 
 use crate::Operation;
 use std::mem;

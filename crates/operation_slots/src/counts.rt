@@ -17,11 +17,11 @@ pub struct Counted {
 
 /// A count for each uid, in the order of the uids.
 #[derive(Drop)]
-pub struct Counts {
+pub struct UidCounts {
     rows: Vec<Counted>,
 }
 
-impl Model for Counts {
+impl Model for UidCounts {
     ghost use Rattle.operation_slots.specs.Counted.{CountTable, IsCounts, seen};
     ghost use Rattle.std.specs.Prelude.{vec_capacity};
 
@@ -41,13 +41,13 @@ fn count_at(rows: &[Counted], uid: u32) -> Result<usize, usize>
     rows.binary_search_by_key(&uid, |row| row.uid)
 }
 
-impl Counts {
+impl UidCounts {
     /// None for any uid, with memory for so many uids.
-    pub fn with_room(alloc: Global, room: usize) -> Result<Counts, NoMemory>
+    pub fn with_room(alloc: Global, room: usize) -> Result<UidCounts, NoMemory>
         ensures none { IfOk result IsNone }
         ensures room { IfOk result (λ counts. room ≤ room_in counts) }
     {
-        Ok(Counts {
+        Ok(UidCounts {
             rows: Vec::with_capacity(alloc, room)?,
         })
     }

@@ -3,7 +3,7 @@
 ghost use Rattle.std.specs.Prelude.{◌≡◌, ◌<◌, ◌≤◌, length, IfOk, IfErr, vec_capacity};
 ghost use Rattle.std.specs.List.{insert};
 ghost use Rattle.slot_chain.specs.Ordered.{IsOrdered, IsAt, IsGap};
-ghost use Rattle.operation_slots.specs.Kept.{index_number};
+ghost use Rattle.operation_slots.specs.Boards.{index_number};
 
 use crate::OpId;
 

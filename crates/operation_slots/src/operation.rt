@@ -32,20 +32,13 @@ pub enum Taken<T> {
 }
 
 impl<T> Operation<T> {
-    ghost use Rattle.operation_slots.specs.Table.{is_idle, is_idle_of, idle_value};
+    ghost use Rattle.operation_slots.specs.Table.{is_idle, idle_value};
 
     /// Whether its value is there.
     pub(crate) fn is_idle(&self) -> bool
         ensures { result ≡ is_idle self.now }
     {
         self.value.is_some()
-    }
-
-    /// Whether it is idle and this uid's.
-    pub(crate) fn is_idle_of(&self, uid: u32) -> bool
-        ensures { result ≡ is_idle_of uid self.now }
-    {
-        self.uid == uid && self.is_idle()
     }
 
     /// Its value, where it is idle.

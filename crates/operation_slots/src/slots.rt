@@ -24,7 +24,7 @@ impl<T> Model for Slots<T> {
 
     ghost Value = { SlotTable T };
 
-    ghost use Rattle.operation_slots.specs.Kept.{seen, IsKept};
+    ghost use Rattle.operation_slots.specs.Boards.{seen, IsKept};
 
     ghost view = { λ s. seen s.board };
 

@@ -1,6 +1,6 @@
 //! What stands outside of a run, and scripts by their lines, each with what it is to get.
 
-use disk_model::{MemoryDisk, Room};
+use disk_model::{DiskRoom, MemoryDisk};
 use keystore_run::{Status, run_words};
 use ks_outside::{Disk, MemoryEntropy, MemorySink, MemorySource, Sink, Source};
 use std::alloc::Global;
@@ -9,7 +9,7 @@ use std::str;
 use tags::{DeviceSecrets, Policy};
 
 /// What a disk of a test has room for.
-pub const ROOM: Room = Room {
+pub const ROOM: DiskRoom = DiskRoom {
     calls: 256,
     bytes: 65_536,
     pages: 16,

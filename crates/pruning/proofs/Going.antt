@@ -5,7 +5,8 @@ use Rattle.std.proofs.lemmas.List.Folds.{fold-map}
 use Rattle.std.proofs.lemmas.Bool.{cases_Bool, cases_lt, eqb-true, eq-eqb, ne_eqb, and_parts}
 use Rattle.std.proofs.lemmas.Bool.Decides.{nat_tests}
 use Rattle.operation_slots.specs.declared.operation.Operation.{Operation}
-use Rattle.operation_slots.specs.Table.{SlotTable, operations_of, owners_of, is_idle, is_idle_of, is_of, has_number, has_idle, IsLater, IsSound, IsOldestIdle, NoneIs, AllDiffer, stamps_of, numbers_of, held, idle_value}
+use Rattle.slot_chain.specs.Linked.{NoneIs, AllDiffer}
+use Rattle.operation_slots.specs.Table.{SlotTable, operations_of, owners_of, is_idle, is_idle_of, is_of, has_number, has_idle, IsLater, IsSound, IsOldestIdle, stamps_of, numbers_of, held, idle_value}
 use Rattle.operation_slots.specs.Table as slots
 use Rattle.pruning.specs.declared.choice.Candidate.{Candidate}
 use Rattle.pruning.specs.Victim.{binary_digits, candidate, candidates, goes_before, open_of}

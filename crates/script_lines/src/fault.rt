@@ -1,6 +1,7 @@
 //! Why a line gave no event.
 
 use std::alloc::{AllocError, AllocFailed};
+use std::fmt;
 use tags::NoMemory;
 
 /// Why a line gave no event.
@@ -42,5 +43,14 @@ impl<T: Drop> From<AllocFailed<T>> for LineFault {
 
     fn from(_fault: AllocFailed<T>) -> Self {
         LineFault::Memory
+    }
+}
+
+impl fmt::Display for LineFault {
+    fn fmt<W: fmt::Write>(&self, f: &mut fmt::Formatter<W>) -> fmt::Result {
+        match self {
+            LineFault::Malformed => f.write_str("the line spells no event"),
+            LineFault::Memory => f.write_str("memory was wanting"),
+        }
     }
 }

@@ -1,6 +1,6 @@
 //! A service over connections and a store in memory.
 
-use disk_model::{MemoryDisk, Room};
+use disk_model::{DiskRoom, MemoryDisk};
 use keystore_server::{ServeStatus, serve_words};
 use ks_outside::{Disk, FixedClock, Gate, MemoryLink, MemoryListener, Reading, SteadyEntropy};
 use rule_model::Entry;
@@ -11,7 +11,7 @@ use std::thread::Threads;
 use tags::{DeviceSecrets, Policy};
 
 /// What a disk of a test has room for.
-const ROOM: Room = Room {
+const ROOM: DiskRoom = DiskRoom {
     calls: 64,
     bytes: 16_384,
     pages: 8,

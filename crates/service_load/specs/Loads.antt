@@ -1,12 +1,12 @@
 -- A load, as words ask for it.
 use Rattle.std.specs.Prelude.{◌≡◌, ℕ, List, codes, Option, Some, None, if◌then◌else◌}
 use Rattle.std.specs.Str.{bytes_eq}
-use Rattle.command_words.specs.Numbers.{number_in, threads_in}
-use Rattle.service_load.specs.declared.load.Kind.{Kind}
-use Rattle.service_load.specs.declared.load.Kind.TheVariants.{Macs, Updates, Book}
+use Rattle.byte_strings.specs.Numbers.{number_in, threads_in}
+use Rattle.service_load.specs.declared.load.LoadKind.{LoadKind}
+use Rattle.service_load.specs.declared.load.LoadKind.TheVariants.{Macs, Updates, Book}
 use Rattle.service_load.specs.declared.load.Load.{Load}
 
-abbrev pub kind_named : List ℕ → Option Kind
+abbrev pub kind_named : List ℕ → Option LoadKind
 kind_named word =
     if bytes_eq word (codes "macs") then Some Macs
     else if bytes_eq word (codes "updates") then Some Updates

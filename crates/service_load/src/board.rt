@@ -1,7 +1,7 @@
 //! What threads tell one another.
 
 use crate::counts::Counts;
-use crate::plan::Plan;
+use crate::plan::LoadPlan;
 use ks_outside::Gate;
 use std::sync::atomic::{AtomicU64, Ordering};
 
@@ -12,7 +12,7 @@ const LOOKS: u64 = 1_000_000_000;
 /// calls too.
 #[derive(Debug, Drop)]
 pub struct Board {
-    pub plan: &'static Plan,
+    pub plan: &'static LoadPlan,
     pub rounds: u32,
     raised: AtomicU64,
     tickets: AtomicU64,
@@ -26,7 +26,7 @@ pub struct Board {
 
 impl Board {
     /// The board of a load that was not begun.
-    pub fn new(plan: &'static Plan, rounds: u32) -> Board {
+    pub fn new(plan: &'static LoadPlan, rounds: u32) -> Board {
         Board {
             plan,
             rounds,

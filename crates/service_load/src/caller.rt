@@ -7,7 +7,7 @@ ghost use Rattle.service_load.specs.Services.{IsPassOf};
 
 use crate::board::Board;
 use crate::counts::{Counts, NO_CALLS};
-use crate::plan::Call;
+use crate::plan::LoadCall;
 use crate::requests::request_of;
 use crate::service::Service;
 use rule_model::Reply;
@@ -17,7 +17,7 @@ use std::sync::Wait;
 
 /// Who calls: a pass, the operation that it began last, and what its calls came to.
 #[derive(Drop)]
-pub struct Caller {
+pub struct LoadThread {
     pass: Pass,
     op: u64,
     counts: Counts,
@@ -36,16 +36,16 @@ fn make<R: Wait>(
     rt: &R,
     alloc: Global,
     service: &Service,
-    caller: Caller,
-    call: Call,
+    caller: LoadThread,
+    call: LoadCall,
     board: &Board,
-) -> Caller
+) -> LoadThread
     requires ours { IsFor service.now caller }
     ensures goes { Goes service.now caller result }
 {
-    let Caller { pass, op, counts } = caller;
+    let LoadThread { pass, op, counts } = caller;
     let Some(request) = request_of(alloc, call, pass.number(), op) else {
-        return Caller {
+        return LoadThread {
             pass,
             op,
             counts: counts.with_missed(),
@@ -54,7 +54,7 @@ fn make<R: Wait>(
     let (pass, served) = service.call(rt, pass, request, board);
     let op = op_after(op, &served);
     let counts = counts.with(&served);
-    Caller { pass, op, counts }
+    LoadThread { pass, op, counts }
 }
 
 /// Makes calls in turn.
@@ -62,10 +62,10 @@ fn make_all<R: Wait>(
     rt: &R,
     alloc: Global,
     service: &Service,
-    caller: Caller,
-    calls: &[Call],
+    caller: LoadThread,
+    calls: &[LoadCall],
     board: &Board,
-) -> Caller
+) -> LoadThread
     requires ours { IsFor service.now caller }
     ensures goes { Goes service.now caller result }
 {
@@ -82,9 +82,9 @@ fn make_rounds<R: Wait>(
     rt: &R,
     alloc: Global,
     service: &Service,
-    caller: Caller,
+    caller: LoadThread,
     board: &Board,
-) -> Caller
+) -> LoadThread
     requires ours { IsFor service.now caller }
     ensures goes { Goes service.now caller result }
 {
@@ -105,7 +105,7 @@ pub fn work<R: Wait>(rt: &R, alloc: Global, service: &Service, pass: Pass, board
     let plan = board.plan;
     let number = pass.number();
     board.let_in(number);
-    let caller = Caller {
+    let caller = LoadThread {
         pass,
         op: 0,
         counts: NO_CALLS,
@@ -113,7 +113,7 @@ pub fn work<R: Wait>(rt: &R, alloc: Global, service: &Service, pass: Pass, board
     let caller = make_all(rt, alloc, service, caller, plan.beginning(number), board);
     board.raise();
     let caller = make_rounds(rt, alloc, service, caller, board);
-    let Caller { pass, counts, .. } = make_all(rt, alloc, service, caller, plan.last, board);
+    let LoadThread { pass, counts, .. } = make_all(rt, alloc, service, caller, plan.last, board);
     board.add(counts);
     pass
 }

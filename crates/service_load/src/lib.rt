@@ -17,6 +17,6 @@ mod words;
 
 pub use board::Board;
 pub use counts::Counts;
-pub use load::{Kind, Load};
-pub use plan::{Call, MACS, Plan, USES};
+pub use load::{Load, LoadKind};
+pub use plan::{LoadCall, LoadPlan, MACS, USES};
 pub use running::run;

@@ -2,11 +2,11 @@
 
 ghost use Rattle.std.specs.Prelude.{◌<◌};
 
-use crate::plan::{MACS, Plan, UPDATES, USES};
+use crate::plan::{LoadPlan, MACS, UPDATES, USES};
 
 /// What a load is for.
 #[derive(Clone, Copy, Debug, PartialEq, Eq)]
-pub enum Kind {
+pub enum LoadKind {
     Macs,
     Updates,
     /// The book is written.
@@ -16,19 +16,19 @@ pub enum Kind {
 /// `KIND ROUNDS THREADS`
 #[derive(Clone, Copy, Debug)]
 pub struct Load {
-    pub kind: Kind,
+    pub kind: LoadKind,
     pub rounds: u32,
     pub threads: u32,
     ghost some: { 0 < threads },
 }
 
-impl Kind {
+impl LoadKind {
     /// What its threads do.
-    pub fn plan(self) -> &'static Plan {
+    pub fn plan(self) -> &'static LoadPlan {
         match self {
-            Kind::Macs => &MACS,
-            Kind::Updates => &UPDATES,
-            Kind::Book => &USES,
+            LoadKind::Macs => &MACS,
+            LoadKind::Updates => &UPDATES,
+            LoadKind::Book => &USES,
         }
     }
 }

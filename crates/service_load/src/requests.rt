@@ -3,7 +3,7 @@
 ghost use Rattle.std.specs.Prelude.{◌≡◌, ◌≤◌, ◌<◌, ◌^◌, length, IfOk, IfSome};
 ghost use Rattle.wire_frames.specs.Spelling.{body_of};
 
-use crate::plan::Call;
+use crate::plan::LoadCall;
 use rule_model::Act;
 use std::alloc::Global;
 use tags::{Bytes, Descriptor, Material, NoMemory};
@@ -107,27 +107,27 @@ fn finish(alloc: Global, op: u64) -> Result<Act, NoMemory>
 }
 
 /// The act of a call.
-fn act_of(alloc: Global, call: Call, number: u64, op: u64) -> Result<Act, NoMemory>
+fn act_of(alloc: Global, call: LoadCall, number: u64, op: u64) -> Result<Act, NoMemory>
     ensures short { IfOk result (λ act. length (body_of act) < 2 ^ 32) }
 {
     match call {
-        Call::Connect => Ok(Act::Connect { uid: APP }),
-        Call::Import => import(alloc, own_alias(number), &OWN_KEY),
-        Call::ImportShared => import(alloc, SHARED_ALIAS, &SHARED_KEY),
-        Call::Begin => begin(alloc, own_alias(number)),
-        Call::BeginShared => begin(alloc, SHARED_ALIAS),
-        Call::Update => update(alloc, op),
-        Call::Finish => finish(alloc, op),
-        Call::Count => Ok(Act::GetNumberOfEntries {
+        LoadCall::Connect => Ok(Act::Connect { uid: APP }),
+        LoadCall::Import => import(alloc, own_alias(number), &OWN_KEY),
+        LoadCall::ImportShared => import(alloc, SHARED_ALIAS, &SHARED_KEY),
+        LoadCall::Begin => begin(alloc, own_alias(number)),
+        LoadCall::BeginShared => begin(alloc, SHARED_ALIAS),
+        LoadCall::Update => update(alloc, op),
+        LoadCall::Finish => finish(alloc, op),
+        LoadCall::Count => Ok(Act::GetNumberOfEntries {
             domain: 0,
             nspace: 0,
         }),
-        Call::Disconnect => Ok(Act::Disconnect),
+        LoadCall::Disconnect => Ok(Act::Disconnect),
     }
 }
 
 /// The request of a call by the pass with this number, where there is memory for it. `op` is the operation that it began last.
-pub fn request_of(alloc: Global, call: Call, number: u64, op: u64) -> Option<Request>
+pub fn request_of(alloc: Global, call: LoadCall, number: u64, op: u64) -> Option<Request>
     ensures short { IfSome result (λ request. length (body_of request) < 2 ^ 32) }
 {
     match act_of(alloc, call, number, op) {

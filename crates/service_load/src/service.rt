@@ -10,7 +10,7 @@ ghost use Rattle.shared_service.specs.Passes.{AreNumbered, front_of, number_of};
 ghost use Rattle.service_load.specs.Services.{BeganNew, IsBookOf, IsNewEngine, IsPassOf, count_of};
 
 use crate::board::Board;
-use disk_model::{MemoryDisk, Room};
+use disk_model::{DiskRoom, MemoryDisk};
 use keystore_core::Engine;
 use ks_outside::{Disk, MemoryEntropy, Reading};
 use service_book::Book;
@@ -33,7 +33,7 @@ const NOW: Reading = Reading {
 };
 
 /// What the disk has room for.
-const ROOM: Room = Room {
+const ROOM: DiskRoom = DiskRoom {
     calls: 4096,
     bytes: 1_048_576,
     pages: 256,

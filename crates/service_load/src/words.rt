@@ -4,20 +4,20 @@ ghost use Rattle.std.specs.Prelude.{◌≡◌, IfNone, IfSome};
 ghost use Rattle.service_load.specs.Loads.{AsksFor, kind_named};
 ghost use Rattle.service_load.specs.declared.load.Load.{Load};
 
-use crate::load::{Kind, Load};
-use command_words::{number_in, threads_in};
+use crate::load::{Load, LoadKind};
+use byte_strings::{number_in, threads_in};
 
-impl Kind {
+impl LoadKind {
     /// The kind of this name.
-    fn named(word: &str) -> Option<Kind>
+    fn named(word: &str) -> Option<LoadKind>
         ensures { result ≡ kind_named word.now }
     {
         if word == "macs" {
-            Some(Kind::Macs)
+            Some(LoadKind::Macs)
         } else if word == "updates" {
-            Some(Kind::Updates)
+            Some(LoadKind::Updates)
         } else if word == "book" {
-            Some(Kind::Book)
+            Some(LoadKind::Book)
         } else {
             None
         }
@@ -30,7 +30,7 @@ impl Load {
         ensures some { IfSome result (AsksFor kind.now rounds.now threads.now) }
         ensures none { IfNone result ((load : Load) → AsksFor kind.now rounds.now threads.now load → ⊥) }
     {
-        let kind = Kind::named(kind)?;
+        let kind = LoadKind::named(kind)?;
         let rounds = number_in(0, u64::from(u32::MAX), rounds.as_bytes())?;
         let threads = threads_in(threads.as_bytes())?;
         Some(Load {

@@ -8,14 +8,14 @@ use native.Mathlib.Decide.{ℕ_discrete}
 use Rattle.turn_lock.specs.declared.lock.Pass.{Pass}
 use Rattle.turn_lock.specs.Passes.{Closing, Took}
 use Rattle.shared_list.specs.declared.list.PlainList.{PlainList}
-use Rattle.shared_list.specs.declared.list.Entry.{Entry}
+use Rattle.shared_list.specs.declared.list.ListEntry.{ListEntry}
 use Rattle.shared_list.specs.Runs.{HasAppended, TookIts}
 
 abbrev P : Type 0
-P = Pass PlainList Entry (Unit {0})
+P = Pass PlainList ListEntry (Unit {0})
 
 abbrev C : Type 0
-C = Closing PlainList Entry (Unit {0})
+C = Closing PlainList ListEntry (Unit {0})
 
 module _ {F : Type 0} where
   -- all were given, and these are left

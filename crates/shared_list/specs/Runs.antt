@@ -4,7 +4,7 @@ use Rattle.turn_lock.specs.declared.lock.Pass.{Pass}
 use Rattle.turn_lock.specs.Rule.{own}
 use Rattle.turn_lock.specs.Passes.{Closing, front, number_of, Took}
 use Rattle.shared_list.specs.declared.list.PlainList.{PlainList}
-use Rattle.shared_list.specs.declared.list.Entry.{Entry}
+use Rattle.shared_list.specs.declared.list.ListEntry.{ListEntry}
 use Rattle.shared_list.specs.Lists.{by, counted}
 
 -- a fact of each of these and of its place
@@ -16,7 +16,7 @@ abbrev pub EachOk : {A F : Type 0} → (ℕ → A → Type 0) → List (Result A
 EachOk P = Each (λ k r. IfOk r (P k))
 
 abbrev ListPass : Type 0
-ListPass = Pass PlainList Entry (Unit {0})
+ListPass = Pass PlainList ListEntry (Unit {0})
 
 -- a new pass with the number k
 pub record IsNew (k : ℕ) (pass : ListPass) : Type 0 where
@@ -29,7 +29,7 @@ pub record HasAppended (items k : ℕ) (pass : ListPass) : Type 0 where
   pub own_are : own by k (front pass) ≡ counted k items
 
 -- the closing has taken in the pass k, which had appended its items
-pub record TookIts (items : ℕ) (closing : Closing PlainList Entry (Unit {0})) (k : ℕ) : Type 0 where
+pub record TookIts (items : ℕ) (closing : Closing PlainList ListEntry (Unit {0})) (k : ℕ) : Type 0 where
   pub pass : ListPass
   pub took : Took closing pass
   pub its : HasAppended items k pass

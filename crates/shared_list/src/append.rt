@@ -5,7 +5,7 @@ ghost use Rattle.turn_lock.specs.Passes.{front, number_of, IsPassOf};
 ghost use Rattle.turn_lock.specs.Fronts.{Extends};
 ghost use Rattle.shared_list.specs.Lists.{by, entry, counted};
 
-use crate::list::{Entry, ListLock, ListPass};
+use crate::list::{ListEntry, ListLock, ListPass};
 use std::alloc::AllocError;
 use std::sync::Wait;
 
@@ -24,7 +24,7 @@ pub fn append<R: Wait>(
 {
     let number = pass.number();
     let (turn, mut list) = lock.enter(rt, pass);
-    match list.push(Entry { by: number, item }) {
+    match list.push(ListEntry { by: number, item }) {
         Ok(()) => Ok(lock.leave(turn, list, 1)),
         Err(_) => Err(lock.leave(turn, list, 0)),
     }

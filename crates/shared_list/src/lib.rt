@@ -10,7 +10,7 @@ mod order;
 mod plain;
 mod run;
 
-pub use list::Entry;
+pub use list::ListEntry;
 pub use order::is_in_order;
 pub use plain::appended_behind_mutex;
 pub use run::appended;

@@ -6,7 +6,7 @@ use turn_lock::{Closing, History, Maker, Pass, TurnLock};
 
 /// An item, with the number of the pass that appended it.
 #[derive(Clone, Copy, Debug, PartialEq, Eq)]
-pub struct Entry {
+pub struct ListEntry {
     pub by: u64,
     pub item: u64,
 }
@@ -14,10 +14,10 @@ pub struct Entry {
 /// Entries, the oldest first.
 #[derive(Drop)]
 pub struct PlainList {
-    pub entries: Vec<Entry>,
+    pub entries: Vec<ListEntry>,
 }
 
-impl History<Entry, ()> for PlainList {
+impl History<ListEntry, ()> for PlainList {
     ghost entries = { λ list. list.entries.items };
 
     ghost maker = { λ e. e.by };
@@ -26,16 +26,16 @@ impl History<Entry, ()> for PlainList {
 }
 
 /// A list behind the turn lock. It needs no name, since any list will do.
-pub type ListLock = TurnLock<PlainList, Entry, ()>;
+pub type ListLock = TurnLock<PlainList, ListEntry, ()>;
 
 /// A pass to the lock.
-pub type ListPass = Pass<PlainList, Entry, ()>;
+pub type ListPass = Pass<PlainList, ListEntry, ()>;
 
 /// What makes passes to the lock.
-pub type ListMaker = Maker<PlainList, Entry, ()>;
+pub type ListMaker = Maker<PlainList, ListEntry, ()>;
 
 /// A lock whose passes come back.
-pub type ListClosing = Closing<PlainList, Entry, ()>;
+pub type ListClosing = Closing<PlainList, ListEntry, ()>;
 
 impl PlainList {
     /// An empty list.
@@ -48,7 +48,7 @@ impl PlainList {
     }
 
     /// Appends an entry.
-    pub fn push(&mut self, entry: Entry) -> Result<(), AllocError>
+    pub fn push(&mut self, entry: ListEntry) -> Result<(), AllocError>
         ensures ok { OnOk result (self.new.entries.items ≡ self.old.entries.items ++ entry ∷ []) }
         ensures err { OnErr result (self.new.entries.items ≡ self.old.entries.items) }
     {

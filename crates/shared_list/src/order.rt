@@ -2,13 +2,13 @@
 ghost use Rattle.std.specs.Prelude.{◌≡◌, false, true, IfOk};
 ghost use Rattle.shared_list.specs.Lists.{IsInOrder};
 
-use crate::list::Entry;
+use crate::list::ListEntry;
 use std::alloc::{AllocError, Global};
 
 /// Walks the list with the next item of each thread.
 pub fn is_in_order(
     alloc: Global,
-    entries: &[Entry],
+    entries: &[ListEntry],
     threads: u32,
     items: u64,
 ) -> Result<bool, AllocError>

@@ -1,6 +1,6 @@
 //! The same work behind a `Mutex`, to compare.
 
-use crate::list::{Entry, PlainList};
+use crate::list::{ListEntry, PlainList};
 use std::alloc::{AllocError, Global};
 use std::sync::{Mutex, Wait};
 use std::thread;
@@ -14,7 +14,7 @@ fn append_all<R: Wait>(
     items: u64,
 ) -> Result<(), AllocError> {
     for item in 0..items {
-        list.lock(rt).push(Entry { by, item })?;
+        list.lock(rt).push(ListEntry { by, item })?;
     }
     Ok(())
 }
@@ -25,7 +25,7 @@ pub fn appended_behind_mutex<R: Threads + Wait + Sync>(
     alloc: Global,
     threads: u32,
     items: u64,
-) -> Result<Vec<Entry>, AllocError> {
+) -> Result<Vec<ListEntry>, AllocError> {
     let list = Mutex::new(PlainList::new(alloc));
     let mut numbers = Vec::new(alloc);
     for number in 0..threads {

@@ -6,7 +6,7 @@ ghost use Rattle.shared_list.specs.Lists.{by, counted, IsInOrder};
 ghost use Rattle.shared_list.specs.Runs.{Each, EachOk, IsNew, HasAppended, TookIts};
 
 use crate::append::append_all;
-use crate::list::{Entry, ListClosing, ListLock, ListMaker, ListPass, PlainList};
+use crate::list::{ListClosing, ListEntry, ListLock, ListMaker, ListPass, PlainList};
 use std::alloc::{AllocError, Global};
 use std::sync::Wait;
 use std::thread;
@@ -84,7 +84,7 @@ fn append_each<R: Threads + Wait + Sync>(
 }
 
 /// The list of a lock that ends.
-fn list_of(lock: ListLock, closing: ListClosing) -> Vec<Entry>
+fn list_of(lock: ListLock, closing: ListClosing) -> Vec<ListEntry>
     requires { IsClosingOf lock closing }
     ensures all { (items k : ℕ) → TookIts items closing k → own by k result.items ≡ counted k items }
     ensures none { (k : ℕ) → made_before closing ≤ k → own by k result.items ≡ [] }
@@ -101,7 +101,7 @@ pub fn appended<R: Threads + Wait + Sync>(
     alloc: Global,
     threads: u32,
     items: u64,
-) -> Result<Vec<Entry>, AllocError>
+) -> Result<Vec<ListEntry>, AllocError>
     ensures { IfOk result (λ list. IsInOrder threads items list.items) }
 {
     if threads == 0 {

@@ -7,7 +7,7 @@ use Rattle.ks_outside.specs.declared.disk.Disk.{Ghosts as DiskGhosts}
 use Rattle.ks_outside.specs.declared.entropy.Entropy.{Ghosts as EntropyGhosts}
 use Rattle.service_book.specs.contracts.tally.Tally as tally_type
 use Rattle.shared_service.specs.contracts.record.Record as service_record_type
-use Rattle.shared_service.specs.contracts.name.Name as name_type
+use Rattle.shared_service.specs.contracts.name.ServiceId as name_type
 use Rattle.shared_service.specs.contracts.desk.Desk as desk_type
 use Rattle.shared_service.specs.contracts.pass.Pass as pass_type
 use Rattle.shared_service.specs.contracts.shared.Shared as shared_type
@@ -18,7 +18,7 @@ use Rattle.turn_lock.specs.contracts.view.View as view_type
 use Rattle.turn_lock.specs.contracts.rule.Turns as turns_type
 use Rattle.turn_lock.specs.Views.{first_view}
 use Rattle.service_book.specs.declared.entry.BookEntry.{BookEntry}
-use Rattle.shared_service.specs.declared.name.Name.{Name}
+use Rattle.shared_service.specs.declared.name.ServiceId.{ServiceId}
 use Rattle.atomic_table.proofs.badge.Badge.TheSendSync as badges
 use Rattle.atomic_table.proofs.shared.Shared.TheSendSync as tables
 use Rattle.atomic_table.proofs.send_lease.SendLease.TheSendSync as leases
@@ -237,7 +237,7 @@ module _ (D N : RattleType) (d : DiskGhosts D.Denot) (n : EntropyGhosts N.Denot)
   shared_sync disk entropy =
       let slot : IsSend (option_type.the_row (desk_type.the_row D N d n)) = slot_send (desk_type.the_row D N d n) (desk_item disk entropy) in
       struct_sync (shape (shared_type.the_type D N d n))
-      (search sendable depth 20, (lock_sync (option_type.the_row (desk_type.the_row D N d n)) (view_type.the_row book_entry_type.the_row name_type.the_row) name_type.the_row turns_type.the_row (record { holds = _; first = first_view {E = BookEntry} {K = Name} }) slot name_shown, (search sendable, tt)))
+      (search sendable depth 20, (lock_sync (option_type.the_row (desk_type.the_row D N d n)) (view_type.the_row book_entry_type.the_row name_type.the_row) name_type.the_row turns_type.the_row (record { holds = _; first = first_view {E = BookEntry} {K = ServiceId} }) slot name_shown, (search sendable, tt)))
 
   pub shared_shown : IsSend D → IsSend N → IsSync (shared_type.the_row D N d n)
   shared_shown disk entropy = as_row_sync (shared_type.the_field D N d n) (shared_sync disk entropy)

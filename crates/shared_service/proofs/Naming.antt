@@ -5,15 +5,15 @@ use Rattle.atomic_table.specs.Seated.{TableId}
 use Rattle.turn_lock.specs.declared.lock.RestingPass.{RestingPass}
 use Rattle.turn_lock.specs.Resting.{IsRestingPassAt, one_name}
 use Rattle.service_book.specs.declared.entry.BookEntry.{BookEntry}
-use Rattle.shared_service.specs.declared.name.Name.{Name}
+use Rattle.shared_service.specs.declared.name.ServiceId.{ServiceId}
 use Rattle.shared_service.specs.Desks.{HasSeen}
 use Rattle.shared_service.specs.Requests.{IsCaller}
 
 -- what is seen under one name of the pass is seen under each
-pub seen_named : (pass : RestingPass BookEntry Name) (lock other : TableId) (name named : Name) (number : ℕ) (front : List BookEntry) (client : ℕ) (connected : Bool) → IsRestingPassAt lock name pass → IsRestingPassAt other named pass
+pub seen_named : (pass : RestingPass BookEntry ServiceId) (lock other : TableId) (name named : ServiceId) (number : ℕ) (front : List BookEntry) (client : ℕ) (connected : Bool) → IsRestingPassAt lock name pass → IsRestingPassAt other named pass
     → ∥ HasSeen name number front client connected ∥₁ → ∥ HasSeen named number front client connected ∥₁
 seen_named pass lock other name named number front client connected at there seen =
-    subst (λ (n : Name). ∥ HasSeen n number front client connected ∥₁) (one_name pass lock other name named at there) seen
+    subst (λ (n : ServiceId). ∥ HasSeen n number front client connected ∥₁) (one_name pass lock other name named at there) seen
 
 pub caller_prop : (pass client : ℕ) (connected : Bool) (log : List BookEntry) → IsProp (IsCaller pass client connected log)
 caller_prop pass client connected log = hlevel props

@@ -6,7 +6,7 @@ use Rattle.rule_model.specs.Setup.{Setup}
 use Rattle.keystore_core.specs.declared.engine.Engine.{Engine}
 use Rattle.keystore_core.specs.Engine.{Stands, StandsAtFirst, StoreStands}
 use Rattle.service_book.specs.declared.entry.BookEntry.{BookEntry}
-use Rattle.shared_service.specs.declared.name.Name.{Name}
+use Rattle.shared_service.specs.declared.name.ServiceId.{ServiceId}
 use Rattle.shared_service.specs.Desks.{IsDesk}
 use Rattle.shared_service.specs.Facts.{ClientFacts, Facts, TicketFacts}
 use Rattle.shared_service.specs.Making.{IsNameOf}
@@ -41,7 +41,7 @@ no_clients = record {
 no_facts : (setup : Setup) → Facts setup []
 no_facts setup = record { tickets = no_tickets; clients = no_clients; busy = tt; still = tt }
 
-pub new_desk : {D N : Type 0} (d : DiskGhosts D) (n : EntropyGhosts N) (name : Name) (engine : Engine) (disk : D) (entropy : N) (book : List BookEntry) → book ≡ [] → StandsAtFirst engine → ((setup : Setup) → Stands setup engine [] → StoreStands d setup engine disk [])
+pub new_desk : {D N : Type 0} (d : DiskGhosts D) (n : EntropyGhosts N) (name : ServiceId) (engine : Engine) (disk : D) (entropy : N) (book : List BookEntry) → book ≡ [] → StandsAtFirst engine → ((setup : Setup) → Stands setup engine [] → StoreStands d setup engine disk [])
     → IsNameOf engine (d.fault_count disk) (n.fault_count entropy) name → IsDesk d n name engine disk entropy book
 new_desk {D} {N} d n name engine disk entropy book none first store is = subst (IsDesk d n name engine disk entropy) (sym none) (record {
   setup = first.setup;

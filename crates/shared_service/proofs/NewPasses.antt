@@ -9,14 +9,14 @@ use native.Mathlib.Decide.{ℕ_discrete}
 use Rattle.atomic_table.specs.Seated.{TableId}
 use Rattle.keystore_core.specs.declared.engine.Engine.{Engine}
 use Rattle.service_book.specs.declared.entry.BookEntry.{BookEntry}
-use Rattle.shared_service.specs.declared.name.Name.{Name}
+use Rattle.shared_service.specs.declared.name.ServiceId.{ServiceId}
 use Rattle.shared_service.specs.declared.pass.Pass.{Pass}
 use Rattle.shared_service.specs.Desks.{HasSeen}
 use Rattle.shared_service.specs.Making.{IsNameOf}
 use Rattle.shared_service.specs.Passes.{HasAll, IsNewPass, number_of}
 
 -- nothing is seen in the empty book
-pub seen_nothing : (name : Name) (number : ℕ) (front : List BookEntry) → front ≡ [] → ∥ HasSeen name number front 0 false ∥₁
+pub seen_nothing : (name : ServiceId) (number : ℕ) (front : List BookEntry) → front ≡ [] → ∥ HasSeen name number front 0 false ∥₁
 seen_nothing name number front none = subst (λ (f : List BookEntry). ∥ HasSeen name number f 0 false ∥₁) (sym none) ∣ record { legal = λ s of. tt; caused = tt; client_is = refl; connected_is = refl; idle = refl } ∣₁
 
 -- one more of what each is
@@ -28,7 +28,7 @@ each_more {A} P xs ys x e each last k d lt =
     (λ ne. subst (P k) (sym (get_or_append_left xs (x ∷ []) d k (omega arith))) (each k d (omega arith))))
 
 -- two names of one beginning
-pub one_name : (engine : Engine) (disk entropy : ℕ) (a b : Name) → IsNameOf engine disk entropy a → IsNameOf engine disk entropy b → a ≡ b
+pub one_name : (engine : Engine) (disk entropy : ℕ) (a b : ServiceId) → IsNameOf engine disk entropy a → IsNameOf engine disk entropy b → a ≡ b
 one_name engine disk entropy a b p q = λ i. record { engine = record { marker = a.engine.marker; value = (p.engine_is ∙ sym q.engine_is) i }; disk = (p.disk_is ∙ sym q.disk_is) i; entropy = (p.entropy_is ∙ sym q.entropy_is) i }
 
 -- all numbers are there
@@ -36,7 +36,7 @@ any_at : {A : Type 0} (test : A → Bool) (xs : List A) (k : ℕ) → k < length
 any_at test [] k lt here = absurd (omega arith)
 any_at test (x ∷ xs) k lt here = list_any_at test (x ∷ xs) k x lt (here x)
 
-pub has_all : (lock : TableId) (name : Name) (count : ℕ) (passes : List Pass) → length passes ≡ count → ((k : ℕ) (d : Pass) → k < count → IsNewPass lock name count k (get_or passes k d)) → HasAll count passes
+pub has_all : (lock : TableId) (name : ServiceId) (count : ℕ) (passes : List Pass) → length passes ≡ count → ((k : ℕ) (d : Pass) → k < count → IsNewPass lock name count k (get_or passes k d)) → HasAll count passes
 has_all lock name count passes long each = λ number lt.
     any_at (λ (p : Pass). number_of p == number) passes number (omega arith) (λ d. eq-eqb (number_of (get_or passes number d)) number (each number d lt).number_is)
 

@@ -6,7 +6,7 @@ use Rattle.service_book.specs.declared.entry.BookEntry.{BookEntry}
 use Rattle.service_book.specs.Book.{log_of}
 use Rattle.shared_service.specs.declared.coming.Coming.{Coming}
 use Rattle.shared_service.specs.declared.made.Requested.{Requested}
-use Rattle.shared_service.specs.declared.name.Name.{Name}
+use Rattle.shared_service.specs.declared.name.ServiceId.{ServiceId}
 use Rattle.shared_service.specs.Comings.{Comes, IsComing}
 use Rattle.shared_service.specs.Owning.{event_for}
 use Rattle.shared_service.specs.Requests.{IsCaller}
@@ -21,6 +21,6 @@ comes_of pass client connected reading log coming caller is = record {
 }
 
 -- what a request came to, told of the act that was asked for
-pub told_of : (name : Name) (pass : ℕ) (reading : Reading) (a act : Act) (old new : List BookEntry) (result : Requested) → a ≡ act → Requests name pass (event_for reading a pass (log_of old)) old new result
+pub told_of : (name : ServiceId) (pass : ℕ) (reading : Reading) (a act : Act) (old new : List BookEntry) (result : Requested) → a ≡ act → Requests name pass (event_for reading a pass (log_of old)) old new result
     → Requests name pass (event_for reading act pass (log_of old)) old new result
 told_of name pass reading a act old new result same told = subst (λ (x : Act). Requests name pass (event_for reading x pass (log_of old)) old new result) same told

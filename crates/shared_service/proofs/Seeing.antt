@@ -15,7 +15,7 @@ use Rattle.rule_model.specs.Entries.{admits, is_done}
 use Rattle.keystore_core.specs.declared.engine.Engine.{Engine}
 use Rattle.service_book.specs.declared.entry.BookEntry.{BookEntry}
 use Rattle.service_book.specs.Book.{client_given, client_of, later_client, log_of, ticket_in}
-use Rattle.shared_service.specs.declared.name.Name.{Name}
+use Rattle.shared_service.specs.declared.name.ServiceId.{ServiceId}
 use Rattle.shared_service.specs.Calls.{OneStep, entries_of}
 use Rattle.shared_service.specs.Desks.{HasSeen, IsDesk}
 use Rattle.shared_service.specs.Kinds.{client_after, kind_of}
@@ -25,7 +25,7 @@ use Rattle.shared_service.proofs.Fitting.{else_is, same_if, then_is}
 use Rattle.shared_service.proofs.Logs.{log_step, same_client, same_connected, same_out, settled_log, step_log}
 
 -- all of a book is seen
-pub seen_of : {D N : Type 0} (d : DiskGhosts D) (n : EntropyGhosts N) (name : Name) (engine : Engine) (disk : D) (entropy : N) (book : List BookEntry) (pass client : ℕ) (connected : Bool) → IsDesk d n name engine disk entropy book
+pub seen_of : {D N : Type 0} (d : DiskGhosts D) (n : EntropyGhosts N) (name : ServiceId) (engine : Engine) (disk : D) (entropy : N) (book : List BookEntry) (pass client : ℕ) (connected : Bool) → IsDesk d n name engine disk entropy book
     → IsCaller pass client connected (log_of book) → HasSeen name pass book client connected
 seen_of d n name engine disk entropy book pass client connected desk caller = record {
   legal = λ s of. (desk.stands s of).legal;
@@ -36,7 +36,7 @@ seen_of d n name engine disk entropy book pass client connected desk caller = re
 }
 
 -- a pass says the same of itself over a longer book that has no more of its own
-pub caller_on : (name : Name) (pass client : ℕ) (connected : Bool) (front book : List BookEntry) → HasSeen name pass front client connected → own by pass front ≡ own by pass book → IsCaller pass client connected (log_of book)
+pub caller_on : (name : ServiceId) (pass client : ℕ) (connected : Bool) (front book : List BookEntry) → HasSeen name pass front client connected → own by pass front ≡ own by pass book → IsCaller pass client connected (log_of book)
 caller_on name pass client connected front book seen same = record {
   client_is = seen.client_is ∙ ap (λ (o : Option ℕ). unwrap_or o 0) (same_client pass front book same);
   connected_is = seen.connected_is ∙ same_connected pass front book same;

@@ -25,7 +25,7 @@ use Rattle.service_book.specs.declared.entry.BookEntry.{BookEntry}
 use Rattle.service_book.specs.Book.{IsOwnAct, client_of, history_of, log_of, pass_of_ticket}
 use Rattle.service_book.specs.Limits.{MOST_ENTRIES, count, need_of}
 use Rattle.service_book.specs.Limits as limits
-use Rattle.shared_service.specs.declared.name.Name.{Name}
+use Rattle.shared_service.specs.declared.name.ServiceId.{ServiceId}
 use Rattle.shared_service.specs.Calls.{OneStep}
 use Rattle.shared_service.specs.Desks.{HasPlaces, IsDesk, MayMake, is_set_aside, weight}
 use Rattle.shared_service.specs.Facts.{AllFacts, AllWaitedFor, Facts, IsWaitedFor, pass_of_client}
@@ -92,7 +92,7 @@ idle_client setup log pass client (o ∷ opened) facts mine idle all = both (idl
 
 -- ---- what a step needs and leaves
 
-module _ {D N : Type 0} (d : DiskGhosts D) (n : EntropyGhosts N) (name : Name) (engine : Engine) (disk : D) (entropy : N) (book : List BookEntry) (pass : ℕ) (room : FieldSizes) (back : Option JobDone) (s : OneStep)
+module _ {D N : Type 0} (d : DiskGhosts D) (n : EntropyGhosts N) (name : ServiceId) (engine : Engine) (disk : D) (entropy : N) (book : List BookEntry) (pass : ℕ) (room : FieldSizes) (back : Option JobDone) (s : OneStep)
     (desk : IsDesk d n name engine disk entropy book) (may : MayMake name (log_of book) pass s.event room back)
     (follows : (setup : Setup) (past : History) → Stands setup engine past → HasDone setup past s.event.act back → MayStep setup past s.settled s.event s.drawn s.reply) where
   may_step : MayStep desk.setup (history_of (log_of book)) s.settled s.event s.drawn s.reply

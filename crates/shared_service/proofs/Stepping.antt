@@ -22,7 +22,7 @@ use Rattle.keystore_core.specs.declared.engine.Engine.{Engine}
 use Rattle.keystore_core.specs.Engine.{Stands, StoreStands}
 use Rattle.service_book.specs.declared.entry.BookEntry.{BookEntry}
 use Rattle.service_book.specs.Book.{AreLater, Counts, Follows, IsCausedLog, IsOwnAct, behind, client_of, counts_after, history_of, log_of}
-use Rattle.shared_service.specs.declared.name.Name.{Name}
+use Rattle.shared_service.specs.declared.name.ServiceId.{ServiceId}
 use Rattle.service_book.specs.Limits.{acted_bytes, recorded}
 use Rattle.shared_service.specs.Calls.{OneStep, entries_of, entry_by, settling_by}
 use Rattle.shared_service.specs.Desks.{IsDesk, MayMake, counts_of}
@@ -70,7 +70,7 @@ abbrev pub Step : {D N : Type 0} → DiskGhosts D → EntropyGhosts N → D → 
 Step d n disk disk' entropy entropy' event settled drawn reply =
     record { settled = settled; event = event; drawn = drawn; reply = reply; before = counts_of d n disk entropy; behind = counts_of d n disk' entropy' }
 
-module _ {D N : Type 0} (d : DiskGhosts D) (n : EntropyGhosts N) (name : Name) (engine engine' : Engine) (disk disk' : D) (entropy entropy' : N) (book : List BookEntry) (pass : ℕ) (event : Event) (room : FieldSizes) (back : Option JobDone)
+module _ {D N : Type 0} (d : DiskGhosts D) (n : EntropyGhosts N) (name : ServiceId) (engine engine' : Engine) (disk disk' : D) (entropy entropy' : N) (book : List BookEntry) (pass : ℕ) (event : Event) (room : FieldSizes) (back : Option JobDone)
     (settled : Option Settled) (drawn : List ℕ) (reply : Reply) where
   abbrev This : OneStep
   This = Step d n disk disk' entropy entropy' event settled drawn reply

@@ -5,11 +5,11 @@ use Rattle.ks_outside.specs.declared.entropy.Entropy.{Ghosts as EntropyGhosts}
 use Rattle.keystore_core.specs.declared.engine.Engine.{Engine}
 use Rattle.service_book.specs.declared.entry.BookEntry.{BookEntry}
 use Rattle.shared_service.specs.declared.desk.Desk.{Desk}
-use Rattle.shared_service.specs.declared.name.Name.{Name}
+use Rattle.shared_service.specs.declared.name.ServiceId.{ServiceId}
 use Rattle.shared_service.specs.Records.{book_in, places_in}
 
 module _ {D N : Type 0} {d : DiskGhosts D} {n : EntropyGhosts N} where
-  abbrev pub desk_name : Desk D N d n → Name
+  abbrev pub desk_name : Desk D N d n → ServiceId
   desk_name desk = desk.name
 
   abbrev pub desk_book : Desk D N d n → List BookEntry

@@ -21,7 +21,7 @@ use Rattle.service_book.specs.declared.entry.BookEntry.{BookEntry}
 use Rattle.service_book.specs.Book.{AreLater, Counts, IsCaused, IsOwnAct, client_of, counts_after, history_of, log_of}
 use Rattle.rule_model.specs.Acts.{is_leave}
 use Rattle.service_book.specs.Limits.{MOST_ENTRIES, clients_in, need_of, tickets_in}
-use Rattle.shared_service.specs.declared.name.Name.{Name}
+use Rattle.shared_service.specs.declared.name.ServiceId.{ServiceId}
 use Rattle.shared_service.specs.Calls.{OneStep, entries_of}
 use Rattle.shared_service.specs.Facts.{AllFacts}
 use Rattle.shared_service.specs.Names.{IsSetupOf, counts_before}
@@ -38,7 +38,7 @@ weight log = length log + clients_in log + tickets_in log
 
 -- Engine, disk and entropy stand for a book: for the setups of the service the engine and its store stand for the book's history, the
 -- book is caused, and its last counts are no greater than those of the devices.
-pub record IsDesk {D N : Type 0} (d : DiskGhosts D) (n : EntropyGhosts N) (name : Name) (engine : Engine) (disk : D) (entropy : N) (book : List BookEntry) : Type 0 where
+pub record IsDesk {D N : Type 0} (d : DiskGhosts D) (n : EntropyGhosts N) (name : ServiceId) (engine : Engine) (disk : D) (entropy : N) (book : List BookEntry) : Type 0 where
   pub setup : Setup
   pub is_setup : IsSetupOf name setup
   pub stands : (s : Setup) → IsSetupOf name s → Stands s engine (history_of (log_of book))
@@ -48,7 +48,7 @@ pub record IsDesk {D N : Type 0} (d : DiskGhosts D) (n : EntropyGhosts N) (name 
   pub facts : (s : Setup) → IsSetupOf name s → AllFacts s (log_of book)
 
 -- what a pass has seen is legal and caused, its client is its own, and no ticket of its own is out
-pub record HasSeen (name : Name) (pass : ℕ) (front : List BookEntry) (client : ℕ) (connected : Bool) : Type 0 where
+pub record HasSeen (name : ServiceId) (pass : ℕ) (front : List BookEntry) (client : ℕ) (connected : Bool) : Type 0 where
   pub legal : (s : Setup) → IsSetupOf name s → Legal s (history_of (log_of front))
   pub caused : IsCaused (counts_before name) front
   pub client_is : client ≡ unwrap_or (client_of pass (log_of front)) 0
@@ -69,7 +69,7 @@ ComesInTurn act pass log = (is_asked act ≡ true) × (out_of pass log ≡ None)
 
 -- A pass may make an event over a log: it is its own and comes in its turn, a leave has what its job came back with, and there is room
 -- for the copy of each reply.
-pub record MayMake (name : Name) (log : List BookEntry) (pass : ℕ) (event : Event) (room : FieldSizes) (back : Option JobDone) : Type 0 where
+pub record MayMake (name : ServiceId) (log : List BookEntry) (pass : ℕ) (event : Event) (room : FieldSizes) (back : Option JobDone) : Type 0 where
   pub out : ℕ
   pub few : out ≤ 1048656
   pub room_is : room ≡ sizes_of event.act out
@@ -79,7 +79,7 @@ pub record MayMake (name : Name) (log : List BookEntry) (pass : ℕ) (event : Ev
   pub enough : (s : Setup) → IsSetupOf name s → HasOutRoom s (history_of log) event.act out
 
 -- what a step made of the book, with the job of an enter
-pub record HasMade (name : Name) (pass : ℕ) (event : Event) (old new : List BookEntry) (reply : Reply) (job : Option Job) : Type 0 where
+pub record HasMade (name : ServiceId) (pass : ℕ) (event : Event) (old new : List BookEntry) (reply : Reply) (job : Option Job) : Type 0 where
   pub s : OneStep
   pub event_is : s.event ≡ event
   pub reply_is : s.reply ≡ reply

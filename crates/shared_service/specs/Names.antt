@@ -4,15 +4,15 @@ use Rattle.rule_model.specs.Setup.{Setup}
 use Rattle.keystore_core.specs.declared.engine.Engine.{Engine}
 use Rattle.keystore_core.specs.Engine.{Stands}
 use Rattle.service_book.specs.Book.{Counts}
-use Rattle.shared_service.specs.declared.name.Name.{Name}
+use Rattle.shared_service.specs.declared.name.ServiceId.{ServiceId}
 
 -- the engine as it was handed in, and how many calls of the disk and draws of the entropy had failed by then
-abbrev pub engine_before : Name → Engine
+abbrev pub engine_before : ServiceId → Engine
 engine_before name = name.engine.value
 
-abbrev pub counts_before : Name → Counts
+abbrev pub counts_before : ServiceId → Counts
 counts_before name = record { disk = name.disk; entropy = name.entropy }
 
 -- What is fixed in a run of the service: that for which its engine stood before any entry.
-abbrev pub IsSetupOf : Name → Setup → Type 0
+abbrev pub IsSetupOf : ServiceId → Setup → Type 0
 IsSetupOf name setup = Stands setup (engine_before name) []

@@ -11,7 +11,7 @@ use Rattle.turn_lock.specs.Resting.{IsRestingMakerAt, IsRestingPassAt, resting_f
 use Rattle.keystore_core.specs.declared.engine.Engine.{Engine}
 use Rattle.service_book.specs.declared.entry.BookEntry.{BookEntry}
 use Rattle.service_book.specs.Book.{Counts}
-use Rattle.shared_service.specs.declared.name.Name.{Name}
+use Rattle.shared_service.specs.declared.name.ServiceId.{ServiceId}
 use Rattle.shared_service.specs.declared.pass.Pass.{Pass}
 use Rattle.shared_service.specs.declared.shared.Shared.{Shared}
 use Rattle.shared_service.specs.Names as names
@@ -28,16 +28,16 @@ abbrev pub connected_of : Pass → Bool
 connected_of pass = pass.connected
 
 -- of so many passes the last has the right to make passes, so that none is made any more where it ends the service
-abbrev pub HoldsMaker : TableId → Name → ℕ → ℕ → Option (RestingMaker BookEntry Name) → Type 0
+abbrev pub HoldsMaker : TableId → ServiceId → ℕ → ℕ → Option (RestingMaker BookEntry ServiceId) → Type 0
 HoldsMaker lock name count number None = number + 1 < count
 HoldsMaker lock name count number (Some maker) = IsRestingMakerAt lock name maker × (resting_made maker ≡ count)
 
 -- a pass of the lock with this identity and name
-abbrev pub RestsAt : TableId → Name → Pass → Type 0
+abbrev pub RestsAt : TableId → ServiceId → Pass → Type 0
 RestsAt lock name pass = IsRestingPassAt lock name pass.pass
 
 module _ {D N : Type 0} {d : DiskGhosts D} {n : EntropyGhosts N} where
-  abbrev pub service_name : Shared D N d n → Name
+  abbrev pub service_name : Shared D N d n → ServiceId
   service_name shared = name_of shared.lock
 
   abbrev pub service_lock : Shared D N d n → TableId
@@ -80,7 +80,7 @@ abbrev pub IsNew : Pass → Type 0
 IsNew pass = (front_of pass ≡ []) × (connected_of pass ≡ false)
 
 -- the pass of this number, of so many
-pub record IsNewPass (lock : TableId) (name : Name) (count number : ℕ) (pass : Pass) : Type 0 where
+pub record IsNewPass (lock : TableId) (name : ServiceId) (count number : ℕ) (pass : Pass) : Type 0 where
   pub rests : RestsAt lock name pass
   pub maker_is : HoldsMaker lock name count (number_of pass) pass.maker
   pub number_is : number_of pass ≡ number

@@ -16,21 +16,21 @@ use Rattle.service_book.specs.Limits.{passes_limit}
 use Rattle.wire_frames.specs.Replies.{reply_body}
 use Rattle.shared_service.specs.declared.made.Requested.{Requested}
 use Rattle.shared_service.specs.declared.made.Requested.TheVariants.{Made, Full, Poor}
-use Rattle.shared_service.specs.declared.name.Name.{Name}
+use Rattle.shared_service.specs.declared.name.ServiceId.{ServiceId}
 use Rattle.shared_service.specs.Calls.{OneStep, entries_of}
 use Rattle.shared_service.specs.Names.{IsSetupOf}
 use Rattle.shared_service.specs.Owning.{is_parting, out_of}
 use Rattle.shared_service.specs.Requests.{AreNumbers, GrowsBy, IsLeaveRoom, IsRequested}
 
 -- what a request came to
-abbrev pub Requests : Name → ℕ → Event → List BookEntry → List BookEntry → Requested → Type 0
+abbrev pub Requests : ServiceId → ℕ → Event → List BookEntry → List BookEntry → Requested → Type 0
 Requests name pass event old new (Made made) =
     ∥ IsRequested name pass event old new made.reply made.job made.leave ∥₁ × AreNumbers old new made.first made.last × GrowsBy pass old new × (length (reply_body made.reply) < 2 ^ 32)
 Requests name pass event old new Full = (new ≡ old) × (passes_limit event.act (log_of old) ≡ true) × (is_parting event.act pass (log_of old) ≡ false)
 Requests name pass event old new Poor = (new ≡ old) × (passes_limit event.act (log_of old) ≡ false) × (is_parting event.act pass (log_of old) ≡ false)
 
 -- a pass may bring its ticket back with what its job came to, and there is room for the reply
-pub record MayLeave (name : Name) (log : List BookEntry) (pass ticket : ℕ) (back : JobDone) (room : FieldSizes) : Type 0 where
+pub record MayLeave (name : ServiceId) (log : List BookEntry) (pass ticket : ℕ) (back : JobDone) (room : FieldSizes) : Type 0 where
   pub is_out : out_of pass log ≡ Some ticket
   pub back_is : (s : Setup) → IsSetupOf name s → HasDone s (history_of log) (Leave ticket) (Some back)
   pub has_room : (book : List BookEntry) → log_of book ≡ log → IsLeaveRoom name book ticket room
@@ -40,7 +40,7 @@ abbrev pub leave_by : Reading → ℕ → ℕ → Event
 leave_by reading client ticket = record { reading = reading; client = client; act = Leave ticket }
 
 -- it is one step, which settles nothing, and whose reply is neither for want of memory nor for want of its ticket
-pub record HasLeft (name : Name) (pass client : ℕ) (reading : Reading) (ticket : ℕ) (old new : List BookEntry) (reply : Reply) : Type 0 where
+pub record HasLeft (name : ServiceId) (pass client : ℕ) (reading : Reading) (ticket : ℕ) (old new : List BookEntry) (reply : Reply) : Type 0 where
   pub s : OneStep
   pub event_is : s.event ≡ leave_by reading client ticket
   pub none : s.settled ≡ None

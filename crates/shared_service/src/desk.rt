@@ -6,7 +6,7 @@ ghost use Rattle.service_book.specs.Limits.{MOST_ENTRIES, recorded};
 ghost use Rattle.shared_service.specs.Desks.{IsDesk, weight};
 ghost use Rattle.shared_service.specs.Records.{book_in, places_in};
 
-use crate::name::Name;
+use crate::name::ServiceId;
 use crate::record::Record;
 use keystore_core::Engine;
 use ks_outside::{Disk, Entropy};
@@ -24,7 +24,7 @@ mod steps;
 #[derive(Drop)]
 pub struct Desk<D: Disk, N: Entropy> {
     alloc: Global,
-    name: Name,
+    name: ServiceId,
     engine: Engine,
     disk: D,
     entropy: N,
@@ -35,7 +35,7 @@ pub struct Desk<D: Disk, N: Entropy> {
     ghost small: { recorded (log_of (book_in book)) ≤ length (book_in book) * 2 ^ 35 },
 }
 
-impl<D: Disk, N: Entropy> History<BookEntry, Name> for Desk<D, N> {
+impl<D: Disk, N: Entropy> History<BookEntry, ServiceId> for Desk<D, N> {
     ghost use Rattle.std.specs.Prelude.{◌≡◌};
     ghost use Rattle.shared_service.specs.Records.{book_in};
 

@@ -17,7 +17,7 @@ mod shared;
 mod stamp;
 
 pub use desk::Desk;
-pub use name::Name;
+pub use name::ServiceId;
 pub use pass::Pass;
 pub use served::Served;
 pub use shared::Shared;

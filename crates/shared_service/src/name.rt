@@ -6,7 +6,7 @@ use std::snapshot::Snapshot;
 /// The engine as a service took it, which clauses alone see, and how many calls of the disk and draws of the entropy had failed by
 /// then. By it a pass knows its service.
 #[derive(Drop)]
-pub struct Name {
+pub struct ServiceId {
     pub(crate) engine: Snapshot<Engine>,
     pub(crate) disk: u64,
     pub(crate) entropy: u64,

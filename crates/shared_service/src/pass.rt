@@ -4,9 +4,9 @@ ghost use Rattle.std.specs.Prelude.{◌≡◌};
 ghost use Rattle.atomic_table.specs.Seated.{TableId};
 ghost use Rattle.turn_lock.specs.Resting.{IsRestingPassAt, resting_front, resting_number};
 ghost use Rattle.shared_service.specs.Desks.{HasSeen};
-ghost use Rattle.shared_service.specs.declared.name.Name.{Name};
+ghost use Rattle.shared_service.specs.declared.name.ServiceId.{ServiceId};
 
-use crate::name::Name;
+use crate::name::ServiceId;
 use service_book::BookEntry;
 use turn_lock::{RestingMaker, RestingPass};
 
@@ -16,10 +16,10 @@ mod numbers;
 /// and has all that it made itself.
 #[derive(Drop)]
 pub struct Pass {
-    pub(crate) pass: RestingPass<BookEntry, Name>,
+    pub(crate) pass: RestingPass<BookEntry, ServiceId>,
     /// the number of its client, and 0 where it has none
     pub(crate) client: u64,
     pub(crate) connected: bool,
-    pub(crate) maker: Option<RestingMaker<BookEntry, Name>>,
-    ghost seen: { (lock : TableId) (name : Name) → IsRestingPassAt lock name pass → ∥ HasSeen name (resting_number pass) (resting_front pass) client connected ∥₁ },
+    pub(crate) maker: Option<RestingMaker<BookEntry, ServiceId>>,
+    ghost seen: { (lock : TableId) (name : ServiceId) → IsRestingPassAt lock name pass → ∥ HasSeen name (resting_number pass) (resting_front pass) client connected ∥₁ },
 }

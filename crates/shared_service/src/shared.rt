@@ -1,7 +1,7 @@
 //! The service.
 
 use crate::desk::Desk;
-use crate::name::Name;
+use crate::name::ServiceId;
 use ks_outside::{Disk, Entropy};
 use service_book::BookEntry;
 use std::alloc::Global;
@@ -17,6 +17,6 @@ mod turns;
 #[derive(Drop)]
 pub struct Shared<D: Disk, N: Entropy> {
     alloc: Global,
-    lock: TurnLock<Desk<D, N>, BookEntry, Name>,
+    lock: TurnLock<Desk<D, N>, BookEntry, ServiceId>,
     passes: u32,
 }

@@ -1,11 +1,10 @@
 -- Lists in the order of a number: what a halving finds, and what an edit at its place does.
-use Rattle.std.proofs.Common.{◌≡◌, ◌≢◌, ◌<◌, ◌≤◌, ◌==◌, ℕ, zero, suc, Bool, false, cond, List, [], ◌∷◌, map, length, get_or, find, Some, None, Result, Ok, Err, IfOk, IfErr, refl, sym, ap, ◌∙◌, subst, arith, inl, inr}
+use Rattle.std.proofs.Common.{◌≡◌, ◌≢◌, ◌<◌, ◌≤◌, ◌==◌, ℕ, zero, suc, Bool, false, not, cond, List, [], ◌∷◌, map, filter, length, get_or, find, Some, None, Result, Ok, Err, IfOk, IfErr, refl, sym, ap, ◌∙◌, subst, arith, inl, inr}
 use Rattle.std.proofs.Math.ListN.{set}
 use Rattle.std.specs.List.{AllByRecursion, insert, remove}
 use Rattle.std.specs.List.Sorted.{IsSearchInRange, IsBinarySearchResult, IsNonDecreasingBy}
 use Rattle.std.specs.Ordering.{nat_cmp, ordering_index}
 use Rattle.std.proofs.lemmas.Cmp.{ranked}
-use Rattle.std.proofs.lemmas.List.Sorted.{IsNonDecreasingBy-from_default}
 use Rattle.std.proofs.lemmas.Bool.{cases_Bool, eqb-true, ne_eqb, eq-eqb}
 use Rattle.std.proofs.lemmas.Bool.Decides.{nat_tests}
 use Rattle.slot_chain.specs.Linked.{NoneIs, AllDiffer}
@@ -44,11 +43,11 @@ module _ {A : Type 0} (key : A → ℕ) where
     pub found : IfOk r (IsAt key xs n)
     pub absent : IfErr r (IsGap key xs n)
 
-  module _ (zero_one : A) (xs : List A) (order : IsOrdered key xs) (n : ℕ) where
+  module _ (xs : List A) (order : IsOrdered key xs) (n : ℕ) where
     comparisons_rise : IsNonDecreasingBy (λ x. ordering_index (nat_cmp (key x) n)) xs
-    comparisons_rise = IsNonDecreasingBy-from_default (λ x. ordering_index (nat_cmp (key x) n)) xs zero_one (λ i j le within.
-        let rise : key (get_or xs i zero_one) ≤ key (get_or xs j zero_one) = grind (arith, rising_at xs i j zero_one order, λ (same : i ≡ j). ap (λ (m : ℕ). key (get_or xs m zero_one)) same) in
-        grind (arith, nat_tests))
+    comparisons_rise i j d le within =
+        let rise : key (get_or xs i d) ≤ key (get_or xs j d) = grind (arith, rising_at xs i j d order, λ (same : i ≡ j). ap (λ (m : ℕ). key (get_or xs m d)) same) in
+        grind (arith, nat_tests)
 
     -- a binary search by the number ends where it stands, or where it would go
     pub searched : (r : Result ℕ ℕ) → IsSearchInRange r (length xs) → IsBinarySearchResult (λ x. nat_cmp (key x) n) xs r → Searched xs n r
@@ -229,3 +228,27 @@ module _ {A : Type 0} (key : A → ℕ) where
         | inl e ↦ (let other : (v == n) ≡ false = ne_eqb v n (λ (s : v ≡ n). apart (eqb-true (key k) v e ∙ s)) in rw (e, other) refl)
         | inr e ↦ rw e later
       ]
+
+  -- ---- what an edit of the one that has a number is of them all
+
+  pub none_changed : (n : ℕ) (f : A → A) (xs : List A) → NoneIs n (map key xs) → map (λ x. cond (key x == n) (f x) x) xs ≡ xs
+  none_changed n f [] h = refl
+  none_changed n f (x ∷ xs) h = rw (ne_eqb (key x) n h.0) (ap (λ (l : List A). x ∷ l) (none_changed n f xs h.1))
+
+  pub set_is_change : (n : ℕ) (f : A → A) (xs : List A) (i : ℕ) (d : A) → AllDiffer (map key xs) → i < length xs → key (get_or xs i d) ≡ n → set xs i (f (get_or xs i d)) ≡ map (λ x. cond (key x == n) (f x) x) xs
+  set_is_change n f [] i d h l e = absurd (omega arith)
+  set_is_change n f (x ∷ xs) zero d h l e = rw (eq-eqb (key x) n e) (ap (λ (l : List A). f x ∷ l) (sym (none_changed n f xs (subst (λ (k : ℕ). NoneIs k (map key xs)) e h.0))))
+  set_is_change n f (x ∷ xs) (suc i) d h l e =
+      let other : key x ≢ n = (λ (s : key x ≡ n). none_at (key x) xs i d h.0 (omega arith) (e ∙ sym s)) in
+      rw (ne_eqb (key x) n other) (ap (λ (l : List A). x ∷ l) (set_is_change n f xs i d h.1 (omega arith) e))
+
+  pub none_out : (n : ℕ) (xs : List A) → NoneIs n (map key xs) → filter (λ x. not (key x == n)) xs ≡ xs
+  none_out n [] h = refl
+  none_out n (x ∷ xs) h = rw (ne_eqb (key x) n h.0) (ap (λ (l : List A). x ∷ l) (none_out n xs h.1))
+
+  pub remove_is_filter : (n : ℕ) (xs : List A) (i : ℕ) (d : A) → AllDiffer (map key xs) → i < length xs → key (get_or xs i d) ≡ n → remove xs i ≡ filter (λ x. not (key x == n)) xs
+  remove_is_filter n [] i d h l e = absurd (omega arith)
+  remove_is_filter n (x ∷ xs) zero d h l e = rw (eq-eqb (key x) n e) (sym (none_out n xs (subst (λ (k : ℕ). NoneIs k (map key xs)) e h.0)))
+  remove_is_filter n (x ∷ xs) (suc i) d h l e =
+      let other : key x ≢ n = (λ (s : key x ≡ n). none_at (key x) xs i d h.0 (omega arith) (e ∙ sym s)) in
+      rw (ne_eqb (key x) n other) (ap (λ (l : List A). x ∷ l) (remove_is_filter n xs i d h.1 (omega arith) e))

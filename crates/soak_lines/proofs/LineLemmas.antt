@@ -2,12 +2,12 @@
 use Rattle.std.proofs.Common.{◌≡◌, ℕ, zero, suc, ◌+◌, ◌-◌, ◌<◌, List, ◌∷◌, if◌then◌else◌, ◌++◌, [], drop, get_or, refl, ap, arith}
 use Rattle.std.proofs.lemmas.List.{drop_more}
 use Rattle.rand_chacha.specs.ChaCha.{ChaCha}
-use Rattle.soak_lines.specs.declared.call.Words.{Words}
-use Rattle.soak_lines.specs.declared.call.Call.{Call}
+use Rattle.soak_lines.specs.declared.call.DrawnWords.{DrawnWords}
+use Rattle.soak_lines.specs.declared.call.SoakCall.{SoakCall}
 use Rattle.soak_lines.specs.Calls.{call_of, is_begin}
 use Rattle.soak_lines.specs.Lines.{lines_from, opening, text_of, words_at}
 
-pub next_is : (left number begins added : ℕ) (g later : ChaCha) (words : Words) (call : Call) (text : List ℕ)
+pub next_is : (left number begins added : ℕ) (g later : ChaCha) (words : DrawnWords) (call : SoakCall) (text : List ℕ)
     → 0 < left → words ≡ (words_at g).0 → later ≡ (words_at g).1 → call ≡ call_of begins words → added ≡ (if is_begin call then 1 else 0)
     → text ≡ text_of (record { number = number + 1; call = call })
     → lines_from left (record { number = number; begins = begins; generator = g })

@@ -6,15 +6,15 @@ use Rattle.std.specs.declared.string.String.{String}
 use Rattle.std.specs.declared.alloc.Global.{Global}
 use Rattle.hex.specs.Hex.{encode_lower}
 use Rattle.rand_chacha.specs.ChaCha.{ChaCha, next_word, of_seed}
-use Rattle.soak_lines.specs.declared.call.Words.{Words}
-use Rattle.soak_lines.specs.declared.call.Call.{Call}
-use Rattle.soak_lines.specs.declared.call.Call.TheVariants as calls
+use Rattle.soak_lines.specs.declared.call.DrawnWords.{DrawnWords}
+use Rattle.soak_lines.specs.declared.call.SoakCall.{SoakCall}
+use Rattle.soak_lines.specs.declared.call.SoakCall.TheVariants as calls
 use Rattle.soak_lines.specs.declared.line.SoakLine.{SoakLine}
 use Rattle.soak_lines.specs.Calls.{call_of, is_begin}
 
 -- ---- the text of a line
 
-abbrev pub client_in : Call → ℕ
+abbrev pub client_in : SoakCall → ℕ
 client_in (calls.BeginGcm word) = 2
 client_in (calls.Update client op size byte) = client
 client_in (calls.Finish client op size byte) = client
@@ -29,7 +29,7 @@ abbrev pub hex_of_input : ℕ → ℕ → List ℕ
 hex_of_input size byte = encode_lower (replicate size byte)
 
 -- the act and its fields
-abbrev pub members_of : Call → List ℕ
+abbrev pub members_of : SoakCall → List ℕ
 members_of calls.BeginMac = codes "\"do\":\"createOperation\",\"key\":{\"domain\":0,\"alias\":\"h\"},\"params\":[[\"PURPOSE\",2],[\"MAC_LENGTH\",256]]"
 members_of (calls.BeginCbc word) =
     codes "\"do\":\"createOperation\",\"key\":{\"domain\":0,\"alias\":\"a\"},\"params\":[[\"PURPOSE\",0],[\"BLOCK_MODE\",2],[\"PADDING\",64],[\"NONCE\",\""
@@ -71,7 +71,7 @@ seed_of seed which = to_le_bytes w64 seed ++ (which ∷ replicate 23 0)
 abbrev pub drawn : ChaCha → ℕ × ChaCha
 drawn generator = next_word 10 generator
 
-abbrev pub words_at : ChaCha → Words × ChaCha
+abbrev pub words_at : ChaCha → DrawnWords × ChaCha
 words_at g = (
   record { kind = (drawn g).0; client = (drawn (drawn g).1).0; op = (drawn (drawn (drawn g).1).1).0; input = (drawn (drawn (drawn (drawn g).1).1).1).0 },
   (drawn (drawn (drawn (drawn g).1).1).1).1,
@@ -83,7 +83,7 @@ pub record Place : Type 0 where
   pub begins : ℕ
   pub generator : ChaCha
 
-abbrev pub call_at : Place → Call
+abbrev pub call_at : Place → SoakCall
 call_at place = call_of place.begins (words_at place.generator).0
 
 abbrev pub after_line : Place → Place

@@ -5,7 +5,7 @@ ghost use Rattle.soak_lines.specs.Calls as spec;
 
 /// Four words of the generator, in the order in which they are drawn.
 #[derive(Clone, Copy, Debug, PartialEq, Eq)]
-pub struct Words {
+pub struct DrawnWords {
     pub kind: u32,
     pub client: u32,
     pub op: u32,
@@ -14,7 +14,7 @@ pub struct Words {
 
 /// What a line of the load calls.
 #[derive(Clone, Copy, Debug, PartialEq, Eq)]
-pub enum Call {
+pub enum SoakCall {
     /// client 1 begins a mac with the key `h`
     BeginMac,
     /// client 1 begins an encryption in CBC with the key `a`, its nonce being this word four times
@@ -51,9 +51,9 @@ pub enum Call {
     },
 }
 
-impl Words {
+impl DrawnWords {
     /// The call of these words, behind so many lines that begin an operation.
-    pub fn call(self, begins: u64) -> Call
+    pub fn call(self, begins: u64) -> SoakCall
         requires few { begins < 2 ^ 62 }
         ensures call { result ≡ spec.call_of begins self }
     {
@@ -62,50 +62,50 @@ impl Words {
         let size = (self.input % 64) as u8;
         let byte = (self.input % 256) as u8;
         match self.kind % 10 {
-            0 => Call::BeginMac,
-            1 => Call::BeginCbc { word: self.input },
-            2 => Call::BeginGcm { word: self.input },
-            3 => Call::BeginLimited,
-            4 => Call::Update {
+            0 => SoakCall::BeginMac,
+            1 => SoakCall::BeginCbc { word: self.input },
+            2 => SoakCall::BeginGcm { word: self.input },
+            3 => SoakCall::BeginLimited,
+            4 => SoakCall::Update {
                 client,
                 op,
                 size,
                 byte,
             },
-            5 => Call::Update {
+            5 => SoakCall::Update {
                 client,
                 op,
                 size,
                 byte,
             },
-            6 => Call::Update {
+            6 => SoakCall::Update {
                 client,
                 op,
                 size,
                 byte,
             },
-            7 => Call::Finish {
+            7 => SoakCall::Finish {
                 client,
                 op,
                 size,
                 byte,
             },
-            8 => Call::Abort { client, op },
-            _ => Call::Count { client },
+            8 => SoakCall::Abort { client, op },
+            _ => SoakCall::Count { client },
         }
     }
 }
 
-impl Call {
+impl SoakCall {
     /// Whether the line begins an operation.
     pub fn is_begin(self) -> bool
         ensures { result ≡ spec.is_begin self }
     {
         match self {
-            Call::BeginMac => true,
-            Call::BeginCbc { .. } => true,
-            Call::BeginGcm { .. } => true,
-            Call::BeginLimited => true,
+            SoakCall::BeginMac => true,
+            SoakCall::BeginCbc { .. } => true,
+            SoakCall::BeginGcm { .. } => true,
+            SoakCall::BeginLimited => true,
             _ => false,
         }
     }

@@ -4,26 +4,26 @@ ghost use Rattle.std.specs.Prelude.{◌≡◌, IfOk, ◌<◌, ◌+◌, ◌^◌, 
 ghost use Rattle.hex.specs.Hex.{encode_lower};
 ghost use Rattle.soak_lines.specs.Lines as spec;
 
-use crate::call::Call;
+use crate::call::SoakCall;
 use std::alloc::{AllocError, Global};
 
 /// A line of the load: its number in the script, from 1, and what it calls.
 #[derive(Clone, Copy, Debug, PartialEq, Eq)]
 pub struct SoakLine {
     pub number: u64,
-    pub call: Call,
+    pub call: SoakCall,
 }
 
 /// The client that makes a call.
-fn client_of(call: Call) -> u64
+fn client_of(call: SoakCall) -> u64
     ensures { result ≡ spec.client_in call }
 {
     match call {
-        Call::BeginGcm { .. } => 2,
-        Call::Update { client, .. } => client,
-        Call::Finish { client, .. } => client,
-        Call::Abort { client, .. } => client,
-        Call::Count { client } => client,
+        SoakCall::BeginGcm { .. } => 2,
+        SoakCall::Update { client, .. } => client,
+        SoakCall::Finish { client, .. } => client,
+        SoakCall::Abort { client, .. } => client,
+        SoakCall::Count { client } => client,
         _ => 1,
     }
 }
@@ -43,38 +43,38 @@ fn hex_of_input(alloc: Global, size: u8, byte: u8) -> Result<String, AllocError>
 }
 
 /// The members of a call behind the client.
-fn members_of(alloc: Global, call: Call) -> Result<String, AllocError>
+fn members_of(alloc: Global, call: SoakCall) -> Result<String, AllocError>
     ensures { IfOk result (λ text. string_bytes text ≡ spec.members_of call) }
 {
     match call {
-        Call::BeginMac => format!(in alloc;
+        SoakCall::BeginMac => format!(in alloc;
             "\"do\":\"createOperation\",\"key\":{{\"domain\":0,\"alias\":\"h\"}},\"params\":[[\"PURPOSE\",2],[\"MAC_LENGTH\",256]]"
         ),
-        Call::BeginCbc { word } => {
+        SoakCall::BeginCbc { word } => {
             let nonce = hex_of_word(alloc, word)?;
             format!(in alloc;
                 "\"do\":\"createOperation\",\"key\":{{\"domain\":0,\"alias\":\"a\"}},\"params\":[[\"PURPOSE\",0],[\"BLOCK_MODE\",2],[\"PADDING\",64],[\"NONCE\",\"{nonce}{nonce}{nonce}{nonce}\"]]"
             )
         }
-        Call::BeginGcm { word } => {
+        SoakCall::BeginGcm { word } => {
             let nonce = hex_of_word(alloc, word)?;
             format!(in alloc;
                 "\"do\":\"createOperation\",\"key\":{{\"domain\":1,\"nspace\":1}},\"params\":[[\"PURPOSE\",0],[\"BLOCK_MODE\",32],[\"PADDING\",1],[\"MAC_LENGTH\",128],[\"NONCE\",\"{nonce}{nonce}{nonce}\"]]"
             )
         }
-        Call::BeginLimited => format!(in alloc;
+        SoakCall::BeginLimited => format!(in alloc;
             "\"do\":\"createOperation\",\"key\":{{\"domain\":0,\"alias\":\"u\"}},\"params\":[[\"PURPOSE\",2],[\"MAC_LENGTH\",256]]"
         ),
-        Call::Update { op, size, byte, .. } => {
+        SoakCall::Update { op, size, byte, .. } => {
             let input = hex_of_input(alloc, size, byte)?;
             format!(in alloc; "\"do\":\"update\",\"op\":{op},\"input\":\"{input}\"")
         }
-        Call::Finish { op, size, byte, .. } => {
+        SoakCall::Finish { op, size, byte, .. } => {
             let input = hex_of_input(alloc, size, byte)?;
             format!(in alloc; "\"do\":\"finish\",\"op\":{op},\"input\":\"{input}\"")
         }
-        Call::Abort { op, .. } => format!(in alloc; "\"do\":\"abort\",\"op\":{op}"),
-        Call::Count { .. } => format!(in alloc; "\"do\":\"getNumberOfEntries\",\"domain\":0"),
+        SoakCall::Abort { op, .. } => format!(in alloc; "\"do\":\"abort\",\"op\":{op}"),
+        SoakCall::Count { .. } => format!(in alloc; "\"do\":\"getNumberOfEntries\",\"domain\":0"),
     }
 }
 

@@ -4,7 +4,7 @@ ghost use Rattle.std.specs.Prelude.{◌≡◌, IfOk, ◌<◌, ◌≤◌, ◌+◌
 ghost use Rattle.soak_lines.specs.Lines as spec;
 ghost use Rattle.soak_lines.specs.Lines.{opening};
 
-use crate::call::Words;
+use crate::call::DrawnWords;
 use crate::line::SoakLine;
 use rand_chacha::ChaCha20Rng;
 use rand_core::SeedableRng;
@@ -98,7 +98,7 @@ fn owned(alloc: Global, text: &str) -> Result<String, AllocError>
 }
 
 /// Four words.
-fn words_of(generator: &mut ChaCha20Rng) -> Words
+fn words_of(generator: &mut ChaCha20Rng) -> DrawnWords
     ensures words { result ≡ (spec.words_at generator.old).0 }
     ensures after { generator.new ≡ (spec.words_at generator.old).1 }
 {
@@ -106,7 +106,7 @@ fn words_of(generator: &mut ChaCha20Rng) -> Words
     let client = generator.next_word();
     let op = generator.next_word();
     let input = generator.next_word();
-    Words {
+    DrawnWords {
         kind,
         client,
         op,

@@ -1,10 +1,10 @@
 //! A database over a disk, and the table of what lasts without one.
 
 ghost use Rattle.std.specs.Prelude.{◌≡◌, OnOk};
-ghost use Rattle.key_database.specs.Held.{lasting_in, HasRoomFor};
+ghost use Rattle.key_database.specs.TableView.{lasting_in, HasRoomFor};
 
-use disk_model::{MemoryDisk, Room};
-use journal_records::{Change, StoreFault, parse};
+use disk_model::{DiskRoom, MemoryDisk};
+use journal_records::{ApplyFault, Change, parse};
 use key_database::{KeyDatabase, LastingTable};
 use key_domains::{GrantedRow, KeyLookups, KeyRow, Permissions};
 use std::alloc::Global;
@@ -13,7 +13,7 @@ use tags::{NoMemory, Settled};
 use use_journal::Journal;
 
 /// Room for the tests.
-const ROOM: Room = Room {
+const ROOM: DiskRoom = DiskRoom {
     calls: 128,
     bytes: 16_384,
     pages: 4,
@@ -153,7 +153,7 @@ fn apply(
     database: &mut KeyDatabase,
     disk: &mut MemoryDisk,
     record: &[u8],
-) -> Option<Result<(), StoreFault>> {
+) -> Option<Result<(), ApplyFault>> {
     let Ok(change) = parse(alloc, record) else {
         return None;
     };
@@ -343,7 +343,7 @@ fn refuses(
     count: u64,
 ) -> bool {
     let made = apply(alloc, database, disk, SHARED[0]);
-    let refused = made == Some(Err(StoreFault::Device)) && told(database).0 == (0, 0);
+    let refused = made == Some(Err(ApplyFault::Device)) && told(database).0 == (0, 0);
     refused & settles(alloc, database, disk, settled, count)
 }
 

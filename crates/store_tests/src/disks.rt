@@ -1,12 +1,12 @@
 ghost use Rattle.disk_model.specs.Listed.{five, over, past, two, synced, AreImages, AreNoImages, of_five, not_of_five, of_over, not_of_over, of_past, not_of_past, of_two, not_of_two, of_synced, not_of_synced};
 
-use disk_model::{Choice, MemoryDisk, Room, StoppedDisk};
+use disk_model::{Choice, DiskRoom, MemoryDisk, StoppedDisk};
 use ks_outside::{Disk, Failed, read_synced, read_synced_byte, write_synced};
 use std::alloc::{AllocError, Global};
 use std::test::Fail;
 
 /// Room for the tests.
-const ROOM: Room = Room {
+const ROOM: DiskRoom = DiskRoom {
     calls: 8,
     bytes: 64,
     pages: 4,

@@ -2,8 +2,8 @@ ghost use Rattle.std.specs.Prelude.{None};
 ghost use Rattle.ks_outside.specs.Telling.{none_is_some};
 
 use crate::records::is_read_and_written;
-use disk_model::{Choice, MemoryDisk, Room};
-use journal_records::StoreFault;
+use disk_model::{Choice, DiskRoom, MemoryDisk};
+use journal_records::{AppendFault, StoreFault};
 use ks_outside::{Disk, Failed, read_synced, write_synced};
 use std::alloc::{AllocError, Global};
 use tags::Settled;
@@ -21,26 +21,30 @@ static GRANT: &[u8] =
 static USE: &[u8] = b"\x4b\x00\x00\x00\x09\x03\x00\x00\x00\x00\x00\x00\x00\x01\x00";
 
 /// Room for the tests.
-const ROOM: Room = Room {
+const ROOM: DiskRoom = DiskRoom {
     calls: 64,
     bytes: 1024,
     pages: 2,
 };
 
-/// Adds a record; a journal that waits, or a record of no bytes, is answered with Memory.
-fn add<D: Disk>(journal: &mut Journal, disk: &mut D, closed: &[u8]) -> Result<(), StoreFault> {
+/// Adds a record; None where the journal waits, or the record has no bytes.
+fn add<D: Disk>(
+    journal: &mut Journal,
+    disk: &mut D,
+    closed: &[u8],
+) -> Option<Result<(), AppendFault>> {
     if !journal.is_settled() || closed.len() < 2 {
-        return Err(StoreFault::Memory);
+        return None;
     }
-    journal.append(disk, closed)
+    Some(journal.append(disk, closed))
 }
 
-/// Settles; a journal that does not wait is answered with Memory.
-fn settle<D: Disk>(journal: &mut Journal, disk: &mut D) -> Result<Settled, StoreFault> {
+/// Settles; None where the journal does not wait.
+fn settle<D: Disk>(journal: &mut Journal, disk: &mut D) -> Option<Result<Settled, Failed>> {
     if journal.is_settled() {
-        return Err(StoreFault::Memory);
+        return None;
     }
-    journal.settle(disk)
+    Some(journal.settle(disk))
 }
 
 /// A disk.
@@ -126,7 +130,7 @@ static FAULTS: [Fault; 8] = [
 fn settlings_fail(journal: &mut Journal, disk: &mut MemoryDisk, count: usize) -> bool {
     let mut failed = true;
     for _ in 0..count {
-        failed &= settle(journal, disk) == Err(StoreFault::Device);
+        failed &= settle(journal, disk) == Some(Err(Failed));
     }
     failed
 }
@@ -143,8 +147,8 @@ fn settles_so(alloc: Global, fault: &Fault, journal: &mut Journal, disk: &mut Me
     let last = count(alloc, disk);
     let kept = usize::from(fault.settled == Settled::Kept);
     let ends = (failed, settled, then, last);
-    (added, refused, more) == (Ok(()), Err(StoreFault::Device), Ok(()))
-        && ends == (true, Ok(fault.settled), Ok(1 + kept), Ok(2 + kept))
+    (added, refused, more) == (Some(Ok(())), Some(Err(AppendFault::Device)), Some(Ok(())))
+        && ends == (true, Some(Ok(fault.settled)), Ok(1 + kept), Ok(2 + kept))
 }
 
 /// The same of a journal on a disk of its own.
@@ -214,7 +218,7 @@ fn use_once(alloc: Global, disk: &mut MemoryDisk) -> bool {
         Some(mut journal) => {
             let added = add(&mut journal, disk, KEY);
             let used = add(&mut journal, disk, USE);
-            (added, used) == (Ok(()), Ok(()))
+            (added, used) == (Some(Ok(())), Some(Ok(())))
         }
         None => false,
     }
@@ -335,7 +339,7 @@ fn add_at_end(
     alloc: Global,
     head: &'static [u8],
     blob: u64,
-) -> Result<(Result<(), StoreFault>, u64), StoreFault> {
+) -> Result<(Option<Result<(), AppendFault>>, u64), StoreFault> {
     let mut disk = LargeDisk {
         head,
         blob,
@@ -352,11 +356,11 @@ fn add_at_end(
 fn the_last_place_of_a_journal_and_one_byte_more(rt: HostRuntime) {
     assert_eq!(rt;
         add_at_end(rt.alloc(), LAST_HEAD, 268_435_391),
-        Ok((Ok(()), 4))
+        Ok((Some(Ok(())), 4))
     );
     assert_eq!(rt;
         add_at_end(rt.alloc(), PAST_HEAD, 268_435_392),
-        Ok((Err(StoreFault::Full), 0))
+        Ok((Some(Err(AppendFault::Full)), 0))
     );
 }
 
@@ -445,7 +449,7 @@ fn add_drawn(
     };
     let written = is_read_and_written(alloc, record.as_slice());
     let closed = record.push(0).is_ok();
-    written && closed && add(journal, disk, record.as_slice()).is_ok()
+    written && closed && add(journal, disk, record.as_slice()) == Some(Ok(()))
 }
 
 /// What is read of a disk, as two numbers: how many changes and where they end; or 2^64 - 1 and the offset.

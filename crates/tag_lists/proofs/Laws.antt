@@ -1,11 +1,11 @@
 -- The two laws: what is read is spelled so, and what is spelled so is read.
-use Rattle.std.proofs.Common.{◌≡◌, ℕ, zero, suc, ◌-◌, ◌+◌, ◌*◌, ◌^◌, ◌%◌, ◌≤◌, Bool, true, false, not, ◌&&◌, cond, ltb, eqb, List, [], ◌∷◌, ◌++◌, length, length-append, drop, Option, Some, None, Result, Ok, Err, refl, sym, ap, subst, ◌∙◌, append_assoc, arith}
+use Rattle.std.proofs.Common.{◌≡◌, ℕ, zero, suc, ◌-◌, ◌+◌, ◌*◌, ◌^◌, ◌%◌, ◌≤◌, Bool, true, false, not, ◌&&◌, cond, eqb, List, [], ◌∷◌, ◌++◌, length, length-append, Option, Some, None, Result, Ok, Err, refl, sym, ap, subst, ◌∙◌, append_assoc, arith}
 use Rattle.std.specs.Prelude.{is_some, IfOk, ◌↔◌}
 use Rattle.std.specs.List.{flat_map, AllByRecursion, Contains}
-use Rattle.std.proofs.lemmas.Bool.{eqb-true, ltb-false}
+use Rattle.std.proofs.lemmas.Bool.{eqb-true}
 use Rattle.std.proofs.lemmas.List.{append-nil, nil_from_length}
 use Rattle.std.proofs.lemmas.List.Concat.{flat_map-cons}
-use Rattle.byteorder.specs.Endian.{big_number, big_bytes}
+use Rattle.byteorder.specs.Endian.{big_bytes}
 use Rattle.byteorder.specs.Numbers.{length-bytes_high_first}
 use Rattle.tags.specs.declared.tag.Tag.{Tag}
 use Rattle.tags.specs.declared.param.Param.{Param}
@@ -13,18 +13,21 @@ use Rattle.tags.specs.declared.param.ParamValue.{ParamValue}
 use Rattle.tags.specs.declared.param.ParamValue.TheVariants.{Number, Flag, Raw}
 use Rattle.tags.specs.Tag.{type_of, number_of, repeats}
 use Rattle.tag_lists.specs.declared.fault.ListFault.{ListFault}
-use Rattle.tag_lists.specs.declared.fault.ListFault.TheVariants.{UnknownTag, WrongKind, Repeated, Truncated, Trailing}
+use Rattle.tag_lists.specs.declared.fault.ListFault.TheVariants.{UnknownTag, WrongKind, Repeated, Trailing}
 use Rattle.tag_lists.specs.declared.shape.Shape.{Shape}
 use Rattle.tag_lists.specs.declared.shape.Shape.TheVariants as shapes
 use Rattle.tag_lists.specs.Order.{FitsShape, shape_of, Fits, MayStandBeside, MayBeListed, IsCanonical, with_param, with_params, canonical}
 use Rattle.tag_lists.specs.Spelling.{spelled_value, spelled, spelling, IsListOf}
-use Rattle.tag_lists.specs.Reading.{◌>>=◌, Gives, was_read, is_wrong_flag, value_at, known_at, tagged_at, param_at, params_at, whole, listed}
+use Rattle.tag_lists.specs.Reading.{◌>>=◌, Gives, was_read, is_wrong_flag, whole_at, value_at, known_at, tagged_at, param_at, params_at, whole, listed}
 use Rattle.tags.specs.Tag.{tag_numbered, tag_with_low}
 use Rattle.tags.specs.TagLaws.{numbered_is}
 use Rattle.tag_lists.proofs.Tags.{number_from_tag, number_fits}
 use Rattle.tag_lists.proofs.Canonical.{follows, passes, all-with_param, back-with_param, AreApart, apart_more, apart_none, beside_sym, stays-with_params, canonical_is, may_from_order, all_two}
 use Rattle.tag_lists.proofs.Members.{same_members}
-use Rattle.tag_lists.proofs.Fields.{IsBytes, IsBytes-drop, bind_ok, guard_ok, ok_is, Takes, Takes-then, wide2, wide4, number_takes, number_again, value_takes, value_again}
+use Rattle.byte_strings.specs.Readers.{number_at}
+use Rattle.byte_strings.specs.Codecs.{IsBytes, Takes}
+use Rattle.byte_strings.proofs.Fields.{Takes-then, u32_codec}
+use Rattle.tag_lists.proofs.Fields.{bind_ok, guard_ok, ok_is, whole_is, number2_codec, value_takes, value_again}
 
 -- ---- one parameter
 
@@ -55,21 +58,21 @@ never : {A : Type 0} (b : Bool) (d f : ListFault) (x : A) → cond b (Err d) (Er
 never true d f x e = cc
 never false d f x e = cc
 
-tagged_takes : (at : ℕ) (before : List Param) (bytes : List ℕ) (found : Option Tag) (x : Param × List ℕ) → IsBytes bytes → 4 ≤ length bytes → tag_numbered (big_number 4 bytes) ≡ found
-    → tagged_at at before (big_number 4 bytes) found (drop 4 bytes) ≡ Ok x → TakesParam before bytes x
-tagged_takes at before bytes None x fits long is e = absurd (never (is_some (tag_with_low (big_number 4 bytes % 2 ^ 28))) (WrongKind at) (UnknownTag at) x e)
-tagged_takes at before bytes (Some tag) x fits long is e =
-    let n = number_takes 4 wide4 bytes fits long in
-    let k = known_takes at before tag (drop 4 bytes) x (IsBytes-drop 4 bytes fits) e in
-    let number : big_number 4 bytes ≡ number_of x.0.tag = sym (number_from_tag (big_number 4 bytes) tag is) ∙ ap number_of k.tag_is in
-    let first : Takes bytes (big_bytes 4 (number_of x.0.tag)) (drop 4 bytes) = subst (λ (m : ℕ). Takes bytes (big_bytes 4 m) (drop 4 bytes)) number n.0 in
-    record { takes = Takes-then bytes (big_bytes 4 (number_of x.0.tag)) (drop 4 bytes) (spelled_value (shape_of (type_of x.0.tag)) x.0.value) x.1 first k.takes; fits = k.fits; follows = k.follows }
+tagged_takes : (at : ℕ) (before : List Param) (bytes : List ℕ) (number : ℕ) (left : List ℕ) (found : Option Tag) (x : Param × List ℕ) → Takes bytes (big_bytes 4 number) left → tag_numbered number ≡ found
+    → tagged_at at before number found left ≡ Ok x → TakesParam before bytes x
+tagged_takes at before bytes number left None x read is e = absurd (never (is_some (tag_with_low (number % 2 ^ 28))) (WrongKind at) (UnknownTag at) x e)
+tagged_takes at before bytes number left (Some tag) x read is e =
+    let k = known_takes at before tag left x read.rest_fits e in
+    let same : number ≡ number_of x.0.tag = sym (number_from_tag number tag is) ∙ ap number_of k.tag_is in
+    let first : Takes bytes (big_bytes 4 (number_of x.0.tag)) left = subst (λ (m : ℕ). Takes bytes (big_bytes 4 m) left) same read in
+    record { takes = Takes-then bytes (big_bytes 4 (number_of x.0.tag)) left (spelled_value (shape_of (type_of x.0.tag)) x.0.value) x.1 first k.takes; fits = k.fits; follows = k.follows }
 
 pub param_takes : (at : ℕ) (before : List Param) (bytes : List ℕ) (x : Param × List ℕ) → IsBytes bytes → param_at at before bytes ≡ Ok x → TakesParam before bytes x
 unfolding param_at
 param_takes at before bytes x fits e =
-    let g = guard_ok (ltb (length bytes) 4) (Truncated at) (tagged_at at before (big_number 4 bytes) (tag_numbered (big_number 4 bytes)) (drop 4 bytes)) x e in
-    tagged_takes at before bytes (tag_numbered (big_number 4 bytes)) x fits (ltb-false _ _ g.0) refl g.1
+    let n = bind_ok (whole_at at (number_at 4 bytes)) (λ (n : ℕ × List ℕ). tagged_at at before n.0 (tag_numbered n.0) n.1) x e in
+    let t = u32_codec.takes bytes n.0.0 n.0.1 fits (whole_is at (number_at 4 bytes) n.0 n.1) in
+    tagged_takes at before bytes n.0.0 n.0.1 (tag_numbered n.0.0) x t.0 refl n.2
 
 known_again : (at : ℕ) (before : List Param) (p : Param) (rest : List ℕ) → Fits p → AllByRecursion (MayStandBeside p) before → known_at at before p.tag (spelled_value (shape_of (type_of p.tag)) p.value ++ rest) ≡ Ok (p, rest)
 unfolding known_at
@@ -81,9 +84,8 @@ pub param_again : (at : ℕ) (before : List Param) (p : Param) (rest : List ℕ)
 unfolding param_at
 param_again at before p rest fits beside =
     let value : List ℕ = spelled_value (shape_of (type_of p.tag)) p.value in
-    let a = number_again 4 (number_of p.tag) (value ++ rest) (number_fits p.tag) in
     ap (param_at at before) (append_assoc (big_bytes 4 (number_of p.tag)) value rest)
-    ∙ rw (a.long, a.number, a.behind, numbered_is p.tag) (known_again at before p rest fits beside)
+    ∙ rw (u32_codec.again (number_of p.tag) (value ++ rest) (number_fits p.tag), numbered_is p.tag) (known_again at before p rest fits beside)
 
 -- ---- several parameters
 
@@ -134,22 +136,24 @@ pub listed_takes : (bytes : List ℕ) (list : List Param) → IsBytes bytes → 
 unfolding listed
 listed_takes bytes list fits e =
     let total : ℕ = length bytes in
-    let g = guard_ok (ltb (length bytes) 2) (Truncated 0) (params_at (big_number 2 bytes) total [] (drop 2 bytes) >>= λ read. whole total read) list e in
-    let b = bind_ok (params_at (big_number 2 bytes) total [] (drop 2 bytes)) (λ read. whole total read) list g.1 in
+    let g = bind_ok (whole_at 0 (number_at 2 bytes)) (λ (n : ℕ × List ℕ). params_at n.0 total [] n.1 >>= λ read. whole total read) list e in
+    let count : ℕ = g.0.0 in
+    let left : List ℕ = g.0.1 in
+    let b = bind_ok (params_at count total [] left) (λ read. whole total read) list g.2 in
     let read : List Param × List ℕ = b.0 in
     let w = ended (eqb (length read.1) 0) (Trailing (total - length read.1)) read.0 list b.2 in
-    let n = number_takes 2 wide2 bytes fits (ltb-false _ _ g.0) in
-    let t = params_take (big_number 2 bytes) total [] (drop 2 bytes) read (IsBytes-drop 2 bytes fits) tt b.1 in
+    let n = number2_codec.takes bytes count left fits (whole_is 0 (number_at 2 bytes) g.0 g.1) in
+    let t = params_take count total [] left read n.0.rest_fits tt b.1 in
     let nothing : read.1 ≡ [] = nil_from_length read.1 (eqb-true _ _ w.0) in
-    let both = (Takes-then bytes (big_bytes 2 (big_number 2 bytes)) (drop 2 bytes) (flat_map spelled t.order) read.1 n.0 t.takes).parts in
+    let both = (Takes-then bytes (big_bytes 2 count) left (flat_map spelled t.order) read.1 n.0 t.takes).parts in
     record {
       order = t.order;
       few = omega (arith, t.count, n.1);
       may = t.may;
       spells =
           both
-          ∙ ap (λ (r : List ℕ). (big_bytes 2 (big_number 2 bytes) ++ flat_map spelled t.order) ++ r) nothing
-          ∙ append-nil (big_bytes 2 (big_number 2 bytes) ++ flat_map spelled t.order)
+          ∙ ap (λ (r : List ℕ). (big_bytes 2 count ++ flat_map spelled t.order) ++ r) nothing
+          ∙ append-nil (big_bytes 2 count ++ flat_map spelled t.order)
           ∙ ap (λ (k : ℕ). big_bytes 2 k ++ flat_map spelled t.order) (sym t.count);
       is = sym w.1 ∙ t.is;
       members = λ p. subst (λ l. Contains t.order p ↔ Contains l p) (sym (sym w.1 ∙ t.is)) (same_members t.order t.may p);
@@ -159,10 +163,11 @@ pub listed_again : (order : List Param) → length order ≤ 65535 → MayBeList
 unfolding listed
 listed_again order few may =
     let text : List ℕ = flat_map spelled order in
-    let a = number_again 2 (length order) text (omega (arith, few)) in
+    let a = number2_codec.again (length order) text (omega (arith, few)) in
     let total : ℕ = length (spelling order) in
     let read : params_at (length order) total [] text ≡ Ok (canonical order, []) = ap (params_at (length order) total []) (sym (append-nil text)) ∙ params_again order total [] [] may (apart_none order) in
-    rw (a.long, a.number, a.behind, read) refl
+    ap (λ (o : Option (ℕ × List ℕ)). whole_at 0 o >>= λ count. (params_at count.0 total [] count.1 >>= λ read. whole total read)) a
+    ∙ ap (λ (r : Result (List Param × List ℕ) ListFault). r >>= λ read. whole total read) read
 
 -- a canonical list is the list of its own spelling
 pub canonical_again : (list : List Param) → IsCanonical list → listed (spelling list) ≡ Ok list

@@ -12,7 +12,7 @@ use Rattle.tag_lists.specs.declared.fault.ListFault.{ListFault}
 use Rattle.tag_lists.specs.Order.{canonical, rank, with_param, with_params}
 use Rattle.tag_lists.specs.Reading.{Gives, listed}
 use Rattle.tag_lists.specs.Spelling.{IsListOf, spelled, spelling}
-use Rattle.tag_lists.proofs.Fields.{IsBytes}
+use Rattle.byte_strings.specs.Codecs.{IsBytes}
 use Rattle.tag_lists.proofs.Laws.{is_found}
 
 size : Param → ℕ

@@ -1,9 +1,10 @@
 -- What bytes spell as an authorization list, or the fault of least offset. Of several faults of one parameter the first
 -- of UnknownTag, WrongKind, Repeated and Truncated is given.
-use Rattle.std.specs.Prelude.{◌≡◌, ℕ, zero, suc, ◌-◌, ◌^◌, ◌%◌, Bool, false, not, ◌&&◌, ◌==◌, List, [], ◌∷◌, length, take, drop, nat_lt, if◌then◌else◌}
+use Rattle.std.specs.Prelude.{◌≡◌, ℕ, zero, suc, ◌-◌, ◌^◌, ◌%◌, Bool, false, not, ◌&&◌, ◌==◌, List, [], ◌∷◌, length, if◌then◌else◌}
 use Rattle.std.specs.Prelude.{Option, Some, None, is_some, Result, Ok, Err}
 use Rattle.std.specs.List.{list_any}
-use Rattle.byteorder.specs.Endian.{big_number}
+use Rattle.std.specs.Option.{ok_or}
+use Rattle.byte_strings.specs.Readers.{byte_at, number_at, counted_at}
 use Rattle.tags.specs.declared.tag.Tag.{Tag}
 use Rattle.tags.specs.declared.param.Param.{Param}
 use Rattle.tags.specs.declared.param.ParamValue.{ParamValue}
@@ -42,16 +43,16 @@ abbrev pub is_wrong_flag : Shape → List ℕ → Bool
 is_wrong_flag shapes.Truth (b ∷ bytes) = not (b == 1)
 is_wrong_flag _ _ = false
 
--- so many bytes, and what stands behind them
-abbrev pub raw_at : ℕ → ℕ → List ℕ → Result (ParamValue × List ℕ) ListFault
-raw_at at n bytes = if nat_lt (length bytes) n then Err (Truncated at) else Ok (Raw (take n bytes), drop n bytes)
+-- what is read of bytes that do not end within it
+abbrev pub whole_at : {X : Type 0} → ℕ → Option X → Result X ListFault
+whole_at at read = ok_or read (Truncated at)
 
 -- a value, and what stands behind it
 abbrev pub value_at : ℕ → Shape → List ℕ → Result (ParamValue × List ℕ) ListFault
-value_at at shapes.Short bytes = if nat_lt (length bytes) 4 then Err (Truncated at) else Ok (Number (big_number 4 bytes), drop 4 bytes)
-value_at at shapes.Long bytes = if nat_lt (length bytes) 8 then Err (Truncated at) else Ok (Number (big_number 8 bytes), drop 8 bytes)
-value_at at shapes.Truth bytes = if nat_lt (length bytes) 1 then Err (Truncated at) else Ok (Flag, drop 1 bytes)
-value_at at shapes.Sized bytes = if nat_lt (length bytes) 2 then Err (Truncated at) else raw_at at (big_number 2 bytes) (drop 2 bytes)
+value_at at shapes.Short bytes = whole_at at (number_at 4 bytes) >>= λ n. Ok (Number n.0, n.1)
+value_at at shapes.Long bytes = whole_at at (number_at 8 bytes) >>= λ n. Ok (Number n.0, n.1)
+value_at at shapes.Truth bytes = whole_at at (byte_at bytes) >>= λ byte. Ok (Flag, byte.1)
+value_at at shapes.Sized bytes = whole_at at (counted_at 2 bytes) >>= λ raw. Ok (Raw raw.0, raw.1)
 
 -- the parameter of a known tag, behind others
 unfoldable pub known_at : ℕ → List Param → Tag → List ℕ → Result (Param × List ℕ) ListFault
@@ -68,8 +69,7 @@ tagged_at at before number (Some tag) bytes = known_at at before tag bytes
 -- the parameter at an offset, behind others, and what stands behind it
 unfoldable pub param_at : ℕ → List Param → List ℕ → Result (Param × List ℕ) ListFault
 param_at at before bytes =
-    if nat_lt (length bytes) 4 then Err (Truncated at) else
-    tagged_at at before (big_number 4 bytes) (tag_numbered (big_number 4 bytes)) (drop 4 bytes)
+    whole_at at (number_at 4 bytes) >>= λ number. tagged_at at before number.0 (tag_numbered number.0) number.1
 
 -- so many parameters, added to those before; `total` is the length of all bytes
 unfoldable pub params_at : ℕ → ℕ → List Param → List ℕ → Result (List Param × List ℕ) ListFault
@@ -85,5 +85,4 @@ whole total read = if length read.1 == 0 then Ok read.0 else Err (Trailing (tota
 -- the list that the bytes spell, or the fault of least offset
 unfoldable pub listed : List ℕ → Result (List Param) ListFault
 listed bytes =
-    if nat_lt (length bytes) 2 then Err (Truncated 0) else
-    (params_at (big_number 2 bytes) (length bytes) [] (drop 2 bytes) >>= λ read. whole (length bytes) read)
+    whole_at 0 (number_at 2 bytes) >>= λ count. (params_at count.0 (length bytes) [] count.1 >>= λ read. whole (length bytes) read)

@@ -2,6 +2,7 @@
 use Rattle.std.specs.Prelude.{◌≡◌, ◌↔◌, ℕ, ◌≤◌, List, [], ◌∷◌, ◌++◌, length}
 use Rattle.std.specs.List.{flat_map, Contains}
 use Rattle.byteorder.specs.Endian.{big_bytes}
+use Rattle.byte_strings.specs.Fields.{counted}
 use Rattle.tags.specs.declared.param.Param.{Param}
 use Rattle.tags.specs.declared.param.ParamValue.{ParamValue}
 use Rattle.tags.specs.declared.param.ParamValue.TheVariants.{Number, Flag, Raw}
@@ -15,7 +16,7 @@ abbrev pub spelled_value : Shape → ParamValue → List ℕ
 spelled_value shapes.Short (Number n) = big_bytes 4 n
 spelled_value shapes.Long (Number n) = big_bytes 8 n
 spelled_value shapes.Truth Flag = 1 ∷ []
-spelled_value shapes.Sized (Raw bytes) = big_bytes 2 (length bytes) ++ bytes
+spelled_value shapes.Sized (Raw bytes) = counted 2 bytes
 spelled_value _ _ = []
 
 -- four bytes of tag, and the value by the tag's type

@@ -4,6 +4,7 @@ ghost use Rattle.std.specs.Prelude.{◌≡◌};
 ghost use Rattle.tag_lists.specs.declared.fault.ListFault.TheVariants.{Memory};
 
 use std::alloc::{AllocError, AllocFailed};
+use std::fmt;
 
 /// Why bytes are no authorization list: the fault of least offset. `at` is the offset of the parameter in bytes.
 #[derive(Clone, Copy, Debug, PartialEq, Eq)]
@@ -35,5 +36,27 @@ impl<T: Drop> From<AllocFailed<T>> for ListFault {
 
     fn from(_fault: AllocFailed<T>) -> ListFault {
         ListFault::Memory
+    }
+}
+
+impl fmt::Display for ListFault {
+    fn fmt<W: fmt::Write>(&self, f: &mut fmt::Formatter<W>) -> fmt::Result {
+        match self {
+            ListFault::UnknownTag { at } => write!(f, "no tag is known by the number at byte {at}"),
+            ListFault::WrongKind { at } => write!(
+                f,
+                "the parameter at byte {at} has another type than its tag"
+            ),
+            ListFault::Repeated { at } => write!(f, "the parameter at byte {at} repeats its tag"),
+            ListFault::Truncated { at } => write!(
+                f,
+                "the list is cut in the parameter at byte {at}"
+            ),
+            ListFault::Trailing { at } => write!(
+                f,
+                "the list has more bytes behind its last parameter, from byte {at} on"
+            ),
+            ListFault::Memory => f.write_str("memory was wanting"),
+        }
     }
 }

@@ -8,7 +8,7 @@ ghost use Rattle.tag_lists.specs.Reading.{Gives};
 
 use crate::fault::ListFault;
 use crate::shape::{Shape, is_tag, rank, shape_of};
-use byteorder::{BigEndian, ByteOrder};
+use byte_strings::{counted_u16_at, u8_at, u16_at, u32_at, u64_at};
 use std::alloc::Global;
 use std::collections::BTreeMap;
 use tags::{Bytes, Param, ParamValue, Tag};
@@ -37,19 +37,6 @@ fn is_wrong_flag(shape: Shape, bytes: &[u8]) -> bool
     }
 }
 
-/// So many bytes, and what stands behind them.
-fn raw_at(alloc: Global, at: u64, n: usize, bytes: &[u8]) -> Result<(ParamValue, &[u8]), ListFault>
-    ensures gives { Gives (λ x. (x.0, x.1.now)) result (spec.raw_at at n bytes.now) }
-    ensures shorter { IfOk result (λ x. length x.1.now ≤ length bytes.now) }
-{
-    if bytes.len() < n {
-        return Err(ListFault::Truncated { at });
-    }
-    let (front, rest) = bytes.split_at(n);
-    let raw = Vec::from_slice(alloc, front)?;
-    Ok((ParamValue::Raw(Bytes::of(raw)), rest))
-}
-
 /// A value, and what stands behind it.
 fn value_at(
     alloc: Global,
@@ -62,31 +49,29 @@ fn value_at(
 {
     match shape {
         Shape::Short => {
-            if bytes.len() < 4 {
+            let Ok((number, rest)) = u32_at(bytes) else {
                 return Err(ListFault::Truncated { at });
-            }
-            Ok((
-                ParamValue::Number(BigEndian::read_u32(bytes) as u64),
-                &bytes[4..],
-            ))
+            };
+            Ok((ParamValue::Number(number as u64), rest))
         }
         Shape::Long => {
-            if bytes.len() < 8 {
+            let Ok((number, rest)) = u64_at(bytes) else {
                 return Err(ListFault::Truncated { at });
-            }
-            Ok((ParamValue::Number(BigEndian::read_u64(bytes)), &bytes[8..]))
+            };
+            Ok((ParamValue::Number(number), rest))
         }
         Shape::Truth => {
-            if bytes.len() < 1 {
+            let Ok((_, rest)) = u8_at(bytes) else {
                 return Err(ListFault::Truncated { at });
-            }
-            Ok((ParamValue::Flag, &bytes[1..]))
+            };
+            Ok((ParamValue::Flag, rest))
         }
         Shape::Sized => {
-            if bytes.len() < 2 {
+            let Ok((front, rest)) = counted_u16_at(bytes) else {
                 return Err(ListFault::Truncated { at });
-            }
-            raw_at(alloc, at, BigEndian::read_u16(bytes) as usize, &bytes[2..])
+            };
+            let raw = Vec::from_slice(alloc, front)?;
+            Ok((ParamValue::Raw(Bytes::of(raw)), rest))
         }
     }
 }
@@ -125,12 +110,11 @@ fn param_at<'a>(
     ensures gives { Gives (λ x. (x.0, x.1.now)) result (spec.param_at at (values before.now) bytes.now) }
     ensures shorter { IfOk result (λ x. length x.1.now ≤ length bytes.now) }
 {
-    if bytes.len() < 4 {
+    let Ok((number, rest)) = u32_at(bytes) else {
         return Err(ListFault::Truncated { at });
-    }
-    let number = BigEndian::read_u32(bytes);
+    };
     match Tag::of_number(number) {
-        Some(tag) => known_at(alloc, at, before, tag, &bytes[4..]),
+        Some(tag) => known_at(alloc, at, before, tag, rest),
         None => {
             if is_low_known(number) {
                 Err(ListFault::WrongKind { at })
@@ -174,11 +158,10 @@ fn values_of(alloc: Global, params: BTreeMap<u128, Param>) -> Result<Vec<Param>,
 pub(crate) fn listed(alloc: Global, bytes: &[u8]) -> Result<Vec<Param>, ListFault>
     ensures { Gives (λ x. x.items) result (spec.listed bytes.now) }
 {
-    if bytes.len() < 2 {
+    let Ok((count, rest)) = u16_at(bytes) else {
         return Err(ListFault::Truncated { at: 0 });
-    }
-    let count = BigEndian::read_u16(bytes);
-    let (params, rest) = params_at(alloc, count, bytes.len(), &bytes[2..])?;
+    };
+    let (params, rest) = params_at(alloc, count, bytes.len(), rest)?;
     if !rest.is_empty() {
         return Err(ListFault::Trailing {
             at: (bytes.len() - rest.len()) as u64,

@@ -6,6 +6,7 @@ ghost use Rattle.tag_lists.specs.Order.{Fits, FitsShape};
 ghost use Rattle.tag_lists.specs.Spelling as spec;
 
 use crate::shape::{Shape, shape_of};
+use byte_strings::{put_counted_u16, put_u8, put_u16, put_u32, put_u64};
 use std::alloc::{AllocError, Global};
 use tags::{Bytes, NoMemory, Param, ParamValue};
 
@@ -15,15 +16,10 @@ fn put_value(out: &mut Vec<u8>, shape: Shape, value: &ParamValue) -> Result<(), 
     ensures { OnOk result (out.new.items ≡ out.old.items ++ spec.spelled_value shape value.now) }
 {
     match (shape, value) {
-        (Shape::Short, ParamValue::Number(number)) => {
-            out.extend_from_slice(&(*number as u32).to_be_bytes())
-        }
-        (Shape::Long, ParamValue::Number(number)) => out.extend_from_slice(&number.to_be_bytes()),
-        (Shape::Truth, ParamValue::Flag) => out.extend_from_slice(&[1]),
-        (Shape::Sized, ParamValue::Raw(bytes)) => {
-            out.extend_from_slice(&(bytes.len() as u16).to_be_bytes())?;
-            out.extend_from_slice(bytes.as_slice())
-        }
+        (Shape::Short, ParamValue::Number(number)) => put_u32(out, *number as u32),
+        (Shape::Long, ParamValue::Number(number)) => put_u64(out, *number),
+        (Shape::Truth, ParamValue::Flag) => put_u8(out, 1),
+        (Shape::Sized, ParamValue::Raw(bytes)) => put_counted_u16(out, bytes.as_slice()),
         _ => Ok(()),
     }
 }
@@ -33,7 +29,7 @@ fn put_param(out: &mut Vec<u8>, param: &Param) -> Result<(), AllocError>
     requires { Fits param.now }
     ensures { OnOk result (out.new.items ≡ out.old.items ++ spec.spelled param.now) }
 {
-    out.extend_from_slice(&param.tag.number().to_be_bytes())?;
+    put_u32(out, param.tag.number())?;
     put_value(out, shape_of(param.tag.kind()), &param.value)
 }
 
@@ -44,7 +40,7 @@ pub(crate) fn spelling(alloc: Global, params: &[Param]) -> Result<Vec<u8>, Alloc
     ensures { IfOk result (λ bytes. bytes.items ≡ spec.spelling params.now) }
 {
     let mut out = Vec::new(alloc);
-    out.extend_from_slice(&(params.len() as u16).to_be_bytes())?;
+    put_u16(&mut out, params.len() as u16)?;
     'params: for param in params {
         put_param(&mut out, param)?;
     }

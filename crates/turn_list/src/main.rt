@@ -14,10 +14,10 @@ mod words;
 
 ghost use Rattle.std.specs.Prelude.{◌≡◌, IfOk};
 ghost use Rattle.shared_list.specs.Lists.{IsInOrder};
-ghost use Rattle.turn_list.specs.declared.words.Kind.TheVariants.{Lock};
+ghost use Rattle.turn_list.specs.declared.words.ListKind.TheVariants.{Lock};
 
-use crate::words::{Kind, Words};
-use shared_list::{Entry, appended, appended_behind_mutex, is_in_order};
+use crate::words::{ListKind, ListWords};
+use shared_list::{ListEntry, appended, appended_behind_mutex, is_in_order};
 use std::alloc::{AllocError, Global};
 use std::io;
 use std::process::ExitCode;
@@ -28,19 +28,19 @@ use std::thread::Threads;
 fn listed<R: Threads + Wait + Sync>(
     rt: &R,
     alloc: Global,
-    words: &Words,
+    words: &ListWords,
     threads: u32,
-) -> Result<Vec<Entry>, AllocError>
+) -> Result<Vec<ListEntry>, AllocError>
     ensures lock { words.now.kind ≡ Lock → IfOk result (λ list. IsInOrder threads words.now.items list.items) }
 {
     match words.kind {
-        Kind::Lock => appended(rt, alloc, threads, words.items),
-        Kind::Mutex => appended_behind_mutex(rt, alloc, threads, words.items),
+        ListKind::Lock => appended(rt, alloc, threads, words.items),
+        ListKind::Mutex => appended_behind_mutex(rt, alloc, threads, words.items),
     }
 }
 
 fn main(rt: HostRuntime) -> io::Result<ExitCode> {
-    let Some(words) = Words::read(&rt)? else {
+    let Some(words) = ListWords::read(&rt)? else {
         println!(rt; "turn_list: lock or mutex, ITEMS, then numbers of threads from 1 to 64")?;
         return Ok(ExitCode::from(2));
     };

@@ -1,41 +1,41 @@
 //! The words of the command line.
 ghost use Rattle.std.specs.Prelude.{◌≡◌, ◌<◌, ◌≤◌, All, IfOk, IfSome};
-ghost use Rattle.command_words.specs.Numbers.{IsThreadCount};
+ghost use Rattle.byte_strings.specs.Numbers.{IsThreadCount};
 ghost use Rattle.turn_list.specs.Words.{kind_named};
 
-use command_words::{number_in, threads_in};
+use byte_strings::{number_in, threads_in};
 use std::{env, io};
 
 /// What the list lies behind.
 #[derive(Clone, Copy, Debug, PartialEq, Eq)]
-pub enum Kind {
+pub enum ListKind {
     Lock,
     Mutex,
 }
 
 /// `KIND ITEMS THREADS..`
 #[derive(Drop)]
-pub struct Words {
-    pub kind: Kind,
+pub struct ListWords {
+    pub kind: ListKind,
     pub items: u64,
     pub threads: Vec<u32>,
 }
 
-fn kind_of(word: &str) -> Option<Kind>
+fn kind_of(word: &str) -> Option<ListKind>
     ensures { result ≡ kind_named word.now }
 {
     if word == "lock" {
-        Some(Kind::Lock)
+        Some(ListKind::Lock)
     } else if word == "mutex" {
-        Some(Kind::Mutex)
+        Some(ListKind::Mutex)
     } else {
         None
     }
 }
 
-impl Words {
+impl ListWords {
     /// The words behind the program's name, where they are of this form.
-    pub fn read(rt: &HostRuntime) -> io::Result<Option<Words>>
+    pub fn read(rt: &HostRuntime) -> io::Result<Option<ListWords>>
         ensures counts { IfOk result (λ o. IfSome o (λ words. All IsThreadCount words.threads.items)) }
     {
         let mut args = env::args(rt)?.skip(1);
@@ -58,7 +58,7 @@ impl Words {
             };
             threads.push(count)?;
         }
-        Ok(Some(Words {
+        Ok(Some(ListWords {
             kind,
             items,
             threads,

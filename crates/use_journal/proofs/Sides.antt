@@ -1,12 +1,15 @@
 -- A published record, as changes.
-use Rattle.std.proofs.Common.{◌≡◌, inl, inr, ⊎_elim, ℕ, ◌+◌, ◌-◌, ◌<◌, ◌≤◌, Bool, true, false, List, [], ◌∷◌, length, ap, arith, length-append}
+use Rattle.std.proofs.Common.{◌≡◌, inl, inr, ⊎_elim, ℕ, ◌+◌, ◌-◌, ◌<◌, ◌≤◌, Bool, true, false, List, [], ◌∷◌, length, Some, ap, ◌∙◌, arith, length-append}
 use Rattle.ks_outside.specs.declared.disk.Disk.{Ghosts}
 use Rattle.ks_outside.specs.Images.{AllImages, Passes}
-use Rattle.ks_outside.proofs.Joins.{passes_as}
+use Rattle.ks_outside.proofs.Joins.{passes_as, passes_none}
 use Rattle.gated_records.specs.Areas.{IsArea, HasArea, IsWithOrWithout, with_more, opened_to}
 use Rattle.journal_records.specs.declared.change.Change.{Change}
-use Rattle.journal_records.specs.Spelling.{tail_of, framed, closed_of}
+use Rattle.journal_records.specs.Commits.{Committed, InDoubt, NotBegun}
+use Rattle.journal_records.specs.Spelling.{tail_of, framed, closed_of, IsChange}
 use Rattle.use_journal.specs.Journal.{written, IsJournal, IsBeforeOrAfter}
+use Rattle.use_journal.specs.Holding.{Appends, IsSettledOn, end_of, end_with, is_waiting}
+use Rattle.use_journal.specs.declared.journal.Journal.{Journal}
 use Rattle.tags.specs.declared.limits.TheConstants.{JOURNAL_BYTES}
 
 -- where the records end with the new one
@@ -62,3 +65,41 @@ module _ {D : Type 0} (g : Ghosts D) (old new : D) (past : List Change) (change 
 
   pub all_records : AllImages g old (IsBeforeOrAfter past change) → AllImages g old (IsWithOrWithout 0 (written past) (tail_of change))
   all_records all image left = as_records past change image (all image left)
+
+-- An append to a journal of these changes, with room for the new one: what it leaves where it went through, where it is torn, and where
+-- no call was made.
+module _ {D : Type 0} (g : Ghosts D) (journal later : Journal) (old new : D) (past : List Change) (change : Change) (closed : List ℕ)
+    (settled : IsSettledOn g journal old past) (fits : IsChange change) (is : closed ≡ closed_of change) where
+  pub appends_none : Appends g journal old old past change NotBegun
+  appends_none = record { appended = settled; passes = passes_none g old (IsBeforeOrAfter past change); nothing = λ sure never. absurd (cc) }
+
+  module _ (few : length closed ≤ JOURNAL_BYTES - end_of journal) (passes : Passes g old new (IsWithOrWithout 0 (written past) (tail_of change))) where
+    within : length (written (change ∷ past)) < JOURNAL_BYTES
+    within = before_end past change (end_of journal) closed settled.place is few
+
+    pub appends_done : is_waiting later ≡ false → end_of later ≡ end_of journal + (length closed - 1)
+        → AllImages g new (IsArea 0 (with_more (written past) (tail_of change))) → Appends g later old new past change Committed
+    appends_done idle end done = record {
+      appended = record {
+        idle = idle;
+        place = end ∙ next_place past change (end_of journal) closed settled.place is;
+        changes = (fits, settled.changes);
+        images = all_journals g new (change ∷ past) within done;
+      };
+      passes = passes_sides g old new past change within passes;
+      nothing = λ sure never. absurd (cc);
+    }
+
+    pub appends_torn : end_with later ≡ Some (end_of journal + (length closed - 1)) → end_of later ≡ end_of journal
+        → AllImages g new (IsWithOrWithout 0 (written past) (tail_of change)) → (g.is_sure old → AllImages g new (IsArea 0 (written past)))
+        → Appends g later old new past change InDoubt
+    appends_torn waits end torn nothing = record {
+      appended = record {
+        waits = waits ∙ ap (λ n. Some n) (next_place past change (end_of journal) closed settled.place is);
+        place = end ∙ settled.place;
+        changes = (fits, settled.changes);
+        images = all_sides g new past change within torn;
+      };
+      passes = passes_sides g old new past change within passes;
+      nothing = λ sure doubt. all_journals g new past (shorter past change within) (nothing sure);
+    }

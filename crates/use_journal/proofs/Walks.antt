@@ -1,16 +1,17 @@
 -- Reading a journal from left to right.
-use Rattle.std.proofs.Common.{◌≡◌, ◌≢◌, inl, inr, get_or, ℕ, ◌-◌, ◌<◌, ◌≤◌, true, List, [], ◌∷◌, ◌++◌, length, take, drop, map, reverse, Option, Some, None, Result, Ok, Err, refl, sym, ap, subst, ◌∙◌, append_assoc, arith, length-append, length-take}
-use Rattle.std.specs.Prelude.{is_some, IfOk}
+use Rattle.std.proofs.Common.{◌≡◌, ◌≢◌, inl, inr, get_or, ℕ, ◌-◌, ◌<◌, ◌≤◌, true, false, List, [], ◌∷◌, ◌++◌, length, take, drop, map, reverse, Option, Some, None, Result, Ok, Err, refl, sym, ap, subst, ◌∙◌, append_assoc, arith, length-append, length-take}
+use Rattle.std.specs.Prelude.{is_some, IfOk, IsErrOf}
 use Rattle.std.proofs.lemmas.List.{reverse-append, map-append, take-take, take_at, take_all, take_rest}
 use Rattle.std.proofs.lemmas.Bool.{cases_lt}
 use Rattle.journal_records.specs.declared.change.Change.{Change}
 use Rattle.journal_records.specs.declared.fault.StoreFault.{StoreFault}
 use Rattle.journal_records.specs.declared.fault.StoreFault.TheVariants as faults
+use Rattle.journal_records.specs.Commits.{open_failed}
 use Rattle.journal_records.specs.Spelling.{tail_of, framed, IsChange}
 use Rattle.journal_records.specs.Reading.{record_at}
 use Rattle.use_journal.specs.declared.journal.Journal.{Journal}
 use Rattle.use_journal.specs.Journal.{header, written, IsJournal, AreChanges, up_to_end, HasNoRecord, IsCorrupted, NoHeader, BrokenOff, past_of, placed}
-use Rattle.use_journal.specs.Holding.{Reads, Finds}
+use Rattle.use_journal.specs.Holding.{FindsJournal, ReadsJournal}
 use Rattle.use_journal.proofs.Unique.{same_changes, not_corrupted}
 use Rattle.tags.specs.declared.limits.TheConstants.{JOURNAL_BYTES}
 
@@ -73,7 +74,7 @@ pub no_header_short : (bytes : List ℕ) → length bytes < 8 → take 8 bytes �
 no_header_short bytes few e = let len : length (take 8 bytes) ≡ 8 = ap length e in absurd (omega (arith, few, length-take 8 bytes, len))
 
 -- bytes behind the end say nothing
-pub reads_up_to_end : (bytes : List ℕ) (result : Result (Journal × List (ℕ × Change)) StoreFault) → Reads (up_to_end bytes) result → Reads bytes result
+pub reads_up_to_end : (bytes : List ℕ) (result : Result (Journal × List (ℕ × Change)) StoreFault) → ReadsJournal (up_to_end bytes) result → ReadsJournal bytes result
 reads_up_to_end bytes (Ok opened) j =
     let front = written (past_of opened.1) ++ j.area.gate ∷ [] in
     let within : length front ≤ JOURNAL_BYTES = omega (arith, j.within, length-append (written (past_of opened.1)) (j.area.gate ∷ [])) in
@@ -85,16 +86,21 @@ reads_up_to_end bytes (Err (faults.Corrupted offset)) c = corrupted c
     corrupted (NoHeader other zero) = NoHeader (λ e. other (take-take 8 JOURNAL_BYTES bytes (omega arith) ∙ e)) zero
     corrupted (BrokenOff past fit broken place) =
         BrokenOff past fit (record { left = broken.left; is = sym (take-take JOURNAL_BYTES JOURNAL_BYTES bytes (omega arith)) ∙ broken.is; broken = broken.broken }) place
-reads_up_to_end bytes (Err faults.Full) r = absurd r
 reads_up_to_end bytes (Err faults.Memory) r = tt
 
+-- what is no fault of the device is a fault of the bytes, or none
+pub no_device : {T : Type 0} (result : Result T StoreFault) → (IsErrOf result faults.Device → ⊥) → open_failed result ≡ false
+no_device (Ok opened) none = refl
+no_device (Err faults.Device) none = absurd (none refl)
+no_device (Err (faults.Corrupted offset)) none = refl
+no_device (Err faults.Memory) none = refl
+
 -- what is read of a journal's bytes are its changes
-pub finds_of : (past : List Change) (bytes : List ℕ) (result : Result (Journal × List (ℕ × Change)) StoreFault) → AreChanges past → IsJournal past bytes → Reads bytes result
-    → IfOk result (λ opened. AreChanges (past_of opened.1)) → IfOk result (λ opened. opened.1 ≡ placed (past_of opened.1)) → Finds past result
+pub finds_of : (past : List Change) (bytes : List ℕ) (result : Result (Journal × List (ℕ × Change)) StoreFault) → AreChanges past → IsJournal past bytes → ReadsJournal bytes result
+    → IfOk result (λ opened. AreChanges (past_of opened.1)) → IfOk result (λ opened. opened.1 ≡ placed (past_of opened.1)) → FindsJournal past result
 finds_of past bytes (Ok opened) fit j reads fits places = places ∙ ap placed (same_changes (past_of opened.1) past bytes fits fit reads j)
 finds_of past bytes (Err faults.Device) fit j reads fits places = tt
 finds_of past bytes (Err (faults.Corrupted offset)) fit j reads fits places = not_corrupted past offset bytes fit j reads
-finds_of past bytes (Err faults.Full) fit j reads fits places = reads
 finds_of past bytes (Err faults.Memory) fit j reads fits places = tt
 
 -- an open gate with no record behind it

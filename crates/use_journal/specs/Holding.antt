@@ -1,13 +1,13 @@
 -- When a journal and a disk hold a list of changes, and what each call leaves.
-use Rattle.std.specs.Prelude.{◌≡◌, ◌≤◌, ◌+◌, ◌-◌, ℕ, List, ◌∷◌, length, Bool, true, false, Option, Some, None, is_some, Result, Ok, Err, ⊤}
+use Rattle.std.specs.Prelude.{◌≡◌, ◌+◌, ◌-◌, ℕ, List, ◌∷◌, length, Bool, true, false, Option, Some, None, is_some, Result, Ok, Err, ⊤}
 use Rattle.ks_outside.specs.declared.disk.Disk.{Ghosts}
-use Rattle.ks_outside.specs.Faults.{Rises}
-use Rattle.ks_outside.specs.Images.{AllImages}
+use Rattle.ks_outside.specs.Images.{AllImages, Passes}
 use Rattle.tags.specs.declared.settled.Settled.{Settled}
 use Rattle.tags.specs.declared.settled.Settled.TheVariants.{Kept, Lost}
 use Rattle.journal_records.specs.declared.change.Change.{Change}
 use Rattle.journal_records.specs.declared.fault.StoreFault.{StoreFault}
 use Rattle.journal_records.specs.declared.fault.StoreFault.TheVariants as faults
+use Rattle.journal_records.specs.Commits.{CommitState, Committed, InDoubt, NotBegun, is_in_doubt}
 use Rattle.use_journal.specs.Journal.{written, IsJournal, IsBeforeOrAfter, IsCorrupted, AreChanges, past_of, placed}
 use Rattle.use_journal.specs.declared.journal.Journal.{Journal}
 
@@ -39,77 +39,52 @@ pub record IsUnsettledOn {D : Type 0} (g : Ghosts D) (journal : Journal) (disk :
   pub changes : AreChanges (change ∷ past)
   pub images : AllImages g disk (IsBeforeOrAfter past change)
 
--- what an append leaves, by its answer
-abbrev pub Appended : {D T : Type 0} → Ghosts D → Journal → D → List Change → Change → Result T StoreFault → Type 0
-Appended g journal disk past change (Ok done) = IsSettledOn g journal disk (change ∷ past)
-Appended g journal disk past change (Err faults.Device) = IsUnsettledOn g journal disk past change
-Appended g journal disk past change (Err (faults.Corrupted offset)) = ⊥
-Appended g journal disk past change (Err faults.Full) = IsSettledOn g journal disk past
-Appended g journal disk past change (Err faults.Memory) = ⊥
+-- what an append leaves, by what became of it
+abbrev pub Appended : {D : Type 0} → Ghosts D → Journal → D → List Change → Change → CommitState → Type 0
+Appended g journal disk past change Committed = IsSettledOn g journal disk (change ∷ past)
+Appended g journal disk past change InDoubt = IsUnsettledOn g journal disk past change
+Appended g journal disk past change NotBegun = IsSettledOn g journal disk past
+
+-- An append of a change to a journal of others, between the old disk and the new one: what it leaves; at each moment each image has
+-- the changes from before or those with the new one; and where a sure disk's call failed, the new one is on no image.
+pub record Appends {D : Type 0} (g : Ghosts D) (journal : Journal) (old new : D) (past : List Change) (change : Change) (state : CommitState) : Type 0 where
+  pub appended : Appended g journal new past change state
+  pub passes : Passes g old new (IsBeforeOrAfter past change)
+  pub nothing : g.is_sure old → is_in_doubt state ≡ true → AllImages g new (IsJournal past)
 
 -- where the records end after an append of a record and its closing byte, so many bytes
-abbrev pub end_after : {T : Type 0} → ℕ → Result T StoreFault → ℕ → ℕ
-end_after count (Ok done) end = end + (count - 1)
-end_after count (Err fault) end = end
+abbrev pub end_after : ℕ → CommitState → ℕ → ℕ
+end_after count Committed end = end + (count - 1)
+end_after count InDoubt end = end
+end_after count NotBegun end = end
 
 -- where they end with the change that waits after it
-abbrev pub pending_after : {T : Type 0} → ℕ → Result T StoreFault → ℕ → Option ℕ
-pending_after count (Err faults.Device) end = Some (end + (count - 1))
-pending_after count _ end = None
+abbrev pub pending_after : ℕ → CommitState → ℕ → Option ℕ
+pending_after count Committed end = None
+pending_after count InDoubt end = Some (end + (count - 1))
+pending_after count NotBegun end = None
 
 -- where the records end after a settling, where they ended here with the change that waited
-abbrev pub end_settled : Result Settled StoreFault → Option ℕ → ℕ → ℕ
+abbrev pub end_settled : {E : Type 0} → Result Settled E → Option ℕ → ℕ → ℕ
 end_settled (Ok Kept) (Some next) end = next
 end_settled _ next end = end
 
 -- what a settling leaves, by its answer
-abbrev pub SettlesTo : {D : Type 0} → Ghosts D → Journal → D → List Change → Change → Result Settled StoreFault → Type 0
+abbrev pub SettlesTo : {D E : Type 0} → Ghosts D → Journal → D → List Change → Change → Result Settled E → Type 0
 SettlesTo g journal disk past change (Ok Kept) = IsSettledOn g journal disk (change ∷ past)
 SettlesTo g journal disk past change (Ok Lost) = IsSettledOn g journal disk past
 SettlesTo g journal disk past change (Err fault) = IsUnsettledOn g journal disk past change
 
 -- what an opening read of these bytes, by its answer
-abbrev pub Reads : List ℕ → Result (Journal × List (ℕ × Change)) StoreFault → Type 0
-Reads bytes (Ok opened) = IsJournal (past_of opened.1) bytes
-Reads bytes (Err faults.Device) = ⊤
-Reads bytes (Err (faults.Corrupted offset)) = IsCorrupted bytes offset
-Reads bytes (Err faults.Full) = ⊥
-Reads bytes (Err faults.Memory) = ⊤
+abbrev pub ReadsJournal : List ℕ → Result (Journal × List (ℕ × Change)) StoreFault → Type 0
+ReadsJournal bytes (Ok opened) = IsJournal (past_of opened.1) bytes
+ReadsJournal bytes (Err faults.Device) = ⊤
+ReadsJournal bytes (Err (faults.Corrupted offset)) = IsCorrupted bytes offset
+ReadsJournal bytes (Err faults.Memory) = ⊤
 
 -- what an opening finds where the bytes are a journal of these changes
-abbrev pub Finds : List Change → Result (Journal × List (ℕ × Change)) StoreFault → Type 0
-Finds past (Ok opened) = opened.1 ≡ placed past
-Finds past (Err faults.Device) = ⊤
-Finds past (Err (faults.Corrupted offset)) = ⊥
-Finds past (Err faults.Full) = ⊥
-Finds past (Err faults.Memory) = ⊤
-
--- whether a change waits after an append, by its answer
-abbrev pub waits_after : {T : Type 0} → Result T StoreFault → Bool
-waits_after (Err faults.Device) = true
-waits_after _ = false
-
--- The answers of calls that take no memory, and what each says of the disk's count of faults: Device comes where it
--- rose, and any other where it stayed.
-abbrev pub FormatCause : {T : Type 0} → ℕ → ℕ → Result T StoreFault → Type 0
-FormatCause before now (Ok done) = now ≡ before
-FormatCause before now (Err faults.Device) = (before ≤ now) × Rises before now
-FormatCause before now (Err (faults.Corrupted offset)) = ⊥
-FormatCause before now (Err faults.Full) = ⊥
-FormatCause before now (Err faults.Memory) = ⊥
-
--- the same for an append, which may be full
-abbrev pub AppendCause : {T : Type 0} → ℕ → ℕ → Result T StoreFault → Type 0
-AppendCause before now (Ok done) = now ≡ before
-AppendCause before now (Err faults.Device) = (before ≤ now) × Rises before now
-AppendCause before now (Err (faults.Corrupted offset)) = ⊥
-AppendCause before now (Err faults.Full) = now ≡ before
-AppendCause before now (Err faults.Memory) = ⊥
-
--- the same for an opening
-abbrev pub OpenCause : {T : Type 0} → ℕ → ℕ → Result T StoreFault → Type 0
-OpenCause before now (Ok done) = now ≡ before
-OpenCause before now (Err faults.Device) = (before ≤ now) × Rises before now
-OpenCause before now (Err (faults.Corrupted offset)) = now ≡ before
-OpenCause before now (Err faults.Full) = ⊥
-OpenCause before now (Err faults.Memory) = now ≡ before
+abbrev pub FindsJournal : List Change → Result (Journal × List (ℕ × Change)) StoreFault → Type 0
+FindsJournal past (Ok opened) = opened.1 ≡ placed past
+FindsJournal past (Err faults.Device) = ⊤
+FindsJournal past (Err (faults.Corrupted offset)) = ⊥
+FindsJournal past (Err faults.Memory) = ⊤

@@ -1,10 +1,11 @@
 //! Reading a journal.
 
 ghost use Rattle.std.specs.Prelude.{◌≡◌, ◌<◌, ◌≤◌, ℕ, List, length, true, false, IfOk, IsErrOf};
-ghost use Rattle.ks_outside.specs.Images.{AllImages, Passes, tells};
+ghost use Rattle.ks_outside.specs.Images.{AllImages, Reads, tells};
+ghost use Rattle.journal_records.specs.Commits.{open_failed};
 ghost use Rattle.journal_records.specs.declared.change.Change.{Change};
 ghost use Rattle.use_journal.specs.Journal.{written, IsJournal, AreChanges, past_of, placed};
-ghost use Rattle.use_journal.specs.Holding.{end_of, is_waiting, IsSettledOn, Reads, Finds, OpenCause};
+ghost use Rattle.use_journal.specs.Holding.{end_of, is_waiting, FindsJournal, IsSettledOn, ReadsJournal};
 
 use crate::journal::Journal;
 use gated_records::OPEN;
@@ -16,7 +17,7 @@ use tags::JOURNAL_BYTES;
 /// The journal that these bytes are, up to their end.
 fn walk(alloc: Global, bytes: &[u8]) -> Result<(Journal, Changes), StoreFault>
     requires { length bytes.now ≤ JOURNAL_BYTES }
-    ensures reads { Reads bytes.now result }
+    ensures reads { ReadsJournal bytes.now result }
     ensures places { IfOk result (λ opened. opened.1 ≡ placed (past_of opened.1)) }
     ensures end { IfOk result (λ opened. end_of opened.0 ≡ length (written (past_of opened.1))) }
     ensures idle { IfOk result (λ opened. is_waiting opened.0 ≡ false) }
@@ -55,7 +56,7 @@ fn walk(alloc: Global, bytes: &[u8]) -> Result<(Journal, Changes), StoreFault>
 
 /// The journal that these bytes are.
 fn read_bytes(alloc: Global, bytes: &[u8]) -> Result<(Journal, Changes), StoreFault>
-    ensures reads { Reads bytes.now result }
+    ensures reads { ReadsJournal bytes.now result }
     ensures places { IfOk result (λ opened. opened.1 ≡ placed (past_of opened.1)) }
     ensures end { IfOk result (λ opened. end_of opened.0 ≡ length (written (past_of opened.1))) }
     ensures idle { IfOk result (λ opened. is_waiting opened.0 ≡ false) }
@@ -73,14 +74,10 @@ pub(crate) fn read_disk<D: Disk>(
 ) -> Result<(Journal, Changes), StoreFault>
     ensures settled { IfOk result (λ opened. IsSettledOn D.Disk opened.0 disk.new (past_of opened.1)) }
     ensures places { IfOk result (λ opened. opened.1 ≡ placed (past_of opened.1)) }
-    ensures reads { AllImages D.Disk disk.new (λ image. Reads image result) }
+    ensures reads { AllImages D.Disk disk.new (λ image. ReadsJournal image result) }
     ensures stands { (past : List Change) → AreChanges past → AllImages D.Disk disk.old (IsJournal past)
-        → tells D.Disk disk.old ≡ true → Finds past result }
-    ensures images { AllImages D.Disk disk.new (D.images disk.old) }
-    ensures passes { Passes D.Disk disk.old disk.new (D.images disk.old) }
-    ensures sure { D.is_sure disk.old → D.is_sure disk.new }
-    ensures telling { tells D.Disk disk.new ≡ tells D.Disk disk.old }
-    ensures cause { OpenCause (D.fault_count disk.old) (D.fault_count disk.new) result }
+        → tells D.Disk disk.old ≡ true → FindsJournal past result }
+    ensures goes { Reads D.Disk disk.old disk.new (open_failed result) }
 {
     match read_synced(alloc, disk) {
         Ok(bytes) => read_bytes(alloc, bytes.as_slice()),

@@ -2,7 +2,7 @@
 use Rattle.std.proofs.Common.{◌≡◌, ℕ, ◌+◌, ◌<◌, ◌≤◌, Bool, true, false, List, ◌++◌, length, length-append, arith, refl, ⊎_elim}
 use Rattle.std.specs.Prelude.{min}
 use Rattle.std.proofs.lemmas.Bool.{cases_lt}
-use Rattle.wire_frames.specs.Spelling.{flag}
+use Rattle.byte_strings.specs.Fields.{flag}
 use Rattle.wire_frames.specs.Sizes.{IsSize}
 
 pub size_one : (k a m l : ℕ) → IsSize a m → l ≡ k + m → IsSize (k + a) l

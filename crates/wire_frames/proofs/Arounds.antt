@@ -9,8 +9,9 @@ use Rattle.rule_model.specs.declared.event.Act.{Act}
 use Rattle.rule_model.specs.declared.event.Act.TheVariants.{EnterAad, EnterUpdate, EnterFinish}
 use Rattle.wire_frames.specs.declared.fault.BodyFault.{BodyFault}
 use Rattle.wire_frames.specs.declared.fault.BodyFault.TheVariants.{Bad, Memory}
-use Rattle.wire_frames.specs.declared.held.giving.Kept.{Kept}
-use Rattle.wire_frames.specs.Reading.{Says, byte_at, number_at, front_at, counted_at, optional_at, ended, fields_in, act_in}
+use Rattle.wire_frames.specs.declared.held.giving.HeldRequest.{HeldRequest}
+use Rattle.byte_strings.specs.Readers.{byte_at, number_at, bytes_at, counted_at, optional_at, row_of, ended}
+use Rattle.wire_frames.specs.Reading.{Says, acts, act_in}
 use Rattle.wire_frames.specs.Apart.{has_input, HasInput, with_input, around}
 use Rattle.wire_frames.proofs.Filling.{behind, behind_is}
 
@@ -22,12 +23,12 @@ number_more n bytes more le =
     rw long (λ i. Some (big_from-append n bytes more le i, drop-append-le n bytes more le i))
 
 -- the input, where it is all there
-counted_more : (bytes input : List ℕ) → length bytes ≡ 4 → counted_at (bytes ++ input) ≡ front_at (big_number 4 bytes) input
+counted_more : (bytes input : List ℕ) → length bytes ≡ 4 → counted_at 4 (bytes ++ input) ≡ bytes_at (big_number 4 bytes) input
 unfolding counted_at
 counted_more bytes input long =
     let none : drop 4 bytes ≡ [] = nil_from_length (drop 4 bytes) (omega (arith, length-drop 4 bytes)) in
-    ap (option_and_then (λ (n : ℕ × List ℕ). front_at n.0 n.1)) (number_more 4 bytes input (omega arith))
-    ∙ ap (λ (l : List ℕ). front_at (big_number 4 bytes) (l ++ input)) none
+    ap (option_and_then (λ (n : ℕ × List ℕ). bytes_at n.0 n.1)) (number_more 4 bytes input (omega arith))
+    ∙ ap (λ (l : List ℕ). bytes_at (big_number 4 bytes) (l ++ input)) none
 
 -- ---- acts
 
@@ -35,18 +36,15 @@ ended_by : (c : Bool) (a b : Act) (f : Act → Act) → f b ≡ a → cond c (So
 ended_by true a b f e = ap Some (sym e)
 ended_by false a b f e = refl
 
--- an operation, an input and nothing behind it
-fed_by : (make : ℕ → List ℕ → Act) (op : ℕ) (input : List ℕ) (b : Bool) (text rest : List ℕ) → b ≡ false → with_input text (make op []) ≡ make op text
-    → ended (λ (x : ℕ × List ℕ). make x.0 x.1) (option_and_then (λ (x : List ℕ × List ℕ). Some ((op, x.0), x.1)) (cond b None (Some (text, rest))))
-    ≡ option_map (with_input text) (ended (λ (x : ℕ). make x []) (Some (op, rest)))
-fed_by make op input b text rest is same = rw is (ended_by (eqb (length rest) 0) (make op text) (make op []) (with_input text) same)
-
 finished_by : (op : ℕ) (text : List ℕ) (read : Option (Option (List ℕ) × List ℕ))
-    → ended (λ (x : ℕ × (List ℕ × Option (List ℕ))). EnterFinish x.0 x.1.0 x.1.1)
-    (option_and_then (λ (y : (List ℕ × Option (List ℕ)) × List ℕ). Some ((op, y.0), y.1)) (option_and_then (λ (s : Option (List ℕ) × List ℕ). Some ((text, s.0), s.1)) read))
-    ≡ option_map (with_input text) (ended (λ signature. EnterFinish op [] signature) read)
+    → ended (option_and_then (λ (s : Option (List ℕ) × List ℕ). Some (EnterFinish op text s.0, s.1)) read)
+    ≡ option_map (with_input text) (ended (option_and_then (λ (s : Option (List ℕ) × List ℕ). Some (EnterFinish op [] s.0, s.1)) read))
 finished_by op text None = refl
 finished_by op text (Some s) = ended_by (eqb (length s.1) 0) (EnterFinish op text s.0) (EnterFinish op [] s.0) (with_input text) refl
+
+-- the act of a number, and its fields
+abbrev fields_in : ℕ → List ℕ → Option Act
+fields_in number bytes = ended (row_of number acts bytes)
 
 three : (n : ℕ) → has_input n ≡ true → (n ≡ 6) ⊎ ((n ≡ 7) ⊎ (n ≡ 8))
 three n e =
@@ -63,18 +61,14 @@ module _ (fields input : List ℕ) (long : length fields ≡ 12) where
   op_in : number_at 8 (fields ++ input) ≡ Some (big_number 8 fields, drop 8 fields ++ input)
   op_in = number_more 8 fields input (omega arith)
 
-  text_in : counted_at (drop 8 fields ++ input) ≡ front_at (big_number 4 (drop 8 fields)) input
+  text_in : counted_at 4 (drop 8 fields ++ input) ≡ bytes_at (big_number 4 (drop 8 fields)) input
   text_in = counted_more (drop 8 fields) input (omega (arith, length-drop 8 fields))
-
-  -- what is read where the first two fields are
-  then_read : {X : Type 0} (f : ℕ × List ℕ → Option X) → option_and_then f (number_at 8 (fields ++ input)) ≡ f (big_number 8 fields, drop 8 fields ++ input)
-  then_read f = ap (option_and_then f) op_in
 
   short_by : (number : ℕ) → (number ≡ 6) ⊎ ((number ≡ 7) ⊎ (number ≡ 8)) → length input < big_number 4 (drop 8 fields) → fields_in number (fields ++ input) ≡ None
   short_by number which short =
       let size = big_number 4 (drop 8 fields) in
       let test : ltb (length input) size ≡ true = lt-ltb (length input) size short in
-      let text : counted_at (drop 8 fields ++ input) ≡ None = text_in ∙ ap (λ (b : Bool). cond b None (Some (take size input, drop size input))) test in
+      let text : counted_at 4 (drop 8 fields ++ input) ≡ None = text_in ∙ ap (λ (b : Bool). cond b None (Some (take size input, drop size input))) test in
       ⊎_elim
       (λ (six : number ≡ 6). ap (λ (n : ℕ). fields_in n (fields ++ input)) six ∙ rw (op_in, text) refl)
       (λ (later : (number ≡ 7) ⊎ (number ≡ 8)). ⊎_elim
@@ -89,13 +83,13 @@ module _ (fields input : List ℕ) (long : length fields ≡ 12) where
       let size = big_number 4 (drop 8 fields) in
       let op = big_number 8 fields in
       let test : ltb (length input) size ≡ false = le-ltb (length input) size enough in
-      let text : counted_at (drop 8 fields ++ input) ≡ Some (take size input, drop size input) = text_in ∙ ap (λ (b : Bool). cond b None (Some (take size input, drop size input))) test in
+      let text : counted_at 4 (drop 8 fields ++ input) ≡ Some (take size input, drop size input) = text_in ∙ ap (λ (b : Bool). cond b None (Some (take size input, drop size input))) test in
       let Same : ℕ → Type 0 = λ n. fields_in n (fields ++ input) ≡ option_map (with_input (take size input)) (around n op (drop size input)) in
       ⊎_elim
-      (λ (six : number ≡ 6). subst Same (sym six) (rw (op_in, text) (fed_by (λ o t. EnterAad o t) op input false (take size input) (drop size input) refl refl)))
+      (λ (six : number ≡ 6). subst Same (sym six) (rw (op_in, text) (ended_by (eqb (length (drop size input)) 0) (EnterAad op (take size input)) (EnterAad op []) (with_input (take size input)) refl)))
       (λ (later : (number ≡ 7) ⊎ (number ≡ 8)). ⊎_elim
-      (λ (seven : number ≡ 7). subst Same (sym seven) (rw (op_in, text) (fed_by (λ o t. EnterUpdate o t) op input false (take size input) (drop size input) refl refl)))
-      (λ (eight : number ≡ 8). subst Same (sym eight) (rw (op_in, text) (finished_by op (take size input) (optional_at (drop size input)))))
+      (λ (seven : number ≡ 7). subst Same (sym seven) (rw (op_in, text) (ended_by (eqb (length (drop size input)) 0) (EnterUpdate op (take size input)) (EnterUpdate op []) (with_input (take size input)) refl)))
+      (λ (eight : number ≡ 8). subst Same (sym eight) (rw (op_in, text) (finished_by op (take size input) (optional_at 4 (drop size input)))))
       later)
       which
 
@@ -113,7 +107,7 @@ module _ (head input : List ℕ) (has : HasInput head) where
   act_is =
       let here : drop 4 (head ++ input) ≡ slice_index head 4 ∷ (fields ++ input) =
       drop-append-le 4 head input (omega (arith, has.0)) ∙ ap (λ (l : List ℕ). l ++ input) (drop_more head 4 0 (omega (arith, has.0))) in
-      ap (λ (l : List ℕ). option_and_then (λ (number : ℕ × List ℕ). fields_in number.0 number.1) (byte_at l)) here
+      ap (λ (l : List ℕ). ended (option_and_then (λ (number : ℕ × List ℕ). row_of number.0 acts number.1) (byte_at l))) here
 
   size_there : (size : ℕ) → size ≡ big_number 4 (behind 13 head) → size ≡ big_number 4 (drop 8 fields)
   size_there size is = is ∙ ap (big_number 4) (behind_is 13 head ∙ sym (drop-drop 8 5 head))
@@ -135,6 +129,6 @@ module _ (head input : List ℕ) (has : HasInput head) where
 
 -- ---- what a reader says
 
-pub says_apart : (f : Act → Act) (view : Kept → Act) (fault : BodyFault) (o read : Option Act) → read ≡ option_map f o → Says {X = Act} {Y = Act} (λ x. x) (Err fault) o → Says {X = Kept} {Y = Act} view (Err fault) read
+pub says_apart : (f : Act → Act) (view : HeldRequest → Act) (fault : BodyFault) (o read : Option Act) → read ≡ option_map f o → Says {X = Act} {Y = Act} (λ x. x) (Err fault) o → Says {X = HeldRequest} {Y = Act} view (Err fault) read
 says_apart f view Bad o read is none = is ∙ ap (option_map f) none
 says_apart f view Memory o read is said = tt

@@ -1,170 +1,249 @@
--- Each act's body: what was read is spelled so, and what is spelled is read again.
-use Rattle.std.proofs.Common.{◌≡◌, ℕ, ◌^◌, ◌<◌, true, false, cond, eqb, List, [], ◌∷◌, ◌++◌, length, Option, Some, None, refl, sym, ap, subst, ◌∙◌, ⊎_elim}
-use Rattle.std.proofs.lemmas.Bool.{eqb-true}
-use Rattle.byteorder.specs.Endian.{big_bytes}
+-- Each kind of body: what was read is spelled so, and what is spelled is read again.
+use Rattle.std.proofs.Common.{◌≡◌, ℕ, Bool, true, List, ◌∷◌, drop, Option, Some, refl}
+use Rattle.byte_strings.specs.Readers.{Reader, optional_at}
+use Rattle.byte_strings.specs.Codecs.{IsBytes, IsCodec, IsRead, IsAgain}
+use Rattle.byte_strings.proofs.Fields.{byte_codec, u32_codec, u64_codec, bytes_codec, counted_u32_codec, optional_codec, flag_codec, wide4}
+use Rattle.byte_strings.proofs.Rows.{made_read, field_read, last_read, field_again, last_again, rows_read, row_codec, whole_takes, whole_again}
+use Rattle.tags.specs.declared.descriptor.Descriptor.{Descriptor}
 use Rattle.rule_model.specs.declared.event.Act.{Act}
 use Rattle.rule_model.specs.declared.event.Act.TheVariants.{Connect, Disconnect, GenerateKey, ImportKey, CreateOperation, EnterAad, EnterUpdate, EnterFinish, Abort, GetKeyEntry, DeleteKey, Grant, Ungrant, GetNumberOfEntries, ListEntriesBatched, AddAuthToken, DeviceLocked, DeviceUnlocked, EarlyBootEnded, ClearNamespace, UserRemoved, Leave, Restart}
-use Rattle.wire_frames.specs.Spelling.{counted, optional, flag, key_of, body_of, IsShort, IsKey, AreFields, is_asked}
-use Rattle.wire_frames.specs.Reading.{Reader, byte_at, number_at, counted_at, optional_at, flag_at, front_at, key_at, both, ended, imported_in, token_in, key_act_in, work_act_in, owner_act_in, fields_in, act_in}
-use Rattle.wire_frames.proofs.Codecs.{IsBytes, IsCodec, Takes, bind_some, chosen, byte_codec, long_codec, short_codec, counted_codec, optional_codec, flag_codec, plain_codec, key_codec, both_codec, row_takes, row_again}
+use Rattle.wire_frames.specs.Spelling.{optional, key_of, body_of, IsShort, IsKey, AreFields, is_asked}
+use Rattle.wire_frames.specs.Reading.{key_at, connected_at, generated_at, imported_at, created_at, aad_at, update_at, finish_at, aborted_at, found_at, deleted_at, granted_at, ungranted_at, counted_entries_at, listed_at, token_at, locked_at, unlocked_at, booted_at, cleared_at, removed_at, acts, act_at, act_in}
 
--- what a body is, once it was read
-pub record IsBody (number : ℕ) (bytes : List ℕ) (act : Act) : Type 0 where
-  pub is : number ∷ bytes ≡ body_of act
-  pub fields : AreFields act
+-- ---- fields
 
--- ---- fields in turn
+optional_u32_codec : IsCodec (optional_at 4) optional IsShort
+optional_u32_codec = optional_codec 4 wide4
 
-module _ {A B : Type 0} (f : Reader A) (s : A → List ℕ) (P : A → Type 0) (one : IsCodec f s P) (g : Reader B) (t : B → List ℕ) (Q : B → Type 0) (two : IsCodec g t Q) where
-  pub pair_codec : IsCodec (both f g) (λ x. s x.0 ++ t x.1) (λ x. P x.0 × Q x.1)
-  pair_codec = both_codec f s P g t Q one two
+key_read : IsRead key_at (λ text key. (text ≡ key_of key) × IsKey key)
+unfolding key_at
+key_read =
+    field_read u32_codec (λ domain d. field_read u64_codec (λ nspace n. field_read optional_u32_codec (λ alias a.
+    last_read optional_u32_codec _ (λ blob b. (refl, (d, (n, (a, b))))))))
 
-abbrev generated : IsCodec (both key_at counted_at) (λ x. key_of x.0 ++ counted x.1) (λ x. IsKey x.0 × (length x.1 < 2 ^ 32))
-generated = both_codec _ _ _ _ _ _ key_codec counted_codec
+key_again : (key : Descriptor) → IsKey key → IsAgain key_at (key_of key) key
+unfolding key_at
+key_again key h =
+    field_again u32_codec _ key.domain h.0 (field_again u64_codec _ key.nspace h.1.0 (field_again optional_u32_codec _ key.alias h.1.1.0
+    (last_again optional_u32_codec _ key.blob h.1.1.1)))
 
-imported : IsCodec (both key_at (both counted_at (both (number_at 4) counted_at))) (λ x. key_of x.0 ++ (counted x.1.0 ++ (big_bytes 4 x.1.1.0 ++ counted x.1.1.1)))
-    (λ x. IsKey x.0 × ((length x.1.0 < 2 ^ 32) × ((x.1.1.0 < 2 ^ 32) × (length x.1.1.1 < 2 ^ 32))))
-imported = both_codec _ _ _ _ _ _ key_codec (both_codec _ _ _ _ _ _ counted_codec (both_codec _ _ _ _ _ _ short_codec counted_codec))
-
-begun : IsCodec (both key_at (both counted_at flag_at)) (λ x. key_of x.0 ++ (counted x.1.0 ++ flag x.1.1)) (λ x. IsKey x.0 × ((length x.1.0 < 2 ^ 32) × Unit {0}))
-begun = both_codec _ _ _ _ _ _ key_codec (both_codec _ _ _ _ _ _ counted_codec flag_codec)
-
-fed : IsCodec (both (number_at 8) counted_at) (λ x. big_bytes 8 x.0 ++ counted x.1) (λ x. (x.0 < 2 ^ 64) × (length x.1 < 2 ^ 32))
-fed = both_codec _ _ _ _ _ _ long_codec counted_codec
-
-finished : IsCodec (both (number_at 8) (both counted_at optional_at)) (λ x. big_bytes 8 x.0 ++ (counted x.1.0 ++ optional x.1.1)) (λ x. (x.0 < 2 ^ 64) × ((length x.1.0 < 2 ^ 32) × IsShort x.1.1))
-finished = both_codec _ _ _ _ _ _ long_codec (both_codec _ _ _ _ _ _ counted_codec optional_codec)
-
-granted : IsCodec (both key_at (both (number_at 4) (number_at 4))) (λ x. key_of x.0 ++ (big_bytes 4 x.1.0 ++ big_bytes 4 x.1.1)) (λ x. IsKey x.0 × ((x.1.0 < 2 ^ 32) × (x.1.1 < 2 ^ 32)))
-granted = both_codec _ _ _ _ _ _ key_codec (both_codec _ _ _ _ _ _ short_codec short_codec)
-
-ungranted : IsCodec (both key_at (number_at 4)) (λ x. key_of x.0 ++ big_bytes 4 x.1) (λ x. IsKey x.0 × (x.1 < 2 ^ 32))
-ungranted = both_codec _ _ _ _ _ _ key_codec short_codec
-
-owner : IsCodec (both (number_at 4) (number_at 8)) (λ x. big_bytes 4 x.0 ++ big_bytes 8 x.1) (λ x. (x.0 < 2 ^ 32) × (x.1 < 2 ^ 64))
-owner = both_codec _ _ _ _ _ _ short_codec long_codec
-
-listed : IsCodec (both (number_at 4) (both (number_at 8) optional_at)) (λ x. big_bytes 4 x.0 ++ (big_bytes 8 x.1.0 ++ optional x.1.1)) (λ x. (x.0 < 2 ^ 32) × ((x.1.0 < 2 ^ 64) × IsShort x.1.1))
-listed = both_codec _ _ _ _ _ _ short_codec (both_codec _ _ _ _ _ _ long_codec optional_codec)
-
-abbrev TokenParts : Type 0
-TokenParts = ℕ × (ℕ × (ℕ × (ℕ × (ℕ × List ℕ))))
-
-token : IsCodec (both (number_at 8) (both (number_at 8) (both (number_at 8) (both (number_at 4) (both (number_at 8) (front_at 32))))))
-    (λ x. big_bytes 8 x.0 ++ (big_bytes 8 x.1.0 ++ (big_bytes 8 x.1.1.0 ++ (big_bytes 4 x.1.1.1.0 ++ (big_bytes 8 x.1.1.1.1.0 ++ x.1.1.1.1.1)))))
-    (λ x. (x.0 < 2 ^ 64) × ((x.1.0 < 2 ^ 64) × ((x.1.1.0 < 2 ^ 64) × ((x.1.1.1.0 < 2 ^ 32) × ((x.1.1.1.1.0 < 2 ^ 64) × (length x.1.1.1.1.1 ≡ 32))))))
-token =
-    both_codec _ _ _ _ _ _ long_codec (both_codec _ _ _ _ _ _ long_codec (both_codec _ _ _ _ _ _ long_codec
-    (both_codec _ _ _ _ _ _ short_codec (both_codec _ _ _ _ _ _ long_codec plain_codec))))
-
-nothing_takes : (bytes : List ℕ) (x : Unit {0}) (rest : List ℕ) → IsBytes bytes → ◌≡◌ {A = Option (Unit {0} × List ℕ)} (Some (tt {0}, bytes)) (Some (x, rest)) → Takes bytes [] rest × Unit {0}
-nothing_takes bytes x rest fits e = (record { parts = ap (λ (o : Option (Unit {0} × List ℕ)). behind o) e; rest_fits = subst IsBytes (ap (λ (o : Option (Unit {0} × List ℕ)). behind o) e) fits }, tt)
-  where
-    behind : Option (Unit {0} × List ℕ) → List ℕ
-    behind None = []
-    behind (Some p) = p.1
-
-nothing : IsCodec {A = Unit {0}} (λ bytes. Some (tt {0}, bytes)) (λ _. []) (λ _. Unit {0})
-nothing = record { takes = nothing_takes; again = λ x rest fits. refl }
+key_codec : IsCodec key_at key_of IsKey
+key_codec = row_codec key_read key_again
 
 -- ---- what was read is spelled so
 
-row_body : {X : Type 0} (number : ℕ) (read : Reader X) (spell : X → List ℕ) (Fits : X → Type 0) → IsCodec read spell Fits → (make : X → Act)
-    → ((x : X) → number ∷ spell x ≡ body_of (make x)) → ((x : X) → Fits x → AreFields (make x))
-    → (bytes : List ℕ) (act : Act) → IsBytes bytes → ended make (read bytes) ≡ Some act → IsBody number bytes act
-row_body number read spell Fits codec make spells fields bytes act fits e =
-    let r = row_takes read spell Fits codec make bytes act fits e in
-    record { is = ap (λ (l : List ℕ). number ∷ l) r.1 ∙ spells r.0 ∙ ap body_of r.3; fields = subst AreFields r.3 (fields r.0 r.2) }
+-- the text is the body of the act
+abbrev IsBody : List ℕ → Act → Type 0
+IsBody text act = (text ≡ body_of act) × AreFields act
 
-imported_body : (bytes : List ℕ) (act : Act) → IsBytes bytes → imported_in bytes ≡ Some act → IsBody 4 bytes act
-unfolding imported_in
-imported_body bytes act fits e = row_body 4 _ _ _ imported (λ x. ImportKey x.0 x.1.0 x.1.1.0 x.1.1.1) (λ x. refl) (λ x f. (f.0, f.1.0, f.1.1.0, f.1.1.1)) bytes act fits e
+-- a row gives the fields behind this number
+abbrev IsAct : ℕ → Reader Act → Type 0
+IsAct number row = IsRead row (λ text act. IsBody (number ∷ text) act)
 
-token_body : (bytes : List ℕ) (act : Act) → IsBytes bytes → token_in bytes ≡ Some act → IsBody 16 bytes act
-unfolding token_in
-token_body bytes act fits e = row_body 16 _ _ _ token (λ x. AddAuthToken x.0 x.1.0 x.1.1.0 x.1.1.1.0 x.1.1.1.1.0 x.1.1.1.1.1) (λ x. refl) (λ x f. (f.0, f.1.0, f.1.1.0, f.1.1.1.0, f.1.1.1.1.0, f.1.1.1.1.1)) bytes act fits e
+connected_read : IsAct 1 connected_at
+connected_read = last_read u32_codec _ (λ uid is_uid. (refl, is_uid))
 
--- one row of the table of acts: the number is this one, or the rows behind it are asked
-asked : (number n : ℕ) (bytes : List ℕ) (act : Act) (row others : Option Act) → cond (eqb number n) row others ≡ Some act
-    → (row ≡ Some act → IsBody n bytes act) → (others ≡ Some act → IsBody number bytes act) → IsBody number bytes act
-asked number n bytes act row others e this later =
-    ⊎_elim
-    (λ (p : (eqb number n ≡ true) × (row ≡ Some act)). subst (λ (k : ℕ). IsBody k bytes act) (sym (eqb-true number n p.0)) (this p.1))
-    (λ (q : (eqb number n ≡ false) × (others ≡ Some act)). later q.1)
-    (chosen (eqb number n) row others (Some act) e)
+generated_read : IsAct 3 generated_at
+generated_read = field_read key_codec (λ key is_key. last_read counted_u32_codec _ (λ params is_params. (refl, (is_key, is_params))))
 
-key_act_body : (number : ℕ) (bytes : List ℕ) (act : Act) → IsBytes bytes → key_act_in number bytes ≡ Some act → IsBody number bytes act
-key_act_body number bytes act fits e =
-    asked number 3 bytes act _ _ e (row_body 3 _ _ _ generated (λ x. GenerateKey x.0 x.1) (λ x. refl) (λ x f. f) bytes act fits)
-    (λ e2. asked number 4 bytes act _ _ e2 (imported_body bytes act fits)
-    (λ e3. asked number 5 bytes act _ _ e3 (row_body 5 _ _ _ begun (λ x. CreateOperation x.0 x.1.0 x.1.1) (λ x. refl) (λ x f. (f.0, f.1.0)) bytes act fits)
-    (λ e4. asked number 10 bytes act _ _ e4 (row_body 10 _ _ _ key_codec (λ key. GetKeyEntry key) (λ x. refl) (λ x f. f) bytes act fits)
-    (λ e5. asked number 11 bytes act _ _ e5 (row_body 11 _ _ _ key_codec (λ key. DeleteKey key) (λ x. refl) (λ x f. f) bytes act fits)
-    (λ e6. asked number 12 bytes act _ _ e6 (row_body 12 _ _ _ granted (λ x. Grant x.0 x.1.0 x.1.1) (λ x. refl) (λ x f. (f.0, f.1.0, f.1.1)) bytes act fits)
-    (λ e7. asked number 13 bytes act _ _ e7 (row_body 13 _ _ _ ungranted (λ x. Ungrant x.0 x.1) (λ x. refl) (λ x f. f) bytes act fits)
-    (λ e8. absurd (let never : ◌≡◌ {A = Option Act} None (Some act) = e8 in cc))))))))
+imported_read : IsAct 4 imported_at
+unfolding imported_at
+imported_read = field_read key_codec (λ key is_key. field_read counted_u32_codec (λ params is_params. field_read u32_codec (λ format is_format. last_read counted_u32_codec _ (λ material is_material. (refl, (is_key, is_params, is_format, is_material))))))
 
-work_act_body : (number : ℕ) (bytes : List ℕ) (act : Act) → IsBytes bytes → work_act_in number bytes ≡ Some act → IsBody number bytes act
-work_act_body number bytes act fits e =
-    asked number 6 bytes act _ _ e (row_body 6 _ _ _ fed (λ x. EnterAad x.0 x.1) (λ x. refl) (λ x f. f) bytes act fits)
-    (λ e2. asked number 7 bytes act _ _ e2 (row_body 7 _ _ _ fed (λ x. EnterUpdate x.0 x.1) (λ x. refl) (λ x f. f) bytes act fits)
-    (λ e3. asked number 8 bytes act _ _ e3 (row_body 8 _ _ _ finished (λ x. EnterFinish x.0 x.1.0 x.1.1) (λ x. refl) (λ x f. (f.0, f.1.0, f.1.1)) bytes act fits)
-    (λ e4. asked number 9 bytes act _ _ e4 (row_body 9 _ _ _ long_codec (λ op. Abort op) (λ x. refl) (λ x f. f) bytes act fits)
-    (λ e5. key_act_body number bytes act fits e5))))
+created_read : IsAct 5 created_at
+unfolding created_at
+created_read = field_read key_codec (λ key is_key. field_read counted_u32_codec (λ params is_params. last_read flag_codec _ (λ forced is_forced. (refl, (is_key, is_params)))))
 
-owner_act_body : (number : ℕ) (bytes : List ℕ) (act : Act) → IsBytes bytes → owner_act_in number bytes ≡ Some act → IsBody number bytes act
-owner_act_body number bytes act fits e =
-    asked number 14 bytes act _ _ e (row_body 14 _ _ _ owner (λ x. GetNumberOfEntries x.0 x.1) (λ x. refl) (λ x f. f) bytes act fits)
-    (λ e2. asked number 15 bytes act _ _ e2 (row_body 15 _ _ _ listed (λ x. ListEntriesBatched x.0 x.1.0 x.1.1) (λ x. refl) (λ x f. (f.0, f.1.0, f.1.1)) bytes act fits)
-    (λ e3. asked number 20 bytes act _ _ e3 (row_body 20 _ _ _ owner (λ x. ClearNamespace x.0 x.1) (λ x. refl) (λ x f. f) bytes act fits)
-    (λ e4. work_act_body number bytes act fits e4)))
+aad_read : IsAct 6 aad_at
+aad_read = field_read u64_codec (λ op is_op. last_read counted_u32_codec _ (λ input is_input. (refl, (is_op, is_input))))
 
-fields_body : (number : ℕ) (bytes : List ℕ) (act : Act) → IsBytes bytes → fields_in number bytes ≡ Some act → IsBody number bytes act
-fields_body number bytes act fits e =
-    asked number 1 bytes act _ _ e (row_body 1 _ _ _ short_codec (λ uid. Connect uid) (λ x. refl) (λ x f. f) bytes act fits)
-    (λ e2. asked number 16 bytes act _ _ e2 (token_body bytes act fits)
-    (λ e3. asked number 17 bytes act _ _ e3 (row_body 17 _ _ _ short_codec (λ user. DeviceLocked user) (λ x. refl) (λ x f. f) bytes act fits)
-    (λ e4. asked number 18 bytes act _ _ e4 (row_body 18 _ _ _ short_codec (λ user. DeviceUnlocked user) (λ x. refl) (λ x f. f) bytes act fits)
-    (λ e5. asked number 19 bytes act _ _ e5 (row_body 19 _ _ _ nothing (λ _. EarlyBootEnded) (λ x. refl) (λ x f. f) bytes act fits)
-    (λ e6. asked number 21 bytes act _ _ e6 (row_body 21 _ _ _ short_codec (λ user. UserRemoved user) (λ x. refl) (λ x f. f) bytes act fits)
-    (λ e7. owner_act_body number bytes act fits e7))))))
+update_read : IsAct 7 update_at
+update_read = field_read u64_codec (λ op is_op. last_read counted_u32_codec _ (λ input is_input. (refl, (is_op, is_input))))
+
+finish_read : IsAct 8 finish_at
+finish_read = field_read u64_codec (λ op is_op. field_read counted_u32_codec (λ input is_input. last_read optional_u32_codec _ (λ signature is_signature. (refl, (is_op, is_input, is_signature)))))
+
+aborted_read : IsAct 9 aborted_at
+aborted_read = last_read u64_codec _ (λ op is_op. (refl, is_op))
+
+found_read : IsAct 10 found_at
+found_read = last_read key_codec _ (λ key is_key. (refl, is_key))
+
+deleted_read : IsAct 11 deleted_at
+deleted_read = last_read key_codec _ (λ key is_key. (refl, is_key))
+
+granted_read : IsAct 12 granted_at
+granted_read = field_read key_codec (λ key is_key. field_read u32_codec (λ uid is_uid. last_read u32_codec _ (λ bits is_bits. (refl, (is_key, is_uid, is_bits)))))
+
+ungranted_read : IsAct 13 ungranted_at
+ungranted_read = field_read key_codec (λ key is_key. last_read u32_codec _ (λ uid is_uid. (refl, (is_key, is_uid))))
+
+counted_entries_read : IsAct 14 counted_entries_at
+counted_entries_read = field_read u32_codec (λ domain is_domain. last_read u64_codec _ (λ nspace is_nspace. (refl, (is_domain, is_nspace))))
+
+listed_read : IsAct 15 listed_at
+listed_read = field_read u32_codec (λ domain is_domain. field_read u64_codec (λ nspace is_nspace. last_read optional_u32_codec _ (λ past is_past. (refl, (is_domain, is_nspace, is_past)))))
+
+token_read : IsAct 16 token_at
+unfolding token_at
+token_read = field_read u64_codec (λ challenge is_challenge. field_read u64_codec (λ user is_user. field_read u64_codec (λ authenticator is_authenticator. field_read u32_codec (λ kind is_kind. field_read u64_codec (λ time is_time. last_read (bytes_codec 32) _ (λ mac is_mac. (refl, (is_challenge, is_user, is_authenticator, is_kind, is_time, is_mac))))))))
+
+locked_read : IsAct 17 locked_at
+locked_read = last_read u32_codec _ (λ user is_user. (refl, is_user))
+
+unlocked_read : IsAct 18 unlocked_at
+unlocked_read = last_read u32_codec _ (λ user is_user. (refl, is_user))
+
+cleared_read : IsAct 20 cleared_at
+cleared_read = field_read u32_codec (λ domain is_domain. last_read u64_codec _ (λ nspace is_nspace. (refl, (is_domain, is_nspace))))
+
+removed_read : IsAct 21 removed_at
+removed_read = last_read u32_codec _ (λ user is_user. (refl, is_user))
+
+booted_read : IsAct 19 booted_at
+booted_read = made_read EarlyBootEnded (refl, tt)
+
+act_read : IsRead act_at IsBody
+act_read = field_read byte_codec (λ number small.
+    rows_read IsBody acts number (
+      connected_read,
+      (
+        token_read,
+        (
+          locked_read,
+          (
+            unlocked_read,
+            (
+              booted_read,
+              (
+                removed_read,
+                (
+                  counted_entries_read,
+                  (
+                    listed_read,
+                    (
+                      cleared_read,
+                      (
+                        aad_read,
+                        (
+                          update_read,
+                          (
+                            finish_read,
+                            (
+                              aborted_read,
+                              (generated_read, (imported_read, (created_read, (found_read, (deleted_read, (granted_read, (ungranted_read, tt))))))),
+                            ),
+                          ),
+                        ),
+                      ),
+                    ),
+                  ),
+                ),
+              ),
+            ),
+          ),
+        ),
+      ),
+    ))
 
 pub act_takes : (body : List ℕ) (act : Act) → IsBytes body → act_in body ≡ Some act → (body ≡ body_of act) × AreFields act
 unfolding act_in
-act_takes body act fits e =
-    let b = bind_some (λ (number : ℕ × List ℕ). fields_in number.0 number.1) (byte_at body) act e in
-    let t = byte_codec.takes body b.0.0 b.0.1 fits b.1 in
-    let f = fields_body b.0.0 b.0.1 act t.0.rest_fits b.2 in
-    (t.0.parts ∙ f.is, f.fields)
+act_takes body act fits e = whole_takes act_read body act fits e
 
 -- ---- what is spelled is read again
 
+-- a row reads the fields of the act behind its number
+abbrev IsReadAgain : Reader Act → Act → Type 0
+IsReadAgain row act = IsAgain row (drop 1 (body_of act)) act
+
+connected_again : (uid : ℕ) → AreFields (Connect uid) → IsReadAgain connected_at (Connect uid)
+connected_again uid h = last_again u32_codec _ uid h
+
+generated_again : (key : Descriptor) (params : List ℕ) → AreFields (GenerateKey key params) → IsReadAgain generated_at (GenerateKey key params)
+generated_again key params h = field_again key_codec _ key h.0 (last_again counted_u32_codec _ params h.1)
+
+imported_again : (key : Descriptor) (params : List ℕ) (format : ℕ) (material : List ℕ) → AreFields (ImportKey key params format material) → IsReadAgain imported_at (ImportKey key params format material)
+unfolding imported_at
+imported_again key params format material h = field_again key_codec _ key h.0 (field_again counted_u32_codec _ params h.1 (field_again u32_codec _ format h.2 (last_again counted_u32_codec _ material h.3)))
+
+created_again : (key : Descriptor) (params : List ℕ) (forced : Bool) → AreFields (CreateOperation key params forced) → IsReadAgain created_at (CreateOperation key params forced)
+unfolding created_at
+created_again key params forced h = field_again key_codec _ key h.0 (field_again counted_u32_codec _ params h.1 (last_again flag_codec _ forced tt))
+
+aad_again : (op : ℕ) (input : List ℕ) → AreFields (EnterAad op input) → IsReadAgain aad_at (EnterAad op input)
+aad_again op input h = field_again u64_codec _ op h.0 (last_again counted_u32_codec _ input h.1)
+
+update_again : (op : ℕ) (input : List ℕ) → AreFields (EnterUpdate op input) → IsReadAgain update_at (EnterUpdate op input)
+update_again op input h = field_again u64_codec _ op h.0 (last_again counted_u32_codec _ input h.1)
+
+finish_again : (op : ℕ) (input : List ℕ) (signature : Option (List ℕ)) → AreFields (EnterFinish op input signature) → IsReadAgain finish_at (EnterFinish op input signature)
+finish_again op input signature h = field_again u64_codec _ op h.0 (field_again counted_u32_codec _ input h.1 (last_again optional_u32_codec _ signature h.2))
+
+aborted_again : (op : ℕ) → AreFields (Abort op) → IsReadAgain aborted_at (Abort op)
+aborted_again op h = last_again u64_codec _ op h
+
+found_again : (key : Descriptor) → AreFields (GetKeyEntry key) → IsReadAgain found_at (GetKeyEntry key)
+found_again key h = last_again key_codec _ key h
+
+deleted_again : (key : Descriptor) → AreFields (DeleteKey key) → IsReadAgain deleted_at (DeleteKey key)
+deleted_again key h = last_again key_codec _ key h
+
+granted_again : (key : Descriptor) (uid : ℕ) (bits : ℕ) → AreFields (Grant key uid bits) → IsReadAgain granted_at (Grant key uid bits)
+granted_again key uid bits h = field_again key_codec _ key h.0 (field_again u32_codec _ uid h.1 (last_again u32_codec _ bits h.2))
+
+ungranted_again : (key : Descriptor) (uid : ℕ) → AreFields (Ungrant key uid) → IsReadAgain ungranted_at (Ungrant key uid)
+ungranted_again key uid h = field_again key_codec _ key h.0 (last_again u32_codec _ uid h.1)
+
+counted_entries_again : (domain : ℕ) (nspace : ℕ) → AreFields (GetNumberOfEntries domain nspace) → IsReadAgain counted_entries_at (GetNumberOfEntries domain nspace)
+counted_entries_again domain nspace h = field_again u32_codec _ domain h.0 (last_again u64_codec _ nspace h.1)
+
+listed_again : (domain : ℕ) (nspace : ℕ) (past : Option (List ℕ)) → AreFields (ListEntriesBatched domain nspace past) → IsReadAgain listed_at (ListEntriesBatched domain nspace past)
+listed_again domain nspace past h = field_again u32_codec _ domain h.0 (field_again u64_codec _ nspace h.1 (last_again optional_u32_codec _ past h.2))
+
+token_again : (challenge : ℕ) (user : ℕ) (authenticator : ℕ) (kind : ℕ) (time : ℕ) (mac : List ℕ) → AreFields (AddAuthToken challenge user authenticator kind time mac) → IsReadAgain token_at (AddAuthToken challenge user authenticator kind time mac)
+unfolding token_at
+token_again challenge user authenticator kind time mac h = field_again u64_codec _ challenge h.0 (field_again u64_codec _ user h.1 (field_again u64_codec _ authenticator h.2 (field_again u32_codec _ kind h.3 (field_again u64_codec _ time h.4 (last_again (bytes_codec 32) _ mac h.5)))))
+
+locked_again : (user : ℕ) → AreFields (DeviceLocked user) → IsReadAgain locked_at (DeviceLocked user)
+locked_again user h = last_again u32_codec _ user h
+
+unlocked_again : (user : ℕ) → AreFields (DeviceUnlocked user) → IsReadAgain unlocked_at (DeviceUnlocked user)
+unlocked_again user h = last_again u32_codec _ user h
+
+cleared_again : (domain : ℕ) (nspace : ℕ) → AreFields (ClearNamespace domain nspace) → IsReadAgain cleared_at (ClearNamespace domain nspace)
+cleared_again domain nspace h = field_again u32_codec _ domain h.0 (last_again u64_codec _ nspace h.1)
+
+removed_again : (user : ℕ) → AreFields (UserRemoved user) → IsReadAgain removed_at (UserRemoved user)
+removed_again user h = last_again u32_codec _ user h
+
+body_again : (act : Act) → AreFields act → IsAgain act_at (body_of act) act
+body_again (Connect uid) h = record { again = λ rest. (connected_again uid h).again rest }
+body_again (GenerateKey key params) h = record { again = λ rest. (generated_again key params h).again rest }
+body_again (ImportKey key params format material) h = record { again = λ rest. (imported_again key params format material h).again rest }
+body_again (CreateOperation key params forced) h = record { again = λ rest. (created_again key params forced h).again rest }
+body_again (EnterAad op input) h = record { again = λ rest. (aad_again op input h).again rest }
+body_again (EnterUpdate op input) h = record { again = λ rest. (update_again op input h).again rest }
+body_again (EnterFinish op input signature) h = record { again = λ rest. (finish_again op input signature h).again rest }
+body_again (Abort op) h = record { again = λ rest. (aborted_again op h).again rest }
+body_again (GetKeyEntry key) h = record { again = λ rest. (found_again key h).again rest }
+body_again (DeleteKey key) h = record { again = λ rest. (deleted_again key h).again rest }
+body_again (Grant key uid bits) h = record { again = λ rest. (granted_again key uid bits h).again rest }
+body_again (Ungrant key uid) h = record { again = λ rest. (ungranted_again key uid h).again rest }
+body_again (GetNumberOfEntries domain nspace) h = record { again = λ rest. (counted_entries_again domain nspace h).again rest }
+body_again (ListEntriesBatched domain nspace past) h = record { again = λ rest. (listed_again domain nspace past h).again rest }
+body_again (AddAuthToken challenge user authenticator kind time mac) h = record { again = λ rest. (token_again challenge user authenticator kind time mac h).again rest }
+body_again (DeviceLocked user) h = record { again = λ rest. (locked_again user h).again rest }
+body_again (DeviceUnlocked user) h = record { again = λ rest. (unlocked_again user h).again rest }
+body_again EarlyBootEnded h = record { again = λ rest. refl }
+body_again (ClearNamespace domain nspace) h = record { again = λ rest. (cleared_again domain nspace h).again rest }
+body_again (UserRemoved user) h = record { again = λ rest. (removed_again user h).again rest }
+body_again Disconnect h = absurd h
+body_again (Leave ticket) h = absurd h
+body_again (Restart root) h = absurd h
+
 pub act_again : (act : Act) → AreFields act → act_in (body_of act) ≡ Some act
-unfolding act_in imported_in token_in
-act_again (Connect uid) h = row_again _ _ _ short_codec (λ uid. Connect uid) uid h
-act_again Disconnect h = absurd h
-act_again (GenerateKey key params) h = row_again _ _ _ generated (λ x. GenerateKey x.0 x.1) (key, params) h
-act_again (ImportKey key params format material) h = row_again _ _ _ imported (λ x. ImportKey x.0 x.1.0 x.1.1.0 x.1.1.1) (key, (params, (format, material))) (h.0, (h.1, (h.2, h.3)))
-act_again (CreateOperation key params forced) h = row_again _ _ _ begun (λ x. CreateOperation x.0 x.1.0 x.1.1) (key, (params, forced)) (h.0, (h.1, tt))
-act_again (EnterAad op input) h = row_again _ _ _ fed (λ x. EnterAad x.0 x.1) (op, input) h
-act_again (EnterUpdate op input) h = row_again _ _ _ fed (λ x. EnterUpdate x.0 x.1) (op, input) h
-act_again (EnterFinish op input signature) h = row_again _ _ _ finished (λ x. EnterFinish x.0 x.1.0 x.1.1) (op, (input, signature)) (h.0, (h.1, h.2))
-act_again (Abort op) h = row_again _ _ _ long_codec (λ op. Abort op) op h
-act_again (GetKeyEntry key) h = row_again _ _ _ key_codec (λ key. GetKeyEntry key) key h
-act_again (DeleteKey key) h = row_again _ _ _ key_codec (λ key. DeleteKey key) key h
-act_again (Grant key uid bits) h = row_again _ _ _ granted (λ x. Grant x.0 x.1.0 x.1.1) (key, (uid, bits)) (h.0, (h.1, h.2))
-act_again (Ungrant key uid) h = row_again _ _ _ ungranted (λ x. Ungrant x.0 x.1) (key, uid) h
-act_again (GetNumberOfEntries domain nspace) h = row_again _ _ _ owner (λ x. GetNumberOfEntries x.0 x.1) (domain, nspace) h
-act_again (ListEntriesBatched domain nspace past) h = row_again _ _ _ listed (λ x. ListEntriesBatched x.0 x.1.0 x.1.1) (domain, (nspace, past)) (h.0, (h.1, h.2))
-act_again (AddAuthToken challenge user authenticator kind time mac) h =
-    row_again _ _ _ token (λ x. AddAuthToken x.0 x.1.0 x.1.1.0 x.1.1.1.0 x.1.1.1.1.0 x.1.1.1.1.1) (challenge, (user, (authenticator, (kind, (time, mac))))) (h.0, (h.1, (h.2, (h.3, (h.4, h.5)))))
-act_again (DeviceLocked user) h = row_again _ _ _ short_codec (λ user. DeviceLocked user) user h
-act_again (DeviceUnlocked user) h = row_again _ _ _ short_codec (λ user. DeviceUnlocked user) user h
-act_again EarlyBootEnded h = row_again _ _ _ nothing (λ _. EarlyBootEnded) tt tt
-act_again (ClearNamespace domain nspace) h = row_again _ _ _ owner (λ x. ClearNamespace x.0 x.1) (domain, nspace) h
-act_again (UserRemoved user) h = row_again _ _ _ short_codec (λ user. UserRemoved user) user h
-act_again (Leave ticket) h = absurd h
-act_again (Restart root) h = absurd h
+unfolding act_in
+act_again act h = whole_again (body_again act h)
 
 -- the act of a frame is one that a client asks for
 pub framed_asked : (act : Act) → AreFields act → is_asked act ≡ true

@@ -9,7 +9,8 @@ use Rattle.wire_frames.specs.declared.front.Front.TheVariants.{Part, Bad, Whole}
 use Rattle.wire_frames.specs.Spelling.{counted, body_of, frame_of, IsRequest, AreFields}
 use Rattle.wire_frames.specs.Reading.{act_in}
 use Rattle.wire_frames.specs.Streams.{announced, is_length, needed, IsPart, IsBad, whole_in, front_of}
-use Rattle.wire_frames.proofs.Codecs.{IsBytes, IsBytes-take, IsBytes-drop, number_front, wide4}
+use Rattle.byte_strings.specs.Codecs.{IsBytes}
+use Rattle.byte_strings.proofs.Fields.{IsBytes-take, IsBytes-drop, number_front, wide4}
 use Rattle.wire_frames.proofs.Bodies.{act_takes, act_again}
 use Rattle.tags.specs.declared.limits.TheConstants.{FRAME_BYTES}
 

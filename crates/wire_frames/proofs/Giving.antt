@@ -4,9 +4,9 @@ use Rattle.std.specs.Bool.{MatchBool}
 use Rattle.rule_model.specs.declared.event.Act.{Act}
 use Rattle.wire_frames.specs.Spelling.{frame_of}
 use Rattle.wire_frames.specs.Streams.{stream_of, IsPart, IsBad}
-use Rattle.wire_frames.specs.Kept.{bytes_in}
+use Rattle.wire_frames.specs.PartialFrames.{bytes_in}
 use Rattle.wire_frames.specs.Outcomes.{IsRead}
-use Rattle.wire_frames.specs.declared.outcome.Outcome.{Outcome}
+use Rattle.wire_frames.specs.declared.outcome.FrameOutcome.{FrameOutcome}
 use Rattle.wire_frames.specs.declared.frames.Frames.{Frames}
 use Rattle.wire_frames.specs.Standing.{start_of, held_in, is_shut, Stands, IsBadAt}
 use Rattle.wire_frames.proofs.Going.{bad_more, each_append, stream_append}
@@ -39,7 +39,7 @@ module _ (stream : List ℕ) (given : List Act) (piece : List ℕ) where
       )
 
   -- the frame that is next is bad
-  pub shut_now : (old new : Frames) (o : Outcome) → is_shut old ≡ false → Stands stream given old → IsRead (held_in old ++ piece) o → o.requests.items ≡ [] → o.shut ≡ true
+  pub shut_now : (old new : Frames) (o : FrameOutcome) → is_shut old ≡ false → Stands stream given old → IsRead (held_in old ++ piece) o → o.requests.items ≡ [] → o.shut ≡ true
       → start_of new ≡ start_of old + o.used → is_shut new ≡ true → Stands (stream ++ piece) given new × IsBadAt (stream ++ piece) given (start_of new)
   shut_now old new o was s read none shut start now =
       let rest : List ℕ = s.rest in
@@ -61,7 +61,7 @@ module _ (stream : List ℕ) (given : List Act) (piece : List ℕ) where
       )
 
   -- what was read is given
-  pub given_more : (old new : Frames) (o : Outcome) → is_shut old ≡ false → Stands stream given old → IsRead (held_in old ++ piece) o
+  pub given_more : (old new : Frames) (o : FrameOutcome) → is_shut old ≡ false → Stands stream given old → IsRead (held_in old ++ piece) o
       → start_of new ≡ start_of old + o.used → held_in new ≡ bytes_in o.tail → is_shut new ≡ o.shut → Stands (stream ++ piece) (given ++ o.requests.items) new
   given_more old new o was s read start tail shut =
       let rest : List ℕ = s.rest in

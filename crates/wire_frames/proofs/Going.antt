@@ -9,11 +9,12 @@ use Rattle.rule_model.specs.declared.event.Act.{Act}
 use Rattle.wire_frames.specs.Spelling.{frame_of, IsRequest}
 use Rattle.wire_frames.specs.Streams.{stream_of, announced, is_length, needed, IsPart, IsBad, whole_in, front_of}
 use Rattle.wire_frames.specs.Reading.{act_in}
-use Rattle.wire_frames.specs.Kept.{bytes_in}
+use Rattle.wire_frames.specs.PartialFrames.{bytes_in}
 use Rattle.wire_frames.specs.Outcomes.{IsRead}
-use Rattle.wire_frames.specs.declared.outcome.Outcome.{Outcome}
+use Rattle.wire_frames.specs.declared.outcome.FrameOutcome.{FrameOutcome}
 use Rattle.wire_frames.specs.declared.front.Front.TheVariants.{Part, Bad, Whole}
-use Rattle.wire_frames.proofs.Codecs.{IsBytes, IsBytes-drop}
+use Rattle.byte_strings.specs.Codecs.{IsBytes}
+use Rattle.byte_strings.proofs.Fields.{IsBytes-drop}
 use Rattle.wire_frames.proofs.Fronts.{IsFront, part_is, bad_is, whole_is, needed_least, needed_more, needed_whole, needed_odd, announced_more}
 use Rattle.wire_frames.proofs.Filling.{behind, behind_is}
 
@@ -55,7 +56,7 @@ bad_more bytes more bad =
 
 module _ (bytes : List ℕ) where
   -- what is read when the loop ends at the part of a frame, or at a bad one
-  pub read_part : (o : Outcome) → o.shut ≡ false → o.used ≤ length bytes → stream_of o.requests.items (drop o.used bytes) ≡ bytes
+  pub read_part : (o : FrameOutcome) → o.shut ≡ false → o.used ≤ length bytes → stream_of o.requests.items (drop o.used bytes) ≡ bytes
       → AllByRecursion IsRequest o.requests.items → bytes_in o.tail ≡ drop o.used bytes → IsPart (drop o.used bytes) → IsRead bytes o
   read_part o goes_on within whole each is part = record {
     rest = drop o.used bytes;
@@ -65,7 +66,7 @@ module _ (bytes : List ℕ) where
     left = subst (λ b. MatchBool b ((bytes_in o.tail ≡ []) × IsBad (drop o.used bytes)) ((bytes_in o.tail ≡ drop o.used bytes) × IsPart (drop o.used bytes))) (sym goes_on) (is, part);
   }
 
-  pub read_bad : (o : Outcome) → o.shut ≡ true → o.used ≤ length bytes → stream_of o.requests.items (drop o.used bytes) ≡ bytes
+  pub read_bad : (o : FrameOutcome) → o.shut ≡ true → o.used ≤ length bytes → stream_of o.requests.items (drop o.used bytes) ≡ bytes
       → AllByRecursion IsRequest o.requests.items → bytes_in o.tail ≡ [] → IsBad (drop o.used bytes) → IsRead bytes o
   read_bad o shut within whole each is bad = record {
     rest = drop o.used bytes;
@@ -124,7 +125,7 @@ full_front held full =
     ∙ ap (λ (l : List ℕ). whole_in (act_in l) (length held)) (sym gone))
     (cases_Bool (is_length n))
 
-pub held_bad : (held more : List ℕ) (o : Outcome) → o.shut ≡ true → o.used ≡ 0 → o.requests.items ≡ [] → bytes_in o.tail ≡ [] → IsBad held → IsRead (held ++ more) o
+pub held_bad : (held more : List ℕ) (o : FrameOutcome) → o.shut ≡ true → o.used ≡ 0 → o.requests.items ≡ [] → bytes_in o.tail ≡ [] → IsBad held → IsRead (held ++ more) o
 held_bad held more o shut none empty gone bad = record {
   rest = held ++ more;
   whole = ap (λ (l : List Act). stream_of l (held ++ more)) empty;
@@ -133,7 +134,7 @@ held_bad held more o shut none empty gone bad = record {
   left = subst (λ b. MatchBool b ((bytes_in o.tail ≡ []) × IsBad (held ++ more)) ((bytes_in o.tail ≡ held ++ more) × IsPart (held ++ more))) (sym shut) (gone, bad_more held more bad);
 }
 
-pub held_whole : (held more : List ℕ) (act : Act) (o o' : Outcome) → IsFront held act (length held) → IsRead more o
+pub held_whole : (held more : List ℕ) (act : Act) (o o' : FrameOutcome) → IsFront held act (length held) → IsRead more o
     → o'.requests.items ≡ act ∷ o.requests.items → o'.used ≡ o.used + length held → bytes_in o'.tail ≡ bytes_in o.tail → o'.shut ≡ o.shut → IsRead (held ++ more) o'
 held_whole held more act o o' f read same used tail shut =
     let gone : drop (length held) held ≡ [] = nil_from_length (drop (length held) held) (omega (arith, length-drop (length held) held)) in

@@ -1,7 +1,6 @@
 pub mod Adding
 pub mod Arounds
 pub mod Bodies
-pub mod Codecs
 pub mod Filling
 pub mod Fronts
 pub mod Giving

@@ -10,7 +10,8 @@ use Rattle.wire_frames.specs.Spelling.{body_of, frame_of, IsRequest}
 use Rattle.wire_frames.specs.Streams.{stream_of, IsPart, IsBad, HasRequests, IsBehind, front_of}
 use Rattle.wire_frames.specs.declared.frames.Frames.{Frames}
 use Rattle.wire_frames.specs.Standing.{held_in, is_shut, Stands}
-use Rattle.wire_frames.proofs.Codecs.{IsBytes, IsBytes-drop}
+use Rattle.byte_strings.specs.Codecs.{IsBytes}
+use Rattle.byte_strings.proofs.Fields.{IsBytes-drop}
 use Rattle.wire_frames.proofs.Fronts.{IsFramed, needed_least, part_again, bad_again, whole_again, framed_front, never_bad}
 
 -- what stands behind the last whole frame is told from the front of a whole one

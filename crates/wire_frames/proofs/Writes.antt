@@ -30,10 +30,10 @@ entries_length entries = length-append (big_bytes 4 (length entries)) (flat_map 
 pub count_fits : (entries : List Entry) → length (entries_of entries) < 2 ^ 32 → length entries < 2 ^ 32
 count_fits entries lt = omega (arith, entries_many entries, entries_length entries, lt)
 
-pub alias_fits : (entries : List Entry) (i : ℕ) (d : Entry) → i < length entries → length (entries_of entries) < 2 ^ 32 → length (counted (get_or entries i d).0) < 2 ^ 32
+pub alias_fits : (entries : List Entry) (i : ℕ) (d : Entry) → i < length entries → length (entries_of entries) < 2 ^ 32 → length (get_or entries i d).0 < 2 ^ 32
 alias_fits entries i d inside lt =
     let entry = get_or entries i d in
-    omega (arith, length-flat_map-take entry_of entries i d inside, entries_length entries, lt, length-append (counted entry.0) (big_bytes 8 entry.1))
+    omega (arith, length-flat_map-take entry_of entries i d inside, entries_length entries, lt, length-append (counted entry.0) (big_bytes 8 entry.1), length-append (big_bytes 4 (length entry.0)) entry.0)
 
 -- one entry more
 pub entry_more : (entries : List Entry) (i : ℕ) (d : Entry) → i < length entries → flat_map entry_of (take (i + 1) entries) ≡ flat_map entry_of (take i entries) ++ (counted (get_or entries i d).0 ++ big_bytes 8 (get_or entries i d).1)

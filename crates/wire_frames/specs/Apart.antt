@@ -1,8 +1,8 @@
 -- How a frame is held whose act has an input: what comes behind the input's length lies apart.
 use Rattle.std.specs.Prelude.{◌≡◌, ℕ, ◌<◌, Bool, true, ◌&&◌, nat_le, ◌==◌, if◌then◌else◌, List, [], length, slice_index, Option, Some}
+use Rattle.byte_strings.specs.Readers.{Reader, optional_at, ◌>>=◌, done, ended}
 use Rattle.rule_model.specs.declared.event.Act.{Act}
 use Rattle.rule_model.specs.declared.event.Act.TheVariants.{EnterAad, EnterUpdate, EnterFinish}
-use Rattle.wire_frames.specs.Reading.{optional_at, ended}
 
 -- the acts on an operation that have an input
 abbrev pub has_input : ℕ → Bool
@@ -25,9 +25,15 @@ with_input input (EnterUpdate op _) = EnterUpdate op input
 with_input input (EnterFinish op _ signature) = EnterFinish op input signature
 with_input input act = act
 
+-- a finish with an empty input, where these bytes stand behind the input
+abbrev pub finish_around : ℕ → Reader Act
+finish_around op = do
+  signature ← optional_at 4
+  done (EnterFinish op [] signature)
+
 -- the act of this number on an operation with an empty input, where these bytes stand behind the input
 abbrev pub around : ℕ → ℕ → List ℕ → Option Act
 around number op behind =
-    if number == 6 then ended (λ (x : ℕ). EnterAad x []) (Some (op, behind))
-    else if number == 7 then ended (λ (x : ℕ). EnterUpdate x []) (Some (op, behind))
-    else ended (λ signature. EnterFinish op [] signature) (optional_at behind)
+    if number == 6 then ended (Some (EnterAad op [], behind))
+    else if number == 7 then ended (Some (EnterUpdate op [], behind))
+    else ended (finish_around op behind)

@@ -6,4 +6,4 @@ pub mod Outcomes
 pub mod Standing
 pub mod Sizes
 pub mod Apart
-pub mod Kept
+pub mod PartialFrames

@@ -1,6 +1,8 @@
 -- How an act is spelled in a frame. Numbers are big-endian.
-use Rattle.std.specs.Prelude.{◌≡◌, ℕ, ◌<◌, ◌≤◌, ◌^◌, Bool, true, false, List, [], ◌∷◌, ◌++◌, length, Option, Some, None}
+use Rattle.std.specs.Prelude.{◌≡◌, ℕ, ◌<◌, ◌≤◌, ◌^◌, Bool, true, false, List, [], ◌∷◌, ◌++◌, length, Option}
 use Rattle.byteorder.specs.Endian.{big_bytes}
+use Rattle.byte_strings.specs.Fields as fields
+use Rattle.byte_strings.specs.Fields.{flag}
 use Rattle.tags.specs.declared.descriptor.Descriptor.{Descriptor}
 use Rattle.rule_model.specs.declared.event.Act.{Act}
 use Rattle.rule_model.specs.declared.event.Act.TheVariants.{Connect, Disconnect, GenerateKey, ImportKey, CreateOperation, EnterAad, EnterUpdate, EnterFinish, Abort, GetKeyEntry, DeleteKey, Grant, Ungrant, GetNumberOfEntries, ListEntriesBatched, AddAuthToken, DeviceLocked, DeviceUnlocked, EarlyBootEnded, ClearNamespace, UserRemoved, Leave, Restart}
@@ -10,17 +12,11 @@ use Rattle.tags.specs.declared.limits.TheConstants.{FRAME_BYTES}
 
 -- a length of four bytes, and so many bytes
 abbrev pub counted : List ℕ → List ℕ
-counted bytes = big_bytes 4 (length bytes) ++ bytes
+counted bytes = fields.counted 4 bytes
 
 -- a byte 00, or a byte 01 and counted bytes
 abbrev pub optional : Option (List ℕ) → List ℕ
-optional None = 0 ∷ []
-optional (Some bytes) = 1 ∷ counted bytes
-
--- a truth value: a byte 00 or 01
-abbrev pub flag : Bool → List ℕ
-flag false = 0 ∷ []
-flag true = 1 ∷ []
+optional bytes = fields.optional 4 bytes
 
 abbrev pub key_of : Descriptor → List ℕ
 key_of key = big_bytes 4 key.domain ++ (big_bytes 8 key.nspace ++ (optional key.alias ++ optional key.blob))
@@ -61,8 +57,7 @@ frame_of act = counted (body_of act)
 -- ---- which acts have a frame
 
 abbrev pub IsShort : Option (List ℕ) → Type 0
-IsShort None = Unit {0}
-IsShort (Some bytes) = length bytes < 2 ^ 32
+IsShort bytes = fields.IsCounted 4 bytes
 
 abbrev pub IsKey : Descriptor → Type 0
 IsKey key = (key.domain < 2 ^ 32) × ((key.nspace < 2 ^ 64) × (IsShort key.alias × IsShort key.blob))

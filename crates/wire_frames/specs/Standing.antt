@@ -5,7 +5,7 @@ use Rattle.rule_model.specs.declared.event.Act.{Act}
 use Rattle.wire_frames.specs.declared.fault.FrameFault.{FrameFault}
 use Rattle.wire_frames.specs.declared.fault.FrameFault.TheVariants.{Bad, Memory}
 use Rattle.wire_frames.specs.declared.frames.Frames.{Frames}
-use Rattle.wire_frames.specs.Kept.{bytes_in}
+use Rattle.wire_frames.specs.PartialFrames.{bytes_in}
 use Rattle.wire_frames.specs.Spelling.{IsRequest}
 use Rattle.wire_frames.specs.Streams.{stream_of, IsPart, IsBad}
 

@@ -1,99 +1,42 @@
 //! Reading the body of a frame.
 
-ghost use Rattle.std.specs.Prelude.{◌≡◌, true, Some};
+ghost use Rattle.std.specs.Prelude.{◌≡◌, Some};
+ghost use Rattle.byte_strings.specs.Readers as readers;
 ghost use Rattle.wire_frames.specs.Reading as spec;
 ghost use Rattle.wire_frames.specs.Reading.{Says};
-ghost use Rattle.wire_frames.specs.Spelling.{is_asked};
 
 use crate::fault::BodyFault;
-use byteorder::{BigEndian, ByteOrder};
+use byte_strings::{bytes_at, counted_u32_at, flag_at, optional_u32_at, u8_at, u32_at, u64_at};
 use rule_model::Act;
 use std::alloc::Global;
 use tags::{Bytes, Descriptor, Material};
 
-/// A byte, and what stands behind it.
-fn byte_at(bytes: &[u8]) -> Result<(u8, &[u8]), BodyFault>
-    ensures { Says (λ x. (x.0, x.1.now)) result (spec.byte_at bytes.now) }
-{
-    match bytes {
-        [] => Err(BodyFault::Bad),
-        [byte, rest @ ..] => Ok((*byte, rest)),
-    }
-}
-
-/// A number of four bytes, and what stands behind it.
-fn short_at(bytes: &[u8]) -> Result<(u32, &[u8]), BodyFault>
-    ensures { Says (λ x. (x.0, x.1.now)) result (spec.number_at 4 bytes.now) }
-{
-    if bytes.len() < 4 {
-        return Err(BodyFault::Bad);
-    }
-    Ok((BigEndian::read_u32(bytes), &bytes[4..]))
-}
-
-/// A number of eight bytes, and what stands behind it.
-fn long_at(bytes: &[u8]) -> Result<(u64, &[u8]), BodyFault>
-    ensures { Says (λ x. (x.0, x.1.now)) result (spec.number_at 8 bytes.now) }
-{
-    if bytes.len() < 8 {
-        return Err(BodyFault::Bad);
-    }
-    Ok((BigEndian::read_u64(bytes), &bytes[8..]))
-}
-
 /// The 32 bytes of a mac, and what stands behind them.
 fn mac_at(bytes: &[u8]) -> Result<([u8; 32], &[u8]), BodyFault>
-    ensures { Says (λ x. (x.0, x.1.now)) result (spec.front_at 32 bytes.now) }
+    ensures { Says (λ x. (x.0, x.1.now)) result (readers.bytes_at 32 bytes.now) }
 {
-    if bytes.len() < 32 {
-        return Err(BodyFault::Bad);
-    }
-    let (front, rest) = bytes.split_at(32);
+    let (front, rest) = bytes_at(32, bytes)?;
     let mut mac = [0; 32];
     mac.copy_from_slice(front);
     Ok((mac, rest))
 }
 
 /// Counted bytes in new memory, and what stands behind them.
-#[tactic(auto, unfolding(crate::specs::Reading::counted_at))]
-fn counted_at(alloc: Global, bytes: &[u8]) -> Result<(Bytes, &[u8]), BodyFault>
-    ensures { Says (λ x. (x.0, x.1.now)) result (spec.counted_at bytes.now) }
+fn copied_at(alloc: Global, bytes: &[u8]) -> Result<(Bytes, &[u8]), BodyFault>
+    ensures { Says (λ x. (x.0, x.1.now)) result (readers.counted_at 4 bytes.now) }
 {
-    let (count, rest) = short_at(bytes)?;
-    let count = count as usize;
-    if rest.len() < count {
-        return Err(BodyFault::Bad);
-    }
-    let (front, rest) = rest.split_at(count);
+    let (front, rest) = counted_u32_at(bytes)?;
     Ok((Bytes::copy_of(alloc, front)?, rest))
 }
 
-/// Counted bytes where a byte says so, and what stands behind them.
-#[tactic(auto, unfolding(crate::specs::Reading::optional_at))]
+/// Counted bytes in new memory where a byte says so, and what stands behind them.
 pub(crate) fn optional_at(alloc: Global, bytes: &[u8]) -> Result<(Option<Bytes>, &[u8]), BodyFault>
-    ensures { Says (λ x. (x.0, x.1.now)) result (spec.optional_at bytes.now) }
+    ensures { Says (λ x. (x.0, x.1.now)) result (readers.optional_at 4 bytes.now) }
 {
-    let (choice, rest) = byte_at(bytes)?;
-    match choice {
-        0 => Ok((None, rest)),
-        1 => {
-            let (given, rest) = counted_at(alloc, rest)?;
-            Ok((Some(given), rest))
-        }
-        _ => Err(BodyFault::Bad),
-    }
-}
-
-/// A truth value, and what stands behind it.
-#[tactic(auto, unfolding(crate::specs::Reading::flag_at))]
-fn flag_at(bytes: &[u8]) -> Result<(bool, &[u8]), BodyFault>
-    ensures { Says (λ x. (x.0, x.1.now)) result (spec.flag_at bytes.now) }
-{
-    let (flag, rest) = byte_at(bytes)?;
-    match flag {
-        0 => Ok((false, rest)),
-        1 => Ok((true, rest)),
-        _ => Err(BodyFault::Bad),
+    let (given, rest) = optional_u32_at(bytes)?;
+    match given {
+        None => Ok((None, rest)),
+        Some(front) => Ok((Some(Bytes::copy_of(alloc, front)?), rest)),
     }
 }
 
@@ -102,8 +45,8 @@ fn flag_at(bytes: &[u8]) -> Result<(bool, &[u8]), BodyFault>
 fn key_at(alloc: Global, bytes: &[u8]) -> Result<(Descriptor, &[u8]), BodyFault>
     ensures { Says (λ x. (x.0, x.1.now)) result (spec.key_at bytes.now) }
 {
-    let (domain, rest) = short_at(bytes)?;
-    let (nspace, rest) = long_at(rest)?;
+    let (domain, rest) = u32_at(bytes)?;
+    let (nspace, rest) = u64_at(rest)?;
     let (alias, rest) = optional_at(alloc, rest)?;
     let (blob, rest) = optional_at(alloc, rest)?;
     let key = Descriptor {
@@ -117,7 +60,7 @@ fn key_at(alloc: Global, bytes: &[u8]) -> Result<(Descriptor, &[u8]), BodyFault>
 
 /// What was read, where nothing stands behind it.
 pub(crate) fn ended(act: Act, rest: &[u8]) -> Result<Act, BodyFault>
-    ensures { Says (λ x. x) result (spec.ended (λ x. x) (Some (act, rest.now))) }
+    ensures { Says (λ x. x) result (readers.ended (Some (act, rest.now))) }
 {
     if !rest.is_empty() {
         return Err(BodyFault::Bad);
@@ -125,161 +68,162 @@ pub(crate) fn ended(act: Act, rest: &[u8]) -> Result<Act, BodyFault>
     Ok(act)
 }
 
-fn generated_in(alloc: Global, bytes: &[u8]) -> Result<Act, BodyFault>
-    ensures { Says (λ x. x) result (spec.key_act_in 3 bytes.now) }
+fn generated_at(alloc: Global, bytes: &[u8]) -> Result<(Act, &[u8]), BodyFault>
+    ensures { Says (λ x. (x.0, x.1.now)) result (spec.generated_at bytes.now) }
 {
     let (key, rest) = key_at(alloc, bytes)?;
-    let (params, rest) = counted_at(alloc, rest)?;
-    ended(Act::GenerateKey { key, params }, rest)
+    let (params, rest) = copied_at(alloc, rest)?;
+    Ok((Act::GenerateKey { key, params }, rest))
 }
 
-#[tactic(auto, unfolding(crate::specs::Reading::imported_in))]
-fn imported_in(alloc: Global, bytes: &[u8]) -> Result<Act, BodyFault>
-    ensures { Says (λ x. x) result (spec.imported_in bytes.now) }
+#[tactic(auto, unfolding(crate::specs::Reading::imported_at))]
+fn imported_at(alloc: Global, bytes: &[u8]) -> Result<(Act, &[u8]), BodyFault>
+    ensures { Says (λ x. (x.0, x.1.now)) result (spec.imported_at bytes.now) }
 {
     let (key, rest) = key_at(alloc, bytes)?;
-    let (params, rest) = counted_at(alloc, rest)?;
-    let (format, rest) = short_at(rest)?;
-    let (material, rest) = counted_at(alloc, rest)?;
+    let (params, rest) = copied_at(alloc, rest)?;
+    let (format, rest) = u32_at(rest)?;
+    let (material, rest) = copied_at(alloc, rest)?;
     let act = Act::ImportKey {
         key,
         params,
         format,
         material: Material::of(material),
     };
-    ended(act, rest)
+    Ok((act, rest))
 }
 
-fn created_in(alloc: Global, bytes: &[u8]) -> Result<Act, BodyFault>
-    ensures { Says (λ x. x) result (spec.key_act_in 5 bytes.now) }
+#[tactic(auto, unfolding(crate::specs::Reading::created_at))]
+fn created_at(alloc: Global, bytes: &[u8]) -> Result<(Act, &[u8]), BodyFault>
+    ensures { Says (λ x. (x.0, x.1.now)) result (spec.created_at bytes.now) }
 {
     let (key, rest) = key_at(alloc, bytes)?;
-    let (params, rest) = counted_at(alloc, rest)?;
+    let (params, rest) = copied_at(alloc, rest)?;
     let (forced, rest) = flag_at(rest)?;
     let act = Act::CreateOperation {
         key,
         params,
         forced,
     };
-    ended(act, rest)
+    Ok((act, rest))
 }
 
-fn granted_in(alloc: Global, bytes: &[u8]) -> Result<Act, BodyFault>
-    ensures { Says (λ x. x) result (spec.key_act_in 12 bytes.now) }
+fn granted_at(alloc: Global, bytes: &[u8]) -> Result<(Act, &[u8]), BodyFault>
+    ensures { Says (λ x. (x.0, x.1.now)) result (spec.granted_at bytes.now) }
 {
     let (key, rest) = key_at(alloc, bytes)?;
-    let (uid, rest) = short_at(rest)?;
-    let (bits, rest) = short_at(rest)?;
-    ended(Act::Grant { key, uid, bits }, rest)
+    let (uid, rest) = u32_at(rest)?;
+    let (bits, rest) = u32_at(rest)?;
+    Ok((Act::Grant { key, uid, bits }, rest))
 }
 
-fn ungranted_in(alloc: Global, bytes: &[u8]) -> Result<Act, BodyFault>
-    ensures { Says (λ x. x) result (spec.key_act_in 13 bytes.now) }
+fn ungranted_at(alloc: Global, bytes: &[u8]) -> Result<(Act, &[u8]), BodyFault>
+    ensures { Says (λ x. (x.0, x.1.now)) result (spec.ungranted_at bytes.now) }
 {
     let (key, rest) = key_at(alloc, bytes)?;
-    let (uid, rest) = short_at(rest)?;
-    ended(Act::Ungrant { key, uid }, rest)
+    let (uid, rest) = u32_at(rest)?;
+    Ok((Act::Ungrant { key, uid }, rest))
 }
 
 /// The acts on a key that a descriptor names.
-fn key_act_in(alloc: Global, number: u8, bytes: &[u8]) -> Result<Act, BodyFault>
-    ensures { Says (λ x. x) result (spec.key_act_in number bytes.now) }
+fn key_act_at(alloc: Global, number: u8, bytes: &[u8]) -> Result<(Act, &[u8]), BodyFault>
+    ensures { Says (λ x. (x.0, x.1.now)) result (readers.row_of number spec.key_acts bytes.now) }
 {
     match number {
-        3 => generated_in(alloc, bytes),
-        4 => imported_in(alloc, bytes),
-        5 => created_in(alloc, bytes),
+        3 => generated_at(alloc, bytes),
+        4 => imported_at(alloc, bytes),
+        5 => created_at(alloc, bytes),
         10 => {
             let (key, rest) = key_at(alloc, bytes)?;
-            ended(Act::GetKeyEntry { key }, rest)
+            Ok((Act::GetKeyEntry { key }, rest))
         }
         11 => {
             let (key, rest) = key_at(alloc, bytes)?;
-            ended(Act::DeleteKey { key }, rest)
+            Ok((Act::DeleteKey { key }, rest))
         }
-        12 => granted_in(alloc, bytes),
-        13 => ungranted_in(alloc, bytes),
+        12 => granted_at(alloc, bytes),
+        13 => ungranted_at(alloc, bytes),
         _ => Err(BodyFault::Bad),
     }
 }
 
-fn finished_in(alloc: Global, bytes: &[u8]) -> Result<Act, BodyFault>
-    ensures { Says (λ x. x) result (spec.work_act_in 8 bytes.now) }
+fn finished_at(alloc: Global, bytes: &[u8]) -> Result<(Act, &[u8]), BodyFault>
+    ensures { Says (λ x. (x.0, x.1.now)) result (spec.finish_at bytes.now) }
 {
-    let (op, rest) = long_at(bytes)?;
-    let (input, rest) = counted_at(alloc, rest)?;
+    let (op, rest) = u64_at(bytes)?;
+    let (input, rest) = copied_at(alloc, rest)?;
     let (signature, rest) = optional_at(alloc, rest)?;
     let act = Act::EnterFinish {
         op,
         input,
         signature,
     };
-    ended(act, rest)
+    Ok((act, rest))
 }
 
 /// The acts on an operation.
-fn work_act_in(alloc: Global, number: u8, bytes: &[u8]) -> Result<Act, BodyFault>
-    ensures { Says (λ x. x) result (spec.work_act_in number bytes.now) }
+fn work_act_at(alloc: Global, number: u8, bytes: &[u8]) -> Result<(Act, &[u8]), BodyFault>
+    ensures { Says (λ x. (x.0, x.1.now)) result (readers.row_of number spec.work_acts bytes.now) }
 {
     match number {
         6 => {
-            let (op, rest) = long_at(bytes)?;
-            let (input, rest) = counted_at(alloc, rest)?;
-            ended(Act::EnterAad { op, input }, rest)
+            let (op, rest) = u64_at(bytes)?;
+            let (input, rest) = copied_at(alloc, rest)?;
+            Ok((Act::EnterAad { op, input }, rest))
         }
         7 => {
-            let (op, rest) = long_at(bytes)?;
-            let (input, rest) = counted_at(alloc, rest)?;
-            ended(Act::EnterUpdate { op, input }, rest)
+            let (op, rest) = u64_at(bytes)?;
+            let (input, rest) = copied_at(alloc, rest)?;
+            Ok((Act::EnterUpdate { op, input }, rest))
         }
-        8 => finished_in(alloc, bytes),
+        8 => finished_at(alloc, bytes),
         9 => {
-            let (op, rest) = long_at(bytes)?;
-            ended(Act::Abort { op }, rest)
+            let (op, rest) = u64_at(bytes)?;
+            Ok((Act::Abort { op }, rest))
         }
-        _ => key_act_in(alloc, number, bytes),
+        _ => key_act_at(alloc, number, bytes),
     }
 }
 
 /// The acts on all keys of an owner.
-fn owner_act_in(alloc: Global, number: u8, bytes: &[u8]) -> Result<Act, BodyFault>
-    ensures { Says (λ x. x) result (spec.owner_act_in number bytes.now) }
+fn owner_act_at(alloc: Global, number: u8, bytes: &[u8]) -> Result<(Act, &[u8]), BodyFault>
+    ensures { Says (λ x. (x.0, x.1.now)) result (readers.row_of number spec.owner_acts bytes.now) }
 {
     match number {
         14 => {
-            let (domain, rest) = short_at(bytes)?;
-            let (nspace, rest) = long_at(rest)?;
-            ended(Act::GetNumberOfEntries { domain, nspace }, rest)
+            let (domain, rest) = u32_at(bytes)?;
+            let (nspace, rest) = u64_at(rest)?;
+            Ok((Act::GetNumberOfEntries { domain, nspace }, rest))
         }
         15 => {
-            let (domain, rest) = short_at(bytes)?;
-            let (nspace, rest) = long_at(rest)?;
+            let (domain, rest) = u32_at(bytes)?;
+            let (nspace, rest) = u64_at(rest)?;
             let (past, rest) = optional_at(alloc, rest)?;
             let act = Act::ListEntriesBatched {
                 domain,
                 nspace,
                 past,
             };
-            ended(act, rest)
+            Ok((act, rest))
         }
         20 => {
-            let (domain, rest) = short_at(bytes)?;
-            let (nspace, rest) = long_at(rest)?;
-            ended(Act::ClearNamespace { domain, nspace }, rest)
+            let (domain, rest) = u32_at(bytes)?;
+            let (nspace, rest) = u64_at(rest)?;
+            Ok((Act::ClearNamespace { domain, nspace }, rest))
         }
-        _ => work_act_in(alloc, number, bytes),
+        _ => work_act_at(alloc, number, bytes),
     }
 }
 
-#[tactic(auto, unfolding(crate::specs::Reading::token_in))]
-fn token_in(bytes: &[u8]) -> Result<Act, BodyFault>
-    ensures { Says (λ x. x) result (spec.token_in bytes.now) }
+#[tactic(auto, unfolding(crate::specs::Reading::token_at))]
+fn token_at(bytes: &[u8]) -> Result<(Act, &[u8]), BodyFault>
+    ensures { Says (λ x. (x.0, x.1.now)) result (spec.token_at bytes.now) }
 {
-    let (challenge, rest) = long_at(bytes)?;
-    let (user, rest) = long_at(rest)?;
-    let (authenticator, rest) = long_at(rest)?;
-    let (kind, rest) = short_at(rest)?;
-    let (time, rest) = long_at(rest)?;
+    let (challenge, rest) = u64_at(bytes)?;
+    let (user, rest) = u64_at(rest)?;
+    let (authenticator, rest) = u64_at(rest)?;
+    let (kind, rest) = u32_at(rest)?;
+    let (time, rest) = u64_at(rest)?;
     let (mac, rest) = mac_at(rest)?;
     let act = Act::AddAuthToken {
         challenge,
@@ -289,33 +233,33 @@ fn token_in(bytes: &[u8]) -> Result<Act, BodyFault>
         time,
         mac,
     };
-    ended(act, rest)
+    Ok((act, rest))
 }
 
-/// The act of a number and its fields.
-fn fields_in(alloc: Global, number: u8, bytes: &[u8]) -> Result<Act, BodyFault>
-    ensures { Says (λ x. x) result (spec.fields_in number bytes.now) }
+/// The act of a number, and its fields.
+fn fields_at(alloc: Global, number: u8, bytes: &[u8]) -> Result<(Act, &[u8]), BodyFault>
+    ensures { Says (λ x. (x.0, x.1.now)) result (readers.row_of number spec.acts bytes.now) }
 {
     match number {
         1 => {
-            let (uid, rest) = short_at(bytes)?;
-            ended(Act::Connect { uid }, rest)
+            let (uid, rest) = u32_at(bytes)?;
+            Ok((Act::Connect { uid }, rest))
         }
-        16 => token_in(bytes),
+        16 => token_at(bytes),
         17 => {
-            let (user, rest) = short_at(bytes)?;
-            ended(Act::DeviceLocked { user }, rest)
+            let (user, rest) = u32_at(bytes)?;
+            Ok((Act::DeviceLocked { user }, rest))
         }
         18 => {
-            let (user, rest) = short_at(bytes)?;
-            ended(Act::DeviceUnlocked { user }, rest)
+            let (user, rest) = u32_at(bytes)?;
+            Ok((Act::DeviceUnlocked { user }, rest))
         }
-        19 => ended(Act::EarlyBootEnded, bytes),
+        19 => Ok((Act::EarlyBootEnded, bytes)),
         21 => {
-            let (user, rest) = short_at(bytes)?;
-            ended(Act::UserRemoved { user }, rest)
+            let (user, rest) = u32_at(bytes)?;
+            Ok((Act::UserRemoved { user }, rest))
         }
-        _ => owner_act_in(alloc, number, bytes),
+        _ => owner_act_at(alloc, number, bytes),
     }
 }
 
@@ -324,6 +268,7 @@ fn fields_in(alloc: Global, number: u8, bytes: &[u8]) -> Result<Act, BodyFault>
 pub(crate) fn act_in(alloc: Global, body: &[u8]) -> Result<Act, BodyFault>
     ensures { Says (λ x. x) result (spec.act_in body.now) }
 {
-    let (number, fields) = byte_at(body)?;
-    fields_in(alloc, number, fields)
+    let (number, fields) = u8_at(body)?;
+    let (act, rest) = fields_at(alloc, number, fields)?;
+    ended(act, rest)
 }

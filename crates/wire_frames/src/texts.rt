@@ -3,26 +3,26 @@
 ghost use Rattle.std.specs.Prelude.{◌≡◌, IfOk};
 ghost use Rattle.wire_frames.specs.Outcomes.{IsRead};
 ghost use Rattle.wire_frames.specs.Streams.{IsPart};
-ghost use Rattle.wire_frames.specs.Kept.{bytes_in};
+ghost use Rattle.wire_frames.specs.PartialFrames.{bytes_in};
 
 use crate::front::{Front, front_at};
-use crate::held::Held;
-use crate::outcome::Outcome;
+use crate::held::PartialFrame;
+use crate::outcome::FrameOutcome;
 use std::alloc::Global;
 use tags::NoMemory;
 
 /// The part of a frame, in room for what it lacks.
-fn held_of(alloc: Global, part: &[u8]) -> Result<Held, NoMemory>
+fn held_of(alloc: Global, part: &[u8]) -> Result<PartialFrame, NoMemory>
     requires { IsPart part.now }
     ensures { IfOk result (λ held. bytes_in held ≡ part.now) }
 {
-    let mut held = Held::new(alloc);
+    let mut held = PartialFrame::new(alloc);
     let _all = held.complete(part)?;
     Ok(held)
 }
 
 /// Reads a text.
-pub(crate) fn read_on(alloc: Global, bytes: &[u8]) -> Result<Outcome, NoMemory>
+pub(crate) fn read_on(alloc: Global, bytes: &[u8]) -> Result<FrameOutcome, NoMemory>
     ensures { IfOk result (IsRead bytes.now) }
 {
     let mut requests = Vec::new(alloc);
@@ -36,7 +36,7 @@ pub(crate) fn read_on(alloc: Global, bytes: &[u8]) -> Result<Outcome, NoMemory>
             }
             Front::Part(_) => {
                 let tail = held_of(alloc, rest)?;
-                return Ok(Outcome {
+                return Ok(FrameOutcome {
                     requests,
                     used,
                     tail,
@@ -44,19 +44,19 @@ pub(crate) fn read_on(alloc: Global, bytes: &[u8]) -> Result<Outcome, NoMemory>
                 });
             }
             Front::Bad => {
-                return Ok(Outcome {
+                return Ok(FrameOutcome {
                     requests,
                     used,
-                    tail: Held::new(alloc),
+                    tail: PartialFrame::new(alloc),
                     shut: true,
                 });
             }
         }
     }
-    Ok(Outcome {
+    Ok(FrameOutcome {
         requests,
         used,
-        tail: Held::new(alloc),
+        tail: PartialFrame::new(alloc),
         shut: false,
     })
 }

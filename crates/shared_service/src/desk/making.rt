@@ -7,7 +7,7 @@ ghost use Rattle.shared_service.specs.DeskWords.{desk_book, desk_disk, desk_engi
 ghost use Rattle.shared_service.specs.Making.{IsNameOf};
 
 use super::Desk;
-use crate::name::Name;
+use crate::name::ServiceId;
 use crate::record::Record;
 use keystore_core::Engine;
 use ks_outside::{Disk, Entropy};
@@ -17,10 +17,10 @@ use std::snapshot::Snapshot;
 
 impl<D: Disk, N: Entropy> Desk<D, N> {
     /// The name of a service that begins with these.
-    pub(crate) fn name_of(engine: &Engine, disk: &D, entropy: &N) -> Name
+    pub(crate) fn name_of(engine: &Engine, disk: &D, entropy: &N) -> ServiceId
         ensures { IsNameOf engine.now (D.fault_count disk.now) (N.fault_count entropy.now) result }
     {
-        Name {
+        ServiceId {
             engine: Snapshot::of(engine),
             disk: disk.faults(),
             entropy: entropy.faults(),

@@ -9,7 +9,7 @@ ghost use Rattle.service_book.specs.Limits.{need_of, passes_limit};
 ghost use Rattle.wire_frames.specs.Replies.{reply_body};
 ghost use Rattle.wire_frames.specs.Sizes as sizes;
 ghost use Rattle.wire_frames.specs.Spelling.{body_of};
-ghost use Rattle.shared_service.specs.declared.name.Name.{Name};
+ghost use Rattle.shared_service.specs.declared.name.ServiceId.{ServiceId};
 ghost use Rattle.shared_service.specs.Comings.{AreCopies, Comes, act_in};
 ghost use Rattle.shared_service.specs.DeskWords.{desk_book, desk_engine, desk_name, desk_places};
 ghost use Rattle.shared_service.specs.Desks.{weight};
@@ -160,7 +160,7 @@ impl<D: Disk, N: Entropy> Desk<D, N> {
     /// Refuses a request for whose copies memory was wanting: a limit that it passes is told first.
     fn refuse(&self, request: Request) -> Requested
         requires short { length (body_of request) < 2 ^ 32 }
-        ensures { (name : Name) (pass : ℕ) (reading : Reading) → owning.is_parting request pass (log_of (desk_book self.now)) ≡ false
+        ensures { (name : ServiceId) (pass : ℕ) (reading : Reading) → owning.is_parting request pass (log_of (desk_book self.now)) ≡ false
             → Requests name pass (event_for reading request pass (log_of (desk_book self.now))) (desk_book self.now) (desk_book self.now) result }
     {
         let full = self.is_full(&request);

@@ -4,7 +4,7 @@ ghost use Rattle.std.specs.Prelude.{◌≡◌};
 ghost use Rattle.service_book.specs.Book.{ticket_in};
 ghost use Rattle.shared_service.specs.Sending as sending;
 
-use crate::name::Name;
+use crate::name::ServiceId;
 use crate::pass::Pass;
 use crate::served::Served;
 use cipher_ops::Job;
@@ -17,13 +17,13 @@ use turn_lock::{RestingMaker, RestingPass};
 pub(crate) struct Kept {
     pub(crate) client: u64,
     pub(crate) connected: bool,
-    pub(crate) maker: Option<RestingMaker<BookEntry, Name>>,
+    pub(crate) maker: Option<RestingMaker<BookEntry, ServiceId>>,
 }
 
 /// The pass of a call whose ticket is out, with the room for the reply to the leave.
 #[derive(Drop)]
 pub(crate) struct Away {
-    pub(crate) pass: RestingPass<BookEntry, Name>,
+    pub(crate) pass: RestingPass<BookEntry, ServiceId>,
     pub(crate) kept: Kept,
     pub(crate) reading: Reading,
     pub(crate) first: u64,

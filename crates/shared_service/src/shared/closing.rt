@@ -18,7 +18,7 @@ ghost use Rattle.shared_service.specs.Passes.{HasAll, IsOurs, IsSetupOf, RestsAt
 
 use super::Shared;
 use crate::desk::Desk;
-use crate::name::Name;
+use crate::name::ServiceId;
 use crate::pass::Pass;
 use keystore_core::Engine;
 use ks_outside::{Disk, Entropy};
@@ -35,10 +35,10 @@ fn place_of(passes: &[Pass], number: u64) -> Option<usize>
 
 /// Takes passes in.
 fn take_in<D: Disk, N: Entropy>(
-    lock: &TurnLock<Desk<D, N>, BookEntry, Name>,
-    closing: Closing<Desk<D, N>, BookEntry, Name>,
+    lock: &TurnLock<Desk<D, N>, BookEntry, ServiceId>,
+    closing: Closing<Desk<D, N>, BookEntry, ServiceId>,
     passes: Vec<Pass>,
-) -> Closing<Desk<D, N>, BookEntry, Name>
+) -> Closing<Desk<D, N>, BookEntry, ServiceId>
     requires closing { IsClosingOf lock.now closing }
     requires ours { All (RestsAt (lock_id lock.now) (name_of lock.now)) passes.items }
     ensures closing { IsClosingOf lock.now result }

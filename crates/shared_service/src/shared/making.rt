@@ -6,13 +6,13 @@ ghost use Rattle.turn_lock.specs.Passes.{IsMakerOf, lock_id, made_of, name_of};
 ghost use Rattle.turn_lock.specs.Resting.{IsRestingPassAt, resting_front, resting_number};
 ghost use Rattle.rule_model.specs.Setup.{Setup};
 ghost use Rattle.keystore_core.specs.Engine.{Stands, StandsAtFirst, StoreStands};
-ghost use Rattle.shared_service.specs.declared.name.Name.{Name};
+ghost use Rattle.shared_service.specs.declared.name.ServiceId.{ServiceId};
 ghost use Rattle.shared_service.specs.declared.pass.Pass.{Pass};
 ghost use Rattle.shared_service.specs.Passes.{AreNumbered, HasAll, HoldsMaker, IsNew, IsNewPass, IsOurs, engine_of, passes_of, start_of};
 
 use super::Shared;
 use crate::desk::Desk;
-use crate::name::Name;
+use crate::name::ServiceId;
 use crate::pass::Pass;
 use keystore_core::Engine;
 use ks_outside::{Disk, Entropy};
@@ -23,11 +23,11 @@ use turn_lock::{Maker, RestingMaker, RestingPass, TurnLock};
 
 /// A pass that has seen nothing and has no client.
 fn new_pass(
-    pass: RestingPass<BookEntry, Name>,
-    maker: Option<RestingMaker<BookEntry, Name>>,
+    pass: RestingPass<BookEntry, ServiceId>,
+    maker: Option<RestingMaker<BookEntry, ServiceId>>,
 ) -> Pass
     requires new { resting_front pass ≡ [] }
-    ensures { (lock : TableId) (name : Name) (count : ℕ) → IsRestingPassAt lock name pass → HoldsMaker lock name count (resting_number pass) maker
+    ensures { (lock : TableId) (name : ServiceId) (count : ℕ) → IsRestingPassAt lock name pass → HoldsMaker lock name count (resting_number pass) maker
         → IsNewPass lock name count (resting_number pass) result }
 {
     Pass {
@@ -53,8 +53,8 @@ fn add_pass(passes: &mut Vec<Pass>, pass: Pass)
 /// Adds so many new passes, numbered from 0, where there were none and are places for them. The last has the right to make
 /// passes.
 fn add_passes<D: Disk, N: Entropy>(
-    lock: &TurnLock<Desk<D, N>, BookEntry, Name>,
-    maker: Maker<Desk<D, N>, BookEntry, Name>,
+    lock: &TurnLock<Desk<D, N>, BookEntry, ServiceId>,
+    maker: Maker<Desk<D, N>, BookEntry, ServiceId>,
     passes: &mut Vec<Pass>,
     count: u32,
 )

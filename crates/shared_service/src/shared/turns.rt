@@ -23,7 +23,7 @@ use super::away::{Asked, Away, Kept, Sent, sent_with};
 use crate::coming::Coming;
 use crate::desk::Desk;
 use crate::made::{Made, Requested};
-use crate::name::Name;
+use crate::name::ServiceId;
 use crate::pass::Pass;
 use crate::served::Served;
 use cipher_ops::Done;
@@ -37,33 +37,33 @@ use wire_frames::Request;
 
 /// What a call changes of its pass's client.
 #[derive(Clone, Copy)]
-pub(crate) enum Kind {
+pub(crate) enum ClientChange {
     Connects,
     Parts,
     Other,
 }
 
-fn kind_of(act: &Act) -> Kind
+fn kind_of(act: &Act) -> ClientChange
     ensures { result ≡ kind_of act.now }
 {
     match act {
-        Act::Connect { .. } => Kind::Connects,
-        Act::Disconnect => Kind::Parts,
-        _ => Kind::Other,
+        Act::Connect { .. } => ClientChange::Connects,
+        Act::Disconnect => ClientChange::Parts,
+        _ => ClientChange::Other,
     }
 }
 
 /// The client of a pass, and whether it is connected, after a reply.
-fn client_after(kind: Kind, client: u64, connected: bool, reply: &Reply) -> (u64, bool)
+fn client_after(kind: ClientChange, client: u64, connected: bool, reply: &Reply) -> (u64, bool)
     ensures { (result.0, result.1) ≡ client_after kind reply.now (client, connected) }
 {
     let Reply::Done(fields) = reply else {
         return (client, connected);
     };
     match kind {
-        Kind::Connects => (fields.client.unwrap_or(client), true),
-        Kind::Parts => (client, false),
-        Kind::Other => (client, connected),
+        ClientChange::Connects => (fields.client.unwrap_or(client), true),
+        ClientChange::Parts => (client, false),
+        ClientChange::Other => (client, connected),
     }
 }
 
@@ -80,7 +80,7 @@ fn refused(code: Code) -> Served
 
 impl<D: Disk, N: Entropy> Shared<D, N> {
     /// The pass with what it kept.
-    fn seated(&self, pass: RestingPass<BookEntry, Name>, kept: Kept) -> Pass
+    fn seated(&self, pass: RestingPass<BookEntry, ServiceId>, kept: Kept) -> Pass
         requires resting { IsRestingPassAt (service_lock self.now) (service_name self.now) pass }
         requires seen { ∥ HasSeen (service_name self.now) (resting_number pass) (resting_front pass) kept.client kept.connected ∥₁ }
         requires maker { HoldsMaker (service_lock self.now) (service_name self.now) (passes_of self.now) (resting_number pass) kept.maker }
@@ -105,7 +105,7 @@ impl<D: Disk, N: Entropy> Shared<D, N> {
     /// The end of a call that adds nothing: it gives its turn back, and its pass has then seen the whole book.
     fn turned_away(
         &self,
-        turn: Turn<Desk<D, N>, BookEntry, Name>,
+        turn: Turn<Desk<D, N>, BookEntry, ServiceId>,
         desk: Desk<D, N>,
         kept: Kept,
         code: Code,

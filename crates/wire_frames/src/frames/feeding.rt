@@ -9,9 +9,9 @@ ghost use Rattle.tags.specs.declared.limits.TheConstants.{FRAME_BYTES};
 
 use super::Frames;
 use crate::fault::FrameFault;
-use crate::held::Held;
+use crate::held::PartialFrame;
 use crate::held::giving::read_more;
-use crate::outcome::Outcome;
+use crate::outcome::FrameOutcome;
 use crate::request::Request;
 use std::alloc::Global;
 
@@ -23,7 +23,7 @@ impl Frames {
     {
         Frames {
             start: 0,
-            held: Held::new(alloc),
+            held: PartialFrame::new(alloc),
             shut: false,
         }
     }
@@ -52,7 +52,7 @@ impl Frames {
         let Some(outcome) = read else {
             return Ok(Vec::new(alloc));
         };
-        let Outcome {
+        let FrameOutcome {
             requests,
             used,
             tail,

@@ -4,9 +4,9 @@ ghost use Rattle.std.specs.Prelude.{◌≡◌, ◌⊎◌, ◌↔◌, ◌==◌, �
 ghost use Rattle.wire_frames.specs.Streams as spec;
 ghost use Rattle.wire_frames.specs.Apart as apart;
 ghost use Rattle.wire_frames.specs.Apart.{HasInput};
-ghost use Rattle.wire_frames.specs.Kept.{bytes_in};
+ghost use Rattle.wire_frames.specs.PartialFrames.{bytes_in};
 
-use super::Held;
+use super::PartialFrame;
 use crate::front::needed;
 use std::alloc::Global;
 use tags::NoMemory;
@@ -43,12 +43,12 @@ fn room_behind(head: &[u8], lacking: usize) -> usize
     lacking
 }
 
-impl Held {
+impl PartialFrame {
     /// Nothing. It takes no memory.
-    pub(crate) fn new(alloc: Global) -> Held
+    pub(crate) fn new(alloc: Global) -> PartialFrame
         ensures { bytes_in result ≡ [] }
     {
-        Held {
+        PartialFrame {
             head: Vec::new(alloc),
             input: Vec::new(alloc),
         }

@@ -6,12 +6,12 @@ ghost use Rattle.wire_frames.specs.Streams as spec;
 ghost use Rattle.wire_frames.specs.Streams.{IsPart};
 ghost use Rattle.wire_frames.specs.Apart as apart;
 ghost use Rattle.wire_frames.specs.Apart.{HasInput, IsApart};
-ghost use Rattle.wire_frames.specs.Kept.{bytes_in, kept_act};
+ghost use Rattle.wire_frames.specs.PartialFrames.{bytes_in, kept_act};
 ghost use Rattle.wire_frames.specs.Outcomes.{IsRead};
 
-use super::Held;
+use super::PartialFrame;
 use crate::fault::BodyFault;
-use crate::outcome::Outcome;
+use crate::outcome::FrameOutcome;
 use crate::reading::{act_in, ended, optional_at};
 use crate::request::Request;
 use crate::texts::read_on;
@@ -23,7 +23,7 @@ use tags::{Bytes, NoMemory};
 
 /// A whole frame that is held, as far as it is read before its input is given away.
 #[derive(Debug, Drop)]
-pub enum Kept {
+pub enum HeldRequest {
     /// The act.
     Whole(Act),
     /// The act with an empty input, and how many bytes its input has.
@@ -31,7 +31,6 @@ pub enum Kept {
 }
 
 /// The act of a number on an operation with an empty input, where these bytes stand behind the input.
-#[tactic(auto, unfolding(crate::specs::Reading::optional_at))]
 fn around(alloc: Global, number: u8, op: u64, behind: &[u8]) -> Result<Act, BodyFault>
     ensures { Says (λ x. x) result (apart.around number op behind.now) }
 {
@@ -68,7 +67,7 @@ fn filled(act: Act, input: Bytes) -> Act
 }
 
 /// The act of a frame whose input lies apart.
-fn around_input(alloc: Global, head: &[u8], input: &[u8]) -> Result<Kept, BodyFault>
+fn around_input(alloc: Global, head: &[u8], input: &[u8]) -> Result<HeldRequest, BodyFault>
     requires { HasInput head.now }
     ensures { Says (λ kept. kept_act kept input.now) result (act_in (drop 4 (head.now ++ input.now))) }
 {
@@ -78,13 +77,13 @@ fn around_input(alloc: Global, head: &[u8], input: &[u8]) -> Result<Kept, BodyFa
         return Err(BodyFault::Bad);
     }
     match around(alloc, head[4], op, &input[size..]) {
-        Ok(act) => Ok(Kept::Around(act, size)),
+        Ok(act) => Ok(HeldRequest::Around(act, size)),
         Err(fault) => Err(fault),
     }
 }
 
 /// The act of a frame, of which nothing or all behind the input's length lies apart.
-fn kept_in(alloc: Global, head: &[u8], input: &[u8]) -> Result<Kept, BodyFault>
+fn kept_in(alloc: Global, head: &[u8], input: &[u8]) -> Result<HeldRequest, BodyFault>
     requires apart { IsApart head.now input.now }
     requires long { 4 ≤ length (head.now ++ input.now) }
     ensures read { Says (λ kept. kept_act kept input.now) result (act_in (drop 4 (head.now ++ input.now))) }
@@ -94,17 +93,17 @@ fn kept_in(alloc: Global, head: &[u8], input: &[u8]) -> Result<Kept, BodyFault>
         return around_input(alloc, head, input);
     }
     match act_in(alloc, &head[4..]) {
-        Ok(act) => Ok(Kept::Whole(act)),
+        Ok(act) => Ok(HeldRequest::Whole(act)),
         Err(fault) => Err(fault),
     }
 }
 
-impl Held {
+impl PartialFrame {
     ghost use Rattle.wire_frames.specs.Reading.{act_in};
-    ghost use Rattle.wire_frames.specs.Kept.{kept_act};
+    ghost use Rattle.wire_frames.specs.PartialFrames.{kept_act};
 
     /// The act of the frame.
-    fn kept(&self, alloc: Global) -> Result<Kept, BodyFault>
+    fn kept(&self, alloc: Global) -> Result<HeldRequest, BodyFault>
         requires { 4 ≤ length (bytes_in self.now) }
         ensures read { Says (λ kept. kept_act kept self.now.input.items) result (act_in (drop 4 (bytes_in self.now))) }
         ensures fits { (i : ℕ) → slice_index (bytes_in self.now) i < 256 }
@@ -113,12 +112,12 @@ impl Held {
     }
 
     /// The act with its input, which is given away.
-    fn give(&mut self, alloc: Global, kept: Kept) -> Act
+    fn give(&mut self, alloc: Global, kept: HeldRequest) -> Act
         ensures { result ≡ kept_act kept self.old.input.items }
     {
         match kept {
-            Kept::Whole(act) => act,
-            Kept::Around(act, size) => {
+            HeldRequest::Whole(act) => act,
+            HeldRequest::Around(act, size) => {
                 let mut input = mem::replace(&mut self.input, Vec::new(alloc));
                 input.truncate(size);
                 filled(act, Bytes::of(input))
@@ -138,7 +137,7 @@ fn put_first(requests: &mut Vec<Request>, request: Request)
 }
 
 /// Reads the frame that is held, and what comes behind it. At want of memory the same bytes are held as before.
-fn read_both(alloc: Global, held: &mut Held, more: &[u8]) -> Result<Outcome, NoMemory>
+fn read_both(alloc: Global, held: &mut PartialFrame, more: &[u8]) -> Result<FrameOutcome, NoMemory>
     requires { length (bytes_in held.old) ≡ spec.needed (bytes_in held.old) }
     ensures read { IfOk result (IsRead (bytes_in held.old ++ more.now)) }
     ensures same { OnErr result (bytes_in held.new ≡ bytes_in held.old) }
@@ -149,7 +148,7 @@ fn read_both(alloc: Global, held: &mut Held, more: &[u8]) -> Result<Outcome, NoM
     outcome.requests.reserve(1)?;
     let kept = match held.kept(alloc) {
         Ok(kept) => kept,
-        Err(BodyFault::Bad) => return Ok(Outcome::bad(alloc)),
+        Err(BodyFault::Bad) => return Ok(FrameOutcome::bad(alloc)),
         Err(BodyFault::Memory) => return Err(NoMemory),
     };
     let Some(request) = Request::of(held.give(alloc, kept)) else {
@@ -164,9 +163,9 @@ fn read_both(alloc: Global, held: &mut Held, more: &[u8]) -> Result<Outcome, NoM
 /// At want of memory the same bytes are held as before.
 pub(crate) fn read_more(
     alloc: Global,
-    held: &mut Held,
+    held: &mut PartialFrame,
     piece: &[u8],
-) -> Result<Option<Outcome>, NoMemory>
+) -> Result<Option<FrameOutcome>, NoMemory>
     requires part { IsPart (bytes_in held.old) }
     ensures read { IfOk result (λ o. IfSome o (IsRead (bytes_in held.old ++ piece.now))) }
     ensures waits { IfOk result (λ o. IfNone o (IsPart (bytes_in held.new) × (bytes_in held.new ≡ bytes_in held.old ++ piece.now))) }

@@ -6,39 +6,41 @@ ghost use Rattle.wire_frames.specs.Spelling as spec;
 ghost use Rattle.tags.specs.declared.limits.TheConstants.{FRAME_BYTES};
 ghost use Rattle.wire_frames.specs.Spelling.{body_of, is_framed, is_on_key, is_token};
 
-use super::fields::{put, put_counted, put_flag, put_key, put_long, put_optional, put_short};
+use super::fields::{put_key, put_optional};
+use byte_strings::{put_bytes, put_counted_u32, put_flag, put_u8, put_u32, put_u64};
 use rule_model::Act;
-use tags::{Bytes, Descriptor, NoMemory};
+use std::alloc::AllocError;
+use tags::{Bytes, Descriptor};
 
 /// A number and a user, or a uid.
-fn put_user(out: &mut Vec<u8>, number: u8, user: u32) -> Result<(), NoMemory>
+fn put_user(out: &mut Vec<u8>, number: u8, user: u32) -> Result<(), AllocError>
     ensures { OnOk result (out.new.items ≡ out.old.items ++ number ∷ big_bytes 4 user) }
 {
-    put(out, &[number])?;
-    put_short(out, user)
+    put_u8(out, number)?;
+    put_u32(out, user)
 }
 
 /// A number and an owner.
-fn put_owner(out: &mut Vec<u8>, number: u8, domain: u32, nspace: u64) -> Result<(), NoMemory>
+fn put_owner(out: &mut Vec<u8>, number: u8, domain: u32, nspace: u64) -> Result<(), AllocError>
     ensures { OnOk result (out.new.items ≡ out.old.items ++ number ∷ (big_bytes 4 domain ++ big_bytes 8 nspace)) }
 {
-    put(out, &[number])?;
-    put_short(out, domain)?;
-    put_long(out, nspace)
+    put_u8(out, number)?;
+    put_u32(out, domain)?;
+    put_u64(out, nspace)
 }
 
 /// A number, an operation and its input.
-fn put_input(out: &mut Vec<u8>, number: u8, op: u64, input: &Bytes) -> Result<(), NoMemory>
+fn put_input(out: &mut Vec<u8>, number: u8, op: u64, input: &Bytes) -> Result<(), AllocError>
     requires { length (spec.counted input.now) < 2 ^ 32 }
     ensures { OnOk result (out.new.items ≡ out.old.items ++ number ∷ (big_bytes 8 op ++ spec.counted input.now)) }
 {
-    put(out, &[number])?;
-    put_long(out, op)?;
-    put_counted(out, input.as_slice())
+    put_u8(out, number)?;
+    put_u64(out, op)?;
+    put_counted_u32(out, input.as_slice())
 }
 
 /// The numbers of a token, and its mac.
-fn put_token(out: &mut Vec<u8>, act: &Act) -> Result<(), NoMemory>
+fn put_token(out: &mut Vec<u8>, act: &Act) -> Result<(), AllocError>
     requires token { is_token act.now ≡ true }
     ensures { OnOk result (out.new.items ≡ out.old.items ++ body_of act.now) }
 {
@@ -53,26 +55,26 @@ fn put_token(out: &mut Vec<u8>, act: &Act) -> Result<(), NoMemory>
     else {
         unreachable!()
     };
-    put(out, &[16])?;
-    put_long(out, *challenge)?;
-    put_long(out, *user)?;
-    put_long(out, *authenticator)?;
-    put_short(out, *kind)?;
-    put_long(out, *time)?;
-    put(out, mac)
+    put_u8(out, 16)?;
+    put_u64(out, *challenge)?;
+    put_u64(out, *user)?;
+    put_u64(out, *authenticator)?;
+    put_u32(out, *kind)?;
+    put_u64(out, *time)?;
+    put_bytes(out, mac)
 }
 
 /// A number and a descriptor.
-fn put_named(out: &mut Vec<u8>, number: u8, key: &Descriptor) -> Result<(), NoMemory>
+fn put_named(out: &mut Vec<u8>, number: u8, key: &Descriptor) -> Result<(), AllocError>
     requires { length (spec.key_of key.now) < 2 ^ 32 }
     ensures { OnOk result (out.new.items ≡ out.old.items ++ number ∷ spec.key_of key.now) }
 {
-    put(out, &[number])?;
+    put_u8(out, number)?;
     put_key(out, key)
 }
 
 /// An act on a key that a descriptor names.
-fn put_key_act(out: &mut Vec<u8>, act: &Act) -> Result<(), NoMemory>
+fn put_key_act(out: &mut Vec<u8>, act: &Act) -> Result<(), AllocError>
     requires named { is_on_key act.now ≡ true }
     requires short { length (body_of act.now) ≤ FRAME_BYTES }
     ensures written { OnOk result (out.new.items ≡ out.old.items ++ body_of act.now) }
@@ -80,7 +82,7 @@ fn put_key_act(out: &mut Vec<u8>, act: &Act) -> Result<(), NoMemory>
     match act {
         Act::GenerateKey { key, params } => {
             put_named(out, 3, key)?;
-            put_counted(out, params.as_slice())
+            put_counted_u32(out, params.as_slice())
         }
         Act::ImportKey {
             key,
@@ -89,9 +91,9 @@ fn put_key_act(out: &mut Vec<u8>, act: &Act) -> Result<(), NoMemory>
             material,
         } => {
             put_named(out, 4, key)?;
-            put_counted(out, params.as_slice())?;
-            put_short(out, *format)?;
-            put_counted(out, material.as_slice())
+            put_counted_u32(out, params.as_slice())?;
+            put_u32(out, *format)?;
+            put_counted_u32(out, material.as_slice())
         }
         Act::CreateOperation {
             key,
@@ -99,26 +101,26 @@ fn put_key_act(out: &mut Vec<u8>, act: &Act) -> Result<(), NoMemory>
             forced,
         } => {
             put_named(out, 5, key)?;
-            put_counted(out, params.as_slice())?;
+            put_counted_u32(out, params.as_slice())?;
             put_flag(out, *forced)
         }
         Act::GetKeyEntry { key } => put_named(out, 10, key),
         Act::DeleteKey { key } => put_named(out, 11, key),
         Act::Grant { key, uid, bits } => {
             put_named(out, 12, key)?;
-            put_short(out, *uid)?;
-            put_short(out, *bits)
+            put_u32(out, *uid)?;
+            put_u32(out, *bits)
         }
         Act::Ungrant { key, uid } => {
             put_named(out, 13, key)?;
-            put_short(out, *uid)
+            put_u32(out, *uid)
         }
         _ => unreachable!(),
     }
 }
 
 /// The number of an act, and its fields.
-pub(super) fn put_body(out: &mut Vec<u8>, act: &Act) -> Result<(), NoMemory>
+pub(super) fn put_body(out: &mut Vec<u8>, act: &Act) -> Result<(), AllocError>
     requires framed { is_framed act.now ≡ true }
     requires short { length (body_of act.now) ≤ FRAME_BYTES }
     ensures written { OnOk result (out.new.items ≡ out.old.items ++ body_of act.now) }
@@ -136,8 +138,8 @@ pub(super) fn put_body(out: &mut Vec<u8>, act: &Act) -> Result<(), NoMemory>
             put_optional(out, signature)
         }
         Act::Abort { op } => {
-            put(out, &[9])?;
-            put_long(out, *op)
+            put_u8(out, 9)?;
+            put_u64(out, *op)
         }
         Act::GetNumberOfEntries { domain, nspace } => put_owner(out, 14, *domain, *nspace),
         Act::ListEntriesBatched {
@@ -151,7 +153,7 @@ pub(super) fn put_body(out: &mut Vec<u8>, act: &Act) -> Result<(), NoMemory>
         Act::AddAuthToken { .. } => put_token(out, act),
         Act::DeviceLocked { user } => put_user(out, 17, *user),
         Act::DeviceUnlocked { user } => put_user(out, 18, *user),
-        Act::EarlyBootEnded => put(out, &[19]),
+        Act::EarlyBootEnded => put_u8(out, 19),
         Act::ClearNamespace { domain, nspace } => put_owner(out, 20, *domain, *nspace),
         Act::UserRemoved { user } => put_user(out, 21, *user),
         _ => put_key_act(out, act),

@@ -3,67 +3,68 @@
 ghost use Rattle.std.specs.Prelude.{◌≡◌, ◌++◌, ◌<◌, ◌^◌, length, OnOk};
 ghost use Rattle.wire_frames.specs.Replies as spec;
 
-use super::fields::{put, put_counted, put_long, put_short};
+use byte_strings::{put_bytes, put_counted_u32, put_u8, put_u32, put_u64};
 use rule_model::{Entries, Fields, Reply};
-use tags::{Bytes, Code, NoMemory, Rule};
+use std::alloc::AllocError;
+use tags::{Bytes, Code, Rule};
 
 /// A number of eight bytes, where it is there.
-fn put_long_field(out: &mut Vec<u8>, number: u8, field: Option<u64>) -> Result<(), NoMemory>
+fn put_long_field(out: &mut Vec<u8>, number: u8, field: Option<u64>) -> Result<(), AllocError>
     ensures { OnOk result (out.new.items ≡ out.old.items ++ spec.long_field number field) }
 {
     match field {
         None => Ok(()),
         Some(value) => {
-            put(out, &[number])?;
-            put_long(out, value)
+            put_u8(out, number)?;
+            put_u64(out, value)
         }
     }
 }
 
 /// A number of four bytes, where it is there.
-fn put_short_field(out: &mut Vec<u8>, number: u8, field: Option<u32>) -> Result<(), NoMemory>
+fn put_short_field(out: &mut Vec<u8>, number: u8, field: Option<u32>) -> Result<(), AllocError>
     ensures { OnOk result (out.new.items ≡ out.old.items ++ spec.short_field number field) }
 {
     match field {
         None => Ok(()),
         Some(value) => {
-            put(out, &[number])?;
-            put_short(out, value)
+            put_u8(out, number)?;
+            put_u32(out, value)
         }
     }
 }
 
 /// Counted bytes, where they are there.
-fn put_bytes_field(out: &mut Vec<u8>, number: u8, field: &Option<Bytes>) -> Result<(), NoMemory>
+fn put_bytes_field(out: &mut Vec<u8>, number: u8, field: &Option<Bytes>) -> Result<(), AllocError>
     requires { length (spec.bytes_field number field.now) < 2 ^ 32 }
     ensures { OnOk result (out.new.items ≡ out.old.items ++ spec.bytes_field number field.now) }
 {
     match field {
         None => Ok(()),
         Some(bytes) => {
-            put(out, &[number])?;
-            put_counted(out, bytes.as_slice())
+            put_u8(out, number)?;
+            put_counted_u32(out, bytes.as_slice())
         }
     }
 }
 
 /// The code.
-fn put_code(out: &mut Vec<u8>, code: Code) -> Result<(), NoMemory>
+fn put_code(out: &mut Vec<u8>, code: Code) -> Result<(), AllocError>
     ensures { OnOk result (out.new.items ≡ out.old.items ++ spec.code_bytes code) }
 {
-    put(out, &code.number().to_be_bytes())
+    put_bytes(out, &code.number().to_be_bytes())
 }
 
 /// The letter of a rule's table, and the rule's number.
-fn put_rule(out: &mut Vec<u8>, rule: Rule) -> Result<(), NoMemory>
+fn put_rule(out: &mut Vec<u8>, rule: Rule) -> Result<(), AllocError>
     ensures { OnOk result (out.new.items ≡ out.old.items ++ spec.rule_bytes rule) }
 {
-    put(out, rule.table.letter().as_bytes())?;
-    put(out, &[rule.number])
+    put_bytes(out, rule.table.letter().as_bytes())?;
+    put_u8(out, rule.number)
 }
 
 /// What a connect, a new key and a begin answer in numbers.
-fn put_begins(out: &mut Vec<u8>, fields: &Fields) -> Result<(), NoMemory>
+fn put_begins(out: &mut Vec<u8>, fields: &Fields) -> Result<(), AllocError>
     ensures { OnOk result (out.new.items ≡ out.old.items ++ spec.begins_of fields.now) }
 {
     put_long_field(out, 1, fields.client)?;
@@ -73,7 +74,7 @@ fn put_begins(out: &mut Vec<u8>, fields: &Fields) -> Result<(), NoMemory>
 }
 
 /// What the other calls answer in numbers.
-fn put_calls(out: &mut Vec<u8>, fields: &Fields) -> Result<(), NoMemory>
+fn put_calls(out: &mut Vec<u8>, fields: &Fields) -> Result<(), AllocError>
     ensures { OnOk result (out.new.items ≡ out.old.items ++ spec.calls_of fields.now) }
 {
     put_long_field(out, 5, fields.ticket)?;
@@ -83,7 +84,7 @@ fn put_calls(out: &mut Vec<u8>, fields: &Fields) -> Result<(), NoMemory>
 }
 
 /// What is said of a key in numbers.
-fn put_facts(out: &mut Vec<u8>, fields: &Fields) -> Result<(), NoMemory>
+fn put_facts(out: &mut Vec<u8>, fields: &Fields) -> Result<(), AllocError>
     ensures { OnOk result (out.new.items ≡ out.old.items ++ spec.facts_of fields.now) }
 {
     put_short_field(out, 9, fields.uses)?;
@@ -92,7 +93,7 @@ fn put_facts(out: &mut Vec<u8>, fields: &Fields) -> Result<(), NoMemory>
 }
 
 /// The fields that are numbers.
-fn put_numbers(out: &mut Vec<u8>, fields: &Fields) -> Result<(), NoMemory>
+fn put_numbers(out: &mut Vec<u8>, fields: &Fields) -> Result<(), AllocError>
     ensures { OnOk result (out.new.items ≡ out.old.items ++ spec.numbers_of fields.now) }
 {
     put_begins(out, fields)?;
@@ -101,34 +102,38 @@ fn put_numbers(out: &mut Vec<u8>, fields: &Fields) -> Result<(), NoMemory>
 }
 
 /// The entries of a listing, where it is there.
-fn put_entries_field(out: &mut Vec<u8>, number: u8, field: &Option<Entries>) -> Result<(), NoMemory>
+fn put_entries_field(
+    out: &mut Vec<u8>,
+    number: u8,
+    field: &Option<Entries>,
+) -> Result<(), AllocError>
     requires { length (spec.entries_field number field.now) < 2 ^ 32 }
     ensures { OnOk result (out.new.items ≡ out.old.items ++ spec.entries_field number field.now) }
 {
     match field {
         None => Ok(()),
         Some(entries) => {
-            put(out, &[number])?;
+            put_u8(out, number)?;
             put_entries(out, entries.as_slice())
         }
     }
 }
 
 /// How many entries there are, and each of them.
-fn put_entries(out: &mut Vec<u8>, entries: &[(Bytes, u64)]) -> Result<(), NoMemory>
+fn put_entries(out: &mut Vec<u8>, entries: &[(Bytes, u64)]) -> Result<(), AllocError>
     requires { length (spec.entries_of entries.now) < 2 ^ 32 }
     ensures { OnOk result (out.new.items ≡ out.old.items ++ spec.entries_of entries.now) }
 {
-    put_short(out, entries.len() as u32)?;
+    put_u32(out, entries.len() as u32)?;
     for (alias, key) in entries {
-        put_counted(out, alias.as_slice())?;
-        put_long(out, *key)?;
+        put_counted_u32(out, alias.as_slice())?;
+        put_u64(out, *key)?;
     }
     Ok(())
 }
 
 /// The fields that are bytes, and the entries.
-fn put_texts(out: &mut Vec<u8>, fields: &Fields) -> Result<(), NoMemory>
+fn put_texts(out: &mut Vec<u8>, fields: &Fields) -> Result<(), AllocError>
     requires { length (spec.texts_of fields.now) < 2 ^ 32 }
     ensures { OnOk result (out.new.items ≡ out.old.items ++ spec.texts_of fields.now) }
 {
@@ -142,13 +147,13 @@ fn put_texts(out: &mut Vec<u8>, fields: &Fields) -> Result<(), NoMemory>
 
 /// The body of a reply.
 #[tactic(auto, unfolding(crate::specs::Replies::reply_body))]
-pub(super) fn put_reply(out: &mut Vec<u8>, reply: &Reply) -> Result<(), NoMemory>
+pub(super) fn put_reply(out: &mut Vec<u8>, reply: &Reply) -> Result<(), AllocError>
     requires { length (spec.reply_body reply.now) < 2 ^ 32 }
     ensures { OnOk result (out.new.items ≡ out.old.items ++ spec.reply_body reply.now) }
 {
     match reply {
         Reply::Done(fields) => {
-            put(out, &[0; 6])?;
+            put_bytes(out, &[0; 6])?;
             put_numbers(out, fields)?;
             put_texts(out, fields)
         }
@@ -158,7 +163,7 @@ pub(super) fn put_reply(out: &mut Vec<u8>, reply: &Reply) -> Result<(), NoMemory
         }
         Reply::Stopped { code } => {
             put_code(out, *code)?;
-            put(out, &[0; 2])
+            put_bytes(out, &[0; 2])
         }
     }
 }

@@ -2,7 +2,7 @@ use Rattle.std.proofs.Common.{◌≡◌, ◌<◌, ◌∙◌, ap, sym, arith}
 use Rattle.aes_core.specs.Expansion.{key_expansion, round_key}
 use Rattle.aes_core.specs.KeyOf.{key_of}
 use Rattle.aes_core.specs.State.{add_round_key}
-use Rattle.aes_wide.specs.Held.{held_key}
+use Rattle.aes_wide.specs.RoundKeyPlanes.{held_key}
 use Rattle.aes_wide.specs.Steps.{constant}
 use Rattle.aes_wide.proofs.SingleLemmas.{constant_row}
 use Rattle.aes_wide.proofs.MovedLemmas.{held_later}

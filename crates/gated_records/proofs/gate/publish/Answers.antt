@@ -1,5 +1,6 @@
 -- The exits of a publishing.
-use Rattle.std.proofs.Common.{inl, ◌+◌, arith}
+use Rattle.std.proofs.Common.{inl, ◌+◌, false, true, arith}
+use Rattle.ks_outside.proofs.Goings.{goes_on}
 use Rattle.ks_outside.proofs.Joins.{passes_as, passes_on}
 use Rattle.gated_records.specs.Areas.{IsWithOrWithout}
 use Rattle.gated_records.proofs.PlaceLemmas.{piece_is}
@@ -36,7 +37,7 @@ pub returns-in_default-write_synced-clause-nothing : goal.returns-in_default-wri
 returns-in_default-write_synced-clause-nothing g c = λ start records more area is sure.
     let staged = staged_all start c.args.at records more area.place g.D.Disk c.args.disk.now c.write_synced.new.disk _ (piece_is more c.args.closed.now is) area.images c.in-Ok.ensures.written in
     shut_all start c.args.at records more area.place g.D.Disk c.write_synced.new.disk c.write_synced-2.new.disk staged
-    (c.in_default-write_synced.ensures.nothing (c.write_synced.ensures.sure sure))
+    (c.in_default-write_synced.ensures.nothing (c.write_synced.ensures.goes.sure sure))
 
 pub returns-clause-done : goal.returns-clause-done
 returns-clause-done g c = λ start records more area is.
@@ -49,6 +50,12 @@ returns-clause-passes g c = λ start records more area is.
     passes_on g.D.Disk c.args.disk.now c.write_synced.new.disk c.write_synced-2.new.disk _ _ (IsWithOrWithout start records more) c.write_synced.ensures.passes c.write_synced-2.ensures.passes
     (λ image torn. inl (stays_all start c.args.at records more area.place g.D.Disk c.args.disk.now _ area.images image torn))
     (λ image torn. gate_all start c.args.at records more area.place g.D.Disk c.write_synced.new.disk staged image torn)
+
+pub returns-in_default-write_synced-clause-goes : goal.returns-in_default-write_synced-clause-goes
+returns-in_default-write_synced-clause-goes g c = goes_on g.D.Disk c.args.disk.now c.write_synced.new.disk c.write_synced-2.new.disk true c.in-Ok.ensures.goes c.in_default-write_synced.ensures.goes
+
+pub returns-clause-goes : goal.returns-clause-goes
+returns-clause-goes g c = goes_on g.D.Disk c.args.disk.now c.write_synced.new.disk c.write_synced-2.new.disk false c.in-Ok.ensures.goes c.in-Ok-write_synced.ensures.goes
 
 -- what stands outside stays
 

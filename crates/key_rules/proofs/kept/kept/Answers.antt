@@ -1,4 +1,4 @@
-use Rattle.key_rules.specs.Kept.{kept}
+use Rattle.key_rules.specs.KeptLists.{kept}
 use Rattle.key_rules.proofs.kept.kept.Goals as goal
 
 pub returns-clause-kept : goal.returns-clause-kept

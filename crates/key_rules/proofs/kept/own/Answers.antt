@@ -1,7 +1,7 @@
 use Rattle.std.proofs.Common.{◌≤◌, ◌∙◌, ap, length, subst, sym}
 use Rattle.tags.specs.declared.tag.Tag.TheVariants.{ApplicationData, Nonce, MacLength, Origin, OsVersion, OsPatchlevel}
 use Rattle.tag_lists.specs.Lookups.{without}
-use Rattle.key_rules.specs.Kept.{dropped, is_kept}
+use Rattle.key_rules.specs.KeptLists.{dropped, is_kept}
 use Rattle.key_rules.proofs.Dropped.{without_all_is}
 use Rattle.tag_lists.proofs.Edits.{length_filter}
 use Rattle.key_rules.proofs.kept.own.Goals as goal

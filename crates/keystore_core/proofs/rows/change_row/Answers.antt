@@ -1,4 +1,4 @@
-use Rattle.keystore_core.proofs.RowTable.{row_changed, none_changed}
+use Rattle.keystore_core.proofs.RowTable.{row_changed, row_unchanged}
 use Rattle.keystore_core.proofs.rows.change_row.Goals as goal
 
 pub returns-in-Ok : goal.returns-in-Ok
@@ -7,4 +7,4 @@ returns-in-Ok c =
     (rw c.deref.ensures.value at c.in-Ok.ensures.found) c.index_mut.ensures.value c.change_one.ensures
 
 pub returns-in_default : goal.returns-in_default
-returns-in_default c = none_changed c.args.rows.now.items c.args.number c.in_default.field-0 (rw c.deref.ensures.value at c.in_default.ensures.absent) c.args.change
+returns-in_default c = row_unchanged c.args.rows.now.items c.args.number c.in_default.field-0 (rw c.deref.ensures.value at c.in_default.ensures.absent) c.args.change

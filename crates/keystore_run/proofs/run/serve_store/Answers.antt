@@ -1,17 +1,17 @@
 use Rattle.std.proofs.Common.{[], refl}
 use Rattle.rule_model.specs.Setup.{Setup}
 use Rattle.keystore_run.specs.Runs.{Opened, Refused}
-use Rattle.keystore_core.specs.Opening.{IsUnwritten, is_opened, opened_images, setup_of}
+use Rattle.keystore_core.specs.Opening.{IsUnwritten, is_opened, opened_images, setup_of, unwritten_of}
 use Rattle.keystore_run.proofs.Openings.{refused, session_stands, unwritten_none}
 use Rattle.keystore_run.proofs.run.serve_store.Goals as goal
 
 pub returns-in-Err-clause-since_call : goal.returns-in-Err-clause-since_call
 returns-in-Err-clause-since_call g c = rw c.refusal.ensures (Refused (record { source = refl; sink = refl; entropy = refl })
-    (refused g.D.Disk c.args.disk.now c.open.new.disk c.in-Err.fault c.in-Err.ensures.images c.in-Err.ensures.passes c.in-Err.ensures.cause c.in-Err.ensures.reads c.in-Err.ensures.finds))
+    (refused g.D.Disk c.args.disk.now c.open.new.disk c.in-Err.fault c.in-Err.ensures.goes c.in-Err.ensures.reads c.in-Err.ensures.finds))
 
 pub returns-in-Err-clause-since_opened : goal.returns-in-Err-clause-since_opened
 returns-in-Err-clause-since_opened g c = rw c.refusal.ensures (Refused (record { source = refl; sink = refl; entropy = refl })
-    (refused g.D.Disk c.args.disk.now c.open.new.disk c.in-Err.fault c.in-Err.ensures.images c.in-Err.ensures.passes c.in-Err.ensures.cause c.in-Err.ensures.reads c.in-Err.ensures.finds))
+    (refused g.D.Disk c.args.disk.now c.open.new.disk c.in-Err.fault c.in-Err.ensures.goes c.in-Err.ensures.reads c.in-Err.ensures.finds))
 
 pub new-session-requires : goal.new-session-requires
 new-session-requires g c = ∣ record {
@@ -26,13 +26,13 @@ returns-clause-since_call g c =
     let setup : Setup = setup_of c.args.device.now c.args.policy.now c.args.slots c.in-Ok-open.engine in
     let opens = is_opened c.args.device.now c.args.policy.now c.args.slots c.in-Ok-open.engine in
     let disk = c.open.new.disk in
-    let unwritten : IsUnwritten g.D.Disk c.args.disk.now disk = record { passes = c.in-Ok-open.ensures.passes; count = c.in-Ok-open.ensures.cause; telling = c.in-Ok-open.ensures.telling } in
+    let unwritten : IsUnwritten g.D.Disk c.args.disk.now disk = unwritten_of g.D.Disk c.args.disk.now disk c.in-Ok-open.ensures.goes in
     Opened disk (record {
       setup = setup;
       is = record { device_is = refl; policy_is = refl; slots_are = refl };
       read = record {
         stands = opened_images g.D.Disk c.args.device.now c.args.policy.now c.args.slots c.in-Ok-open.engine disk (c.in-Ok-open.ensures.holds setup opens);
-        images = c.in-Ok-open.ensures.images;
+        images = c.in-Ok-open.ensures.goes.images;
         finds = c.in-Ok-open.ensures.finds;
         unwritten = unwritten;
       };
@@ -45,13 +45,13 @@ returns-clause-since_opened g c =
     let setup : Setup = setup_of c.args.device.now c.args.policy.now c.args.slots c.in-Ok-open.engine in
     let opens = is_opened c.args.device.now c.args.policy.now c.args.slots c.in-Ok-open.engine in
     let disk = c.open.new.disk in
-    let unwritten : IsUnwritten g.D.Disk c.args.disk.now disk = record { passes = c.in-Ok-open.ensures.passes; count = c.in-Ok-open.ensures.cause; telling = c.in-Ok-open.ensures.telling } in
+    let unwritten : IsUnwritten g.D.Disk c.args.disk.now disk = unwritten_of g.D.Disk c.args.disk.now disk c.in-Ok-open.ensures.goes in
     Opened disk (record {
       setup = setup;
       is = record { device_is = refl; policy_is = refl; slots_are = refl };
       read = record {
         stands = opened_images g.D.Disk c.args.device.now c.args.policy.now c.args.slots c.in-Ok-open.engine disk (c.in-Ok-open.ensures.holds setup opens);
-        images = c.in-Ok-open.ensures.images;
+        images = c.in-Ok-open.ensures.goes.images;
         finds = c.in-Ok-open.ensures.finds;
         unwritten = unwritten;
       };

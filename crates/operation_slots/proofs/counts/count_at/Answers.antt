@@ -7,9 +7,9 @@ use Rattle.operation_slots.proofs.counts.count_at.Goals as goal
 pub returns-clause-found : goal.returns-clause-found
 returns-clause-found c =
     let facts = c.binary_search_by_key.ensures in
-    (searched counted_uid (record { uid = 0; count = 0 }) c.args.rows.now c.requires c.args.uid _ facts.bound (facts.position counted_uid (answers_always _ _ _ (λ f a r g called. search rules)))).found
+    (searched counted_uid c.args.rows.now c.requires c.args.uid _ facts.bound (facts.position counted_uid (answers_always _ _ _ (λ f a r g called. search rules)))).found
 
 pub returns-clause-absent : goal.returns-clause-absent
 returns-clause-absent c =
     let facts = c.binary_search_by_key.ensures in
-    (searched counted_uid (record { uid = 0; count = 0 }) c.args.rows.now c.requires c.args.uid _ facts.bound (facts.position counted_uid (answers_always _ _ _ (λ f a r g called. search rules)))).absent
+    (searched counted_uid c.args.rows.now c.requires c.args.uid _ facts.bound (facts.position counted_uid (answers_always _ _ _ (λ f a r g called. search rules)))).absent

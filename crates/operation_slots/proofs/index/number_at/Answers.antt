@@ -1,15 +1,15 @@
 use Rattle.std.proofs.Common.{rules}
 use Rattle.std.proofs.lemmas.List.Sorted.{answers_always}
-use Rattle.operation_slots.specs.Kept.{index_number}
+use Rattle.operation_slots.specs.Boards.{index_number}
 use Rattle.slot_chain.proofs.Ordering.{searched}
 use Rattle.operation_slots.proofs.index.number_at.Goals as goal
 
 pub returns-clause-found : goal.returns-clause-found
 returns-clause-found c =
     let facts = c.binary_search_by_key.ensures in
-    (searched index_number (record { number = 0; place = 0 }) c.args.index.now c.requires c.args.number _ facts.bound (facts.position index_number (answers_always _ _ _ (λ f a r g called. search rules)))).found
+    (searched index_number c.args.index.now c.requires c.args.number _ facts.bound (facts.position index_number (answers_always _ _ _ (λ f a r g called. search rules)))).found
 
 pub returns-clause-absent : goal.returns-clause-absent
 returns-clause-absent c =
     let facts = c.binary_search_by_key.ensures in
-    (searched index_number (record { number = 0; place = 0 }) c.args.index.now c.requires c.args.number _ facts.bound (facts.position index_number (answers_always _ _ _ (λ f a r g called. search rules)))).absent
+    (searched index_number c.args.index.now c.requires c.args.number _ facts.bound (facts.position index_number (answers_always _ _ _ (λ f a r g called. search rules)))).absent

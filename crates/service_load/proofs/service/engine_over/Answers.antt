@@ -12,4 +12,4 @@ returns-in-Ok-open-clause-new g c =
     let engine = c.in-Ok-open.engine in
     new_engine device policy engine c.demo-device.ensures.seal c.demo-device.ensures.token c.demo-device.ensures.root c.in-Ok.ensures
     (c.in-Ok-open.ensures.stands (setup_of device policy MOST_SLOTS engine) (is_opened device policy MOST_SLOTS engine))
-    (c.in-Ok-open.ensures.finds empty_lasting c.in-Ok-format.ensures.formatted (c.in-Ok-format.ensures.telling ∙ c.requires.telling))
+    (c.in-Ok-open.ensures.finds empty_lasting c.in-Ok-format.ensures.formatted (c.in-Ok-format.ensures.goes.telling ∙ c.requires.telling))

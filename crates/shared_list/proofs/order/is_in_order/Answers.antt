@@ -1,11 +1,11 @@
 use Rattle.std.proofs.Common.{rules, below_more, ◌≡◌, ℕ, ◌+◌, ◌≤◌, List, take, get_or, set, arith, ap, sym, subst, ◌∙◌}
 use Rattle.std.proofs.lemmas.List.{take_more, take_all, length-take-le}
 use Rattle.std.proofs.lemmas.Grind.{get_or_default_zero}
-use Rattle.shared_list.specs.declared.list.Entry.{Entry}
+use Rattle.shared_list.specs.declared.list.ListEntry.{ListEntry}
 use Rattle.shared_list.proofs.Orders.{IsWalk, next_few, walks_on, strange, untimely, walked, unfinished, parted}
 use Rattle.shared_list.proofs.order.is_in_order.Goals as goal
 
-abbrev none : Entry
+abbrev none : ListEntry
 none = record { by = 0; item = 0 }
 
 pub returns-then-by-len-clause-no : goal.returns-then-by-len-clause-no
@@ -50,7 +50,7 @@ loop-entry-preserved c =
     let read : get_or next by c.index.result.now ≡ c.index.result.now = search rules in
     let was : get_or next by 0 ≡ c.index.result.now = sym (get_or_default_zero next by c.index.result.now (search rules)) ∙ read in
     let step = walks_on c.args.threads (take i all) next (get_or all i none) c.loop-entry.invariant (search rules) (was ∙ search rules) in
-    subst (λ (p : List Entry × ℕ). IsWalk c.args.threads p.0 (set next by (p.1 + 1))) (λ j. (sym (take_more all i none (search rules)) j, is j)) step
+    subst (λ (p : List ListEntry × ℕ). IsWalk c.args.threads p.0 (set next by (p.1 + 1))) (λ j. (sym (take_more all i none (search rules)) j, is j)) step
 
 pub loop-count-init : goal.loop-count-init
 loop-count-init c k lt = absurd (omega arith)
@@ -60,7 +60,7 @@ returns-then-count-items-clause-no c _ =
     let all = c.args.entries.now in
     let next = c.loop-entry.next.items in
     let whole : take c.loop-entry.entry-index all ≡ all = take_all _ all (search rules) in
-    let w = subst (λ (l : List Entry). IsWalk c.args.threads l next) whole c.loop-entry.invariant in
+    let w = subst (λ (l : List ListEntry). IsWalk c.args.threads l next) whole c.loop-entry.invariant in
     let same : next ≡ c.as_slice-count-items.result.now = search rules in
     unfinished c.args.threads c.args.items all next c.loop-count.count-index w (search rules) (λ z. c.if-count-items.true (sym (ap (λ l. get_or l c.loop-count.count-index 0) same) ∙ z))
 
@@ -72,6 +72,6 @@ returns-clause-yes c _ =
     let all = c.args.entries.now in
     let next = c.loop-entry.next.items in
     let whole : take c.loop-entry.entry-index all ≡ all = take_all _ all (search rules) in
-    let w = subst (λ (l : List Entry). IsWalk c.args.threads l next) whole c.loop-entry.invariant in
+    let w = subst (λ (l : List ListEntry). IsWalk c.args.threads l next) whole c.loop-entry.invariant in
     let same : next ≡ c.as_slice-count-items.result.now = search rules in
     walked c.args.threads c.args.items all next w (λ k lt. ap (λ l. get_or l k 0) same ∙ c.loop-count.invariant k (search rules))

@@ -1,5 +1,6 @@
 use Rattle.std.proofs.Common.{arith, ◌≡◌, ◌-◌, true, false}
-use Rattle.wire_frames.proofs.Codecs.{IsBytes, IsBytes-take, IsBytes-drop}
+use Rattle.byte_strings.specs.Codecs.{IsBytes}
+use Rattle.byte_strings.proofs.Fields.{IsBytes-take, IsBytes-drop}
 use Rattle.wire_frames.proofs.Bodies.{act_takes, framed_asked}
 use Rattle.wire_frames.proofs.front.front_at.Goals as goal
 

@@ -2,7 +2,7 @@ use Rattle.std.proofs.Common.{rules, ◌≡◌, ◌+◌, [], ◌∷◌, ◌++◌
 use Rattle.std.specs.List.{AllByRecursion}
 use Rattle.wire_frames.specs.Spelling.{IsRequest}
 use Rattle.wire_frames.specs.Streams.{IsPart, stream_of}
-use Rattle.wire_frames.proofs.Codecs.{IsBytes}
+use Rattle.byte_strings.specs.Codecs.{IsBytes}
 use Rattle.wire_frames.proofs.Filling.{behind_is}
 use Rattle.wire_frames.proofs.Going.{each_append, read_part, read_bad, round, part_here, bad_here}
 use Rattle.wire_frames.proofs.texts.read_on.Goals as goal

@@ -1,7 +1,7 @@
 use Rattle.std.proofs.Common.{◌≡◌, ◌+◌, ◌/◌, true, length, ap, ◌∙◌, sym, subst, rules, arith}
 use Rattle.aes_core.specs.Expansion.{key_expansion, rounds_of}
 use Rattle.aes_core.specs.Cipher.{is_key_size, IsKey}
-use Rattle.aes_core.specs.Held.{key_in}
+use Rattle.aes_core.specs.Schedules.{key_in}
 use Rattle.aes_core.specs.KeyOf.{key_of}
 use Rattle.aes_core.proofs.KeyLemmas.{key_held}
 use Rattle.aes_core.proofs.aes_key.AesKey.new.Goals as goal

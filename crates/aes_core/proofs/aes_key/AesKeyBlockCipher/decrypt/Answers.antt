@@ -1,7 +1,7 @@
 use Rattle.std.proofs.Common.{ap, ◌∙◌}
 use Rattle.aes_core.specs.Expansion.{rounds_of}
 use Rattle.aes_core.specs.Cipher.{inverse_by, inverse_cipher}
-use Rattle.aes_core.specs.Held.{key_in}
+use Rattle.aes_core.specs.Schedules.{key_in}
 use Rattle.aes_core.specs.KeyOf.{key_of}
 use Rattle.aes_core.proofs.KeyLemmas.{long_enough}
 use Rattle.aes_core.proofs.aes_key.AesKeyBlockCipher.decrypt.Goals as goal

@@ -1,6 +1,6 @@
 use Rattle.std.proofs.Common.{◌≡◌, ◌-◌, ◌<◌, ◌+◌, ◌∙◌, ap, arith}
 use Rattle.aes_core.specs.Expansion.{key_expansion, rounds_of}
-use Rattle.aes_wide.specs.Held.{held_key}
+use Rattle.aes_wide.specs.RoundKeyPlanes.{held_key}
 use Rattle.aes_wide.specs.Planes.{standing}
 use Rattle.aes_wide.specs.WideKey.{wide_key_of}
 use Rattle.aes_wide.proofs.GroupLemmas.{begun, going_on, ended, rounds_few, rounds_some}

@@ -1,6 +1,6 @@
 -- The write stands behind the others, and its piece behind theirs.
 use Rattle.std.proofs.Common.{◌≡◌, ◌++◌, ◌∷◌, [], length, map, ◌∙◌, rules, arith}
-use Rattle.disk_model.specs.declared.calls.Made.TheVariants as kinds
+use Rattle.disk_model.specs.declared.calls.KeptCall.TheVariants as kinds
 use Rattle.disk_model.specs.Texts.{call_in}
 use Rattle.disk_model.proofs.TextLemmas.{pushed_write}
 use Rattle.disk_model.proofs.calls.CallList.push_write.Goals as goal

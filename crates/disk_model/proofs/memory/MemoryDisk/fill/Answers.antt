@@ -1,6 +1,6 @@
 -- The bytes of the pages are those of the model.
 use Rattle.std.proofs.Common.{length, reverse, rules}
-use Rattle.disk_model.specs.Kept.{content_of}
+use Rattle.disk_model.specs.CrashImages.{content_of}
 use Rattle.disk_model.specs.Pages.{byte_in}
 use Rattle.disk_model.proofs.Elapsing.{read_is}
 use Rattle.disk_model.proofs.memory.MemoryDisk.fill.Goals as goal

@@ -1,7 +1,7 @@
 -- The write is the newest call, and the pages have its piece.
 use Rattle.std.proofs.Common.{refl, reverse, arith}
-use Rattle.disk_model.specs.Calls.{Wrote}
-use Rattle.disk_model.specs.Kept.{content_of}
+use Rattle.disk_model.specs.DiskCalls.{Wrote}
+use Rattle.disk_model.specs.CrashImages.{content_of}
 use Rattle.disk_model.specs.Pages.{byte_in}
 use Rattle.disk_model.proofs.Elapsing.{newest}
 use Rattle.disk_model.proofs.Writing.{laid_over, size_after}

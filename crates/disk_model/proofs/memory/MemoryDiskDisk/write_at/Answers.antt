@@ -1,6 +1,6 @@
 -- A write that was made is the newest call.
 use Rattle.std.proofs.Common.{List, ◌∷◌, reverse, ap, ◌∙◌}
-use Rattle.disk_model.specs.Calls.{Call, Wrote}
+use Rattle.disk_model.specs.DiskCalls.{DiskCall, Wrote}
 use Rattle.disk_model.proofs.Elapsing.{write_holds, write_elapses}
 use Rattle.disk_model.proofs.memory.MemoryDiskDisk.write_at.Goals as goal
 
@@ -16,4 +16,4 @@ returns-clause-time c =
 
 pub returns-clause-made : goal.returns-clause-made
 returns-clause-made c =
-    c.in-Ok-make_write.ensures.calls ∙ ap (λ (l : List Call). Wrote c.args.at c.args.piece.now ∷ reverse l) (ap (λ v. v.made) c.in-Ok.ensures.calls)
+    c.in-Ok-make_write.ensures.calls ∙ ap (λ (l : List DiskCall). Wrote c.args.at c.args.piece.now ∷ reverse l) (ap (λ v. v.made) c.in-Ok.ensures.calls)

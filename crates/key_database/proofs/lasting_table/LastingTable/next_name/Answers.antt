@@ -1,6 +1,6 @@
 use Rattle.std.proofs.Common.{◌≡◌}
 use Rattle.std.specs.Option.{option_copied}
-use Rattle.key_database.specs.Held.{lasting_in}
+use Rattle.key_database.specs.TableView.{lasting_in}
 use Rattle.key_database.proofs.Listing.{next_is}
 use Rattle.key_database.proofs.lasting_table.LastingTable.next_name.Goals as goal
 

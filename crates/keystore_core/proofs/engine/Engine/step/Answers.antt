@@ -1,4 +1,5 @@
 use Rattle.std.proofs.Common.{◌≡◌, length, refl, sym, ap, ◌∙◌}
+use Rattle.ks_outside.proofs.Goings.{goes_on}
 use Rattle.tags.specs.declared.secrets.DeviceSecrets.{DeviceSecrets}
 use Rattle.rule_model.specs.Entries.{after_settling}
 use Rattle.rule_model.specs.Stored.{holding_of}
@@ -83,11 +84,11 @@ returns-clause-same g c = λ setup past stands held told. ∥∥₁_elim c.requi
     (λ restarts. c.answer-answered.ensures.same (holding_of setup (after_settling c.in-Ok.settled past))
     (held_mid g.D.Disk setup past c.args.self.now.tables c.settle_first.new.self c.answer-answered.new.self c.args.disk.now c.settle_first.new.disk c.answer-answered.new.disk c.args.event c.in-Ok.settled c.answer-answered.result
     (c.in-Ok.ensures.stands setup past stands.tables) c.in-Ok.ensures.ready c.in-Ok.ensures.holds c.answer-answered.ensures.store held)
-    (c.in-Ok.ensures.telling ∙ told) restarts)
+    (c.in-Ok.ensures.goes.telling ∙ told) restarts)
     (after.follows has.ready))
 
 pub returns-in-Err-clause-complete : goal.returns-in-Err-clause-complete
-returns-in-Err-clause-complete g c = λ setup past stands done disk entropy. absurd (none_rose _ _ disk c.in-Err.ensures.cause.rises)
+returns-in-Err-clause-complete g c = λ setup past stands done disk entropy. absurd (none_rose _ _ disk (c.in-Err.ensures.goes.cause.rises refl))
 
 pub returns-clause-complete : goal.returns-clause-complete
 returns-clause-complete g c = λ setup past stands done disk entropy.
@@ -95,8 +96,14 @@ returns-clause-complete g c = λ setup past stands done disk entropy.
     let may = may_step setup past c.args.self.now c.settle_first.new.self c.args.event c.in-Ok.settled c.args.done stands has c.answer-answered.new.self c.answer-answered.result
     (c.answer-answered.ensures.answers setup (after_settling c.in-Ok.settled past) (rw c.entries_made.ensures (stands_mid setup past c.args.self.now c.settle_first.new.self c.args.event c.in-Ok.settled c.args.done stands has done))) in
     gives_answer setup (after_settling c.in-Ok.settled past) c.args.event c.answer-answered.result.drawn c.answer-answered.result.reply may.follows
-    (none_failed _ _ _ (record { same = disk.same ∙ sym c.in-Ok.ensures.cause.same; below = disk.below }) c.answer-answered.ensures.store.cause)
+    (none_failed _ _ _ (record { same = disk.same ∙ sym (c.in-Ok.ensures.goes.cause.same refl); below = disk.below }) c.answer-answered.ensures.store.goes.cause)
     (none_failed _ _ _ entropy c.answer-answered.ensures.drew.faults)
+
+pub returns-in-Err-clause-goes : goal.returns-in-Err-clause-goes
+returns-in-Err-clause-goes g c = rw c.not_settled.ensures.reply c.in-Err.ensures.goes
+
+pub returns-clause-goes : goal.returns-clause-goes
+returns-clause-goes g c = goes_on g.D.Disk _ _ _ _ c.in-Ok.ensures.goes c.answer-answered.ensures.store.goes
 
 pub returns-in-Err-clause-fits : goal.returns-in-Err-clause-fits
 returns-in-Err-clause-fits g c = λ setup past out stands done room. rw c.not_settled.ensures.reply tt

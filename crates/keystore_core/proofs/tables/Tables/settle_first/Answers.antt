@@ -1,4 +1,5 @@
 use Rattle.std.proofs.Common.{◌≡◌, Bool, true, false, not, refl, sym, ◌∙◌, rules}
+use Rattle.ks_outside.proofs.Goings.{goes_none}
 use Rattle.key_database.specs.Stands.{is_unsettled}
 use Rattle.keystore_core.proofs.Settled.{settled_tables}
 use Rattle.keystore_core.proofs.tables.Tables.settle_first.Goals as goal
@@ -7,8 +8,14 @@ not_false : (b : Bool) → false ≡ not b → b ≡ true
 not_false true e = refl
 not_false false e = cc
 
-pub returns-then-is_settled-clause-cause : goal.returns-then-is_settled-clause-cause
-returns-then-is_settled-clause-cause g c = record { later = search rules; rises = tt; same = refl }
+pub returns-then-is_settled-clause-goes : goal.returns-then-is_settled-clause-goes
+returns-then-is_settled-clause-goes g c = goes_none g.D.Disk c.args.disk.now
+
+pub returns-in-Ok-clause-goes : goal.returns-in-Ok-clause-goes
+returns-in-Ok-clause-goes g c = c.in-Ok.ensures.goes.goes
+
+pub returns-in-Err-clause-goes : goal.returns-in-Err-clause-goes
+returns-in-Err-clause-goes g c = c.in-Err.ensures.goes.goes
 
 pub returns-in-Ok-clause-stands : goal.returns-in-Ok-clause-stands
 returns-in-Ok-clause-stands g c = λ setup past stands.

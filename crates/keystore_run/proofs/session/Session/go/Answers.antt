@@ -34,7 +34,7 @@ returns-clause-steps g c = λ setup past for.
           (c.step-settled.ensures.job setup past for.stands done) (c.step-settled.ensures.stays setup past for.stands done)
           c.step-settled.ensures.number (subst (λ n. Holds n c.step-settled.result.job c.args.self.now.jobs c.hold.new.self) c.next_ticket-next.ensures c.hold.ensures) for.held;
       keeps = keeps_step g.D.Disk setup c.args.disk.now c.step-settled.new.disk past c.step-settled.result.settled c.args.event c.step-settled.result.drawn c.step-settled.result.reply
-          (c.step-settled.ensures.passes setup past for.stands for.store) c.step-settled.ensures.cause c.step-settled.ensures.telling (c.step-settled.ensures.same setup past for.stands for.store);
+          (c.step-settled.ensures.passes setup past for.stands for.store) c.step-settled.ensures.goes.cause c.step-settled.ensures.goes.telling (c.step-settled.ensures.same setup past for.stands for.store);
     }
 
 pub returns-clause-entries : goal.returns-clause-entries

@@ -29,7 +29,7 @@ returns-clause-steps g c = λ setup past for.
       held = held_left setup past c.args.ticket c.args.event c.step.result.settled c.step.result.drawn c.step.result.reply c.args.self.now.jobs c.take.new.self c.requires.act
           (c.step.ensures.follows setup past for.stands done) (c.step.ensures.stays setup past for.stands done) c.take.ensures.taken for.held;
       keeps = keeps_step g.D.Disk setup c.args.disk.now c.step.new.disk past c.step.result.settled c.args.event c.step.result.drawn c.step.result.reply
-          (c.step.ensures.passes setup past for.stands for.store) c.step.ensures.cause c.step.ensures.telling (c.step.ensures.same setup past for.stands for.store);
+          (c.step.ensures.passes setup past for.stands for.store) c.step.ensures.goes.cause c.step.ensures.goes.telling (c.step.ensures.same setup past for.stands for.store);
     }
 
 pub returns-clause-entries : goal.returns-clause-entries

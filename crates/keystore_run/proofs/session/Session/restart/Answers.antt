@@ -28,7 +28,7 @@ returns-clause-steps g c = λ setup past for.
       held = held_restarted setup past c.args.event c.step-stepped.result.settled c.step-stepped.result.drawn c.step-stepped.result.reply c.args.self.now.jobs c.clear_if.new.self c.requires.act
           (c.step-stepped.ensures.stays setup past for.stands done) (subst (λ all. ClearsJobs all c.args.self.now.jobs c.clear_if.new.self) c.is_done.ensures c.clear_if.ensures) for.held;
       keeps = keeps_step g.D.Disk setup c.args.disk.now c.step-stepped.new.disk past c.step-stepped.result.settled c.args.event c.step-stepped.result.drawn c.step-stepped.result.reply
-          (c.step-stepped.ensures.passes setup past for.stands for.store) c.step-stepped.ensures.cause c.step-stepped.ensures.telling (c.step-stepped.ensures.same setup past for.stands for.store);
+          (c.step-stepped.ensures.passes setup past for.stands for.store) c.step-stepped.ensures.goes.cause c.step-stepped.ensures.goes.telling (c.step-stepped.ensures.same setup past for.stands for.store);
     }
 
 pub returns-clause-entries : goal.returns-clause-entries

@@ -1,5 +1,5 @@
 use Rattle.std.proofs.Common.{get_or, sym, subst, arith}
-use Rattle.operation_slots.specs.Kept.{IsHeld, entries, operations_in}
+use Rattle.operation_slots.specs.Boards.{IsHeld, entries, operations_in}
 use Rattle.operation_slots.proofs.Keeping.{kept_begun}
 use Rattle.operation_slots.proofs.Boards.{present, open_is, out_of_chains, operations_begun, linked_begun}
 use Rattle.std.proofs.lemmas.List.{get_or_default}

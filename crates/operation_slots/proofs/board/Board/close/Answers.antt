@@ -1,6 +1,6 @@
 use Rattle.std.proofs.Common.{◌≡◌, is_some, refl, sym, ap, ◌∙◌, arith}
 use Rattle.operation_slots.specs.declared.cells.Cell.{Cell}
-use Rattle.operation_slots.specs.Kept.{operations_in, operations_on}
+use Rattle.operation_slots.specs.Boards.{operations_in, operations_on}
 use Rattle.operation_slots.proofs.Reading.{cell_read, named_at}
 use Rattle.operation_slots.proofs.Boards.{absent, present, place_within, length_entries, operations_less, slice_is}
 use Rattle.operation_slots.specs.Table.{is_idle, idle_value}

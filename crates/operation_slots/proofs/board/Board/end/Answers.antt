@@ -1,5 +1,5 @@
 use Rattle.std.proofs.Common.{get_or, sym, ap, ◌∙◌, arith}
-use Rattle.operation_slots.specs.Kept.{operations_in}
+use Rattle.operation_slots.specs.Boards.{operations_in}
 use Rattle.operation_slots.proofs.Reading.{none_of_busy, named_at}
 use Rattle.operation_slots.proofs.Boards.{absent, present, length_entries, operations_less, slice_is}
 use Rattle.std.proofs.lemmas.List.{get_or_default}

@@ -1,6 +1,6 @@
 use Rattle.std.proofs.Common.{sym, ap, subst, arith}
 use Rattle.operation_slots.specs.declared.cells.Cell.{Cell}
-use Rattle.operation_slots.specs.Kept.{IsHeld, entries, operations_in}
+use Rattle.operation_slots.specs.Boards.{IsHeld, entries, operations_in}
 use Rattle.operation_slots.proofs.Keeping.{kept_given}
 use Rattle.operation_slots.proofs.Reading.{none_of_busy, cell_read, named_at}
 use Rattle.operation_slots.proofs.Boards.{absent, present, place_within, in_no_chain, operations_given, linked_given}

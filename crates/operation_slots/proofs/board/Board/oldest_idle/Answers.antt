@@ -1,6 +1,6 @@
 use Rattle.std.proofs.Common.{sym, subst, arith}
 use Rattle.operation_slots.specs.declared.cells.Cell.{Cell}
-use Rattle.operation_slots.specs.Kept.{operations_on}
+use Rattle.operation_slots.specs.Boards.{operations_on}
 use Rattle.operation_slots.proofs.Reading.{cell_read}
 use Rattle.operation_slots.specs.Table.{IsOldestAmong}
 use Rattle.operation_slots.proofs.OldestIdle.{first_is, none_left}

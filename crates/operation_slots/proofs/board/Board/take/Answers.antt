@@ -1,6 +1,6 @@
 use Rattle.std.proofs.Common.{is_some, refl, sym, ap, ◌∙◌, subst, arith}
 use Rattle.operation_slots.specs.Table.{made_busy}
-use Rattle.operation_slots.specs.Kept.{IsHeld, entries, operations_in}
+use Rattle.operation_slots.specs.Boards.{IsHeld, entries, operations_in}
 use Rattle.operation_slots.proofs.Lists.{unchanged, not_found}
 use Rattle.operation_slots.proofs.Keeping.{kept_taken}
 use Rattle.operation_slots.proofs.Reading.{named_at}

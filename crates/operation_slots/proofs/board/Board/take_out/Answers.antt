@@ -1,10 +1,10 @@
 use Rattle.std.proofs.Common.{is_some, refl, sym, ap, ◌∙◌, subst, arith}
 use Rattle.operation_slots.specs.declared.cells.Cell.{Cell}
-use Rattle.operation_slots.specs.Kept.{IsHeld, entries, operations_in}
+use Rattle.operation_slots.specs.Boards.{IsHeld, entries, operations_in}
 use Rattle.operation_slots.proofs.Keeping.{kept_without}
 use Rattle.operation_slots.proofs.Reading.{cell_read}
 use Rattle.operation_slots.proofs.Boards.{place_within, in_chain, length_entries, entries_less, operations_less, linked_closed, linked_ended, is_counted, read_at}
-use Rattle.operation_slots.specs.Kept.{Entry}
+use Rattle.operation_slots.specs.Boards.{PlacedOperation}
 use Rattle.operation_slots.proofs.board.Board.take_out.Goals as goal
 
 pub remove-place-requires : goal.remove-place-requires
@@ -37,7 +37,7 @@ returns-in-Some-clause-kept g c =
 
 pub returns-in-Some-clause-value : goal.returns-in-Some-clause-value
 returns-in-Some-clause-value g c =
-    λ e h. sym (sym c.take_value.ensures.value ∙ c.in-Some.is) ∙ ap (λ (x : Entry _). x.cell.operation.value) (read_at c.args.self.now.cells.items c.args.self.now.index.items c.args.self.now.free.items c.args.self.now.counts c.args.self.now.idle c.args.self.now.capacity c.requires.kept.linked c.args.at c.remove-place.result (omega (arith, c.requires.at, length_entries c.args.self.now.cells.items c.args.self.now.index.items c.args.self.now.free.items c.args.self.now.counts c.args.self.now.idle c.args.self.now.capacity c.requires.kept.linked)) c.remove-place.ensures.value e h)
+    λ e h. sym (sym c.take_value.ensures.value ∙ c.in-Some.is) ∙ ap (λ (x : PlacedOperation _). x.cell.operation.value) (read_at c.args.self.now.cells.items c.args.self.now.index.items c.args.self.now.free.items c.args.self.now.counts c.args.self.now.idle c.args.self.now.capacity c.requires.kept.linked c.args.at c.remove-place.result (omega (arith, c.requires.at, length_entries c.args.self.now.cells.items c.args.self.now.index.items c.args.self.now.free.items c.args.self.now.counts c.args.self.now.idle c.args.self.now.capacity c.requires.kept.linked)) c.remove-place.ensures.value e h)
 
 pub returns-in-Some-clause-entries : goal.returns-in-Some-clause-entries
 returns-in-Some-clause-entries g c =
@@ -49,7 +49,7 @@ returns-in-None-clause-kept g c =
 
 pub returns-in-None-clause-value : goal.returns-in-None-clause-value
 returns-in-None-clause-value g c =
-    λ e h. sym (sym c.take_value.ensures.value ∙ c.in-None.is) ∙ ap (λ (x : Entry _). x.cell.operation.value) (read_at c.args.self.now.cells.items c.args.self.now.index.items c.args.self.now.free.items c.args.self.now.counts c.args.self.now.idle c.args.self.now.capacity c.requires.kept.linked c.args.at c.remove-place.result (omega (arith, c.requires.at, length_entries c.args.self.now.cells.items c.args.self.now.index.items c.args.self.now.free.items c.args.self.now.counts c.args.self.now.idle c.args.self.now.capacity c.requires.kept.linked)) c.remove-place.ensures.value e h)
+    λ e h. sym (sym c.take_value.ensures.value ∙ c.in-None.is) ∙ ap (λ (x : PlacedOperation _). x.cell.operation.value) (read_at c.args.self.now.cells.items c.args.self.now.index.items c.args.self.now.free.items c.args.self.now.counts c.args.self.now.idle c.args.self.now.capacity c.requires.kept.linked c.args.at c.remove-place.result (omega (arith, c.requires.at, length_entries c.args.self.now.cells.items c.args.self.now.index.items c.args.self.now.free.items c.args.self.now.counts c.args.self.now.idle c.args.self.now.capacity c.requires.kept.linked)) c.remove-place.ensures.value e h)
 
 pub returns-in-None-clause-entries : goal.returns-in-None-clause-entries
 returns-in-None-clause-entries g c =

@@ -1,7 +1,7 @@
 use Rattle.std.proofs.Common.{◌<◌, All}
 use Rattle.std.proofs.lemmas.Bool.{ltb-true}
 use Rattle.operation_slots.specs.Table.{idle_operation}
-use Rattle.operation_slots.specs.Kept.{operations_on}
+use Rattle.operation_slots.specs.Boards.{operations_on}
 use Rattle.operation_slots.proofs.Keeping.{later_begun}
 use Rattle.operation_slots.proofs.Lists.{found_begun}
 use Rattle.operation_slots.proofs.slots.Slots.begin.Goals as goal

@@ -1,6 +1,6 @@
 use Rattle.std.proofs.Common.{◌<◌, All, subst}
 use Rattle.operation_slots.specs.Table.{IsSound}
-use Rattle.operation_slots.specs.Kept.{operations_on}
+use Rattle.operation_slots.specs.Boards.{operations_on}
 use Rattle.operation_slots.proofs.Seeing.{sound_seen, found_closed, later_closed, room_closed}
 use Rattle.operation_slots.proofs.slots.Slots.close.Goals as goal
 

@@ -1,6 +1,6 @@
 use Rattle.std.proofs.Common.{◌≡◌, ◌<◌, not, find, All, None}
 use Rattle.operation_slots.specs.Table.{has_number, is_client}
-use Rattle.operation_slots.specs.Kept.{operations_on}
+use Rattle.operation_slots.specs.Boards.{operations_on}
 use Rattle.operation_slots.proofs.Keeping.{later_fewer, none_of_fewer}
 use Rattle.operation_slots.proofs.slots.Slots.close_of.Goals as goal
 

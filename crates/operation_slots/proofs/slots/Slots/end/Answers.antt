@@ -1,5 +1,5 @@
 use Rattle.std.proofs.Common.{◌<◌, All}
-use Rattle.operation_slots.specs.Kept.{operations_on}
+use Rattle.operation_slots.specs.Boards.{operations_on}
 use Rattle.operation_slots.proofs.Keeping.{later_without}
 use Rattle.operation_slots.proofs.Lists.{found_without}
 use Rattle.operation_slots.proofs.slots.Slots.end.Goals as goal

@@ -1,6 +1,6 @@
 use Rattle.std.proofs.Common.{◌<◌, All, refl, subst}
 use Rattle.operation_slots.specs.Table.{IsSound, given_back}
-use Rattle.operation_slots.specs.Kept.{operations_on}
+use Rattle.operation_slots.specs.Boards.{operations_on}
 use Rattle.operation_slots.proofs.Keeping.{later_change}
 use Rattle.operation_slots.proofs.Lists.{found_change}
 use Rattle.operation_slots.proofs.Seeing.{sound_seen}

@@ -1,5 +1,5 @@
 use Rattle.std.proofs.Common.{◌≡◌, length, nat_lt, ap, arith}
-use Rattle.operation_slots.specs.Kept.{operations_on}
+use Rattle.operation_slots.specs.Boards.{operations_on}
 use Rattle.operation_slots.proofs.Seeing.{open_seen}
 use Rattle.operation_slots.proofs.slots.Slots.has_room.Goals as goal
 

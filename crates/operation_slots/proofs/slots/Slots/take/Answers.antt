@@ -1,7 +1,7 @@
 use Rattle.std.proofs.Common.{◌<◌, find, All, refl, ◌∙◌}
 use Rattle.std.proofs.lemmas.Bool.{eq-eqb}
 use Rattle.operation_slots.specs.Table.{has_number, made_busy}
-use Rattle.operation_slots.specs.Kept.{operations_on}
+use Rattle.operation_slots.specs.Boards.{operations_on}
 use Rattle.operation_slots.proofs.Keeping.{later_change}
 use Rattle.operation_slots.proofs.Lists.{found_change}
 use Rattle.operation_slots.proofs.Seeing.{cases_of}

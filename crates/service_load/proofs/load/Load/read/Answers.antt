@@ -1,5 +1,5 @@
 use Rattle.std.proofs.Common.{ℕ, sym, ap, ◌∙◌}
-use Rattle.command_words.specs.Numbers.{number_in, threads_in}
+use Rattle.byte_strings.specs.Numbers.{number_in, threads_in}
 use Rattle.service_load.proofs.load.Load.read.Goals as goal
 
 pub returns-clause-some : goal.returns-clause-some

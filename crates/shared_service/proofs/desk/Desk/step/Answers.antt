@@ -91,7 +91,7 @@ invariant_of-self g c =
       stands = ∥∥₁_map₂ old.stands c.requires.may (λ t m. subst (IsDesk g.D.Disk g.N.Entropy old.name c.step-settled.new.self c.step-settled.new.disk c.step-settled.new.entropy) (sym grown)
           (desk_step g.D.Disk g.N.Entropy old.name old.engine c.step-settled.new.self old.disk c.step-settled.new.disk old.entropy c.step-settled.new.entropy (desk_book old) c.args.pass c.args.event c.args.room c.args.back
           c.step-settled.result.settled c.step-settled.result.drawn c.step-settled.result.reply t m c.step-settled.ensures.stands c.step-settled.ensures.follows c.step-settled.ensures.stays c.step-settled.ensures.store
-          c.step-settled.ensures.cause c.step-settled.ensures.drew.faults));
+          c.step-settled.ensures.goes.cause c.step-settled.ensures.drew.faults));
       places = ∥∥₁_elim weights le_prop (λ w. let a = w.0 in omega arith);
       few = ∥∥₁_elim weights le_prop (λ w. w.1);
       small = subst (λ (l : List BookEntry). recorded (log_of l) ≤ length l * 2 ^ 35) (sym grown)

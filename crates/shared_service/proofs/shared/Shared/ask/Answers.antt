@@ -15,7 +15,7 @@ use Rattle.shared_service.specs.Owning.{event_for}
 use Rattle.shared_service.specs.Passes.{front_of, number_of, service_lock, service_name}
 use Rattle.shared_service.specs.Requests.{IsCaller, IsRequested}
 use Rattle.shared_service.specs.declared.made.Requested.TheVariants.{Full, Made, Poor}
-use Rattle.shared_service.specs.declared.shared.turns.Kind.{Kind}
+use Rattle.shared_service.specs.declared.shared.turns.ClientChange.{ClientChange}
 use Rattle.shared_service.specs.declared.shared.away.Sent.{Sent}
 use Rattle.shared_service.proofs.Calling.{recorded_once}
 use Rattle.shared_service.proofs.FirstTurn.{after_connected, call_at, call_full, call_poor, caller_at, enter_after, entered_at, entered_made, extends_at, first_caller, front_at, job_at, job_away, requested_parts, seen_made, sent_none, sent_some, turned_asks}
@@ -110,7 +110,7 @@ seated-requires-clause-seen g c =
     let told = told_of (desk_name old) n c.args.reading (act_in c.of-coming.result) c.args.request before (desk_book new) (Made made) c.of-coming.ensures.act c.in-Made.ensures.requests in
     let next : ℕ × Bool = (c.client_after-client.result.0, c.client_after-client.result.1) in
     let is : next ≡ client_after (kind_of c.args.request) made.reply (mine.client, mine.connected) =
-    c.client_after-client.ensures ∙ ap (λ (k : Kind). client_after k made.reply (mine.client, mine.connected)) (c.kind_of-kind.ensures ∙ ap kind_of c.act.ensures.act) in
+    c.client_after-client.ensures ∙ ap (λ (k : ClientChange). client_after k made.reply (mine.client, mine.connected)) (c.kind_of-kind.ensures ∙ ap kind_of c.act.ensures.act) in
     let turned : turn_number c.enter-turn.result.0 ≡ n = c.enter-turn.ensures.number ∙ (c.wake.ensures.same.0 ∙ number) in
     let rested : resting_number c.rest-pass.result ≡ n = c.rest-pass.ensures.same.0 ∙ (c.leave.ensures.number ∙ turned) in
     let left = c.leave.ensures.front (added_some made.first made.last (desk_book old) (desk_book new) (longer_by n (desk_book old) (desk_book new) told.2) told.1) in
@@ -135,7 +135,7 @@ returns-in-None g c =
     let told = told_of (desk_name old) n c.args.reading (act_in c.of-coming.result) c.args.request before (desk_book new) (Made made) c.of-coming.ensures.act c.in-Made.ensures.requests in
     let next : ℕ × Bool = (c.client_after-client.result.0, c.client_after-client.result.1) in
     let is : next ≡ client_after (kind_of c.args.request) made.reply (mine.client, mine.connected) =
-    c.client_after-client.ensures ∙ ap (λ (k : Kind). client_after k made.reply (mine.client, mine.connected)) (c.kind_of-kind.ensures ∙ ap kind_of c.act.ensures.act) in
+    c.client_after-client.ensures ∙ ap (λ (k : ClientChange). client_after k made.reply (mine.client, mine.connected)) (c.kind_of-kind.ensures ∙ ap kind_of c.act.ensures.act) in
     let turned : turn_number c.enter-turn.result.0 ≡ n = c.enter-turn.ensures.number ∙ (c.wake.ensures.same.0 ∙ number) in
     let rested : resting_number c.rest-pass.result ≡ n = c.rest-pass.ensures.same.0 ∙ (c.leave.ensures.number ∙ turned) in
     let left = c.leave.ensures.front (added_some made.first made.last (desk_book old) (desk_book new) (longer_by n (desk_book old) (desk_book new) told.2) told.1) in
@@ -174,7 +174,7 @@ returns-in-Some g c =
     let told = told_of (desk_name old) n c.args.reading (act_in c.of-coming.result) c.args.request before (desk_book new) (Made made) c.of-coming.ensures.act c.in-Made.ensures.requests in
     let next : ℕ × Bool = (c.client_after-client.result.0, c.client_after-client.result.1) in
     let is : next ≡ client_after (kind_of c.args.request) made.reply (mine.client, mine.connected) =
-    c.client_after-client.ensures ∙ ap (λ (k : Kind). client_after k made.reply (mine.client, mine.connected)) (c.kind_of-kind.ensures ∙ ap kind_of c.act.ensures.act) in
+    c.client_after-client.ensures ∙ ap (λ (k : ClientChange). client_after k made.reply (mine.client, mine.connected)) (c.kind_of-kind.ensures ∙ ap kind_of c.act.ensures.act) in
     let turned : turn_number c.enter-turn.result.0 ≡ n = c.enter-turn.ensures.number ∙ (c.wake.ensures.same.0 ∙ number) in
     let rested : resting_number c.rest-pass.result ≡ n = c.rest-pass.ensures.same.0 ∙ (c.leave.ensures.number ∙ turned) in
     let left = c.leave.ensures.front (added_some made.first made.last (desk_book old) (desk_book new) (longer_by n (desk_book old) (desk_book new) told.2) told.1) in

@@ -14,7 +14,7 @@ use Rattle.keystore_core.specs.Engine.{Stands, StoreStands}
 use Rattle.service_book.specs.declared.entry.BookEntry.{BookEntry}
 use Rattle.service_book.specs.Book.{AreLater, IsCaused, counts_after, history_of, log_of}
 use Rattle.shared_service.specs.declared.desk.Desk.{Desk}
-use Rattle.shared_service.specs.declared.name.Name.{Name}
+use Rattle.shared_service.specs.declared.name.ServiceId.{ServiceId}
 use Rattle.shared_service.specs.declared.pass.Pass.{Pass}
 use Rattle.shared_service.specs.Closings.{TookFront}
 use Rattle.shared_service.specs.DeskWords.{desk_book, desk_name}
@@ -54,7 +54,7 @@ returns-clause-legal g c setup of =
     let named : desk_name desk ≡ service_name self = ap (λ (x : Desk g.row.D.Denot g.row.N.Denot g.D.Disk g.N.Entropy). desk_name x) (sym same) ∙ c.end-slot.ensures.fit in
     let book : c.into_parts.result.3 ≡ desk_book desk = c.into_parts.ensures.book in
     let parts = c.into_parts.ensures.parts in
-    ∥∥₁_map desk.stands (λ t. subst (λ (b : List BookEntry). Legal setup (history_of (log_of b))) (sym book) (t.stands setup (subst (λ (n : Name). IsSetupOf n setup) (sym named) of)).legal)
+    ∥∥₁_map desk.stands (λ t. subst (λ (b : List BookEntry). Legal setup (history_of (log_of b))) (sym book) (t.stands setup (subst (λ (n : ServiceId). IsSetupOf n setup) (sym named) of)).legal)
 
 pub returns-clause-caused : goal.returns-clause-caused
 returns-clause-caused g c =
@@ -64,7 +64,7 @@ returns-clause-caused g c =
     let named : desk_name desk ≡ service_name self = ap (λ (x : Desk g.row.D.Denot g.row.N.Denot g.D.Disk g.N.Entropy). desk_name x) (sym same) ∙ c.end-slot.ensures.fit in
     let book : c.into_parts.result.3 ≡ desk_book desk = c.into_parts.ensures.book in
     let parts = c.into_parts.ensures.parts in
-    ∥∥₁_map desk.stands (λ t. subst (λ (z : Name × List BookEntry). IsCaused (counts_before z.0) z.1) (λ i. (named i, sym book i)) t.caused)
+    ∥∥₁_map desk.stands (λ t. subst (λ (z : ServiceId × List BookEntry). IsCaused (counts_before z.0) z.1) (λ i. (named i, sym book i)) t.caused)
 
 pub returns-clause-stands : goal.returns-clause-stands
 returns-clause-stands g c setup of =
@@ -74,7 +74,7 @@ returns-clause-stands g c setup of =
     let named : desk_name desk ≡ service_name self = ap (λ (x : Desk g.row.D.Denot g.row.N.Denot g.D.Disk g.N.Entropy). desk_name x) (sym same) ∙ c.end-slot.ensures.fit in
     let book : c.into_parts.result.3 ≡ desk_book desk = c.into_parts.ensures.book in
     let parts = c.into_parts.ensures.parts in
-    ∥∥₁_map desk.stands (λ t. subst (λ (z : Engine × List BookEntry). Stands setup z.0 (history_of (log_of z.1))) (λ i. (sym parts.0 i, sym book i)) (t.stands setup (subst (λ (n : Name). IsSetupOf n setup) (sym named) of)))
+    ∥∥₁_map desk.stands (λ t. subst (λ (z : Engine × List BookEntry). Stands setup z.0 (history_of (log_of z.1))) (λ i. (sym parts.0 i, sym book i)) (t.stands setup (subst (λ (n : ServiceId). IsSetupOf n setup) (sym named) of)))
 
 pub returns-clause-store : goal.returns-clause-store
 returns-clause-store g c setup of =
@@ -87,7 +87,7 @@ returns-clause-store g c setup of =
     ∥∥₁_map desk.stands (λ t.
     subst (λ (z : Engine × List BookEntry). StoreStands g.D.Disk setup z.0 c.into_parts.result.1 (history_of (log_of z.1))) (λ i. (sym parts.0 i, sym book i))
     (subst (λ (x : g.row.D.Denot). StoreStands g.D.Disk setup desk.engine x (history_of (log_of (desk_book desk)))) (sym parts.1)
-    (t.store setup (subst (λ (n : Name). IsSetupOf n setup) (sym named) of))))
+    (t.store setup (subst (λ (n : ServiceId). IsSetupOf n setup) (sym named) of))))
 
 pub returns-clause-counts : goal.returns-clause-counts
 returns-clause-counts g c =
@@ -100,7 +100,7 @@ returns-clause-counts g c =
     let later : ∥ AreLater (counts_after (start_of self) (log_of c.into_parts.result.3)) (counts_of g.D.Disk g.N.Entropy c.into_parts.result.1 c.into_parts.result.2) ∥₁ = ∥∥₁_map desk.stands (λ t.
     subst (λ (e : g.row.N.Denot). AreLater (counts_after (start_of self) (log_of c.into_parts.result.3)) (counts_of g.D.Disk g.N.Entropy c.into_parts.result.1 e)) (sym parts.2)
     (subst (λ (x : g.row.D.Denot). AreLater (counts_after (start_of self) (log_of c.into_parts.result.3)) (counts_of g.D.Disk g.N.Entropy x desk.entropy)) (sym parts.1)
-    (subst (λ (z : Name × List BookEntry). AreLater (counts_after (counts_before z.0) (log_of z.1)) (counts_of g.D.Disk g.N.Entropy desk.disk desk.entropy)) (λ i. (named i, sym book i)) t.counts))) in
+    (subst (λ (z : ServiceId × List BookEntry). AreLater (counts_after (counts_before z.0) (log_of z.1)) (counts_of g.D.Disk g.N.Entropy desk.disk desk.entropy)) (λ i. (named i, sym book i)) t.counts))) in
     record { disk = ∥∥₁_elim later le_prop (λ l. l.disk); entropy = ∥∥₁_elim later le_prop (λ l. l.entropy) }
 
 pub returns-clause-fronts : goal.returns-clause-fronts

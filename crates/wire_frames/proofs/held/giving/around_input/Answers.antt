@@ -1,7 +1,7 @@
 use Rattle.std.proofs.Common.{◌<◌, ◌≤◌, length, take, ap, ◌∙◌, arith}
 use Rattle.std.specs.Option.{option_map}
 use Rattle.wire_frames.specs.Apart.{with_input}
-use Rattle.wire_frames.specs.Kept.{kept_act}
+use Rattle.wire_frames.specs.PartialFrames.{kept_act}
 use Rattle.wire_frames.proofs.Arounds.{apart_short, apart_whole, says_apart}
 use Rattle.wire_frames.proofs.held.giving.around_input.Goals as goal
 

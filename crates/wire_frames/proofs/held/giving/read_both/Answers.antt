@@ -2,8 +2,9 @@ use Rattle.std.proofs.Common.{rules, ◌≡◌, ◌+◌, ◌∷◌, length, drop
 use Rattle.wire_frames.specs.Spelling.{is_asked}
 use Rattle.wire_frames.specs.Streams.{whole_in}
 use Rattle.wire_frames.specs.Reading.{act_in}
-use Rattle.wire_frames.specs.Kept.{bytes_in, kept_act}
-use Rattle.wire_frames.proofs.Codecs.{IsBytes, IsBytes-drop}
+use Rattle.wire_frames.specs.PartialFrames.{bytes_in, kept_act}
+use Rattle.byte_strings.specs.Codecs.{IsBytes}
+use Rattle.byte_strings.proofs.Fields.{IsBytes-drop}
 use Rattle.wire_frames.proofs.Bodies.{act_takes, framed_asked}
 use Rattle.wire_frames.proofs.Fronts.{bad_is, whole_is}
 use Rattle.wire_frames.proofs.Going.{full_front, held_bad, held_whole}

@@ -1,7 +1,7 @@
 use Rattle.std.proofs.Common.{rules, ◌≡◌, ◌<◌, false, leb, length, subst}
 use Rattle.std.proofs.lemmas.Bool.{leb-false}
 use Rattle.wire_frames.specs.Streams.{needed}
-use Rattle.wire_frames.specs.Kept.{bytes_in}
+use Rattle.wire_frames.specs.PartialFrames.{bytes_in}
 use Rattle.wire_frames.specs.Outcomes.{IsRead}
 use Rattle.wire_frames.proofs.Filling.{joined, all_taken}
 use Rattle.wire_frames.proofs.held.giving.read_more.Goals as goal

@@ -1,6 +1,7 @@
 use Rattle.std.proofs.Common.{◌≡◌, ◌++◌, arith, length, length-append}
 use Rattle.byteorder.specs.Endian.{big_bytes}
-use Rattle.wire_frames.specs.Spelling.{counted, optional, flag, key_of}
+use Rattle.byte_strings.specs.Fields.{flag}
+use Rattle.wire_frames.specs.Spelling.{counted, optional, key_of}
 use Rattle.wire_frames.proofs.Adding.{size_one, size_two, size_three, flag_one}
 use Rattle.wire_frames.proofs.writing.sizes.body_size.Goals as goal
 

@@ -1,0 +1,4 @@
+pub mod Codecs
+pub mod Fields
+pub mod Numbers
+pub mod Readers

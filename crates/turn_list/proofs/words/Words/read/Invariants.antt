@@ -1,6 +1,0 @@
-use Rattle.std.proofs.Common.{All}
-use Rattle.command_words.specs.Numbers.{IsThreadCount}
-use Rattle.turn_list.proofs.words.Words.read.Given as goal
-
-abbrev pub invariant-loop-word : goal.invariant-loop-word
-invariant-loop-word l = All IsThreadCount l.threads.items
