@@ -10,7 +10,7 @@ use serde_json::Value;
 use std::alloc::Global;
 use std::fmt::{Display, Formatter};
 use std::{fmt, str};
-use tags::{Policy, PolicyRow};
+use tags::{POLICY_ROWS, Policy, PolicyRow};
 
 /// A whole number of at most 64 bits.
 fn u64_of(value: &Value) -> Option<u64>
@@ -90,7 +90,7 @@ pub enum PolicyFault {
     NoArray,
     /// the row of this number, counted from 1, is no array of exactly a uid, a namespace and permission bits
     Row { number: u64 },
-    /// it has more than 256 rows
+    /// it has more than `POLICY_ROWS` rows
     TooManyRows,
     /// want of memory, and nothing else
     Memory,
@@ -105,7 +105,7 @@ impl Display for PolicyFault {
                 f,
                 "row {number} is no array of exactly a uid, a namespace and permission bits, as [1000, 100, 509]"
             ),
-            PolicyFault::TooManyRows => f.write_str("it has more than 256 rows"),
+            PolicyFault::TooManyRows => write!(f, "it has more than {POLICY_ROWS} rows"),
             PolicyFault::Memory => f.write_str("want of memory"),
         }
     }

@@ -15,6 +15,6 @@ mod unsynced;
 
 pub use disk::FileDisk;
 pub use real_file::RealFile;
-pub use store::{StoreFile, open_store};
+pub use store::{LAST_STREAM, StoreFile, open_store};
 pub use trouble::Trouble;
 pub use unsynced::Unsynced;

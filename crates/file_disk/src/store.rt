@@ -18,7 +18,7 @@ use std::rt::Files;
 const LAST_PLACE: u64 = (1 << 63) - 1;
 
 /// The greatest descriptor of a standard stream.
-const LAST_STREAM: i32 = 2;
+pub const LAST_STREAM: i32 = 2;
 
 /// The file of a store. It is looked for, and locked, at its first call; as long as another holds its lock, each call fails and touches
 /// nothing of it. Where there is none it reads as no bytes, and the first write makes it, for its owner alone (mode 0600). Once its path

@@ -19,6 +19,7 @@ ghost use Rattle.keystore_program.specs.Services.{served_as};
 
 use crate::announced::Announced;
 use crate::help::{help_text, version_text};
+use crate::misuse::FORMS;
 use crate::notices::{
     DEVICE, POLICY, STORE, tell_counts, tell_device, tell_file, tell_misuse, tell_port, tell_store,
 };
@@ -56,7 +57,12 @@ fn words_of(rt: &HostRuntime) -> io::Result<Vec<String>> {
 
 /// Whether a form begins with this word.
 fn begins_form(word: &str) -> bool {
-    word == "init" || word == "run" || word == "soak" || word == "serve"
+    for form in FORMS {
+        if form == word {
+            return true;
+        }
+    }
+    false
 }
 
 /// The text that the words ask for in place of a form: the help, also behind a form's first word, or the version.

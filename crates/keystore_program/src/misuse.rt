@@ -127,7 +127,8 @@ fn nearest<W: fmt::Write>(f: &mut Formatter<W>, near: Option<&'static str>) -> f
     }
 }
 
-static FORMS: [&str; 4] = ["init", "run", "soak", "serve"];
+/// The words that forms begin with.
+pub static FORMS: [&str; 4] = ["init", "run", "soak", "serve"];
 
 static OPTIONS: [&str; 2] = ["--fresh", "--slots"];
 

@@ -1,11 +1,9 @@
 //! The standard streams of a process that was started with some of them closed.
 
+use file_disk::LAST_STREAM;
 use std::fs;
 use std::fs::OpenOptions;
 use std::os::fd::AsRawFd;
-
-/// The greatest descriptor of a standard stream.
-const LAST_STREAM: i32 = 2;
 
 /// The null device, in the place of each standard stream that is closed. Let go, these are closed again.
 #[derive(Drop)]

@@ -7,7 +7,7 @@ use Rattle.ks_outside.specs.Shown.{Put}
 use Rattle.ks_outside.specs.declared.disk.Disk.{Ghosts as DiskGhosts}
 use Rattle.ks_outside.specs.declared.entropy.Entropy.{Ghosts as EntropyGhosts}
 use Rattle.ks_outside.specs.declared.sink.Sink.{Ghosts as SinkGhosts}
-use Rattle.disk_model.specs.DiskCalls.{Call}
+use Rattle.disk_model.specs.DiskCalls.{DiskCall}
 use Rattle.disk_model.specs.CrashImages.{IsImage, WasImage}
 use Rattle.rand_chacha.specs.ChaCha.{of_seed}
 use Rattle.tags.specs.declared.code.Code.{Code}
@@ -139,11 +139,11 @@ few_lines seed lines script is few =
 -- ---- the store of a load
 
 -- a disk in memory that made no call is empty
-pub no_image : (calls : List Call) (image : List ℕ) → calls ≡ [] → IsImage calls image → image ≡ []
-no_image calls image none is = subst (λ (made : List Call). IsImage made image) none is
+pub no_image : (calls : List DiskCall) (image : List ℕ) → calls ≡ [] → IsImage calls image → image ≡ []
+no_image calls image none is = subst (λ (made : List DiskCall). IsImage made image) none is
 
-pub no_moment : (calls : List Call) (t : ℕ) (image : List ℕ) → calls ≡ [] → WasImage calls t image → image ≡ []
-no_moment calls t image none was = (subst (λ (made : List Call). WasImage made t image) none was).1
+pub no_moment : (calls : List DiskCall) (t : ℕ) (image : List ℕ) → calls ≡ [] → WasImage calls t image → image ≡ []
+no_moment calls t image none was = (subst (λ (made : List DiskCall). WasImage made t image) none was).1
 
 told : (content : Option (List ℕ)) → is_some content ≡ true → (image : List ℕ) × (content ≡ Some image)
 told (Some image) e = (image, refl)

@@ -43,6 +43,10 @@ mod places;
 #[cfg(test)]
 mod shares;
 #[cfg(test)]
+mod slot_desk;
+#[cfg(test)]
+mod slot_lists;
+#[cfg(test)]
 mod spelled;
 #[cfg(test)]
 mod steps;

@@ -15,8 +15,11 @@ use ks_outside::{Disk, Failed, write_synced};
 use std::alloc::Global;
 use tags::{JOURNAL_BYTES, Settled};
 
+/// How many bytes of a journal its header has.
+pub(crate) const HEADER_BYTES: usize = 8;
+
 /// The header of a journal, and a gate that is shut.
-const FRESH: [u8; 9] = *b"KSJRNL01\0";
+pub(crate) const FRESH: [u8; 9] = *b"KSJRNL01\0";
 
 /// Where the records of a journal end: the place of the gate behind them. While a change whose writing failed waits
 /// to be settled, also where they end with it.

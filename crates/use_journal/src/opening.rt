@@ -7,7 +7,7 @@ ghost use Rattle.journal_records.specs.declared.change.Change.{Change};
 ghost use Rattle.use_journal.specs.Journal.{written, IsJournal, AreChanges, past_of, placed};
 ghost use Rattle.use_journal.specs.Holding.{end_of, is_waiting, FindsJournal, IsSettledOn, ReadsJournal};
 
-use crate::journal::Journal;
+use crate::journal::{FRESH, HEADER_BYTES, Journal};
 use gated_records::OPEN;
 use journal_records::{Changes, RecordFault, StoreFault, read_record};
 use ks_outside::{Disk, ReadFault, read_synced};
@@ -24,11 +24,11 @@ fn walk(alloc: Global, bytes: &[u8]) -> Result<(Journal, Changes), StoreFault>
     ensures changes { IfOk result (λ opened. AreChanges (past_of opened.1)) }
     ensures device { ¬ IsErrOf result StoreFault.Device }
 {
-    if bytes.len() < 8 {
+    if bytes.len() < HEADER_BYTES {
         return Err(StoreFault::Corrupted { offset: 0 });
     }
-    let (front, behind) = bytes.split_at(8);
-    if front != b"KSJRNL01".as_slice() {
+    let (front, behind) = bytes.split_at(HEADER_BYTES);
+    if front != &FRESH[..HEADER_BYTES] {
         return Err(StoreFault::Corrupted { offset: 0 });
     }
     let mut changes = Changes::empty(alloc);

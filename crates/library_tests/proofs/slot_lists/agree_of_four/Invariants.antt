@@ -1,4 +1,4 @@
-use Rattle.library_tests.proofs.victims.agree.Given as goal
+use Rattle.library_tests.proofs.slot_lists.agree_of_four.Given as goal
 
 -- the ledger that the blank opens
 abbrev pub ghosts-pruned : goal.ghosts-pruned

@@ -1,4 +1,4 @@
-use Rattle.library_tests.proofs.victims.go_in_order.Given as goal
+use Rattle.library_tests.proofs.slot_lists.go_in_order.Given as goal
 
 -- the ledger that the blank opens
 abbrev pub ghosts-oldest : goal.ghosts-oldest
