@@ -12,6 +12,10 @@ mod loopback;
 #[cfg(test)]
 mod notes;
 #[cfg(test)]
+mod passing;
+#[cfg(test)]
+mod patience;
+#[cfg(test)]
 mod strings;
 #[cfg(test)]
 mod talks;

@@ -30,12 +30,18 @@ use file_disk::open_store;
 use keystore_run::{Status, run_words};
 use keystore_server::{ServeStatus, serve_port, serve_words};
 use ks_outside::{MachineClock, OpenGate, ReaderSource, WriterSink, open_device};
-use outside_net::listen;
+use outside_net::{Patience, listen};
 use std::process::ExitCode;
 use std::sync::Wait;
 use std::thread::Threads;
 use std::{env, io};
 use tags::{DeviceSecrets, Policy};
+
+/// How long a connection of a service is waited for: five minutes for bytes to come, and half a minute for bytes to be taken.
+const PATIENCE: Patience = Patience {
+    read: 300_000,
+    write: 30_000,
+};
 
 /// The device that a process runs as.
 #[derive(Drop)]
@@ -191,7 +197,7 @@ fn serve_process<R: Threads + Wait + Sync>(
         tell_status(rt, Status::Usage, words);
         return Status::Usage;
     };
-    let listener = listen(rt, port);
+    let listener = listen(rt, port, PATIENCE);
     let Some(found) = listener.port() else {
         tell_status(rt, Status::ListenFault, words);
         tell_port(rt, port, &listener);

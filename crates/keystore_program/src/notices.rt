@@ -44,7 +44,7 @@ pub fn tell_store<R: Files<File = fs::File>>(
 }
 
 /// Why a port could not be had, or a connection not be taken.
-pub fn tell_port(rt: &HostRuntime, port: u16, listener: &PortListener) {
+pub fn tell_port<L, C>(rt: &HostRuntime, port: u16, listener: &PortListener<'_, L, C>) {
     if let Some(error) = listener.trouble() {
         let _ = eprintln!(rt; "keystore2: port {port}: {error}");
     }

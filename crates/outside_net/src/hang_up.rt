@@ -5,7 +5,8 @@ ghost use Rattle.std.specs.Prelude.{◌≡◌, Some, None};
 use crate::closing::read_out;
 use crate::listener::PortListener;
 use ks_outside::{Listener, MemoryLink, MemoryListener, StreamLink};
-use std::net::TcpStream;
+use std::net::{OpenListener, TcpStream};
+use std::time::Clock;
 
 /// A listener whose connections are ended apart from it, by whoever served them. So neither a listener that waits for the next
 /// connection nor a peer that goes on sending holds up what else is to be done with the listener.
@@ -15,7 +16,7 @@ pub trait HangsUp: Listener {
     fn hang_up(link: Self::L) -> Option<Self::L>;
 }
 
-impl HangsUp for PortListener {
+impl<L: OpenListener<Stream = TcpStream>, C: Clock> HangsUp for PortListener<'_, L, C> {
     /// The socket is closed here: handed back, it would stay open until the listener, which waits for the next client, is free to close it.
     fn hang_up(link: StreamLink<TcpStream>) -> Option<StreamLink<TcpStream>>
         ensures closed { result ≡ None }

@@ -7,6 +7,9 @@
 mod closing;
 mod hang_up;
 mod listener;
+mod passing;
+mod patience;
 
 pub use hang_up::HangsUp;
 pub use listener::{PortListener, listen};
+pub use patience::Patience;

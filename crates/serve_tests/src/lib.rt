@@ -13,4 +13,6 @@ mod services_end;
 #[cfg(test)]
 mod sessions;
 #[cfg(test)]
+mod silent_clients;
+#[cfg(test)]
 mod two_connections;

@@ -96,7 +96,7 @@ fn listener_of<'a>(alloc: Global, sent: Links<'a>) -> Option<MemoryListener<'a>>
 }
 
 /// The words of a text, but those for which memory is wanting, which shows in the status.
-fn words_of(alloc: Global, text: &str) -> Vec<String> {
+pub(crate) fn words_of(alloc: Global, text: &str) -> Vec<String> {
     let mut words = Vec::new(alloc);
     for word in text.split_whitespace() {
         if let Ok(word) = String::from_str(alloc, word) {
@@ -166,7 +166,7 @@ fn disconnects(entries: &[BookEntry]) -> usize {
 }
 
 /// How many entries a book has at what the clocks said, and how many are the disconnect of a client.
-fn counts_of(book: &Option<Book>) -> (Option<usize>, usize) {
+pub(crate) fn counts_of(book: &Option<Book>) -> (Option<usize>, usize) {
     match book {
         Some(book) => {
             let entries = book.entries();

@@ -1,4 +1,4 @@
 use Rattle.outside_net.proofs.listener.PortListener.faults.Goals as goal
 
 pub returns : goal.returns
-returns c = c.count.ensures
+returns g c = c.count.ensures

@@ -4,7 +4,7 @@ use Rattle.shared_service.specs.declared.pass.Pass.{Pass}
 use Rattle.shared_service.specs.Passes.{connected_of}
 use Rattle.keystore_server.specs.Calling.{IsAnswered}
 use Rattle.keystore_server.proofs.Callers.{goes_away, ours_prop, stays_connected}
-use Rattle.keystore_server.proofs.caller.CallerAnswerer.answer.Goals as goal
+use Rattle.keystore_server.proofs.caller.ServicePassAnswerer.answer.Goals as goal
 
 pub call-pass-requires-clause-ours : goal.call-pass-requires-clause-ours
 call-pass-requires-clause-ours g c =
