@@ -1,18 +1,20 @@
 #!/usr/bin/env python3
 """Builds the program: proves each crate that it stands on and then the program, on all processors.
 
-What the program stands on is copied to a temporary folder (where TMPDIR says, some gigabytes), without must-fail edits, and the gate's
-`rt ci` runs there: it proves crates side by side, each over the statements of those below it, and runs the program once as each of two
-compilers builds it. A toolchain that keeps what it proved passes over what has not changed, here and in the gate; another one proves
-all of it each time. On a terminal one line goes on: how much is proved, the minutes so far, and what is at work; elsewhere a line comes
-each minute. Crates count by their sources' length, which is near the time that they take. At a failure it prints the lines of the first
-crate that was refused, and where the whole log is. It tries no must-fail edit: that is the gate.
+What the program stands on is copied to a temporary folder (where TMPDIR says, some gigabytes), without must-fail edits,
+and the gate's `rt ci` runs there: it proves crates side by side, each over the statements of those below it, and runs
+the program once as each of two compilers builds it. A toolchain that keeps what it proved passes over what has not
+changed, here and in the gate; another one proves all of it each time. On a terminal one line goes on: how much is
+proved, the minutes so far, and what is at work; elsewhere a line comes each minute. Crates count by their sources'
+length, which is near the time that they take. At a failure it prints the lines of the first crate that was refused, and
+where the whole log is. It tries no must-fail edit: that is the gate.
 
-At its end it says of each release that lies in the top folder, an archive of `tools/release.py` or its .sha256 alone, whether the program
-that was built has the bytes of its program.
+At its end it says of each release that lies in the top folder, an archive of `tools/release.py` or its .sha256 alone,
+whether the program that was built has the bytes of its program.
 
-With --checked it makes the program that `rt try` compiles of the same sources, with checks and no proof: `rt try` has it in a temporary
-folder while it runs, and it is copied from there to out/. Beside a program stands git's digest of the sources that it was made of."""
+With --checked it makes the program that `rt try` compiles of the same sources, with checks and no proof: `rt try`
+has it in a temporary folder while it runs, and it is copied from there to out/. Beside a program stands git's digest
+of the sources that it was made of."""
 import contextlib
 import fcntl
 import glob
@@ -28,7 +30,7 @@ import tempfile
 import time
 import zlib
 
-from harness import parser_of
+from keystore.harness import parser_of
 
 PROGRAM = "keystore_program"
 TOP = os.path.dirname(os.path.dirname(os.path.realpath(__file__)))
@@ -85,16 +87,27 @@ def is_of(place, sources):
 
 def weight_of(name):
     """The bytes of a crate's sources."""
-    files = [it for part in ("src", "specs", "proofs") for it in glob.glob(f"{TOP}/crates/{name}/{part}/**/*.*", recursive=True)]
+    files = [
+        it
+        for part in ("src", "specs", "proofs")
+        for it in glob.glob(f"{TOP}/crates/{name}/{part}/**/*.*", recursive=True)
+    ]
     return sum(map(os.path.getsize, files))
 
 
 def copy_crates(names, folder, left_out=()):
-    """Copies these crates into a folder, without what has one of these names, and the lines that crates.txt has of them."""
+    """Copies these crates into a folder, without what has one of these names, and the lines that crates.txt has of
+    them."""
     for name in names:
-        shutil.copytree(f"{TOP}/crates/{name}", f"{folder}/crates/{name}", symlinks=True, ignore=shutil.ignore_patterns(*left_out))
-    with open(f"{TOP}/crates.txt", encoding="utf-8") as lines, open(f"{folder}/crates.txt", "w", encoding="utf-8") as kept:
-        kept.writelines(line for line in lines if line.split("#")[0].split(":")[0].split()[:1] in [[it] for it in names])
+        shutil.copytree(
+            f"{TOP}/crates/{name}", f"{folder}/crates/{name}", symlinks=True, ignore=shutil.ignore_patterns(*left_out)
+        )
+    with open(f"{TOP}/crates.txt", encoding="utf-8") as lines, open(
+        f"{folder}/crates.txt", "w", encoding="utf-8"
+    ) as kept:
+        kept.writelines(
+            line for line in lines if line.split("#")[0].split(":")[0].split()[:1] in [[it] for it in names]
+        )
 
 
 def make_repository(names, folder):
@@ -126,24 +139,33 @@ def processes_below(top):
         while pid in parents and pid != top:
             pid = parents[pid]
         return pid == top
+
     return {pid: it for pid, it in found.items() if pid != top and is_below(pid)}
 
 
 def tell(what, end=""):
     if sys.stderr.isatty():
-        print(f"\r\033[Kkeystore2: {what}"[:shutil.get_terminal_size().columns + 3], end=end, file=sys.stderr, flush=True)
+        print(
+            f"\r\033[Kkeystore2: {what}"[: shutil.get_terminal_size().columns + 3], end=end, file=sys.stderr, flush=True
+        )
     else:
         print(f"keystore2: {what}", file=sys.stderr, flush=True)
 
 
 def run(words, folder, log, told):
     """Runs a command to its end, with what it says in a log; it is told meanwhile which crates are at work."""
-    with open(log, "wb") as out, subprocess.Popen(words, cwd=folder, stdin=subprocess.DEVNULL, stdout=out, stderr=out) as process:
+    with open(log, "wb") as out, subprocess.Popen(
+        words, cwd=folder, stdin=subprocess.DEVNULL, stdout=out, stderr=out
+    ) as process:
         try:
             while True:
                 with contextlib.suppress(subprocess.TimeoutExpired):
                     return process.wait(1 if sys.stderr.isatty() else 60)
-                at_work = {it[0][it[0].index("--crate-name") + 1] for it in processes_below(process.pid).values() if "--crate-name" in it[0]}
+                at_work = {
+                    it[0][it[0].index("--crate-name") + 1]
+                    for it in processes_below(process.pid).values()
+                    if "--crate-name" in it[0]
+                }
                 told(", ".join(sorted(at_work)))
         finally:
             process.terminate()
@@ -160,7 +182,12 @@ def tell_failure(log):
     with tempfile.NamedTemporaryFile("w", prefix="keystore2-log-", delete=False) as kept:
         kept.write("\n".join(lines))
     end = next((place for place, line in enumerate(lines, 1) if line.endswith(" NOT PROVED")), len(lines))
-    print(f"\nkeystore2: the program was not built; {kept.name} says", *lines[max(end - 20, 0):end], sep="\n", file=sys.stderr)
+    print(
+        f"\nkeystore2: the program was not built; {kept.name} says",
+        *lines[max(end - 20, 0) : end],
+        sep="\n",
+        file=sys.stderr,
+    )
 
 
 def build(names):
@@ -174,7 +201,8 @@ def build(names):
         def told(at_work):
             proved = {it[1] for line in lines_of(log) if (it := re.fullmatch(r"rt: (\w+) (?:proved|is kept:.*)", line))}
             part = sum(weights[name] for name in proved & weights.keys()) / sum(weights.values())
-            tell(f"{part:.0%} proved, {len(proved)} of {len(names)} crates, {(time.time() - start) / 60:.1f} min: {at_work}")
+            minutes = (time.time() - start) / 60
+            tell(f"{part:.0%} proved, {len(proved)} of {len(names)} crates, {minutes:.1f} min: {at_work}")
 
         status = run(["rt", "ci"], folder, log, told)
         if status or not os.access(f"{folder}/{BUILT}", os.X_OK):
@@ -192,7 +220,9 @@ def sum_in(release):
         with open(release, encoding="utf-8") as rows:
             return next((row.split()[0] for row in rows if row.rstrip().endswith("/keystore2")), None)
     with tarfile.open(release, "r:gz") as archive:
-        member = next((it for it in archive if it.isfile() and it.name.count("/") == 1 and it.name.endswith("/keystore2")), None)
+        member = next(
+            (it for it in archive if it.isfile() and it.name.count("/") == 1 and it.name.endswith("/keystore2")), None
+        )
         return hashlib.sha256(archive.extractfile(member).read()).hexdigest() if member else None
 
 
@@ -221,7 +251,8 @@ def is_run(program):
 
 
 def build_checked(names):
-    """Makes the checked program, which `rt try` has in its folder while it runs; the status is 0, or 2 where it was not seen there."""
+    """Makes the checked program, which `rt try` has in its folder while it runs; the status is 0, or 2 where it was
+    not seen there."""
     start, sources = time.time(), digest()
     with tempfile.TemporaryDirectory(prefix=f"{PREFIX}{os.getpid()}-") as folder:
         make_repository(names, folder)
@@ -229,7 +260,9 @@ def build_checked(names):
         words = ["rt", "try", "--", "soak", "7", "100000"]
         where = {**os.environ, "TMPDIR": folder}
         none = subprocess.DEVNULL
-        with subprocess.Popen(words, cwd=f"{folder}/crates/{PROGRAM}", env=where, stdin=none, stdout=none, stderr=none) as process:
+        with subprocess.Popen(
+            words, cwd=f"{folder}/crates/{PROGRAM}", env=where, stdin=none, stdout=none, stderr=none
+        ) as process:
             try:
                 told = start
                 while process.poll() is None:

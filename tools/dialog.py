@@ -3,23 +3,21 @@
 
     python3 tools/dialog.py [WORDS OF THE PROGRAM ..] < SCRIPT
 
-The words are `run --fresh` where none are given. A line addAuthToken of such a script may have "op N" as its challenge and no mac:
-it gets the challenge that the reply to the begin of operation N told, and the mac that an authenticator of the demo device makes. A
-line may have "line N" as the blob of its key: it gets the one that the reply to line N told. With a member `flip` that bit of the mac,
-or of the blob, is turned. So a line is sent once the reply to the one before is there. The replies are printed as they come.
-It builds the program first where it is not built.
-"""
+The words are `run --fresh` where none are given. A line addAuthToken of such a script may have "op N" as its
+challenge and no mac: it gets the challenge that the reply to the begin of operation N told, and the mac that an
+authenticator of the demo device makes. A line may have "line N" as the blob of its key: it gets the one that the
+reply to line N told. With a member `flip` that bit of the mac, or of the blob, is turned. So a line is sent once the
+reply to the one before is there. The replies are printed as they come. It builds the program first where it is not
+built."""
 import argparse
 import json
 import re
 import subprocess
 import sys
-from pathlib import Path
 
-from harness import parser_of
-from make_token import DEMO_KEY, mac_of
+from keystore.harness import TOP, parser_of
+from keystore.tokens import DEMO_KEY, mac_of
 
-TOP = Path(__file__).resolve().parent.parent
 OPEN = re.compile(rb'"(?:challenge":"op|blob":"line) ([0-9]+)"')
 
 
@@ -81,7 +79,12 @@ def replies_of(process, lines):
 
 def main():
     parser = parser_of(__doc__)
-    parser.add_argument("words", nargs=argparse.REMAINDER, metavar="WORDS", help="the program's words, from its act on; else run --fresh")
+    parser.add_argument(
+        "words",
+        nargs=argparse.REMAINDER,
+        metavar="WORDS",
+        help="the program's words, from its act on; else run --fresh",
+    )
     words = parser.parse_args().words or ["run", "--fresh"]
     lines = sys.stdin.buffer.read().splitlines()
     with subprocess.Popen([TOP / "keystore2", *words], stdin=subprocess.PIPE, stdout=subprocess.PIPE) as process:

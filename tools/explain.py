@@ -1,8 +1,8 @@
 #!/usr/bin/env python3
 """Says what is wrong with the lines of a script, and what the codes and rules of its replies mean.
 
-    python3 tools/explain.py SCRIPT             of each line that is no event: which member, what is wrong with it, which names are known
-    python3 tools/explain.py SCRIPT REPLIES     also of each reply that refuses: the code's and the rule's name, with their sentences
+    python3 tools/explain.py SCRIPT             of each line that is no event: which member, what is wrong, known names
+    python3 tools/explain.py SCRIPT REPLIES     also of each reply that refuses: the names of code and rule, and why
     python3 tools/explain.py SCRIPT --write     prints the script with numbers in place of names for values
     python3 tools/explain.py --names [--json]   prints the acts, tags, values, domains, bits, codes and rules
 
@@ -10,10 +10,11 @@
 
     ./keystore2 run --fresh < letter.jsonl | python3 tools/explain.py letter.jsonl -
 
-The program takes numbers alone for values. With --write `["PURPOSE","SIGN"]` becomes `["PURPOSE",2]`; so do the values of the other tags,
-`"domain":"APP"`, `"format":"RAW"`, and the bits of a grant, of which there may be several: `"bits":["USE","GET_INFO"]`. All names and
-sentences are those of docs/RULES.md. A member that no act has is told too, since nothing looks at it. The exit status is 1 where a line is no
-event or a reply refuses, and 2 where a file is not to be had."""
+The program takes numbers alone for values. With --write `["PURPOSE","SIGN"]` becomes `["PURPOSE",2]`; so do the
+values of the other tags, `"domain":"APP"`, `"format":"RAW"`, and the bits of a grant, of which there may be several:
+`"bits":["USE","GET_INFO"]`. All names and sentences are those of docs/RULES.md. A member that no act has is told
+too, since nothing looks at it. The exit status is 1 where a line is no event or a reply refuses, and 2 where a file
+is not to be had."""
 import difflib
 import itertools
 import json
@@ -21,17 +22,18 @@ import os
 import re
 import sys
 
-import script_events
-from harness import parser_of
-from rules_page import ACTS, BITS, CODES, DOMAINS, FORMATS, RULES, TAGS, USES, VALUES
-from script_events import VALUE_BYTES, Malformed, check_levels, check_texts
+from keystore import lists
+from keystore.harness import parser_of
+from keystore.lists import VALUE_BYTES
+from keystore.rules_page import ACTS, BITS, CODES, DOMAINS, FORMATS, RULES, TAGS, USES, VALUES
+from keystore.script_events import Malformed, check_levels, check_texts
 
 MOST_LINE, MOST_PARAMS, MOST_BYTES = 262_144, (1 << 16) - 1, (1 << 16) - 1
 ALONE = {"connect", "leave", "restart"}
 MAY_BE_ABSENT = {"nspace", "params", "input", "forced", "hold", "alias", "blob", "past", "signature", "root"}
 HOLDING = {"update", "updateAad", "finish"}
 DESCRIPTOR = {"domain": "u32", "nspace": "u64", "alias": "text", "blob": "bytes"}
-TYPES = {kind: getattr(script_events, kind) for kind, _ in TAGS.values()}
+TYPES = {kind: getattr(lists, kind) for kind, _ in TAGS.values()}
 
 
 class Number:
@@ -54,20 +56,36 @@ def nearest(word, known):
 
 def shown(value):
     """A value of JSON as a line has it, shortened."""
-    text = value.text if isinstance(value, Number) else json.dumps(value, default=lambda it: json.loads(it.text), ensure_ascii=False)
+    text = (
+        value.text
+        if isinstance(value, Number)
+        else json.dumps(value, default=lambda it: json.loads(it.text), ensure_ascii=False)
+    )
     return text if len(text) <= 40 else f"{text[:40]}.."
 
 
 def kind_of(value):
-    names = {type(None): "no value (what may be absent is left out)", bool: "a truth value", str: "a text", list: "a list", dict: "an object", Number: "a number"}
+    names = {
+        type(None): "no value (what may be absent is left out)",
+        bool: "a truth value",
+        str: "a text",
+        list: "a list",
+        dict: "an object",
+        Number: "a number",
+    }
     return names[type(value)]
 
 
 # ---- One value
 
+
 def number_fault(value, bits, names=None):
     if isinstance(value, str) and names is not None:
-        return f"{shown(value)} is a name: the program takes its number, {names[value]}" if value in names else f"{shown(value)} is no number; {nearest(value, names)}"
+        return (
+            f"{shown(value)} is a name: the program takes its number, {names[value]}"
+            if value in names
+            else f"{shown(value)} is no number; {nearest(value, names)}"
+        )
     if isinstance(value, str) and value.isascii() and value.isdigit():
         return f"{shown(value)} is a text: a number stands without quotes"
     if not isinstance(value, Number):
@@ -88,7 +106,10 @@ def bytes_fault(value, size=None):
         return f"{shown(value)} begins with 0x: hex is digits alone"
     wrong = re.search("[^0-9a-fA-F]", value)
     if wrong:
-        return f"{shown(value)} is no hex at {wrong.group()!r}; as hex that text is {value.encode(errors='replace').hex()[:64]}"
+        return (
+            f"{shown(value)} is no hex at {wrong.group()!r}; as hex that text "
+            f"is {value.encode(errors='replace').hex()[:64]}"
+        )
     if len(value) % 2:
         return f"{shown(value)} has an odd count of hex digits, {len(value)}"
     if size is not None and len(value) != 2 * size:
@@ -113,12 +134,14 @@ def pair_fault(pair):
     if tag not in TAGS:
         return f"{shown(tag)} is no tag; {nearest(tag, TAGS)}"
     kind = TYPES[TAGS[tag][0]]
-    if kind == script_events.BOOL:
+    if kind == lists.BOOL:
         return None if value is True else f"{tag} has {shown(value)}: such a tag has true, or is left out"
-    if kind != script_events.BYTES:
+    if kind != lists.BYTES:
         fault = number_fault(value, 8 * VALUE_BYTES[kind], VALUES.get(tag))
     else:
-        fault = bytes_fault(value) or (f"{len(value) // 2} bytes are more than {MOST_BYTES}" if len(value) // 2 > MOST_BYTES else None)
+        fault = bytes_fault(value) or (
+            f"{len(value) // 2} bytes are more than {MOST_BYTES}" if len(value) // 2 > MOST_BYTES else None
+        )
     return fault and f"{tag}: {fault}"
 
 
@@ -139,7 +162,7 @@ def params_faults(value):
 
 def descriptor_faults(value):
     if not isinstance(value, dict):
-        yield f"{shown(value)} is {kind_of(value)}, where an object is wanted, as {{\"domain\":0,\"alias\":\"m\"}}"
+        yield f'{shown(value)} is {kind_of(value)}, where an object is wanted, as {{"domain":0,"alias":"m"}}'
         return
     for name, form in DESCRIPTOR.items():
         for fault in member_faults(value, name, form):
@@ -157,7 +180,9 @@ def value_faults(name, value, form):
     elif form in ("forced", "hold"):
         yield flag_fault(value)
     else:
-        yield text_fault(value) if form == "text" else bytes_fault(value, None if form == "bytes" else int(form.split()[0]))
+        yield text_fault(value) if form == "text" else bytes_fault(
+            value, None if form == "bytes" else int(form.split()[0])
+        )
 
 
 def member_faults(members, name, form):
@@ -168,6 +193,7 @@ def member_faults(members, name, form):
 
 
 # ---- One line
+
 
 def no_json(text, error):
     """What is likely wrong with a text that is no JSON."""
@@ -259,7 +285,9 @@ def faults_of(line):
         return [str(wrong)]
     faults = [it for it in (reading_fault(members), act_fault(members)) if it]
     if act_fault(members) is None:
-        faults += [fault for name, form in fields_of(members["do"]).items() for fault in member_faults(members, name, form)]
+        faults += [
+            fault for name, form in fields_of(members["do"]).items() for fault in member_faults(members, name, form)
+        ]
     return faults
 
 
@@ -272,14 +300,23 @@ def notes_of(line):
     if act_fault(members) is not None:
         return []
     known = ["t", "do", *fields_of(members["do"])]
-    notes = [f"`{it}` is no member of {members['do']}, and is not looked at; {nearest(it, known)}" for it in members if it not in known]
+    notes = [
+        f"`{it}` is no member of {members['do']}, and is not looked at; {nearest(it, known)}"
+        for it in members
+        if it not in known
+    ]
     key = members.get("key")
     if isinstance(key, dict) and "key" in known:
-        notes += [f"`{it}` is no member of a key, and is not looked at; {nearest(it, DESCRIPTOR)}" for it in key if it not in DESCRIPTOR]
+        notes += [
+            f"`{it}` is no member of a key, and is not looked at; {nearest(it, DESCRIPTOR)}"
+            for it in key
+            if it not in DESCRIPTOR
+        ]
     return notes
 
 
 # ---- Replies
+
 
 def meaning_of(reply):
     """What a reply that refuses says, in words; None where it does not refuse."""
@@ -287,7 +324,9 @@ def meaning_of(reply):
     if code == 0 or "settled" in reply:
         return None
     name, meaning = CODES.get(code, ("UNKNOWN", "no code of docs/RULES.md"))
-    return f"{code} {name}" + (f"; rule {rule} holds where {RULES.get(rule, 'no page says')}" if rule else f": {meaning}")
+    return f"{code} {name}" + (
+        f"; rule {rule} holds where {RULES.get(rule, 'no page says')}" if rule else f": {meaning}"
+    )
 
 
 def replies_in(data):
@@ -305,7 +344,7 @@ def explained(lines, replies):
     """What there is to tell of a script, and whether a line was refused."""
     refused = False
     for number, (line, reply) in enumerate(itertools.zip_longest(lines, replies), 1):
-        told = ([meaning_of(reply)] if reply is not None and meaning_of(reply) else [])
+        told = [meaning_of(reply)] if reply is not None and meaning_of(reply) else []
         faults = faults_of(line) if line is not None else ["a reply, and no line"]
         refused |= bool(told or faults)
         for text in told + faults + (notes_of(line) if line is not None else []):
@@ -313,6 +352,7 @@ def explained(lines, replies):
 
 
 # ---- Names
+
 
 def number_named(value, names):
     """The number of a name, or the sum of those of a list of names; all else as it is."""
@@ -335,18 +375,29 @@ def written(line):
         key["domain"] = number_named(key["domain"], DOMAINS)
     if isinstance(members.get("params"), list):
         members["params"] = [
-            [it[0], number_named(it[1], VALUES.get(it[0], {}))] if isinstance(it, list) and len(it) == 2 and isinstance(it[0], str) else it
+            [it[0], number_named(it[1], VALUES.get(it[0], {}))]
+            if isinstance(it, list) and len(it) == 2 and isinstance(it[0], str)
+            else it
             for it in members["params"]
         ]
-    return line if json.dumps(members) == before else json.dumps(members, ensure_ascii=False, separators=(",", ":")).encode()
+    return (
+        line
+        if json.dumps(members) == before
+        else json.dumps(members, ensure_ascii=False, separators=(",", ":")).encode()
+    )
 
 
 def names():
     """All names, as one object."""
     return {
         "acts": {name: {it: form for it, form in fields_of(name).items()} for name in ACTS},
-        "tags": {name: {"type": kind, "number": number, "used": USES[name], "values": VALUES.get(name, {})} for name, (kind, number) in TAGS.items()},
-        "domains": DOMAINS, "bits": BITS, "formats": FORMATS,
+        "tags": {
+            name: {"type": kind, "number": number, "used": USES[name], "values": VALUES.get(name, {})}
+            for name, (kind, number) in TAGS.items()
+        },
+        "domains": DOMAINS,
+        "bits": BITS,
+        "formats": FORMATS,
         "codes": {str(number): {"name": name, "meaning": meaning} for number, (name, meaning) in CODES.items()},
         "rules": RULES,
     }
@@ -357,11 +408,17 @@ def print_names(as_json):
         print(json.dumps(names(), indent=1, ensure_ascii=False))
         return
     for name in ACTS:
-        print(f"act     {name:26} " + ", ".join(f"{it} {form}" if form != it else it for it, form in fields_of(name).items()))
+        print(
+            f"act     {name:26} "
+            + ", ".join(f"{it} {form}" if form != it else it for it, form in fields_of(name).items())
+        )
     for name, (kind, number) in TAGS.items():
         print(f"tag     {name:26} {kind} {number}: {USES[name]}")
     for heading, table in [*VALUES.items(), ("domain", DOMAINS), ("format", FORMATS), ("bits", BITS)]:
-        print("\n".join(f"value   {heading:26} {name} {number}" for name, number in table.items()) or f"value   {heading:26} a number")
+        print(
+            "\n".join(f"value   {heading:26} {name} {number}" for name, number in table.items())
+            or f"value   {heading:26} a number"
+        )
     for number, (name, meaning) in CODES.items():
         print(f"code    {number:<5} {name:20} {meaning}")
     for name, sentence in RULES.items():

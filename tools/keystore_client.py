@@ -1,17 +1,21 @@
 #!/usr/bin/env python3
-"""A client of the key service over a socket: a library with one method for each act, under the act's AOSP name, and a command
-line over it. It needs no package. docs/PROTOCOL.md tells the protocol.
+"""A client of the key service over a socket: a library with one method for each act, under the act's AOSP name, and a
+command line over it. It needs no package. docs/PROTOCOL.md tells the protocol.
 
     from keystore_client import Client, Key, ServiceError, parameters
 
     with Client.connect(uid=10001) as client:
         key = Key(alias="m")
-        client.generateKey(key, parameters(ALGORITHM=128, KEY_SIZE=256, PURPOSE=[2, 3], DIGEST=[4], MIN_MAC_LENGTH=64, NO_AUTH_REQUIRED=True))
+        params = parameters(
+            ALGORITHM=128, KEY_SIZE=256, PURPOSE=[2, 3], DIGEST=[4], MIN_MAC_LENGTH=64, NO_AUTH_REQUIRED=True
+        )
+        client.generateKey(key, params)
         op = client.createOperation(key, parameters(PURPOSE=[2], MAC_LENGTH=256)).op
         mac = client.finish(op, b"a text").out
 
-A refused call raises `ServiceError`, which has the code, the rule that was broken (None where it was none), AOSP's name of the code and
-what it means. Where the service ends the connection, or another program answers, `ConnectionEnded` is raised. The command line:
+A refused call raises `ServiceError`, which has the code, the rule that was broken (None where it was none), AOSP's name
+of the code and what it means. Where the service ends the connection, or another program answers, `ConnectionEnded` is
+raised. The command line:
 
     python3 tools/keystore_client.py connect --uid 10001
     python3 tools/keystore_client.py generate files --kind aes
@@ -28,12 +32,13 @@ what it means. Where the service ends the connection, or another program answers
     python3 tools/keystore_client.py unlock 0
     python3 tools/make_token.py 7 --time 5000 | python3 tools/keystore_client.py token -
 
-A file goes through in pieces, whatever its size, in less than 20 MB of memory, or 24 under a key with a use limit, whose output comes
-at the end of each piece. Standard input is read before the service is called. What comes of it is written
-beside its place and takes it once it is whole and right. A name that is there is not made anew but with --replace, which ends the key
-that has it; and a key with a use limit is not used where it has fewer uses left than the file has pieces. Options may stand before or behind
-the command. The exit status is 0 where all was done, 1 where the call or the client refused, 2 for wrong words and files that are not to
-be had, 3 where no service answers, 4 where a mac is wrong or a file is not as it was sealed."""
+A file goes through in pieces, whatever its size, in less than 20 MB of memory, or 24 under a key with a use limit,
+whose output comes at the end of each piece. Standard input is read before the service is called. What comes of it is
+written beside its place and takes it once it is whole and right. A name that is there is not made anew but with
+--replace, which ends the key that has it; and a key with a use limit is not used where it has fewer uses left than
+the file has pieces. Options may stand before or behind the command. The exit status is 0 where all was done, 1 where
+the call or the client refused, 2 for wrong words and files that are not to be had, 3 where no service answers, 4
+where a mac is wrong or a file is not as it was sealed."""
 import argparse
 import contextlib
 import io
@@ -60,18 +65,34 @@ CODES = {
     -9: ("UNSUPPORTED_MAC_LENGTH", "the mac or tag cannot have this length"),
     -10: ("UNSUPPORTED_PADDING_MODE", "the padding is not known, or there is not exactly one"),
     -11: ("INCOMPATIBLE_PADDING_MODE", "the key does not have the padding, or the mode takes none"),
-    -12: ("UNSUPPORTED_DIGEST", "the digest is not known, or a new key's list has not exactly one, or an operation's more than one"),
+    -12: (
+        "UNSUPPORTED_DIGEST",
+        "the digest is not known, or a new key's list has not exactly one, or an operation's more than one",
+    ),
     -13: ("INCOMPATIBLE_DIGEST", "the digest is not the key's"),
     -15: ("INVALID_USER_ID", "the key is another user's"),
     -17: ("UNSUPPORTED_KEY_FORMAT", "the format of an import is not RAW"),
-    -21: ("INVALID_INPUT_LENGTH", "a list or an id is too long; all input is too long, or the text's length does not suit the mode"),
+    -21: (
+        "INVALID_INPUT_LENGTH",
+        "a list or an id is too long; all input is too long, or the text's length does not suit the mode",
+    ),
     -24: ("KEY_NOT_YET_VALID", "the key is not active yet"),
     -25: ("KEY_EXPIRED", "the key has expired for this purpose"),
     -26: ("KEY_USER_NOT_AUTHENTICATED", "no token lets the user in"),
     -28: ("INVALID_OPERATION_HANDLE", "the operation is not open, or another client's"),
-    -30: ("VERIFICATION_FAILED", "a token's mac is wrong; at a finish, without a rule, the tag or the signature is wrong"),
-    -33: ("INVALID_KEY_BLOB", "the blob does not open, or not for this device and these ids; the operation's key has ended"),
-    -38: ("INVALID_ARGUMENT", "KeyMint's: a tag that does not repeat stands twice; tags that do not go together, or a limit of 0; at a finish, without a rule, the padding is none"),
+    -30: (
+        "VERIFICATION_FAILED",
+        "a token's mac is wrong; at a finish, without a rule, the tag or the signature is wrong",
+    ),
+    -33: (
+        "INVALID_KEY_BLOB",
+        "the blob does not open, or not for this device and these ids; the operation's key has ended",
+    ),
+    -38: (
+        "INVALID_ARGUMENT",
+        "KeyMint's: a tag that does not repeat stands twice; tags that do not go together, or a limit of 0; at a "
+        "finish, without a rule, the padding is none",
+    ),
     -39: ("UNSUPPORTED_TAG", "a key of domain 3 has a count that only stored keys have"),
     -40: ("INVALID_TAG", "the list does not read; additional data comes where none is taken"),
     -41: ("MEMORY_ALLOCATION_FAILED", "memory was wanting; the call changed nothing"),
@@ -108,20 +129,54 @@ NAMES = {code: name for code, (name, _) in CODES.items()}
 ENUM, ENUM_REP, UINT, UINT_REP, ULONG, DATE, BOOL, BIGNUM, BYTES, ULONG_REP = range(1, 11)
 REPEATING = {ENUM_REP, UINT_REP, ULONG_REP}
 TAGS = {
-    "PURPOSE": (ENUM_REP, 1), "ALGORITHM": (ENUM, 2), "KEY_SIZE": (UINT, 3), "BLOCK_MODE": (ENUM_REP, 4), "DIGEST": (ENUM_REP, 5),
-    "PADDING": (ENUM_REP, 6), "CALLER_NONCE": (BOOL, 7), "MIN_MAC_LENGTH": (UINT, 8), "EARLY_BOOT_ONLY": (BOOL, 305), "ACTIVE_DATETIME":
-    (DATE, 400), "ORIGINATION_EXPIRE_DATETIME": (DATE, 401), "USAGE_EXPIRE_DATETIME": (DATE, 402), "MAX_USES_PER_BOOT": (UINT, 404),
-    "USAGE_COUNT_LIMIT": (UINT, 405), "USER_ID": (UINT, 501), "USER_SECURE_ID": (ULONG_REP, 502), "NO_AUTH_REQUIRED": (BOOL, 503),
-    "USER_AUTH_TYPE": (ENUM, 504), "AUTH_TIMEOUT": (UINT, 505), "UNLOCKED_DEVICE_REQUIRED": (BOOL, 509), "APPLICATION_ID": (BYTES, 601),
-    "APPLICATION_DATA": (BYTES, 700), "CREATION_DATETIME": (DATE, 701), "ORIGIN": (ENUM, 702), "OS_VERSION": (UINT, 705),
-    "OS_PATCHLEVEL": (UINT, 706), "NONCE": (BYTES, 1001), "MAC_LENGTH": (UINT, 1003),
+    "PURPOSE": (ENUM_REP, 1),
+    "ALGORITHM": (ENUM, 2),
+    "KEY_SIZE": (UINT, 3),
+    "BLOCK_MODE": (ENUM_REP, 4),
+    "DIGEST": (ENUM_REP, 5),
+    "PADDING": (ENUM_REP, 6),
+    "CALLER_NONCE": (BOOL, 7),
+    "MIN_MAC_LENGTH": (UINT, 8),
+    "EARLY_BOOT_ONLY": (BOOL, 305),
+    "ACTIVE_DATETIME": (DATE, 400),
+    "ORIGINATION_EXPIRE_DATETIME": (DATE, 401),
+    "USAGE_EXPIRE_DATETIME": (DATE, 402),
+    "MAX_USES_PER_BOOT": (UINT, 404),
+    "USAGE_COUNT_LIMIT": (UINT, 405),
+    "USER_ID": (UINT, 501),
+    "USER_SECURE_ID": (ULONG_REP, 502),
+    "NO_AUTH_REQUIRED": (BOOL, 503),
+    "USER_AUTH_TYPE": (ENUM, 504),
+    "AUTH_TIMEOUT": (UINT, 505),
+    "UNLOCKED_DEVICE_REQUIRED": (BOOL, 509),
+    "APPLICATION_ID": (BYTES, 601),
+    "APPLICATION_DATA": (BYTES, 700),
+    "CREATION_DATETIME": (DATE, 701),
+    "ORIGIN": (ENUM, 702),
+    "OS_VERSION": (UINT, 705),
+    "OS_PATCHLEVEL": (UINT, 706),
+    "NONCE": (BYTES, 1001),
+    "MAC_LENGTH": (UINT, 1003),
 }
 
 # The fields of a reply: name, and bytes of a number; None for counted bytes.
 FIELDS = {
-    1: ("client", 8), 2: ("key", 8), 3: ("op", 8), 4: ("challenge", 8), 5: ("ticket", 8), 6: ("pruned", 8),
-    7: ("grant", 8), 8: ("count", 8), 9: ("uses", 4), 10: ("domain", 4), 11: ("nspace", 8), 12: ("alias", None),
-    13: ("nonce", None), 14: ("out", None), 15: ("blob", None), 16: ("list", None),
+    1: ("client", 8),
+    2: ("key", 8),
+    3: ("op", 8),
+    4: ("challenge", 8),
+    5: ("ticket", 8),
+    6: ("pruned", 8),
+    7: ("grant", 8),
+    8: ("count", 8),
+    9: ("uses", 4),
+    10: ("domain", 4),
+    11: ("nspace", 8),
+    12: ("alias", None),
+    13: ("nonce", None),
+    14: ("out", None),
+    15: ("blob", None),
+    16: ("list", None),
 }
 ENTRIES = 17
 MOST_BODY = 262144
@@ -135,7 +190,11 @@ class ServiceError(Exception):
     """A call that was refused."""
 
     def __init__(self, code, rule=None):
-        self.code, self.rule, (self.name, self.meaning) = code, rule, CODES.get(code, ("UNKNOWN", "no code of this client"))
+        self.code, self.rule, (self.name, self.meaning) = (
+            code,
+            rule,
+            CODES.get(code, ("UNKNOWN", "no code of this client")),
+        )
         super().__init__(f"{self.name} ({code})" + (f" by rule {rule}" if rule else "") + f": {self.meaning}")
 
 
@@ -193,7 +252,8 @@ def value_bytes(kind, value):
 
 
 def parameters(**values):
-    """An encoded authorization list, of tags by their names: a repeating tag takes a list of values, a flag takes True."""
+    """An encoded authorization list, of tags by their names: a repeating tag takes a list of values, a flag takes
+    True."""
     rows = []
     for name, value in values.items():
         kind, number = TAGS[name]
@@ -223,7 +283,7 @@ class Reader:
         self.place += count
         if self.place > len(self.data):
             raise ValueError(f"{self.what} that is cut")
-        return self.data[self.place - count:self.place]
+        return self.data[self.place - count : self.place]
 
     def number(self, count):
         return int.from_bytes(self.take(count), "big")
@@ -259,7 +319,7 @@ def exactly(stream, count):
         piece = stream.recv(min(count - place, 1 << 16))
         if not piece:
             raise ConnectionResetError("the peer has gone")
-        data[place:place + len(piece)] = piece
+        data[place : place + len(piece)] = piece
         place += len(piece)
     return bytes(data)
 
@@ -296,8 +356,8 @@ class Client:
             self.stream = None
 
     def exchange(self, body):
-        """Sends the body of a request and gives that of its reply. Where that fails or takes too long, the connection ends: a reply
-        that comes later would be taken for that of the next request."""
+        """Sends the body of a request and gives that of its reply. Where that fails or takes too long, the
+        connection ends: a reply that comes later would be taken for that of the next request."""
         if self.stream is None:
             raise ConnectionEnded()
         try:
@@ -397,10 +457,11 @@ class Client:
 
 # ---- a file under a key
 
-# A sealed file is four bytes that name its form, and a row of pieces. Each is four bytes of its length, twelve of its nonce, and the
-# ciphertext with the tag of sixteen bytes behind it. The additional data of a piece is its number, whether it is the last one, and, behind
-# the first piece, the first one's nonce, which no other file under the key has: so none can be moved, dropped, cut off or taken from another
-# file unseen. A piece has as many bytes as one operation may take, with its additional data and its tag.
+# A sealed file is four bytes that name its form, and a row of pieces. Each is four bytes of its length, twelve of its
+# nonce, and the ciphertext with the tag of sixteen bytes behind it. The additional data of a piece is its number,
+# whether it is the last one, and, behind the first piece, the first one's nonce, which no other file under the key has:
+# so none can be moved, dropped, cut off or taken from another file unseen. A piece has as many bytes as one operation
+# may take, with its additional data and its tag.
 FRONT = b"KSF1"
 NONCE, TAG = 12, 16
 MOST_OPERATION = 1048576
@@ -495,7 +556,8 @@ def seal(client, key, text):
 
 
 def unseal(client, key, sealed):
-    """The text of a sealed file. A ServiceError -30 says that it is not what was sealed under this key, and so does `Changed`."""
+    """The text of a sealed file. A ServiceError -30 says that it is not what was sealed under this key, and so does
+    `Changed`."""
     source, sink = io.BytesIO(sealed), io.BytesIO()
     open_file(at_once(client), key, source, pieces_in(source, len(sealed)), sink)
     return sink.getvalue()
@@ -504,7 +566,14 @@ def unseal(client, key, sealed):
 # ---- the command line
 
 KINDS = {
-    "aes": {"ALGORITHM": 32, "PURPOSE": [0, 1], "BLOCK_MODE": [32], "PADDING": [1], "MIN_MAC_LENGTH": 8 * TAG, "NO_AUTH_REQUIRED": True},
+    "aes": {
+        "ALGORITHM": 32,
+        "PURPOSE": [0, 1],
+        "BLOCK_MODE": [32],
+        "PADDING": [1],
+        "MIN_MAC_LENGTH": 8 * TAG,
+        "NO_AUTH_REQUIRED": True,
+    },
     "hmac": {"ALGORITHM": 128, "PURPOSE": [2, 3], "DIGEST": [4], "MIN_MAC_LENGTH": 64, "NO_AUTH_REQUIRED": True},
 }
 USE = 256
@@ -535,8 +604,10 @@ class Service:
             self.client = None
 
     def each(self, limited):
-        """What makes the work on a piece. Where the run is full, or the service gone, it waits for the next one for as long as the words
-        say, and makes the piece anew; under a key with a use limit, whose use may have counted, only where the run is full."""
+        """What makes the work on a piece. Where the run is full, or the service gone, it waits for the next one for
+        as long as the words say, and makes the piece anew; under a key with a use limit, whose use may have counted,
+        only where the run is full."""
+
         def work_on(work, source, sink):
             places, end = (source.tell(), sink.tell()), time.monotonic() + self.words.wait
             while True:
@@ -552,6 +623,7 @@ class Service:
                 source.seek(places[0])
                 sink.seek(places[1])
                 sink.truncate()
+
         return work_on
 
 
@@ -590,12 +662,17 @@ def whole(name):
                 with open(place, "wb") as sink:
                     copied(file, sink)
         return
-    file = tempfile.NamedTemporaryFile(dir=os.path.dirname(place), prefix=f".{os.path.basename(place)[:200]}.", delete=False)
+    file = tempfile.NamedTemporaryFile(
+        dir=os.path.dirname(place), prefix=f".{os.path.basename(place)[:200]}.", delete=False
+    )
     try:
         with file:
             yield file
             file.flush()
-            os.fchmod(file.fileno(), stat.S_IMODE(os.stat(place).st_mode) if os.path.exists(place) else 0o666 & ~current_mask())
+            os.fchmod(
+                file.fileno(),
+                stat.S_IMODE(os.stat(place).st_mode) if os.path.exists(place) else 0o666 & ~current_mask(),
+            )
             os.fsync(file.fileno())
         os.replace(file.name, place)
     except BaseException:
@@ -647,7 +724,9 @@ def check_name(client, words):
     """A name that is there is not made anew unasked."""
     entry = None if words.replace else entry_of(client, Key(alias=words.key))
     if entry is not None:
-        raise Refused(f"{words.key} is there, key {entry.key}: with --replace it ends, and all that is sealed under it with it")
+        raise Refused(
+            f"{words.key} is there, key {entry.key}: with --replace it ends, and all that is sealed under it with it"
+        )
 
 
 def do_generate(service, words):
@@ -674,7 +753,9 @@ def do_mac(service, words):
     key = named_key(words)
     with opened(words.file) as (source, size):
         if size > MOST_OPERATION:
-            raise Refused(f"{words.file} has {size} bytes, and an operation takes {MOST_OPERATION}: the key was not used")
+            raise Refused(
+                f"{words.file} has {size} bytes, and an operation takes {MOST_OPERATION}: the key was not used"
+            )
         client, out = service.connected(), io.BytesIO()
         check_uses(client, key, 1)
         if words.verify is None:
@@ -738,7 +819,9 @@ def do_token(service, words):
     with opened(words.file) as (source, _):
         try:
             line = json.loads(source.read(MOST_INPUT))
-            token = [line[it] for it in ("challenge", "user", "authenticator", "kind", "time")] + [bytes.fromhex(line["mac"])]
+            token = [line[it] for it in ("challenge", "user", "authenticator", "kind", "time")] + [
+                bytes.fromhex(line["mac"])
+            ]
         except (ValueError, KeyError, TypeError):
             raise ValueError(f"{words.file} has no line of a token") from None
     return service.connected().addAuthToken(*token).fields
@@ -794,11 +877,13 @@ def show(result, as_json):
 
 def number(bits):
     """What reads a word as a number of so many bits."""
+
     def read(word):
         value = int(word)
         if not 0 <= value < 1 << bits:
             raise ValueError
         return value
+
     read.__name__ = f"number of {bits} bits"
     return read
 
@@ -819,13 +904,26 @@ hex_bytes.__name__, seconds.__name__ = "hex text", "number of seconds"
 
 def options(parser, absent):
     """The options that each command has; they may stand before it too."""
+
     def add(name, default, **form):
         parser.add_argument(name, default=default if absent is None else absent, **form)
-    add("--uid", None, type=number(32), help=f"the uid that calls ({OWN}; {SYSTEM}, the system, for token, lock and unlock)")
+
+    add(
+        "--uid",
+        None,
+        type=number(32),
+        help=f"the uid that calls ({OWN}; {SYSTEM}, the system, for token, lock and unlock)",
+    )
     add("--host", "127.0.0.1", help="the service's machine (this one)")
     add("--port", PORT, type=number(16), help=f"the service's port ({PORT})")
     add("--timeout", 60.0, type=seconds, metavar="SECONDS", help="how long a call may take (60)")
-    add("--wait", 0.0, type=seconds, metavar="SECONDS", help="how long a piece waits for the next run of a service that is full or gone (0)")
+    add(
+        "--wait",
+        0.0,
+        type=seconds,
+        metavar="SECONDS",
+        help="how long a piece waits for the next run of a service that is full or gone (0)",
+    )
     add("--json", False, action="store_true", help="write one JSON object")
 
 
@@ -850,7 +948,9 @@ def words_of(words):
     ]
     made[0].add_argument("--bits", type=number(32), default=256, help="the key's size (256)")
     material = made[1].add_mutually_exclusive_group(required=True)
-    material.add_argument("--material", type=hex_bytes, metavar="HEX", help="the key's bytes, for all to see who may list processes")
+    material.add_argument(
+        "--material", type=hex_bytes, metavar="HEX", help="the key's bytes, for all to see who may list processes"
+    )
     material.add_argument("--material-file", metavar="FILE", help="a file of the key's bytes (- for standard input)")
     for one in made:
         one.add_argument("--kind", choices=sorted(KINDS), default="aes")
@@ -874,7 +974,10 @@ def words_of(words):
     command("ungrant", do_ungrant, "take a grant back", "key").add_argument("grantee", type=number(32), metavar="uid")
     command("delete", do_delete, "delete a key", "key")
     command("token", do_token, "bring a token, as tools/make_token.py prints it", "file", of_system=True)
-    for name, does, text in (("lock", do_lock, "the device is locked for a user"), ("unlock", do_unlock, "the device is unlocked for a user")):
+    for name, does, text in (
+        ("lock", do_lock, "the device is locked for a user"),
+        ("unlock", do_unlock, "the device is unlocked for a user"),
+    ):
         command(name, does, text, of_system=True).add_argument("user", type=number(32))
     return parser.parse_args(words)
 
@@ -918,6 +1021,7 @@ def run(words):
 def main():
     def stopped(number, _):
         raise SystemExit(128 + number)
+
     signal.signal(signal.SIGTERM, stopped)
     sys.exit(run(words_of(sys.argv[1:])))
 

@@ -1,5 +1,6 @@
 #!/usr/bin/env python3
-"""Makes an authentication token as an authenticator of the demo device, or of another one, would, and prints its line of a script.
+"""Makes an authentication token as an authenticator of the demo device, or of another one, would, and prints its line
+of a script.
 
 The mac is HMAC-SHA256 (FIPS 198-1) over the 37 bytes of docs/FORMATS.md, under the key that the device's authenticators
 share with the service. It is no part of the program: a person tries with it a key that needs its user's token.
@@ -8,23 +9,9 @@ share with the service. It is no part of the program: a person tries with it a k
     python3 tools/make_token.py 7 --challenge 868365761009226259 --client 2 --at 6000 1000
 """
 import argparse
-import hashlib
-import hmac
 import json
-import struct
 
-DEMO_KEY = b"\x02" * 32
-
-
-def mac_input(challenge, user, authenticator, kind, time):
-    """The text under the mac: 00, three numbers with the lowest byte first, and two with the highest first."""
-    return b"\x00" + struct.pack("<QQQ", challenge, user, authenticator) + struct.pack(">IQ", kind, time)
-
-
-def mac_of(key, token):
-    """The mac of a token, which is its numbers by name."""
-    text = mac_input(token["challenge"], token["user"], token["authenticator"], token["kind"], token["time"])
-    return hmac.digest(key, text, hashlib.sha256)
+from keystore.tokens import DEMO_KEY, mac_of
 
 
 def number(bits):
@@ -64,7 +51,9 @@ def main():
     words.add_argument("--time", type=number(64), default=0, help="when, in milliseconds since the start")
     words.add_argument("--challenge", type=number(64), default=0, help="the challenge that createOperation answered")
     words.add_argument("--client", type=number(64), default=1, help="the client that brings it, of uid 1000")
-    words.add_argument("--at", type=number(64), nargs=2, metavar=("BOOT", "WALL"), help="the line's readings; TIME and 0")
+    words.add_argument(
+        "--at", type=number(64), nargs=2, metavar=("BOOT", "WALL"), help="the line's readings; TIME and 0"
+    )
     words.add_argument("--key", type=key, default=DEMO_KEY, help="another device's key, 32 bytes in hex")
     words.add_argument("--device", type=device_key, dest="key", metavar="FILE", help="another device's file device.key")
     asked = words.parse_args()

@@ -3,13 +3,14 @@
 
     python3 tools/release.py [--folder FOLDER]
 
-It has the program, the client, the tools that hand in tokens, the documents, the man page, the examples and LICENSE, as they are committed, and
-a file RELEASE with the commit, the digest of the sources, the logic's line of `rt version` and the program's sha256. The same commit and
-program give the same bytes, as far as `zlib` packs them alike: names in order, the commit's time, no owner. Beside it stands a file .sha256 for
-`sha256sum -c --ignore-missing`, with the sums of the archive and of the program in it. The program must be that of the commit's sources.
+It has the program, the client, the tools that hand in tokens, the documents, the man page, the examples and LICENSE, as
+they are committed, and a file RELEASE with the commit, the digest of the sources, the logic's line of `rt version` and
+the program's sha256. The same commit and program give the same bytes, as far as `zlib` packs them alike: names in
+order, the commit's time, no owner. Beside it stands a file .sha256 for `sha256sum -c --ignore-missing`, with the sums
+of the archive and of the program in it. The program must be that of the commit's sources.
 
-Who puts the archive, or its .sha256 alone, into the top folder is told by `./keystore2 build` whether the program that it proved has the
-bytes of the release."""
+Who puts the archive, or its .sha256 alone, into the top folder is told by `./keystore2 build` whether the program
+that it proved has the bytes of the release."""
 import gzip
 import hashlib
 import io
@@ -19,14 +20,20 @@ import shutil
 import subprocess
 import sys
 import tarfile
-from pathlib import Path
 
 from build import BUILT, digest, is_of
-from harness import TOP, folder_at, parser_of
+from keystore.harness import TOP, folder_at, parser_of
 
 KEPT = ["README.md", "CHANGELOG.md", "SECURITY.md", "LICENSE", "docs", "examples"]
 # The client, and by which docs/EXAMPLES.md hands in tokens.
-TOOLS = ["tools/keystore_client.py", "tools/dialog.py", "tools/make_token.py", "tools/harness.py"]
+TOOLS = [
+    "keystore_client.py",
+    "dialog.py",
+    "make_token.py",
+    "keystore/__init__.py",
+    "keystore/harness.py",
+    "keystore/tokens.py",
+]
 
 
 def git(*words):
@@ -36,7 +43,9 @@ def git(*words):
 def committed():
     """The files of the archive as they are committed, by their names, with their modes."""
     found = {}
-    for row in git("ls-tree", "-r", "-z", "HEAD", "--", *KEPT, *TOOLS).decode().split("\0")[:-1]:
+    for row in (
+        git("ls-tree", "-r", "-z", "HEAD", "--", *KEPT, *(f"tools/{it}" for it in TOOLS)).decode().split("\0")[:-1]
+    ):
         mode, _, rest = row.split(" ", 2)
         blob, name = rest.split("\t")
         found[name] = (git("cat-file", "blob", blob), 0o755 if mode == "100755" else 0o644)
@@ -49,21 +58,29 @@ def version_of(program):
 
 
 HOW = """
-To prove this program: clone the repository at that commit, put the archive into its top folder and call './keystore2 build' there, with
-a toolchain of that logic. It proves the sources, and says whether its program has these bytes.
+To prove this program: clone the repository at that commit, put the archive into its top folder and call
+'./keystore2 build' there, with a toolchain of that logic. It proves the sources, and says whether its program has
+these bytes.
 """
 
 
 def description(commit, data):
     logic = subprocess.run(["rt", "version"], cwd=TOP, stdout=subprocess.PIPE, text=True, check=True).stdout.strip()
-    rows = {"commit": commit, "sources": digest(), "logic": logic, "program": f"sha256 {hashlib.sha256(data).hexdigest()}"}
+    rows = {
+        "commit": commit,
+        "sources": digest(),
+        "logic": logic,
+        "program": f"sha256 {hashlib.sha256(data).hexdigest()}",
+    }
     return ("".join(f"{name} {it}\n" for name, it in rows.items()) + HOW).encode()
 
 
 def packed(files, folder, time):
     """The bytes of an archive of these files, in a folder of this name."""
     whole = io.BytesIO()
-    with gzip.GzipFile("", "wb", 9, whole, time) as stream, tarfile.open(fileobj=stream, mode="w", format=tarfile.USTAR_FORMAT) as archive:
+    with gzip.GzipFile("", "wb", 9, whole, time) as stream, tarfile.open(
+        fileobj=stream, mode="w", format=tarfile.USTAR_FORMAT
+    ) as archive:
         for name in sorted(files):
             data, mode = files[name]
             row = tarfile.TarInfo(f"{folder}/{name}")
@@ -88,13 +105,18 @@ def release(folder, program):
     archive = packed(files, name, int(time))
     sums = [(archive, f"{name}.tar.gz"), (data, f"{name}/keystore2")]
     put(folder / f"{name}.tar.gz", archive)
-    put(folder / f"{name}.tar.gz.sha256", "".join(f"{hashlib.sha256(it).hexdigest()}  {of}\n" for it, of in sums).encode())
+    put(
+        folder / f"{name}.tar.gz.sha256",
+        "".join(f"{hashlib.sha256(it).hexdigest()}  {of}\n" for it, of in sums).encode(),
+    )
     return folder / f"{name}.tar.gz"
 
 
 def main():
     parser = parser_of(__doc__)
-    parser.add_argument("--folder", type=folder_at, default=TOP, metavar="FOLDER", help="where the archive is put; the top folder")
+    parser.add_argument(
+        "--folder", type=folder_at, default=TOP, metavar="FOLDER", help="where the archive is put; the top folder"
+    )
     folder = parser.parse_args().folder
     if not shutil.which("rt"):
         sys.exit("release: the Rattle toolchain's command rt, which tells the logic, is not on the PATH")

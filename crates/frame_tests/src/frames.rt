@@ -1,4 +1,4 @@
-//! Frames beside those of a writer that stands apart (`tools/frames.py`).
+//! Frames beside those of a writer that stands apart (`tools/ks make frames`).
 
 ghost use Rattle.std.specs.Prelude.{◌≡◌, ◌+◌, ◌^◌, ◌<◌, ◌≤◌, length, IfSome};
 ghost use Rattle.wire_frames.specs.Standing.{reach};

@@ -142,7 +142,7 @@ fn digest_of(total: u64, read: &Result<Vec<u8>, ListFault>) -> u64 {
     digest(digest(total, &[number]), &at.to_be_bytes())
 }
 
-/// The digest after each 500 of 4,000 byte strings, by `tools/made_lists.py`, which reads them by the format's description.
+/// The digest after each 500 of 4,000 byte strings, by `tools/ks make made_lists`, which reads them by the format's description.
 static DIGESTS: [u64; 8] = [
     0x27e2f5f5c6eba560,
     0x95338563a63bff45,

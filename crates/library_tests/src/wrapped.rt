@@ -1,5 +1,5 @@
 //! Wrapped keys: the vectors of RFC 3394 section 4, and those that OpenSSL and the Python package `cryptography` make of every other
-//! length (`tools/vectors.py --wrapped`); and what neither of the two opens.
+//! length (`tools/ks make vectors --wrapped`); and what neither of the two opens.
 
 use aes_core::{AesKey, BlockCipher};
 use key_wrap::{is_text_length, is_wrapped_length, unwrap, wrap};

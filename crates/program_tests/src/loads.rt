@@ -1,4 +1,4 @@
-//! Loads of a seed. What the help tells of them is in `tools/check_help.py`.
+//! Loads of a seed. What the help tells of them is in `tools/checks/test_help.py`.
 
 use crate::script::{FRESH, Outside};
 use crate::scripts::check_end;

@@ -1,5 +1,5 @@
 //! Works that are held. Works that come back in another order, clients that go, and a seventeenth operation beside them are in
-//! `checks/crossed-works.jsonl`, `checks/gone-clients.jsonl` and `checks/seventeenth-operation.jsonl`; `tools/held_orders.py` takes six
+//! `checks/crossed-works.jsonl`, `checks/gone-clients.jsonl` and `checks/seventeenth-operation.jsonl`; `tools/ks check held_orders` takes six
 //! works in every order.
 
 use crate::script::{

@@ -1,5 +1,5 @@
 //! The tests of the service over a listener, in a crate above all that it stands on: connections in memory, over a store in memory. What
-//! many clients of a real port see, `tools/check_service.py` shows.
+//! many clients of a real port see, `tools/ks check service` shows.
 #![tactic(auto)]
 
 #[cfg(test)]

@@ -22,7 +22,7 @@ const ROOM: DiskRoom = DiskRoom {
 /// How many keys uid 10001 and namespace 10001 have, how many grants there are, and the next numbers.
 type Told = ((u64, u64), usize, (u64, u64));
 
-/// Records, as `framed` of `tools/read_store.py` spells them, and what is told after each: keys of uid 10001 but where it is said, with a
+/// Records, as `framed` of `tools/keystore/store.py` spells them, and what is told after each: keys of uid 10001 but where it is said, with a
 /// blob and a list of their own, and grants to uids from 10002 on.
 static STEPS: [(&[u8], Told); 22] = [
     (

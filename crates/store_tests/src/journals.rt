@@ -364,7 +364,7 @@ fn the_last_place_of_a_journal_and_one_byte_more(rt: HostRuntime) {
     );
 }
 
-/// Draws by xorshift64*, as `tools/read_store.py` makes them.
+/// Draws by xorshift64*, as `tools/ks make stores` makes them.
 #[derive(Drop)]
 struct Draws {
     state: u64,
@@ -505,7 +505,7 @@ fn digest_of_store(alloc: Global, draws: &mut Draws, state: u64) -> u64 {
     }
 }
 
-// The digest is what `tools/read_store.py --stores` prints, which writes and reads the same stores without this code.
+// The digest is what `tools/ks make stores --stores` prints, which writes and reads the same stores without this code.
 #[test]
 fn a_thousand_stores_are_those_of_another_reader(rt: HostRuntime) {
     let mut draws = Draws { state: 1 };

@@ -4,7 +4,7 @@ use journal_records::{RecordFault, frame, frame_into, framed_length, parse};
 use std::alloc::Global;
 use std::test::Fail;
 
-/// A record of each kind, as `tools/read_store.py --records` spells it.
+/// A record of each kind, as `tools/ks make stores --records` spells it.
 static RECORDS: [&[u8]; 7] = [
     b"\x4b\x00\x00\x00\x36\x01\xd1\xfb\xaf\x7f\x72\x8d\x2e\xae\xae\x16\xdf\x9d\x6a\xc7\x6b\xd3\x22\
 \x00\x00\x00\x06\x11\x74\x2b\x44\x58\xc8\x00\x00\x00\x08\x43\xaf\xd8\x48\xed\xb6\xf8\xdd\

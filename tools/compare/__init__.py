@@ -1,0 +1,1 @@
+"""Comparisons by hand, which draw or take long; `tools/ks compare` lists them."""

@@ -1,0 +1,201 @@
+"""Runs the built program over scripts and refuses it one growth of memory after the other: the first that it asks for,
+then the second, and so on. Each line is sent when the one before it is answered, and a line that is answered -41 is
+sent again.
+
+    tools/ks compare refused_growths [SCRIPT...] [--program PATH]
+
+A growth that is refused may end the run with status 1 after a front of the replies, or give one -41, at an act that
+takes memory; then nothing is changed by it, so the other replies are those of the script's `.expected` file (`?` there
+stands for any digit, or for a number). Without SCRIPT it takes those of examples/ and checks/ that are short, fill no
+slots and prune nothing: a begin that was answered -41 is a step by which operations are older, and so may prune when it
+is sent again. A line may need what an earlier reply told, as `tools/dialog.py` says.
+
+Then it refuses each growth of a line that enters an operation, one of two that fill the slots, and goes on with a
+begin. Where the line is answered -41, the operation is idle with the stamp of its begin: so the begin prunes it, and
+else the other one.
+
+It needs a C compiler, `cc`, for the library that refuses. The exit status is 1 where a run does otherwise."""
+import json
+import os
+import subprocess
+import sys
+from pathlib import Path
+
+from dialog import Told
+from keystore.harness import TOP, add_program, parser_of
+from keystore.runs import fits, words_of
+from keystore.scratch import scratch_folder
+
+MOST_LINES, MOST_GROWTHS = 60, 20_000
+WANT = '{"code":-41}\n'
+# Acts that are never given up for want of memory.
+WITHOUT_MEMORY = {"abort", "disconnect", "leave", "addAuthToken", "deviceLocked", "deviceUnlocked", "earlyBootEnded"}
+# A line that enters behind these stands at their end, and a begin behind it.
+AT = '{"t":[0,1000],'
+BEGIN = (
+    AT + '"c":1,"do":"createOperation","key":{"domain":0,"alias":"m"},"params":[["PURPOSE",2],["MAC_LENGTH",256]]}\n'
+)
+FULL = [
+    AT + '"do":"connect","uid":10001}\n',
+    AT + '"c":1,"do":"importKey","key":{"domain":0,"alias":"m"},"params":[["PURPOSE",2],["ALGORITHM",128],'
+    '["DIGEST",4],["MIN_MAC_LENGTH",64],["NO_AUTH_REQUIRED",true]],"format":3,"material":"' + "0b" * 20 + '"}\n',
+    BEGIN,
+    BEGIN,
+]
+FULL_REPLIES = ['{"client":1,"code":0}', '{"code":0,"key":1}', '{"code":0,"op":1}', '{"code":0,"op":2}']
+STARTED, PRUNED = '{"code":0,"op":3}', '{"code":0,"op":3,"pruned":%d}'
+# Lines that enter operation 1, each with its reply and that of the begin behind it.
+ENTERS = [
+    ('"do":"update","op":1,"input":"4869205468657265"', '{"code":0,"out":""}', PRUNED % 2),
+    ('"do":"update","op":1,"input":"4869205468657265","hold":true', '{"code":0,"ticket":1}', PRUNED % 2),
+    (
+        '"do":"finish","op":1,"input":"4869205468657265"',
+        '{"code":0,"out":"b0344c61d8db38535ca8afceaf0bf12b881dc200c9833da726e9376c2e32cff7"}',
+        STARTED,
+    ),
+    ('"do":"finish","op":1,"input":"4869205468657265","hold":true', '{"code":0,"ticket":1}', PRUNED % 2),
+]
+
+REFUSING = """
+#define _GNU_SOURCE
+#include <dlfcn.h>
+#include <stdlib.h>
+#include <sys/syscall.h>
+static long asked;
+static int refuses(void) { return ++asked == atol(getenv("REFUSED_GROWTH")); }
+void *malloc(size_t size) {
+    static void *(*grow)(size_t);
+    if (!grow) grow = dlsym(RTLD_NEXT, "malloc");
+    return refuses() ? NULL : grow(size);
+}
+void *realloc(void *old, size_t size) {
+    static void *(*grow)(void *, size_t);
+    if (!grow) grow = dlsym(RTLD_NEXT, "realloc");
+    return refuses() ? NULL : grow(old, size);
+}
+static int has_enough(void) { return asked < atol(getenv("REFUSED_GROWTH")); }
+/* A program ends by exit, behind which this runs, or straight by _exit. */
+__attribute__((destructor)) static void tell(void) {
+    if (has_enough()) syscall(SYS_exit_group, 99);
+}
+void _exit(int status) {
+    syscall(SYS_exit_group, has_enough() ? 99 : status);
+    __builtin_unreachable();
+}
+"""
+ENOUGH = 99
+
+
+def reply_to(run, line):
+    """The reply to a line, or None where the run has ended."""
+    try:
+        run.stdin.write(line)
+    except BrokenPipeError:
+        return None
+    return run.stdout.readline().decode() or None
+
+
+def replies_of(program, lines, library, refused, words=(), once=None):
+    """The replies of a run in which one growth is refused, without its -41s; the acts that got one; and its status.
+    The line at the place `once` is not sent again, and keeps its -41."""
+    environment = {**os.environ, "LD_PRELOAD": str(library), "REFUSED_GROWTH": str(refused)}
+    replies, given_up, told = [], [], Told()
+    pipes = {"stdin": subprocess.PIPE, "stdout": subprocess.PIPE, "stderr": subprocess.DEVNULL, "bufsize": 0}
+    with subprocess.Popen([program, "run", "--fresh", *words], cwd=library.parent, env=environment, **pipes) as run:
+        for place, line in enumerate(lines):
+            spoken = told.filled(line.removesuffix("\n").encode()) + b"\n"
+            while (reply := reply_to(run, spoken)) == WANT and place != once:
+                given_up.append(json.loads(line)["do"])
+            if reply is None:
+                break
+            told.note(reply.encode())
+            replies.append(reply)
+        run.stdin.close()
+        return replies, given_up, run.wait()
+
+
+def fault_of(replies, given_up, status, expected):
+    """What is wrong with a run, or None."""
+    if any(not fits(reply.rstrip("\n"), wanted.rstrip("\n")) for reply, wanted in zip(replies, expected)):
+        return "another reply than expected"
+    if any(act in WITHOUT_MEMORY for act in given_up):
+        return "-41 at an act that takes no memory"
+    if len(given_up) > 1:
+        return "more than one -41 for one growth"
+    if status not in (0, 1, ENOUGH):
+        return f"status {status}"
+    if status != 1 and len(replies) != len(expected):
+        return "replies are missing"
+    return None
+
+
+def is_taken(script):
+    """Whether a script is short, fills no slots and prunes nothing."""
+    prunes = '"pruned":' in script.with_suffix(".expected").read_text(encoding="utf-8")
+    return not prunes and not words_of(script) and len(script.read_text(encoding="utf-8").splitlines()) <= MOST_LINES
+
+
+def next_growth(growth):
+    """The number of the next growth to refuse; a run that asks for so many tells nothing of what it asked for."""
+    if growth == MOST_GROWTHS:
+        sys.exit("refused_growths: the library that refuses is not told when a run ends")
+    return growth + 1
+
+
+def check_script(program, library, script):
+    """Refuses each growth of a script, and counts the faults."""
+    lines = [f"{line}\n" for line in script.read_text(encoding="utf-8").splitlines()]
+    expected = script.with_suffix(".expected").read_text(encoding="utf-8").splitlines()
+    growths, stopped, wanted, faults, status = 0, 0, 0, 0, 0
+    while status != ENOUGH:
+        growths = next_growth(growths)
+        replies, given_up, status = replies_of(program, lines, library, growths, words_of(script))
+        stopped += status == 1
+        wanted += len(given_up)
+        if fault := fault_of(replies, given_up, status, expected):
+            faults += 1
+            print(f"{script.name}, growth {growths}: {fault}")
+    print(f"{script.name}: {growths - 1} growths, {stopped} end the run with status 1, {wanted} are answered -41")
+    return faults
+
+
+def check_enter(program, library, members, reply, begun):
+    """Refuses each growth of a script that ends with a line that enters and a begin, and counts the faults. The line
+    that enters is not sent again."""
+    lines = [*FULL, f'{AT}"c":1,{members}}}\n', BEGIN]
+    stopped, wanted, faults, refused, status = 0, 0, 0, 0, 0
+    while status != ENOUGH:
+        refused = next_growth(refused)
+        replies, given_up, status = replies_of(program, lines, library, refused, ["--slots", "2"], len(FULL))
+        is_wanted = replies[len(FULL) : len(FULL) + 1] == [WANT]
+        wanted += is_wanted
+        stopped += status == 1 and len(replies) == len(FULL)
+        entered = [WANT.rstrip(), PRUNED % 1] if is_wanted else [reply, begun]
+        if fault := fault_of(replies, given_up, status, FULL_REPLIES + entered):
+            faults += 1
+            print(f"{members}, growth {refused}: {fault}")
+    print(f"{members}: {stopped} end the run with status 1, {wanted} are answered -41")
+    return faults
+
+
+def main():
+    parser = parser_of(__doc__)
+    parser.add_argument("scripts", nargs="*", type=Path)
+    add_program(parser)
+    asked = parser.parse_args()
+    scripts = asked.scripts or sorted(TOP.glob("examples/*.jsonl")) + sorted(TOP.glob("checks/*.jsonl"))
+    faults = 0
+    with scratch_folder() as folder:
+        library = Path(folder) / "refusing.so"
+        subprocess.run(
+            ["cc", "-shared", "-fPIC", "-xc", "-", "-include", "unistd.h", "-o", library, "-ldl"],
+            input=REFUSING,
+            text=True,
+            check=True,
+        )
+        for script in scripts:
+            if asked.scripts or is_taken(script):
+                faults += check_script(asked.program, library, script)
+        for row in ENTERS:
+            faults += check_enter(asked.program, library, *row)
+    return 1 if faults else 0

@@ -1,0 +1,1 @@
+"""Makers of scripts, tables and pages; `tools/ks make` lists them."""

@@ -1,0 +1,1 @@
+"""What is measured, beside other programs or beside itself; `tools/ks measure` lists it."""

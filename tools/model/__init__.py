@@ -1,0 +1,1 @@
+"""The rules once more, from docs/RULES.md, without the proved code."""
