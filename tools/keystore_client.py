@@ -13,9 +13,14 @@ command line over it. It needs no package. docs/PROTOCOL.md tells the protocol.
         op = client.createOperation(key, parameters(PURPOSE=[2], MAC_LENGTH=256)).op
         mac = client.finish(op, b"a text").out
 
+A client connects at its first call, ends its connection behind a minute without one, and connects anew at the next:
+so it keeps no worker of the service from others. Its operations end with the connection. Where no service takes a
+connection it tries again for ten seconds, with growing pauses.
+
 A refused call raises `ServiceError`, which has the code, the rule that was broken (None where it was none), AOSP's name
-of the code and what it means. Where the service ends the connection, or another program answers, `ConnectionEnded` is
-raised. The command line:
+of the code and what it means. `Busy` is raised where no connection was had, so that nothing was asked; `Withheld` where
+the connection ended before the reply, so that nobody knows whether the call was made: it is not made anew by itself.
+Both are a `ConnectionEnded`, and so is what comes where another program answers. The command line:
 
     python3 tools/keystore_client.py connect --uid 10001
     python3 tools/keystore_client.py generate files --kind aes
@@ -49,9 +54,14 @@ import socket
 import stat
 import sys
 import tempfile
+import threading
 import time
 
 PORT = 7878
+# How long a client keeps a connection without a call, and how long it tries to have one, in seconds: a service takes as
+# many connections as it has workers, and the system keeps some more for it (docs/PROTOCOL.md, "A connection").
+IDLE, PATIENCE = 60.0, 10.0
+SHORTEST_PAUSE, LONGEST_PAUSE = 0.05, 1.0
 MOST_INPUT = 32768
 
 # The codes that Keystore2 and KeyMint name, with what they mean; those from 1001 on are the service's own.
@@ -205,6 +215,14 @@ class ConnectionEnded(Exception):
         super().__init__(text)
 
 
+class Withheld(ConnectionEnded):
+    """The connection ended before the reply: whether the call was made is not known."""
+
+
+class Busy(ConnectionEnded):
+    """No service took a connection: nothing was asked."""
+
+
 class Refused(Exception):
     """What the client does not ask for."""
 
@@ -324,24 +342,42 @@ def exactly(stream, count):
     return bytes(data)
 
 
-class Client:
-    """A connection. Its methods are the acts, under the names that keystore2 and KeyMint give them."""
+def stream_to(host, port, timeout, patience):
+    """A connection to a service. One that is refused or times out is tried again, for so many seconds, behind pauses of
+    twice the length each."""
+    end, pause = time.monotonic() + patience, SHORTEST_PAUSE
+    while True:
+        left = end - time.monotonic()
+        try:
+            stream = socket.create_connection(
+                (host, port), timeout if patience == 0 else min(timeout or left, max(left, pause))
+            )
+            stream.settimeout(timeout)
+            stream.setsockopt(socket.IPPROTO_TCP, socket.TCP_NODELAY, 1)
+            return stream
+        except OSError as error:
+            if time.monotonic() + pause > end or not isinstance(error, (ConnectionError, TimeoutError)):
+                raise
+        time.sleep(pause)
+        pause = min(2 * pause, LONGEST_PAUSE)
 
-    def __init__(self, stream):
-        self.stream = stream
+
+class Client:
+    """A client of the service, over one connection at a time. Its methods are the acts, under the names that keystore2
+    and KeyMint give them."""
+
+    def __init__(self, stream, uid=None, where=None, idle=None):
+        """Over a connection that is there, or over none yet: then it is made for calls of this uid, by what `stream_to`
+        takes."""
+        self.stream, self.uid, self.where, self.idle = stream, uid, where, idle
+        self.lock, self.told, self.called = threading.Lock(), None, time.monotonic()
 
     @classmethod
-    def connect(cls, uid, host="127.0.0.1", port=PORT, timeout=None):
-        """Opens a connection to the service, for calls of this uid."""
-        stream = socket.create_connection((host, port), timeout)
-        client = cls(stream)
-        try:
-            stream.setsockopt(socket.IPPROTO_TCP, socket.TCP_NODELAY, 1)
-            client.number = client.connect_as(uid).client
-        except BaseException:
-            client.close()
-            raise
-        return client
+    def connect(cls, uid, host="127.0.0.1", port=PORT, timeout=None, idle=IDLE, patience=PATIENCE):
+        """A client for calls of this uid, which connects at its first call. A call may take `timeout` seconds, or as
+        long as it takes where that is None; a connection ends behind `idle` seconds without a call, or never; and for
+        one that is not to be had it is tried `patience` seconds."""
+        return cls(None, uid, (host, port, timeout, patience), idle)
 
     def __enter__(self):
         return self
@@ -350,16 +386,64 @@ class Client:
         self.close()
 
     def close(self):
-        """Ends the connection, behind its last reply; with it the client and its operations end."""
+        """Ends the client for good, behind its last reply; with its connection its operations end."""
+        with self.lock:
+            self.where = None
+            self.drop()
+
+    def drop(self):
+        """Ends the connection."""
         if self.stream is not None:
             self.stream.close()
             self.stream = None
 
+    @property
+    def number(self):
+        """The number that the service gave this client; a client that is not connected connects for it."""
+        self.open()
+        return self.told
+
+    def open(self):
+        """Connects, where there is no connection."""
+        with self.lock:
+            self.join()
+
+    def join(self):
+        """The same, where no other call is under way."""
+        if self.stream is not None:
+            return
+        if self.where is None:
+            raise ConnectionEnded()
+        host, port, *_ = self.where
+        try:
+            self.stream = stream_to(*self.where)
+            self.told = self.call_over(1, u32(self.uid)).client
+        except OSError as error:
+            self.drop()
+            raise Busy(f"no service at {host} port {port}: {error}") from error
+        except Withheld as error:
+            raise Busy(str(error)) from error
+        except BaseException:
+            self.drop()
+            raise
+        self.called = time.monotonic()
+        if self.idle is not None:
+            threading.Thread(target=self.watch, args=(self.stream,), daemon=True).start()
+
+    def watch(self, stream):
+        """Ends the connection once no call came for so long."""
+        while True:
+            time.sleep(max(self.called + self.idle - time.monotonic(), 0.001))
+            with self.lock:
+                if self.stream is not stream:
+                    return
+                if time.monotonic() >= self.called + self.idle:
+                    self.drop()
+                    return
+
     def exchange(self, body):
         """Sends the body of a request and gives that of its reply. Where that fails or takes too long, the
         connection ends: a reply that comes later would be taken for that of the next request."""
-        if self.stream is None:
-            raise ConnectionEnded()
         try:
             self.stream.sendall(counted(body))
             size = int.from_bytes(exactly(self.stream, 4), "big")
@@ -367,22 +451,32 @@ class Client:
                 raise ConnectionEnded(FOREIGN)
             return exactly(self.stream, size)
         except ConnectionError as error:
-            self.close()
-            raise ConnectionEnded() from error
+            self.drop()
+            raise Withheld() from error
         except BaseException:
-            self.close()
+            self.drop()
             raise
 
-    def call(self, act, *fields):
-        """Sends one request and reads its reply."""
+    def call_over(self, act, *fields):
+        """Sends one request over the connection and reads its reply."""
         body = bytes([act]) + b"".join(fields)
         if len(body) > MOST_BODY:
             raise ValueError(f"a request of more than {MOST_BODY} bytes")
+        reply = self.exchange(body)
         try:
-            return read_reply(self.exchange(body))
+            return read_reply(reply)
         except ValueError as error:
-            self.close()
+            self.drop()
             raise ConnectionEnded(FOREIGN) from error
+
+    def call(self, act, *fields):
+        """The same, over a connection that is made where there is none."""
+        with self.lock:
+            self.join()
+            try:
+                return self.call_over(act, *fields)
+            finally:
+                self.called = time.monotonic()
 
     def connect_as(self, uid):
         return self.call(1, u32(uid))
@@ -592,10 +686,8 @@ class Service:
         if self.client is None:
             words = self.words
             uid = words.uid if words.uid is not None else SYSTEM if words.of_system else OWN
-            try:
-                self.client = Client.connect(uid, words.host, words.port, words.timeout)
-            except OSError as error:
-                raise ConnectionEnded(f"no service at {words.host} port {words.port}: {error}") from error
+            self.client = Client.connect(uid, words.host, words.port, words.timeout, idle=None, patience=0.0)
+        self.client.open()
         return self.client
 
     def close(self):

@@ -13,7 +13,7 @@ import threading
 
 from keystore.cases import Case, each, needs_compiler
 from keystore.harness import TOP, check
-from keystore.runs import PATIENCE, free_port, make_store, once_it_listens, service
+from keystore.runs import PATIENCE, free_port, make_store, service
 from keystore.spelling import counted, u32, u64
 from keystore_client import Client
 
@@ -128,7 +128,7 @@ class Served(Built):
     def test_two_clients_of_the_service_leave_no_key(self):
         make_store(self.program, self.folder)
         with service(self.program, self.folder, 1 + CLIENTS, 2) as port:
-            with once_it_listens(lambda: Client.connect(APP, port=port, timeout=PATIENCE)) as beside:
+            with Client.connect(APP, port=port, timeout=PATIENCE) as beside:
                 texts = [run(self.client, str(port)) for _ in range(CLIENTS)]
                 for text, fault, status in texts:
                     check("the client", (with_marks(text), fault, status), (SAYS, "", 0))

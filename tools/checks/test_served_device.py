@@ -68,7 +68,7 @@ def is_admitted(told):
 
 
 def connected(port, uid):
-    return once_it_listens(lambda: Client.connect(uid, port=port, timeout=PATIENCE))
+    return Client.connect(uid, port=port, timeout=PATIENCE)
 
 
 def check_policy(client, own, other):

@@ -289,7 +289,8 @@ class Service(OnAStore):
 
     def test_a_second_service_on_the_port_or_on_the_store_and_another_address(self):
         with self.service(1) as port:
-            with once_it_listens(lambda: Client.connect(10001, port=port, timeout=PATIENCE)):
+            with Client.connect(10001, port=port, timeout=PATIENCE) as client:
+                client.open()
                 check_address(port)
                 second = ended(self.program, ["serve", str(port), "1", "1"], self.folder)
                 check("one on the port", second, (9, b"", [b"keystore2: listen fault"]))

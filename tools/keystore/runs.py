@@ -179,12 +179,14 @@ def make_store(program: Word, folder: Word) -> None:
 
 
 @contextlib.contextmanager
-def service(program: Word, folder: Word, connections: int, workers: int = 1) -> Iterator[int]:
+def service(
+    program: Word, folder: Word, connections: int, workers: int = 1, environment: Mapping[str, str] | None = None
+) -> Iterator[int]:
     """A service over the store of a folder, which has so many connections and ends behind the last one with status
     0; gives its port."""
     port = free_port()
     words: list[Word] = [program, "serve", str(port), str(connections), str(workers)]
-    process = subprocess.Popen(words, cwd=folder, stdout=subprocess.PIPE, stderr=subprocess.PIPE)
+    process = subprocess.Popen(words, cwd=folder, stdout=subprocess.PIPE, stderr=subprocess.PIPE, env=environment)
     try:
         yield port
         said, fault = process.communicate(timeout=PATIENCE)

@@ -1,0 +1,70 @@
+"""A script in which each act that writes a record comes, with looks at what it left, held work and two restarts; and
+which of its lines write."""
+from __future__ import annotations
+
+from typing import Any, NamedTuple
+
+from keystore.lines import APP, GRANT, PARAMS, begin, call, connect, made, named, numbered
+
+OWNER, OTHER, SYSTEM, FAR = 10001, 10002, 1000, 110001
+MESSAGE = "4869205468657265"
+
+
+class Line(NamedTuple):
+    """A line, and whether it writes a record where it is admitted."""
+
+    members: dict[str, Any]
+    writes: bool = False
+
+
+def writing(members: dict[str, Any]) -> Line:
+    return Line(members, True)
+
+
+def limited(client: int, alias: str, limit: int) -> Line:
+    return writing(made(client, named(alias), [*PARAMS, ["USAGE_COUNT_LIMIT", limit]]))
+
+
+def finish(client: int, number: int, **members: Any) -> dict[str, Any]:
+    return call(client, "finish", op=number, input=MESSAGE, **members)
+
+
+def look(client: int, alias: str) -> Line:
+    return Line(call(client, "getKeyEntry", key=named(alias)))
+
+
+CONNECTS = [Line(connect(uid)) for uid in (OWNER, OTHER, SYSTEM, FAR)]
+RESTART = Line({"t": [0, 1000], "do": "restart"})
+ROOT = "5a" * 32
+EVERY_ACT = [
+    *CONNECTS,
+    writing(made(1, named("free"))),
+    limited(1, "once", 1),
+    limited(1, "twice", 2),
+    writing(call(1, "generateKey", key=named("drawn"), params=[*PARAMS, ["KEY_SIZE", 256]])),
+    writing(call(1, "grant", key=named("twice"), uid=OTHER, bits=256)),
+    Line(begin(1, named("once"))),
+    writing(finish(1, 1)),
+    look(1, "once"),
+    Line(begin(2, numbered(GRANT, 1))),
+    writing(finish(2, 2, hold=True)),
+    look(1, "twice"),
+    Line({"t": [0, 1000], "do": "leave", "ticket": 2}),
+    writing(made(1, named("free"))),
+    writing(call(1, "deleteKey", key=named("drawn"))),
+    writing(call(1, "grant", key=named("twice"), uid=OTHER, bits=260)),
+    writing(call(1, "ungrant", key=named("twice"), uid=OTHER)),
+    RESTART,
+    *CONNECTS,
+    look(5, "twice"),
+    Line(begin(5, named("twice"))),
+    writing(finish(5, 3)),
+    look(5, "twice"),
+    writing(made(6, named("own"))),
+    writing(call(7, "clearNamespace", domain=APP, nspace=OTHER)),
+    writing(made(8, named("far"))),
+    writing(call(7, "userRemoved", user=1)),
+    Line({"t": [0, 1000], "do": "restart", "root": ROOT}),
+    *CONNECTS,
+    look(9, "free"),
+]
