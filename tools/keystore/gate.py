@@ -32,6 +32,7 @@ CHECKS = [
     "slips",
     "service",
     "silent_clients",
+    "fuzz_frames",
     "c_client",
     "turn_orders",
     "turn_waits",

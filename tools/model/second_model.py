@@ -69,13 +69,19 @@ Event = dict[str, Any]
 Reply = dict[str, Any]
 
 
+def is_text(data: bytes) -> bool:
+    """Whether bytes are UTF-8, as those of a frame may not be."""
+    try:
+        data.decode()
+    except UnicodeDecodeError:
+        return False
+    return True
+
+
 def has_alias(descriptor: Event) -> bool:
     """Whether a descriptor names a key in APP or SELINUX by its alias."""
-    return (
-        descriptor["domain"] in (APP, SELINUX)
-        and descriptor["alias"] is not None
-        and 1 <= len(descriptor["alias"]) <= 256
-    )
+    alias = descriptor["alias"]
+    return descriptor["domain"] in (APP, SELINUX) and alias is not None and 1 <= len(alias) <= 256 and is_text(alias)
 
 
 def is_stored(descriptor: Event) -> bool:
