@@ -4,7 +4,7 @@ ghost use Rattle.turn_lock.specs.Passes.{front, number_of, IsPassOf};
 
 use std::alloc::Global;
 use std::sync::Wait;
-use turn_lock::{History, Pass, TurnLock};
+use turn_lock::{History, LockPass, TurnLock};
 
 /// The numbers of the passes that marked, the oldest first.
 #[derive(Drop)]
@@ -22,7 +22,7 @@ impl History<u64, ()> for Marks {
 
 type MarkLock = TurnLock<Marks, u64, ()>;
 
-type MarkPass = Pass<Marks, u64, ()>;
+type MarkPass = LockPass<Marks, u64, ()>;
 
 /// A turn in which the pass marks, where there is memory.
 fn mark<R: Wait>(rt: &R, lock: &MarkLock, pass: MarkPass) -> MarkPass

@@ -24,7 +24,7 @@ use crate::notices::{
     DEVICE, POLICY, STORE, tell_counts, tell_device, tell_file, tell_misuse, tell_port, tell_store,
 };
 use crate::streams::hold_streams;
-use crate::tally::Tally;
+use crate::tally::ReplyTally;
 use device_files::{FileTrouble, read_device, read_policy};
 use file_disk::open_store;
 use keystore_run::{Status, run_words};
@@ -146,7 +146,7 @@ fn printed(rt: &HostRuntime, text: &str) -> ExitCode {
 /// Runs the words over standard input and output, and the store of the current folder.
 fn run_process(rt: &HostRuntime, words: &[String], device: &Device) -> Status {
     let mut source = ReaderSource::new(rt.reader());
-    let mut sink = Tally::new(WriterSink::new(io::writer(rt)));
+    let mut sink = ReplyTally::new(WriterSink::new(io::writer(rt)));
     let mut disk = open_store(rt, STORE);
     let mut entropy = open_device(rt);
     if asks_to_init(words) {

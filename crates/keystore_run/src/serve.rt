@@ -52,10 +52,10 @@ pub fn serve_line<K: Sink, D: Disk, N: Entropy>(
     ensures entries { entries_in session.new ≤ entries_in session.old + 3 }
     ensures sink_faults { CountsFaults (K.fault_count sink.old) (K.fault_count sink.new) (is_write_halt result) }
 {
-    let Ok(text) = session.line(alloc, disk, entropy, line) else {
+    let Ok(answer) = session.answer(alloc, disk, entropy, line) else {
         return Err(Halt::Memory);
     };
-    match write_all(sink, text.as_slice()) {
+    match write_all(sink, answer.text.as_slice()) {
         Ok(()) => Ok(()),
         Err(_) => Err(Halt::Write),
     }

@@ -2,7 +2,7 @@
 ghost use Rattle.std.specs.Prelude.{◌≡◌, ◌++◌, ◌∷◌, [], OnOk, OnErr};
 
 use std::alloc::{AllocError, Global};
-use turn_lock::{Closing, History, Maker, Pass, TurnLock};
+use turn_lock::{Closing, History, Maker, LockPass, TurnLock};
 
 /// An item, with the number of the pass that appended it.
 #[derive(Clone, Copy, Debug, PartialEq, Eq)]
@@ -29,7 +29,7 @@ impl History<ListEntry, ()> for PlainList {
 pub type ListLock = TurnLock<PlainList, ListEntry, ()>;
 
 /// A pass to the lock.
-pub type ListPass = Pass<PlainList, ListEntry, ()>;
+pub type ListPass = LockPass<PlainList, ListEntry, ()>;
 
 /// What makes passes to the lock.
 pub type ListMaker = Maker<PlainList, ListEntry, ()>;

@@ -21,7 +21,7 @@ mod view;
 
 pub use history::History;
 pub use lock::{
-    Closing, LastTurn, Locked, Maker, Note, Pass, RestingMaker, RestingPass, Turn, TurnLock,
+    Closing, LastTurn, Locked, Maker, Note, LockPass, RestingMaker, RestingPass, Turn, TurnLock,
 };
 pub use rule::{EndRule, Place, Turns};
 pub use view::{Hand, Stage, View};

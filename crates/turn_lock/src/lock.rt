@@ -33,7 +33,7 @@ pub struct Locked<S, V, K, P: TableRule<S, V, K>> {
 
 /// The right to take turns, one after another, under a number. It has seen a front of the history.
 #[derive(Drop)]
-pub struct Pass<T, E, K> {
+pub struct LockPass<T, E, K> {
     seat: Place<T, E, K>,
     number: u64,
     ghost rests: { seat ≡ posed seat (view Idle (number_to number seat.me.0.hands)) [] },

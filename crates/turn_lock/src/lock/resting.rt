@@ -3,17 +3,17 @@ ghost use Rattle.std.specs.Prelude.{◌≡◌};
 ghost use Rattle.turn_lock.specs.Passes.{front, number_of, made_of, IsPassOf, IsMakerOf};
 ghost use Rattle.turn_lock.specs.Resting.{resting_front, resting_number, resting_made, IsRestingPassOf, IsRestingMakerOf};
 
-use super::{Maker, Pass, RestingMaker, RestingPass, TurnLock};
+use super::{Maker, LockPass, RestingMaker, RestingPass, TurnLock};
 use crate::history::History;
 
 impl<T: History<E, K>, E, K> TurnLock<T, E, K> {
     /// The same pass, at rest.
-    pub fn rest(&self, pass: Pass<T, E, K>) -> RestingPass<E, K>
+    pub fn rest(&self, pass: LockPass<T, E, K>) -> RestingPass<E, K>
         requires ours { IsPassOf self.now pass }
         ensures ours { IsRestingPassOf self.now result }
         ensures same { (resting_number result ≡ number_of pass) × (resting_front result ≡ front pass) }
     {
-        let Pass { seat, number } = pass;
+        let LockPass { seat, number } = pass;
         RestingPass {
             badge: seat.into_badge(),
             number,
@@ -21,13 +21,13 @@ impl<T: History<E, K>, E, K> TurnLock<T, E, K> {
     }
 
     /// The same pass, for a turn.
-    pub fn wake(&self, pass: RestingPass<E, K>) -> Pass<T, E, K>
+    pub fn wake(&self, pass: RestingPass<E, K>) -> LockPass<T, E, K>
         requires ours { IsRestingPassOf self.now pass }
         ensures ours { IsPassOf self.now result }
         ensures same { (number_of result ≡ resting_number pass) × (front result ≡ resting_front pass) }
     {
         let RestingPass { badge, number } = pass;
-        Pass {
+        LockPass {
             seat: badge.into_seat(),
             number,
         }

@@ -5,7 +5,7 @@ ghost use Rattle.turn_lock.specs.Views.{view, numbers_in};
 ghost use Rattle.turn_lock.specs.Passes.{front, front_before, seen, number_of, turn_number, lock_id, name_of, IsPassOf, IsTurnOf, HasPutBack};
 ghost use Rattle.turn_lock.specs.Fronts.{IsFrontOf, Extends, Appends};
 
-use super::{Pass, Turn, TurnLock};
+use super::{LockPass, Turn, TurnLock};
 use crate::history::History;
 use crate::plays::{Count, DrawFree, Leave, LeaveSeeing, Look};
 use crate::rule::Place;
@@ -82,7 +82,7 @@ impl<T: History<E, K>, E, K> TurnLock<T, E, K> {
 
     /// Waits for a turn, and takes the value. Its history begins with the pass's front, and has no more of the pass's
     /// own.
-    pub fn enter<R: Wait>(&self, rt: &R, pass: Pass<T, E, K>) -> (Turn<T, E, K>, T)
+    pub fn enter<R: Wait>(&self, rt: &R, pass: LockPass<T, E, K>) -> (Turn<T, E, K>, T)
         requires ours { IsPassOf self.now pass }
         ensures turn { IsTurnOf T.maker self.now result.0 }
         ensures number { turn_number result.0 ≡ number_of pass }
@@ -91,7 +91,7 @@ impl<T: History<E, K>, E, K> TurnLock<T, E, K> {
         ensures later { IsFrontOf T.maker (number_of pass) (front pass) (T.entries result.1) }
         ensures fits { T.fits (name_of self.now) result.1 }
     {
-        let Pass { mut seat, number } = pass;
+        let LockPass { mut seat, number } = pass;
         let shared = &self.table.shared;
         let mine = self.draw(rt, &mut seat);
         // the first look is the last: no other turn was out when this one was drawn
@@ -122,7 +122,7 @@ impl<T: History<E, K>, E, K> TurnLock<T, E, K> {
 
     /// Gives the value back with so many entries more, each made by the pass, and passes the turn. Where there are
     /// some, the pass has then seen the whole history.
-    pub fn leave(&self, turn: Turn<T, E, K>, value: T, added: u64) -> Pass<T, E, K>
+    pub fn leave(&self, turn: Turn<T, E, K>, value: T, added: u64) -> LockPass<T, E, K>
         requires ours { IsTurnOf T.maker self.now turn }
         requires room { length (T.entries value) < 2 ^ 64 }
         requires grown { Appends T.maker (turn_number turn) added (seen turn) (T.entries value) }
@@ -142,11 +142,11 @@ impl<T: History<E, K>, E, K> TurnLock<T, E, K> {
         }
         shared.fetch_add::<Leave>(&mut seat, SERVED, 1);
         self.wake_another();
-        Pass { seat, number }
+        LockPass { seat, number }
     }
 
     /// Gives the value back with no entry more, and passes the turn. The pass has then seen the whole history.
-    pub fn leave_seeing(&self, turn: Turn<T, E, K>, value: T) -> Pass<T, E, K>
+    pub fn leave_seeing(&self, turn: Turn<T, E, K>, value: T) -> LockPass<T, E, K>
         requires ours { IsTurnOf T.maker self.now turn }
         requires same { T.entries value ≡ seen turn }
         requires fits { T.fits (name_of self.now) value }
@@ -160,11 +160,11 @@ impl<T: History<E, K>, E, K> TurnLock<T, E, K> {
         let shared = &self.table.shared;
         shared.fetch_add::<LeaveSeeing>(&mut seat, SERVED, 1);
         self.wake_another();
-        Pass { seat, number }
+        LockPass { seat, number }
     }
 }
 
-impl<T, E, K> Pass<T, E, K> {
+impl<T, E, K> LockPass<T, E, K> {
     /// Its number: no other pass of its lock has the same.
     pub fn number(&self) -> u64
         ensures { result ≡ number_of self.now }

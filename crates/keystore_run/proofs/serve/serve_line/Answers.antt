@@ -8,7 +8,7 @@ returns-in_default-clause-serves g c = λ setup past for. unwritten g.D.Disk g.N
 pub returns-in-Ok-write_all-clause-serves : goal.returns-in-Ok-write_all-clause-serves
 returns-in-Ok-write_all-clause-serves g c = λ setup past for.
     let goes = c.in-Ok.ensures.serves setup past for in
-    record { later = goes.0; text = c.in-Ok.text; goes_on = goes.1; put = rw c.as_slice.ensures at c.in-Ok-write_all.ensures.ok }
+    record { later = goes.0; text = c.in-Ok.answer.text; goes_on = goes.1; put = rw c.as_slice.ensures at c.in-Ok-write_all.ensures.ok }
 
 pub returns-clause-serves : goal.returns-clause-serves
 returns-clause-serves g c = λ setup past for.

@@ -1,12 +1,25 @@
-use Rattle.std.proofs.Common.{[], inl, refl, arith, subst}
+use Rattle.std.proofs.Common.{◌≡◌, false, [], Ok, inl, refl, sym, ◌∙◌, arith, subst}
+use Rattle.rule_model.specs.Acts.{is_leave}
 use Rattle.rule_model.specs.Legal.{WithoutMemory}
-use Rattle.keystore_core.proofs.Standing.{without_memory}
+use Rattle.keystore_core.proofs.Standing.{at_none, leave_is, no_leave, stands_none, without_memory}
+use Rattle.keystore_core.specs.Tables.{IsAt}
 use Rattle.keystore_core.specs.Writing.{StoreGoesFor}
 use Rattle.keystore_core.proofs.Storing.{caller_told, memory_goes}
 use Rattle.keystore_core.proofs.tables.Tables.answer.Goals as goal
 
+pub leave-requires : goal.leave-requires
+leave-requires g c = subst (λ act. ∥ IsAt c.args.self.now c.args.step act c.args.done ∥₁) (leave_is c.args.event.act c.in-Some.ticket (sym c.ticket.ensures ∙ c.in-Some.is)) c.requires.at
+
+pub serve-requires-clause-at : goal.serve-requires-clause-at
+serve-requires-clause-at g c = at_none c.args.self.now c.args.step c.args.event.act c.args.done (no_leave c.args.event.act (sym c.ticket.ensures ∙ c.in-None.is)) c.requires.at
+
+pub serve-requires-clause-comes : goal.serve-requires-clause-comes
+serve-requires-clause-comes g c = no_leave c.args.event.act (sym c.ticket.ensures ∙ c.in-None.is)
+
 pub returns-in-Ok-clause-answers : goal.returns-in-Ok-clause-answers
-returns-in-Ok-clause-answers g c = λ setup past at. (rw (c.caller-caller.ensures.reading, c.caller-caller.ensures.client) at c.in-Ok.ensures.serves) setup past at
+returns-in-Ok-clause-answers g c = λ setup past at.
+    (rw (c.caller-caller.ensures.reading, c.caller-caller.ensures.client) at c.in-Ok.ensures.serves) setup past
+    (stands_none setup past c.args.self.now c.args.step c.args.event.act c.args.done (no_leave c.args.event.act (sym c.ticket.ensures ∙ c.in-None.is)) at)
 
 pub returns-clause-answers : goal.returns-clause-answers
 returns-clause-answers g c = λ setup past at.
