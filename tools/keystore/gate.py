@@ -32,7 +32,6 @@ CHECKS = [
     "slips",
     "service",
     "silent_clients",
-    "fuzz_frames",
     "c_client",
     "turn_orders",
     "turn_waits",

@@ -11,12 +11,15 @@ ghost use Rattle.keystore_run.specs.Answers.{IsAnswer, text_in};
 ghost use Rattle.keystore_run.specs.Follows as spec;
 ghost use Rattle.keystore_run.specs.SessionKept.{IsSession};
 
-use crate::answer::{Answer, answer_of, malformed};
+use crate::answer::{Answer, malformed};
 use crate::jobs::{Jobs, run_job};
+use crate::telling::Telling;
+use crate::written::Written;
 use keystore_core::Engine;
 use ks_outside::{Disk, Entropy};
+use line_members::LineFault;
 use rule_model::{Act, Event, Line, Reading, Reply, Stepped};
-use script_lines::{LineFault, event_of};
+use script_lines::event_of;
 use std::alloc::Global;
 use tags::{Bytes, NoMemory};
 
@@ -180,38 +183,43 @@ impl Session {
         }
     }
 
-    /// Makes the steps of what a line says, and gives their reply lines.
+    /// Makes the steps of what a line says, and gives what is written of them.
     fn serve<D: Disk, N: Entropy>(
         &mut self,
         alloc: Global,
+        written: Written,
         disk: &mut D,
         entropy: &mut N,
         line: Line,
     ) -> Result<Answer, NoMemory>
         requires few { entries_in self.old < 2 ^ 62 - 2 }
         ensures serves { (setup : Setup) (past : History) → StandsFor D.Disk setup self.old disk.old past →
-            ServesBy D.Disk N.Entropy setup past self.new (Some line) (devices disk.old entropy.old) (devices disk.new entropy.new) (text_in result) }
-        ensures answer { IfOk result IsAnswer }
+            ServesBy D.Disk N.Entropy written setup past self.new (Some line) (devices disk.old entropy.old) (devices disk.new entropy.new) (text_in result) }
+        ensures answer { IfOk result (IsAnswer written) }
         ensures entries { entries_in self.new ≤ entries_in self.old + 3 }
     {
         let Line { event, hold } = line;
         let reading = event.reading;
+        let Ok(telling) = Telling::of(alloc, written, &event) else {
+            drop(event);
+            return Err(NoMemory);
+        };
         let Ok(()) = self.reserve() else {
             drop(event);
+            drop(telling);
             return Err(NoMemory);
         };
         let stepped = self.step(disk, entropy, event);
         let Some(ticket) = ticket_due(hold, &stepped.reply) else {
-            return answer_of(alloc, stepped);
+            return telling.step(alloc, stepped);
         };
-        let settled = stepped.settled;
-        drop(stepped);
         let left = self.leave(disk, entropy, leave_at(reading, ticket), ticket);
-        answer_of(alloc, Stepped { settled, ..left })
+        telling.step_and_leave(alloc, stepped, leave_at(reading, ticket), left)
     }
 
-    /// Makes the steps of one line and gives their reply lines: of a line that enters without holding, the enter and its
-    /// leave, with the leave's reply. Before it stands the settled line, where the first step settled an earlier change.
+    /// Makes the steps of one line and gives what is written of them. Of a line that enters without holding these are the enter and
+    /// its leave, with the leave's reply; before a reply line stands the settled line, where the first step settled an earlier change.
+    /// In a trace each entry has its line.
     /// After want of memory the session stands for the history with all of the line's entries, or with none of them. What the
     /// entropy gave was drawn for these entries. One of them is the reply to a failed draw exactly where a draw failed, or to
     /// a failed call of the disk exactly where one failed, and one at most. At each moment since the line's start each image
@@ -220,19 +228,20 @@ impl Session {
     pub fn answer<D: Disk, N: Entropy>(
         &mut self,
         alloc: Global,
+        written: Written,
         disk: &mut D,
         entropy: &mut N,
         line: &[u8],
     ) -> Result<Answer, NoMemory>
         requires few { entries_in self.old < 2 ^ 62 - 2 }
         ensures serves { (setup : Setup) (past : History) → StandsFor D.Disk setup self.old disk.old past →
-            Serves D.Disk N.Entropy setup past self.new line.now (devices disk.old entropy.old) (devices disk.new entropy.new) (text_in result) }
-        ensures answer { IfOk result IsAnswer }
+            Serves D.Disk N.Entropy written setup past self.new line.now (devices disk.old entropy.old) (devices disk.new entropy.new) (text_in result) }
+        ensures answer { IfOk result (IsAnswer written) }
         ensures entries { entries_in self.new ≤ entries_in self.old + 3 }
     {
         match event_of(alloc, line) {
-            Ok(line) => self.serve(alloc, disk, entropy, line),
-            Err(LineFault::Malformed) => malformed(alloc),
+            Ok(line) => self.serve(alloc, written, disk, entropy, line),
+            Err(LineFault::Malformed) => malformed(alloc, written),
             Err(LineFault::Memory) => Err(NoMemory),
         }
     }
@@ -241,16 +250,17 @@ impl Session {
     pub fn line<D: Disk, N: Entropy>(
         &mut self,
         alloc: Global,
+        written: Written,
         disk: &mut D,
         entropy: &mut N,
         line: &[u8],
     ) -> Result<Bytes, NoMemory>
         requires few { entries_in self.old < 2 ^ 62 - 2 }
         ensures serves { (setup : Setup) (past : History) → StandsFor D.Disk setup self.old disk.old past →
-            Serves D.Disk N.Entropy setup past self.new line.now (devices disk.old entropy.old) (devices disk.new entropy.new) result }
+            Serves D.Disk N.Entropy written setup past self.new line.now (devices disk.old entropy.old) (devices disk.new entropy.new) result }
         ensures entries { entries_in self.new ≤ entries_in self.old + 3 }
     {
-        match self.answer(alloc, disk, entropy, line) {
+        match self.answer(alloc, written, disk, entropy, line) {
             Ok(answer) => Ok(answer.text),
             Err(NoMemory) => Err(NoMemory),
         }

@@ -1,6 +1,8 @@
 use Rattle.std.proofs.Common.{Some, subst}
 use Rattle.keystore_run.specs.Answers.{text_in}
+use Rattle.keystore_run.specs.Follows.{leave_at}
 use Rattle.keystore_run.specs.Session.{StepsTo, devices}
+use Rattle.keystore_run.proofs.Adding.{adds_left, adds_step}
 use Rattle.keystore_run.proofs.Sessions.{served, text_same, went_and_left, went_on}
 use Rattle.keystore_run.proofs.Tickets.{reserved}
 use Rattle.keystore_run.proofs.session.Session.serve.Goals as goal
@@ -9,13 +11,20 @@ pub returns-in_default-ticket_due-clause-serves : goal.returns-in_default-ticket
 returns-in_default-ticket_due-clause-serves g c = λ setup past for.
     let standing = reserved g.D.Disk setup _ c.reserve.new.self _ past c.reserve.ensures.engine (c.reserve.ensures.jobs setup past) for in
     let to = c.step-stepped.ensures.steps setup past standing in
-    served g.D.Disk g.N.Entropy setup past _ (Some c.args.line) _ _ _ _ (text_in c.answer_of.result)
-    (went_on g.D.Disk g.N.Entropy setup past _ (devices _ _) (devices _ _) c.args.line c.step-stepped.result to c.step-stepped.ensures.drew c.in_default-ticket_due.ensures) (text_same _ _ c.answer_of.ensures.text)
+    let stepped = c.step-stepped.result in
+    served g.D.Disk g.N.Entropy setup c.args.written past _ (Some c.args.line) _ _ _ _ _ (text_in c.step-step.result)
+    (went_on g.D.Disk g.N.Entropy setup past _ (devices _ _) (devices _ _) c.args.line stepped to c.step-stepped.ensures.drew c.in_default-ticket_due.ensures)
+    (adds_step c.args.written stepped.settled c.args.line.event stepped.drawn stepped.reply past)
+    (text_same _ _ (c.step-step.ensures.text c.args.written c.args.line.event c.in-Ok.ensures))
 
 pub returns-clause-serves : goal.returns-clause-serves
 returns-clause-serves g c = λ setup past for.
     let standing = reserved g.D.Disk setup _ c.reserve.new.self _ past c.reserve.ensures.engine (c.reserve.ensures.jobs setup past) for in
     let to = c.step-stepped.ensures.steps setup past standing in
-    served g.D.Disk g.N.Entropy setup past _ (Some c.args.line) _ _ _ _ (text_in c.answer_of-2.result)
+    let stepped = c.step-stepped.result in
+    let left = c.leave-left.result in
+    served g.D.Disk g.N.Entropy setup c.args.written past _ (Some c.args.line) _ _ _ _ _ (text_in c.step_and_leave.result)
     (went_and_left g.D.Disk g.N.Entropy setup past c.step-stepped.new.self _ (devices _ _) (devices c.step-stepped.new.disk c.step-stepped.new.entropy) (devices _ _) c.args.line c.step-stepped.result c.leave-left.result _ to c.step-stepped.ensures.drew c.in-Some.ensures
-    (λ later stands. subst (λ event. StepsTo g.D.Disk setup later c.leave-left.new.self c.step-stepped.new.disk c.leave-left.new.disk event c.leave-left.result) c.leave_at.ensures (c.leave-left.ensures.steps setup later stands)) c.leave-left.ensures.drew) (text_same _ _ c.answer_of-2.ensures.text)
+    (λ later stands. subst (λ event. StepsTo g.D.Disk setup later c.leave-left.new.self c.step-stepped.new.disk c.leave-left.new.disk event c.leave-left.result) c.leave_at.ensures (c.leave-left.ensures.steps setup later stands)) c.leave-left.ensures.drew)
+    (adds_left c.args.written stepped.settled c.args.line.event stepped.drawn stepped.reply (leave_at c.args.line.event.reading c.in-Some.ticket) left.drawn left.reply past)
+    (text_same _ _ (rw c.leave_at-2.ensures at (c.step_and_leave.ensures.text c.args.written c.args.line.event c.in-Ok.ensures)))
