@@ -7,17 +7,12 @@
    counts as written. Where the system is asked to let go of what it remembers, each byte without a mark is what the disk has.
 
    Reads, writes, cuts and syncs of a store are numbered over all runs, and the tool says what each does. */
-#define _GNU_SOURCE
+#include "store_file.h"
 #include <errno.h>
-#include <fcntl.h>
 #include <stdint.h>
-#include <stdio.h>
 #include <stdlib.h>
-#include <string.h>
 #include <sys/mman.h>
 #include <sys/stat.h>
-#include <sys/syscall.h>
-#include <unistd.h>
 
 enum { MOST_CALLS = 4096, MOST_BYTES = 1 << 20, BLOCK = 512 };
 
@@ -41,15 +36,6 @@ static unsigned char bytes_of_file[MOST_BYTES];
 static void stop(const char *text) {
     fprintf(stderr, "lost_syncs.c: %s\n", text);
     abort();
-}
-
-static int is_store(int file) {
-    static const char name[] = "/store.ks";
-    char link[64], path[4096];
-    snprintf(link, sizeof link, "/proc/self/fd/%d", file);
-    ssize_t length = readlink(link, path, sizeof path);
-    size_t least = sizeof name - 1;
-    return length >= (ssize_t)least && memcmp(path + length - least, name, least) == 0;
 }
 
 /* What the next call does. */
@@ -148,13 +134,5 @@ static int advised(int file, off_t at, off_t count, int advice) {
     return 0;
 }
 
-ssize_t pwrite(int file, const void *bytes, size_t count, off_t at) { return put(file, bytes, count, at); }
-ssize_t pwrite64(int file, const void *bytes, size_t count, off_t at) { return put(file, bytes, count, at); }
-ssize_t pread(int file, void *bytes, size_t count, off_t at) { return get(file, bytes, count, at); }
-ssize_t pread64(int file, void *bytes, size_t count, off_t at) { return get(file, bytes, count, at); }
-int fsync(int file) { return synced(file, SYS_fsync); }
-int fdatasync(int file) { return synced(file, SYS_fdatasync); }
-int ftruncate(int file, off_t size) { return cut(file, size); }
-int ftruncate64(int file, off_t size) { return cut(file, size); }
 int posix_fadvise(int file, off_t at, off_t count, int advice) { return advised(file, at, count, advice); }
 int posix_fadvise64(int file, off_t at, off_t count, int advice) { return advised(file, at, count, advice); }

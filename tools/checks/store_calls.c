@@ -2,20 +2,15 @@
    noted, in its order, with each reply that is written between them; and one of these calls, or each from it on, ends as the check says.
 
    The notes lie in a file that is shared with the check, whose name the variable STORE_CALLS has. */
-#define _GNU_SOURCE
+#include "store_file.h"
 #include <errno.h>
-#include <fcntl.h>
 #include <signal.h>
 #include <stdarg.h>
 #include <stdint.h>
-#include <stdio.h>
 #include <stdlib.h>
-#include <string.h>
 #include <sys/mman.h>
 #include <sys/socket.h>
 #include <sys/stat.h>
-#include <sys/syscall.h>
-#include <unistd.h>
 
 enum { MOST_NOTES = 1 << 14 };
 
@@ -87,19 +82,6 @@ static int failed(int fault) {
     return -1;
 }
 
-static int ends_with_store(const char *path, size_t length) {
-    static const char name[] = "store.ks";
-    size_t least = sizeof name - 1;
-    return length >= least && memcmp(path + length - least, name, least) == 0 && (length == least || path[length - least - 1] == '/');
-}
-
-static int is_store(int file) {
-    char link[64], path[4096];
-    snprintf(link, sizeof link, "/proc/self/fd/%d", file);
-    ssize_t length = readlink(link, path, sizeof path);
-    return length > 0 && ends_with_store(path, (size_t)length);
-}
-
 static int is_socket(int file) {
     int kind;
     socklen_t length = sizeof kind;
@@ -159,13 +141,7 @@ int open(const char *path, int flags, ...) {
     return opened(path, flags, mode);
 }
 
-int open64(const char *path, int flags, ...) {
-    va_list more;
-    va_start(more, flags);
-    mode_t mode = flags & (O_CREAT | O_TMPFILE) ? va_arg(more, mode_t) : 0;
-    va_end(more);
-    return opened(path, flags, mode);
-}
+int open64(const char *path, int flags, ...) __attribute__((alias("open")));
 
 int flock(int file, int operation) {
     if (!is_store(file)) return (int)syscall(SYS_flock, file, operation);
@@ -181,15 +157,6 @@ int statx(int file, const char *restrict path, int flags, unsigned mask, struct 
     if (how == FAILS) return failed(EIO);
     return (int)made(how, syscall(SYS_statx, file, path, flags, mask, data));
 }
-
-ssize_t pwrite(int file, const void *bytes, size_t count, off_t at) { return put(file, bytes, count, at); }
-ssize_t pwrite64(int file, const void *bytes, size_t count, off_t at) { return put(file, bytes, count, at); }
-ssize_t pread(int file, void *bytes, size_t count, off_t at) { return get(file, bytes, count, at); }
-ssize_t pread64(int file, void *bytes, size_t count, off_t at) { return get(file, bytes, count, at); }
-int fsync(int file) { return synced(file, SYS_fsync); }
-int fdatasync(int file) { return synced(file, SYS_fdatasync); }
-int ftruncate(int file, off_t size) { return cut(file, size); }
-int ftruncate64(int file, off_t size) { return cut(file, size); }
 
 /* ---- Replies: what is written to the standard output, or to a socket */
 

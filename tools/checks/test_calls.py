@@ -9,38 +9,12 @@ import re
 import unittest
 
 from keystore.harness import TOP
+from keystore.sources import inside, offered, split, without_attributes, without_comments
 
 PAGE = TOP / "docs/LIBRARIES.md"
 # Methods of the standard library that the page calls.
 OF_STD = {"to_be_bytes", "len", "ok", "split_at_mut", "as_slice", "with_capacity"}
-OPEN, CLOSE = "([{<", ")]}>"
 ITEM = r"\b(?:fn|struct|enum|trait|const|static|type)\s+"
-
-
-def split(text):
-    """The parts of a text between commas that stand in no bracket; `->` and `=>` close none."""
-    parts, depth = [""], 0
-    for place, it in enumerate(text):
-        depth += (it in OPEN) - (it in CLOSE and text[place - 1 : place] not in ("-", "="))
-        if it == "," and depth == 0:
-            parts.append("")
-        else:
-            parts[-1] += it
-    return [it.strip() for it in parts if it.strip()]
-
-
-def inside(text, place):
-    """What stands in the bracket that opens at a place."""
-    depth = 0
-    for end in range(place, len(text)):
-        depth += (text[end] in OPEN) - (text[end] in CLOSE and text[end - 1] not in "-=")
-        if depth == 0:
-            return text[place + 1 : end]
-    return text[place + 1 :]
-
-
-def without_comments(text):
-    return re.sub(r"//[^\n]*", "", text)
 
 
 class Crate:
@@ -54,13 +28,8 @@ class Crate:
 
     def offers(self, name):
         """Whether a name is one of the crate's root, and is defined in the crate."""
-        shown = {
-            name
-            for row in re.findall(r"\bpub use ([^;]+);", self.root)
-            for name in re.findall(r"\w+", row.split("::", 1)[-1])
-        }
         here = re.search(rf"\bpub {ITEM}{name}\b", self.root)
-        return bool(here or (name in shown and re.search(rf"\bpub {ITEM}{name}\b", self.text)))
+        return bool(here or (name in offered(self.root) and re.search(rf"\bpub {ITEM}{name}\b", self.text)))
 
     def body(self, kind, name):
         """What stands in the braces of a struct, an enum or a trait."""
@@ -82,10 +51,6 @@ class Crate:
     def fields(self, name):
         """The public fields of a struct."""
         return re.findall(r"\bpub (\w+):", self.body("struct", name))
-
-
-def without_attributes(text):
-    return re.sub(r"#\[[^\]]*\]", "", text)
 
 
 def counts_of(text, name):

@@ -9,6 +9,7 @@ What was acknowledged is there, each use too; what was answered 4 is there or is
 one came; and the program opens each store that was left, and tells its keys and uses."""
 import copy
 import json
+import os
 import subprocess
 
 from compare.failing_disk import SETTLED, compare, kept_in, left_in
@@ -115,7 +116,7 @@ class EachCall(Case):
             [self.program, "run"],
             input=b"\n".join(self.lines) + b"\n",
             cwd=self.folder,
-            env=self.calls.environment(),
+            env={**os.environ, **self.calls.environment()},
             capture_output=True,
             timeout=PATIENCE,
             check=False,

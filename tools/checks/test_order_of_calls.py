@@ -9,6 +9,7 @@ before the sync; and then its reply leaves. So it is in a run over every act tha
 over a port. What changes nothing makes no call. Where one of a change's calls failed, the next call of a client first
 writes again what that sync was to bring, where one failed, makes one sync and reads one byte, the gate."""
 import json
+import os
 import subprocess
 
 from keystore.cases import Case, each, needs_compiler
@@ -71,7 +72,7 @@ class OverTheCalls(Case):
             [self.program, *words],
             input=script,
             cwd=self.folder,
-            env=self.calls.environment(),
+            env={**os.environ, **self.calls.environment()},
             capture_output=True,
             timeout=PATIENCE,
             check=False,

@@ -16,6 +16,6 @@ class Page(unittest.TestCase):
         )
 
     def test_each_reason_is_of_a_call(self):
-        bare = [f"{it.crate}::{it.name}" for it in public_calls.all_calls() if it.changes and not it.says_what_stays()]
+        bare = [f"{it.crate}::{it.name}" for it in public_calls.all_calls() if it.changes and not it.of_what_was_lent()]
         for key in public_calls.REASONS:
             self.assertTrue([it for it in bare if public_calls.re.fullmatch(key, it)], key)

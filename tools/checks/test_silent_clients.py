@@ -9,7 +9,6 @@ more than a socket takes, and reads nothing, is gone likewise.
 The client connects at its first call, ends its connection behind a while without one, and comes again. A call whose
 connection ends before its reply is not sent again, and is told apart from one that no service took, for which it
 tries a while."""
-import os
 import socket
 import subprocess
 import threading
@@ -39,7 +38,7 @@ class OverAService(Case):
         library, self.notes = self.folder / "short_patience.so", self.folder / "notes"
         subprocess.run(["cc", "-shared", "-fPIC", "-O1", "-o", library, SOURCE, "-ldl"], check=True)
         self.notes.write_bytes(b"")
-        self.environment = {**os.environ, "LD_PRELOAD": str(library), "SHORT_PATIENCE": str(self.notes)}
+        self.environment = {"LD_PRELOAD": str(library), "SHORT_PATIENCE": str(self.notes)}
 
     def asked(self):
         """The times that the program asked for."""

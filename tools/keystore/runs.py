@@ -186,7 +186,13 @@ def service(
     0; gives its port."""
     port = free_port()
     words: list[Word] = [program, "serve", str(port), str(connections), str(workers)]
-    process = subprocess.Popen(words, cwd=folder, stdout=subprocess.PIPE, stderr=subprocess.PIPE, env=environment)
+    process = subprocess.Popen(
+        words,
+        cwd=folder,
+        stdout=subprocess.PIPE,
+        stderr=subprocess.PIPE,
+        env=environment and {**os.environ, **environment},
+    )
     try:
         yield port
         said, fault = process.communicate(timeout=PATIENCE)

@@ -4,7 +4,6 @@ asked to."""
 from __future__ import annotations
 
 import mmap
-import os
 import struct
 import subprocess
 from enum import IntEnum
@@ -65,7 +64,8 @@ class StoreCalls:
             self.shared = mmap.mmap(file.fileno(), 0)
 
     def environment(self) -> dict[str, str]:
-        return {**os.environ, "LD_PRELOAD": str(self.library), "STORE_CALLS": str(self.path)}
+        """What a process that is to be noted has besides."""
+        return {"LD_PRELOAD": str(self.library), "STORE_CALLS": str(self.path)}
 
     def begin(self, at: int = NO_CALL, how: How = How.GOES_WELL) -> None:
         """Has noted nothing; the call of this number, from 0, is to end so."""

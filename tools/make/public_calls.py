@@ -13,9 +13,10 @@ import sys
 from typing import Iterator, NamedTuple
 
 from keystore.harness import TOP, parser_of
+from keystore.sources import in_braces, inside, offered, split, step_at, without_attributes, without_comments
+from make.layers import TESTS, headed
 
 PAGE = TOP / "docs/CALLS.md"
-OPEN, CLOSE = "([{<", ")]}>"
 # Crates that a user does not call, and answers that are a refusal by one of their kinds.
 PROGRAMS = {"keystore_program", "keystore_threads", "turn_list"}
 OWN_ANSWERS = {
@@ -34,12 +35,12 @@ MEMORY = {"AllocError", "NoMemory"}
 WANT, EDGE = "want of memory", "no clause"
 HEAD = """# The calls that may refuse
 
-Each public call of the libraries whose answer has another side than Ok: what it may answer besides, the clauses of
-its contract that say when, those that say what stays of what it was lent (or handed in), also behind a refusal, and
-the one that says when it may not refuse. "its clause" is the one clause of a contract that has no name. The clauses
-stand above each function, in `crates/CRATE/src`. Where it says "want of memory" no clause says when: it may come
-wherever memory is taken. "no clause" is the edge to the system, which tests show. "may wait" is said of a call that
-waits for a turn, for another thread, or for bytes of a peer.
+Each public call of the libraries whose answer has another side than Ok: what it may answer besides; the clauses of
+its contract that speak of the answer, and those that speak of what it was lent or handed in, as far as they hold of
+a refusal too; and the one that says when it may not refuse. "its clause" is the one clause of a contract that has no
+name. The clauses stand above each function, in `crates/CRATE/src`. Where it says "want of memory" no clause says
+when: it may come wherever memory is taken. "no clause" is the edge to the system, which tests show. "may wait" is
+said of a call that waits for a turn, for another thread, or for bytes of a peer.
 
 `tools/ks make public_calls` makes this page from the sources, and the gate compares both.
 """
@@ -60,11 +61,11 @@ class Call(NamedTuple):
     waits: bool
     clauses: list[tuple[str, str]]
 
-    def says_when(self) -> list[str]:
+    def of_the_answer(self) -> list[str]:
         """The clauses of the answer that hold of a refusal too."""
         return [name for name, text in self.clauses if "result" in text and not OF_OK.match(text)]
 
-    def says_what_stays(self) -> list[str]:
+    def of_what_was_lent(self) -> list[str]:
         """The clauses of what the call was lent that hold whatever it answers, or of a refusal."""
         return [name for name, text in self.clauses if ".new" in text and not OF_OK.match(text)]
 
@@ -72,46 +73,12 @@ class Call(NamedTuple):
         return [name for name, _ in self.clauses if name in ("complete", "never", "total")]
 
 
-def inside(text: str, place: int) -> str:
-    """What stands in the bracket that opens at a place."""
-    depth = 0
-    for end in range(place, len(text)):
-        depth += (text[end] in OPEN) - (text[end] in CLOSE and text[end - 1] not in "-=")
-        if depth == 0:
-            return text[place + 1 : end]
-    return text[place + 1 :]
-
-
-def in_braces(text: str, place: int) -> str:
-    """What stands in the braces that open at a place; no other bracket counts."""
-    depth = 0
-    for end in range(place, len(text)):
-        depth += (text[end] == "{") - (text[end] == "}")
-        if depth == 0:
-            return text[place + 1 : end]
-    return text[place + 1 :]
-
-
-def without_comments(text: str) -> str:
-    return re.sub(r"//[^\n]*", "", text)
-
-
-def layers() -> Iterator[tuple[str, str]]:
-    """The crates of crates.txt, each with its layer."""
-    layer = ""
-    for row in (TOP / "crates.txt").read_text(encoding="utf-8").splitlines():
-        if re.fullmatch(r"# \w+", row):
-            layer = row[2:]
-        elif row and not row.startswith("#"):
-            yield re.split(r"[ :]", row)[0], layer
-
-
 def variants_of(name: str, texts: dict[str, str]) -> list[str]:
     """The variants of an enum of the repository, or none."""
     for text in texts.values():
         found = re.search(rf"\bpub enum {name}\b[^{{;]*\{{", text)
         if found:
-            body = re.sub(r"#\[[^\]]*\]", "", in_braces(text, found.end() - 1))
+            body = without_attributes(in_braces(text, found.end() - 1))
             return re.findall(r"^\s*([A-Z]\w*)", re.sub(r"[({][^(){}]*[)}]", "", body), re.MULTILINE)
     return []
 
@@ -120,11 +87,8 @@ def refusal_of(answer: str, texts: dict[str, str]) -> str:
     """What an answer's type may be besides Ok, or no text."""
     whole = re.match(r"(?:std::)?(?:io::)?Result<(.*)>$", answer, re.DOTALL)
     if whole:
-        parts, depth = [""], 0
-        for place, it in enumerate(whole[1]):
-            depth += (it in OPEN) - (it in CLOSE and whole[1][place - 1 : place] not in ("-", "="))
-            parts.append("") if it == "," and depth == 0 else parts.__setitem__(-1, parts[-1] + it)
-        fault = parts[-1].strip() if len(parts) > 1 else "io::Error"
+        parts = split(whole[1])
+        fault = parts[-1] if len(parts) > 1 else "io::Error"
         fault = re.sub(r"^\(([^,]+),.*\)$", r"\1", fault, flags=re.DOTALL)
         variants = variants_of(fault.split("<")[0], texts)
         return f"{fault}: {', '.join(variants)}" if variants else fault
@@ -149,7 +113,7 @@ def signature(text: str, place: int) -> tuple[str, str, str, list[tuple[str, str
         place = found.end()
         end, depth = place, 0
         while not (depth == 0 and re.compile(r"\s*(?:\{|;|where\b|requires\b|ensures\b)").match(text, end)):
-            depth += (text[end] in OPEN) - (text[end] in CLOSE and text[end - 1] not in "-=")
+            depth += step_at(text, end)
             end += 1
         answer, place = text[place:end], end
     if found := re.compile(r"\s*where\b([^{]*?)(?=\s*(?:\{|requires\b|ensures\b))").match(text, place):
@@ -180,9 +144,7 @@ def calls_of(crate: str, texts: dict[str, str]) -> Iterator[Call]:
     """The calls of a crate that may refuse."""
     text = texts[crate]
     root = without_comments((TOP / "crates" / crate / "src/lib.rt").read_text(encoding="utf-8"))
-    shown = {
-        name for row in re.findall(r"\bpub use ([^;]+);", root) for name in re.findall(r"\w+", row.split("::", 1)[-1])
-    }
+    shown = offered(root)
 
     def call(name: str, place: int, within: str, bounds: str) -> Call | None:
         own, arguments, answer, clauses = signature(within, place)
@@ -207,7 +169,8 @@ def calls_of(crate: str, texts: dict[str, str]) -> Iterator[Call]:
 
 
 def all_calls() -> list[Call]:
-    crates = [name for name, layer in layers() if layer != "tests" and name not in PROGRAMS]
+    layers, _ = headed((TOP / "crates.txt").read_text(encoding="utf-8"))
+    crates = [name for layer, names in layers if layer != TESTS for name in names if name not in PROGRAMS]
     texts = {}
     for crate in crates:
         files = sorted((TOP / "crates" / crate / "src").rglob("*.rt"))
@@ -221,17 +184,21 @@ def spelled(names: list[str]) -> str:
 
 def row_of(it: Call) -> str:
     kinds = it.refusal + (" (may wait)" if it.waits else "")
-    when = spelled(it.says_when()) or (WANT if it.refusal in MEMORY else EDGE)
-    return f"| `{it.name}` | {kinds} | {when} | {spelled(it.says_what_stays())} | {spelled(it.complete())} |"
+    when = spelled(it.of_the_answer()) or (WANT if it.refusal in MEMORY else EDGE)
+    return f"| `{it.name}` | {kinds} | {when} | {spelled(it.of_what_was_lent())} | {spelled(it.complete())} |"
 
 
 def page() -> str:
     """The page, and an error where a call has neither a clause nor a reason."""
     lines, calls = [HEAD], all_calls()
     for crate in dict.fromkeys(it.crate for it in calls):
-        lines += [f"## {crate}\n", "| Call | May answer | When | What stays | Complete |", "|---|---|---|---|---|"]
+        lines += [
+            f"## {crate}\n",
+            "| Call | May answer | Of the answer | Of what it was lent | Complete |",
+            "|---|---|---|---|---|",
+        ]
         lines += [row_of(it) for it in calls if it.crate == crate] + [""]
-    bare = [it for it in calls if it.changes and not it.says_what_stays()]
+    bare = [it for it in calls if it.changes and not it.of_what_was_lent()]
     unknown = [
         f"{it.crate}::{it.name}"
         for it in bare
