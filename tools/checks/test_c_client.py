@@ -129,6 +129,7 @@ class Served(Built):
         make_store(self.program, self.folder)
         with service(self.program, self.folder, 1 + CLIENTS, 2) as port:
             with Client.connect(APP, port=port, timeout=PATIENCE) as beside:
+                beside.open()
                 texts = [run(self.client, str(port)) for _ in range(CLIENTS)]
                 for text, fault, status in texts:
                     check("the client", (with_marks(text), fault, status), (SAYS, "", 0))
