@@ -128,7 +128,7 @@ class Served(Built):
     def test_two_clients_of_the_service_leave_no_key(self):
         make_store(self.program, self.folder)
         with service(self.program, self.folder, 1 + CLIENTS, 2) as port:
-            with Client.connect(APP, port=port, timeout=PATIENCE) as beside:
+            with Client.connect(APP, port=port, timeout=PATIENCE, patience=PATIENCE) as beside:
                 beside.open()
                 texts = [run(self.client, str(port)) for _ in range(CLIENTS)]
                 for text, fault, status in texts:

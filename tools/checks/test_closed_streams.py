@@ -62,12 +62,12 @@ LINES = "".join(map(text_of, SCRIPT)).encode()
 
 def call_service(port, look):
     """The same over connections, by two clients in turn; between them the process is looked at."""
-    with Client.connect(OWNER, port=port, timeout=PATIENCE) as client:
+    with Client.connect(OWNER, port=port, timeout=PATIENCE, patience=PATIENCE) as client:
         client.finish(client.createOperation(Key(alias="m"), parameters(PURPOSE=[2], MAC_LENGTH=256)).op, b"Hi There")
         client.grant(Key(alias="m"), OTHER, 256)
         client.deleteKey(Key(alias="n"))
     look()
-    with Client.connect(SYSTEM, port=port, timeout=PATIENCE) as client:
+    with Client.connect(SYSTEM, port=port, timeout=PATIENCE, patience=PATIENCE) as client:
         client.clearNamespace(APP, OTHER)
         client.userRemoved(7)
 

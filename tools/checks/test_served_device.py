@@ -68,7 +68,7 @@ def is_admitted(told):
 
 
 def connected(port, uid):
-    return Client.connect(uid, port=port, timeout=PATIENCE)
+    return Client.connect(uid, port=port, timeout=PATIENCE, patience=PATIENCE)
 
 
 def check_policy(client, own, other):

@@ -133,7 +133,7 @@ def ended(program, words, folder, script=b""):
 def make_calls(port, number, calls):
     """A client of its own uid, which makes so many calls; gives its macs that are wrong."""
     material, key, wrong = bytes([number + 1]) * 32, Key(alias="own"), 0
-    with Client.connect(FIRST_APP + number, port=port, timeout=PATIENCE) as client:
+    with Client.connect(FIRST_APP + number, port=port, timeout=PATIENCE, patience=PATIENCE) as client:
         client.importKey(key, parameters(**KINDS["hmac"]), material)
         for turn in range((calls - 2) // 3):
             text = b"%d in turn %d" % (number, turn)
@@ -289,7 +289,7 @@ class Service(OnAStore):
 
     def test_a_second_service_on_the_port_or_on_the_store_and_another_address(self):
         with self.service(1) as port:
-            with Client.connect(10001, port=port, timeout=PATIENCE) as client:
+            with Client.connect(10001, port=port, timeout=PATIENCE, patience=PATIENCE) as client:
                 client.open()
                 check_address(port)
                 second = ended(self.program, ["serve", str(port), "1", "1"], self.folder)

@@ -70,20 +70,20 @@ class OverAService(Case):
 
     def test_one_behind_a_client_that_never_reads_is_answered(self):
         with service(self.program, self.folder, 3, 1, environment=self.environment) as port:
-            with Client.connect(UID, port=port, timeout=PATIENCE) as client:
+            with Client.connect(UID, port=port, timeout=PATIENCE, patience=PATIENCE) as client:
                 for number in range(KEYS):
                     client.importKey(Key(f"{number:0250}"), MAC, b"\x0b" * 20)
             with socket.create_connection(("127.0.0.1", port)) as deaf:
                 deaf.settimeout(PATIENCE)
                 deaf.sendall(CONNECT + LIST * LISTINGS)
-                with Client.connect(UID, port=port, timeout=PATIENCE) as client:
+                with Client.connect(UID, port=port, timeout=PATIENCE, patience=PATIENCE) as client:
                     check("the keys", client.getNumberOfEntries().count, KEYS)
 
     def test_an_idle_client_comes_again(self):
         with service(self.program, self.folder, 3, 1) as port:
-            with Client.connect(UID, port=port, timeout=PATIENCE, idle=0.2) as client, Client.connect(
-                UID, port=port, timeout=PATIENCE
-            ) as other:
+            with Client.connect(
+                UID, port=port, timeout=PATIENCE, patience=PATIENCE, idle=0.2
+            ) as client, Client.connect(UID, port=port, timeout=PATIENCE) as other:
                 client.importKey(Key("m"), MAC, b"\x0b" * 20)
                 check("the first client", client.number, 1)
                 check("another one, over the one worker", other.getNumberOfEntries().count, 1)
