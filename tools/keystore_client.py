@@ -15,12 +15,13 @@ command line over it. It needs no package. docs/PROTOCOL.md tells the protocol.
 
 A client connects at its first call, ends its connection behind a minute without one, and connects anew at the next:
 so it keeps no worker of the service from others. Its operations end with the connection. Where no service takes a
-connection it tries again for ten seconds, with growing pauses.
+connection, or it ends before the client is told its number, it tries again for ten seconds, with pauses.
 
-A refused call raises `ServiceError`, which has the code, the rule that was broken (None where it was none), AOSP's name
-of the code and what it means. `Busy` is raised where no connection was had, so that nothing was asked; `Withheld` where
-the connection ended before the reply, so that nobody knows whether the call was made: it is not made anew by itself.
-Both are a `ConnectionEnded`, and so is what comes where another program answers. The command line:
+A refused call raises `ServiceError`, which has the code, the rule that was broken (None where it was none), AOSP's
+name of the code and what it means; where the service's run is full it is a `RunFull`, behind a second try but for a
+step of an operation. `Busy` is raised where no connection was had, so that nothing was asked; `Withheld` where the
+connection ended before the reply, so that nobody knows whether the call was made: it is not made anew by itself. Both
+are a `ConnectionEnded`, and so is what comes where another program answers. The command line:
 
     python3 tools/keystore_client.py connect --uid 10001
     python3 tools/keystore_client.py generate files --kind aes
@@ -62,6 +63,8 @@ PORT = 7878
 # many connections as it has workers, and the system keeps some more for it (docs/PROTOCOL.md, "A connection").
 IDLE, PATIENCE = 60.0, 10.0
 SHORTEST_PAUSE, LONGEST_PAUSE = 0.05, 1.0
+# How long it waits for the next run where one is full, in seconds.
+FULL_PAUSE = 0.2
 MOST_INPUT = 32768
 
 # The codes that Keystore2 and KeyMint name, with what they mean; those from 1001 on are the service's own.
@@ -193,6 +196,8 @@ MOST_BODY = 262144
 # The greatest body of a reply: all output of an operation under a use limit, at its finish (docs/PROTOCOL.md).
 MOST_REPLY = 1_048_603
 WRONG, RUN_FULL, DENIED, NOT_FOUND = -30, 1001, 6, 7
+# The acts on an operation, which ends with its connection.
+STEPS = {6, 7, 8, 9}
 FOREIGN = "what answers there is no such service"
 
 
@@ -206,6 +211,10 @@ class ServiceError(Exception):
             CODES.get(code, ("UNKNOWN", "no code of this client")),
         )
         super().__init__(f"{self.name} ({code})" + (f" by rule {rule}" if rule else "") + f": {self.meaning}")
+
+
+class RunFull(ServiceError):
+    """The service's run is full: the call added nothing, and the connection ends."""
 
 
 class ConnectionEnded(Exception):
@@ -316,7 +325,8 @@ def read_reply(body):
     code = int.from_bytes(reader.take(4), "big", signed=True)
     letter, row = reader.take(2)
     if code:
-        raise ServiceError(code, f"{chr(letter)}{row}" if letter else None)
+        kind = RunFull if code == RUN_FULL else ServiceError
+        raise kind(code, f"{chr(letter)}{row}" if letter else None)
     fields = {}
     while reader.place < len(body):
         number = reader.number(1)
@@ -414,18 +424,22 @@ class Client:
             return
         if self.where is None:
             raise ConnectionEnded()
-        host, port, *_ = self.where
-        try:
-            self.stream = stream_to(*self.where)
-            self.told = self.call_over(1, u32(self.uid)).client
-        except OSError as error:
-            self.drop()
-            raise Busy(f"no service at {host} port {port}: {error}") from error
-        except Withheld as error:
-            raise Busy(str(error)) from error
-        except BaseException:
-            self.drop()
-            raise
+        host, port, timeout, patience = self.where
+        end = time.monotonic() + patience
+        while self.stream is None:
+            try:
+                self.stream = stream_to(host, port, timeout, max(end - time.monotonic(), 0))
+                self.told = self.call_over(1, u32(self.uid)).client
+            except OSError as error:
+                self.drop()
+                raise Busy(f"no service at {host} port {port}: {error}") from error
+            except Withheld as error:
+                if time.monotonic() + LONGEST_PAUSE > end:
+                    raise Busy(str(error)) from error
+                time.sleep(SHORTEST_PAUSE)
+            except BaseException:
+                self.drop()
+                raise
         self.called = time.monotonic()
         if self.idle is not None:
             threading.Thread(target=self.watch, args=(self.stream,), daemon=True).start()
@@ -470,13 +484,24 @@ class Client:
             raise ConnectionEnded(FOREIGN) from error
 
     def call(self, act, *fields):
-        """The same, over a connection that is made where there is none."""
+        """The same, over a connection that is made where there is none. Where the run is full the connection has
+        ended, and a call that is no step of an operation is made once more over a new one, behind a pause."""
         with self.lock:
-            self.join()
             try:
-                return self.call_over(act, *fields)
-            finally:
-                self.called = time.monotonic()
+                return self.call_once(act, *fields)
+            except RunFull:
+                self.drop()
+                if act in STEPS or self.where is None:
+                    raise
+            time.sleep(FULL_PAUSE)
+            return self.call_once(act, *fields)
+
+    def call_once(self, act, *fields):
+        self.join()
+        try:
+            return self.call_over(act, *fields)
+        finally:
+            self.called = time.monotonic()
 
     def connect_as(self, uid):
         return self.call(1, u32(uid))
@@ -673,7 +698,6 @@ KINDS = {
 USE = 256
 OWN, SYSTEM = 10001, 1000
 STATUS_REFUSED, STATUS_USAGE, STATUS_NO_SERVICE, STATUS_WRONG = 1, 2, 3, 4
-PAUSE = 0.2
 
 
 class Service:
@@ -711,7 +735,7 @@ class Service:
                     if not may_go_on or time.monotonic() > end:
                         raise
                 self.close()
-                time.sleep(PAUSE)
+                time.sleep(FULL_PAUSE)
                 source.seek(places[0])
                 sink.seek(places[1])
                 sink.truncate()

@@ -80,7 +80,8 @@ class Examples(OfTheProgram):
                 words, script = words[: words.index("<")], TOP / words[-1]
             output, status, fault = self.ended(*words[1:], script=script)
             check(" ".join(words), (status, fault), (0, ""))
-            expected = script and script.with_suffix(".expected")
+            # a trace has drawn bytes, and the check of scripts looks at it
+            expected = script and "--trace" not in words and script.with_suffix(".expected")
             if expected and "?" not in expected.read_text(encoding="utf-8"):
                 check(" ".join(words), output, expected.read_text(encoding="utf-8"))
 

@@ -9,7 +9,8 @@ client that has sent half a frame stays silent, an app seals a file of two piece
 (`examples/sealed_file.py`). Nobody listens at this port of 127.0.0.2. Behind the last connection the service ends
 with status 0, and a run over its store finds what the clients left. A silent client keeps its own worker: where that
 is the only one, another client waits until it goes. A client that goes on sending behind a bad frame is stopped
-within seconds, though no other client comes."""
+within seconds, though no other client comes. The trace that a service writes at its end has each call."""
+import collections
 import concurrent.futures
 import hashlib
 import hmac
@@ -24,11 +25,12 @@ import time
 from checks.test_protocol import PAGE, play, session_in
 from keystore.cases import Case, each, times
 from keystore.harness import TOOLS, TOP, check
-from keystore.runs import PATIENCE, ended as ended_run, make_store, once_it_listens, service
+from keystore.runs import PATIENCE, ended as ended_run, free_port, make_store, once_it_listens, service
 from keystore.session import BAD_FRAMES, CLIENT, CONNECT, SESSION, TEXT, replies_in, replies_to
 from keystore.spelling import u32
 from keystore.tokens import DEMO_KEY, mac_of
 from keystore_client import FRONT, KINDS, MOST_OPERATION, NONCE, TAG, Client, Key, parameters
+from model.trace_lines import entry_of
 
 EXAMPLE = TOP / "examples/sealed_file.py"
 COMMANDS = TOOLS / "keystore_client.py"
@@ -37,6 +39,17 @@ WORKERS, CLIENTS, CALLS, FIRST_APP = 4, 16, 1000, 10100
 # What a client sends behind a bad frame, in pieces: more than the service throws away and the system keeps. It may take
 # so many seconds, and goes on when the other worker, in so many, has come to wait for a client.
 FLOOD, PIECE, STOPPED, TURN = 64 << 20, 1 << 16, 10, 0.3
+# The calls of a client whose service writes a trace, and how often each act stands in that of two.
+TRACED = 5
+ACTS_TRACED = {
+    "connect": 2,
+    "importKey": 2,
+    "createOperation": 2,
+    "update": 2,
+    "finish": 2,
+    "leave": 4,
+    "disconnect": 2,
+}
 HALF_A_FRAME = b"\x00\x00\x00\x05\x01"
 NO_FORMS = [["serve"], ["serve", "65536", "1", "1"], ["serve", "1", "0", "1"], ["serve", "1", "1", "65"]]
 
@@ -321,6 +334,21 @@ class Service(OnAStore):
             check_crowd(port, CALLS * times())
             check_silent(port)
         check_store(self.program, self.folder)
+
+    def test_the_trace_of_a_service_has_each_call_of_its_clients(self):
+        make_store(self.program, self.folder)
+        port = free_port()
+        words = [self.program, "serve", str(port), "2", "2", "--trace"]
+        with subprocess.Popen(words, cwd=self.folder, stdout=subprocess.PIPE, stderr=subprocess.DEVNULL) as process:
+            try:
+                check("the macs of two clients", [make_calls(port, number, TRACED) for number in range(2)], [0, 0])
+                said, _ = process.communicate(timeout=PATIENCE)
+            finally:
+                process.kill()
+        check("the end of the service", process.returncode, 0)
+        acted = [entry_of(line) for line in said.splitlines()]
+        check("the acts", collections.Counter(event["act"] for event, _, _ in acted), collections.Counter(ACTS_TRACED))
+        check("the replies", {reply["code"] for _, _, reply in acted}, {0})
 
     def test_a_client_behind_a_silent_one_waits_where_there_is_one_worker(self):
         with self.service(2, 1) as port:

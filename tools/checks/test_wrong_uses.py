@@ -22,7 +22,7 @@ DEMO = "device.key: it is not in this folder; the demo device is taken, which pr
 NO_STORE = "store.ks: it is not in this folder; 'keystore2 init' makes an empty one"
 NO_BEGIN = "store.ks: it does not begin as a store does"
 DENIED = "Permission denied (os error 13)"
-RUN, SOAK, SERVE = "run [--fresh] [--slots N]", "soak SEED N", "serve PORT CONNECTIONS WORKERS"
+RUN, SOAK, SERVE = "run [--fresh] [--slots N] [--trace]", "soak SEED N", "serve PORT CONNECTIONS WORKERS [--trace]"
 MANY = "replies to malformed lines (code 20, rule L1): {}, the first to line {}"
 # A folder in the place of a file; a link that leads nowhere; a file of so many bytes that are holes.
 FOLDER, NOWHERE, HOLES = "folder", "nowhere", 1 << 31
@@ -56,6 +56,11 @@ USAGES = [
     ("run --fresh --fresh", extra(RUN, "--fresh")),
     ("run --slots=4", extra(RUN, "--slots=4", "--slots")),
     ("run --slots 4 --fresh", extra(RUN, "--fresh")),
+    ("run --trace --fresh", extra(RUN, "--fresh")),
+    ("run --trace --slots 4", extra(RUN, "--slots")),
+    ("run --trace --trace", extra(RUN, "--trace")),
+    ("run --slots 4 --trac", extra(RUN, "--trac", "--trace")),
+    ("run --fresh --slots 4 4", extra(RUN, "4")),
     ("run script.jsonl", extra(RUN, "script.jsonl")),
     ("run --fresh script.jsonl", extra(RUN, "script.jsonl")),
     ("run --slots", lacks(RUN, *SLOTS)),
@@ -82,6 +87,8 @@ USAGES = [
     ("serve 7813 65537 1", number(SERVE, *CONNECTIONS, "65537")),
     ("serve 7813 1 65", number(SERVE, *WORKERS, "65")),
     ("serve 7813 1 1 --fresh", extra(SERVE, "--fresh")),
+    ("serve 7813 1 1 --trace --trace", extra(SERVE, "--trace")),
+    ("serve 7813 --trace 1 1", number(SERVE, *CONNECTIONS, "--trace")),
 ]
 
 # Files of the device that are none, and what is said of them.

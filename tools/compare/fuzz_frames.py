@@ -1,15 +1,19 @@
 """Sends streams of frames that are right, changed, cut, doubled and spliced to a service, and compares what comes
 back with the second model's service.
 
-    tools/ks compare fuzz_frames SEED SECONDS [--program PATH]
+    tools/ks compare fuzz_frames SEED SECONDS [--connections N] [--program PATH]
 
 Each stream is one connection: it is sent in pieces of drawn lengths, and ends by its end, by a reset, or amid a
 frame. Its frames are acts of apps and of the system over keys that are imported, so that no reply but a challenge,
 a nonce or a blob rests on what is drawn. Most are sent as they are; of the others a byte is changed, bytes are cut
 out or doubled, a length is at one of its bounds, the act is another number, or the rest of another stream goes on.
 One connection is behind the other, so the model's replies are the service's; those bytes that are drawn are
-compared by their lengths, and the time at which a key was made is not. At the end the service has as many threads
-and descriptors as at its beginning, and its store opens. The exit status is 1 where something is otherwise."""
+compared by their lengths, and the time at which a key was made is not. With several connections at once nobody knows
+the order of their calls: then each reply is looked at alone, its form, its code, and whether its rule is one of the
+act's table (docs/RULES.md). At the end the service has as many threads and descriptors as at its beginning, and its
+store opens. The exit status is 1 where something is otherwise."""
+import concurrent.futures
+import contextlib
 import random
 import re
 import socket
@@ -17,11 +21,11 @@ import struct
 import subprocess
 import tempfile
 import time
-from pathlib import Path
 
 from compare.second_server import ACTS, NUMBERS, TEXTS, Connection
 from keystore.harness import add_program, check, parser_of
-from keystore.runs import PATIENCE, free_port, once_it_listens
+from keystore.rules_page import CODES, RULES
+from keystore.runs import PATIENCE, check_held, held_by, once_it_listens, service_process
 from keystore.spelling import Reader, counted, number, optional, u32, u64
 from keystore_client import parameters
 from model.second_model import Service
@@ -185,6 +189,22 @@ def frames_in(data):
     return frames, len(data)
 
 
+def check_form(request, reply):
+    """A reply is one that an act may have: it reads, its code is known, and its rule is one of the act's table."""
+    masked(reply)
+    code, letter, row = struct.unpack(">iBB", reply[4:10])
+    what = f"the reply {reply.hex()} to {request.hex()}"
+    check(f"{what}, its code", code in CODES and (code == 0) <= (letter == 0), True)
+    check(
+        f"{what}, its rule", letter == 0 or f"{chr(letter)}{row}" in RULES and chr(letter) == table_of(request[4]), True
+    )
+
+
+def table_of(act):
+    """The letter of an act's table of rules."""
+    return {3: "K", 4: "K", 5: "B", 6: "S", 7: "S", 8: "S", 9: "S"}.get(act, "A")
+
+
 def answers(port, pieces, wanted, is_reset):
     """What the service sends back to a stream, which ends by a reset behind its last reply, or by its end."""
     with once_it_listens(socket.create_connection, ("127.0.0.1", port)) as stream:
@@ -207,12 +227,6 @@ def answers(port, pieces, wanted, is_reset):
     return data
 
 
-def counts(process):
-    """The threads and the descriptors of a process."""
-    folder = Path(f"/proc/{process.pid}")
-    return len(list((folder / "task").iterdir())), len(list((folder / "fd").iterdir()))
-
-
 class Fuzz:
     """Services over empty stores, one behind another, and the second model beside each."""
 
@@ -220,29 +234,57 @@ class Fuzz:
         self.program, self.folder, self.maker = program, folder, Maker(seed)
         self.connections, self.frames, self.resets = 0, 0, 0
 
-    def run(self, seconds):
+    def run(self, seconds, clients=1):
         end = time.monotonic() + seconds
         while time.monotonic() < end:
-            self.serve(end)
+            if clients == 1:
+                self.serve(end)
+            else:
+                self.serve_many(end, clients)
 
-    def serve(self, end):
-        """One service, until the time is over or it has had its connections, of which the last ones look at it."""
-        subprocess.run([self.program, "init"], cwd=self.folder, check=True, stderr=subprocess.DEVNULL)
-        self.model, port = Service(), free_port()
-        words = [self.program, "serve", str(port), str(CONNECTIONS), "1"]
-        with subprocess.Popen(words, cwd=self.folder, stderr=subprocess.DEVNULL) as process:
-            try:
-                self.one(port, b"", False)
-                before, last = counts(process), self.connections + CONNECTIONS - 3
-                while time.monotonic() < end and self.connections < last:
-                    self.one(port, self.maker.stream(), self.maker.draws.random() < 0.1)
-                self.one(port, b"", False)
-                check("the threads and descriptors of the service", counts(process), before)
-                check("the end of the service", process.poll(), None)
-            finally:
-                process.kill()
+    @contextlib.contextmanager
+    def service(self, workers):
+        """A service over an empty store, which has as much at its end as at its beginning, and whose store opens."""
+        check("init", subprocess.run([self.program, "init"], cwd=self.folder, check=False).returncode, 0)
+        with service_process(self.program, self.folder, CONNECTIONS, workers) as (port, process):
+            answers(port, [], 0, False)
+            before = held_by(process)
+            yield port
+            answers(port, [], 0, False)
+            check_held(process, before)
+            check("the end of the service", process.poll(), None)
         done = subprocess.run([self.program, "run"], input=b"", cwd=self.folder, capture_output=True, check=False)
         check("an opening of the store", done.returncode, 0)
+
+    def serve(self, end):
+        """One service, until the time is over or it has had its connections, of which the last one looks at it."""
+        self.model, last = Service(), self.connections + CONNECTIONS - 2
+        with self.service(1) as port:
+            while time.monotonic() < end and self.connections < last:
+                self.one(port, self.maker.stream(), self.maker.draws.random() < 0.1)
+
+    def serve_many(self, end, clients):
+        """The same by clients that come at once."""
+        makers = [Maker(self.maker.draws.random()) for _ in range(clients)]
+        with self.service(clients) as port, concurrent.futures.ThreadPoolExecutor(clients) as pool:
+            counts = pool.map(lambda maker: self.come(port, maker, end, CONNECTIONS // clients - 1), makers)
+            for connections, frames in counts:
+                self.connections += connections
+                self.frames += frames
+
+    def come(self, port, maker, end, most):
+        """The connections of one client; gives how many there were, and how many replies."""
+        connections = frames = 0
+        while time.monotonic() < end and connections < most:
+            stream = maker.stream()
+            replies, left = frames_in(answers(port, maker.pieces(stream), 0, False))
+            check(f"the bytes behind the replies to {stream.hex()}", left, 0)
+            requests, _ = frames_in(stream)
+            check(f"more replies than requests to {stream.hex()}", len(replies) <= len(requests), True)
+            for request, reply in zip(requests, replies):
+                check_form(request, reply)
+            connections, frames = connections + 1, frames + len(replies)
+        return connections, frames
 
     def one(self, port, stream, is_reset):
         """One connection."""
@@ -261,12 +303,13 @@ def main():
     ask = parser_of(__doc__)
     ask.add_argument("seed", type=int, metavar="SEED")
     ask.add_argument("seconds", type=float, metavar="SECONDS")
+    ask.add_argument("--connections", type=int, default=1, metavar="N", help="so many clients at once, up to 64")
     add_program(ask)
     words = ask.parse_args()
     with tempfile.TemporaryDirectory() as folder:
         fuzz = Fuzz(words.program, folder, words.seed)
         try:
-            fuzz.run(words.seconds)
+            fuzz.run(words.seconds, words.connections)
         except AssertionError as fault:
             print(f"connection {fuzz.connections}: {fault}")
             return 1

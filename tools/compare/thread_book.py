@@ -3,20 +3,21 @@
     tools/ks compare thread_book [RUNS] [--rounds N] [--threads N] [--busy N] [--book FILE]
 
 The program of `crates/keystore_threads`, which `rt run` leaves there, has N threads (8 without the word) make macs
-with a key of their own and with one that all use and that five uses end, and writes its book as it stands in memory.
-The events of that book, in its order, go to the second model, which has to give the same replies and to draw the
-same bytes. Counted are the macs of the key that all use, which have to be as many as its limit, or as the tries
-where these are fewer, and all macs, which have to be those that the threads were given. With --busy so many loops
-that do nothing else keep the processors busy beside the runs, and are ended with the tool. With --book it looks at
-the book that a file has, as the program wrote it, in place of runs. It needs the Python package `cryptography`."""
+with a key of their own and with one that all use and that five uses end, and writes its book as a trace. The events of
+that trace, in its order, go to the second model, which has to give the same replies and to draw the same bytes.
+Counted are the macs of the key that all use, which have to be as many as its limit, or as the tries where these are
+fewer, and all macs, which have to be those that the threads were given. With --busy so many loops that do nothing else
+keep the processors busy beside the runs, and are ended with the tool. With --book it looks at the book that a file
+has, as the program wrote it, in place of runs. It needs the Python package `cryptography`."""
+import json
 import pathlib
-import re
 import subprocess
 import sys
 
 from keystore.harness import TOP, add_busy, busy_loops, parser_of
-from keystore_client import NAMES
+from keystore.script_events import Malformed
 from model.second_model import Service
+from model.trace_lines import compact, entry_of
 
 CRATE = "crates/keystore_threads"
 PROGRAM = TOP / CRATE / "out/keystore_threads"
@@ -24,110 +25,22 @@ SLOTS = 64
 LIMIT = 5
 SECONDS = 60
 ALL_USE = b"us"
-# The key that each import of a load brings, which the text of an act does not have.
-MATERIAL = b"\x0b" * 20
 MAC = "b0344c61d8db38535ca8afceaf0bf12b881dc200c9833da726e9376c2e32cff7"
-TOKEN = re.compile(r"\s*([A-Za-z_]\w*|\d+|[{}()\[\],:])")
-# What is changed in a reply: a number of a field, the first byte of a field, or the number of a rule.
-CHANGED = re.compile(r"(?<=Some\()\d+|(?<=bytes: \[)\d+|(?<=number: )\d+|\[(?=\])")
-# The names of acts that differ from those of a script's lines.
-ACTS = {"EnterAad": "updateAad", "EnterUpdate": "update", "EnterFinish": "finish"}
 
 
 class Differs(Exception):
     """The book is not one of the rules."""
 
 
-class Reader:
-    """Reads values as a program writes them for people: numbers, lists, and names with fields."""
-
-    def __init__(self, text):
-        self.tokens, self.place = TOKEN.findall(text), 0
-
-    def take(self):
-        token = self.tokens[self.place]
-        self.place += 1
-        return token
-
-    def is_next(self, token):
-        return self.place < len(self.tokens) and self.tokens[self.place] == token
-
-    def many(self, end, part):
-        """Parts up to the end, with commas between."""
-        self.take()
-        parts = []
-        while not self.is_next(end):
-            parts.append(part())
-            if self.is_next(","):
-                self.take()
-        self.take()
-        return parts
-
-    def field(self):
-        name = self.take()
-        self.take()
-        return name, self.value()
-
-    def value(self):
-        token = self.take()
-        if token.isdigit():
-            return int(token)
-        if token in ("true", "false"):
-            return token == "true"
-        if token in ("[", "("):
-            self.place -= 1
-            return self.many("]" if token == "[" else ")", self.value)
-        if self.is_next("{"):
-            return self.named(token, dict(self.many("}", self.field)))
-        if self.is_next("("):
-            return self.named(token, *self.many(")", self.value))
-        return self.named(token)
-
-    def named(self, name, *inside):
-        if name == "None":
-            return None
-        if name == "Some":
-            return inside[0]
-        if name == "Bytes":
-            return bytes(inside[0]["bytes"])
-        if name == "Material":
-            return MATERIAL
-        return (name, *inside)
-
-
-def event_of(value):
-    """An event as the model takes it."""
-    event = value[1]
-    name, *fields = event["act"]
-    act = ACTS.get(name, name[0].lower() + name[1:])
-    event = {"act": act, "client": event["client"], **event["reading"][1], **(fields[0] if fields else {})}
-    if "key" in event:
-        event["key"] = event["key"][1]
-    return event
-
-
-def reply_of(value):
-    """A reply as the model gives it, with the code's name in place of the code."""
-    kind, fields = value
-    if kind == "Done":
-        return {"code": "Ok", **{name: as_told(name, field) for name, field in fields[1].items() if field is not None}}
-    reply = {"code": fields["code"][0].lower()}
-    if kind == "Broken":
-        rule = fields["rule"][1]
-        reply["rule"] = f"{rule['table'][0]}{rule['number']}"
-    return reply
-
-
-def as_told(name, field):
-    if isinstance(field, bytes):
-        return field.decode() if name == "alias" else field.hex()
-    return field
-
-
-def named_code(reply):
-    """The model's reply, with the code's name in place of the code."""
-    code = reply["code"]
-    return {**reply, "code": NAMES[code].replace("_", "").lower() if code else "Ok"}
+def acted_of(number, line):
+    """The event of an entry, with the bytes that were drawn for it and its reply."""
+    try:
+        entry = entry_of(line.encode())
+    except Malformed as fault:
+        raise Differs(f"entry {number} is no line of a trace") from fault
+    if isinstance(entry, bool):
+        raise Differs(f"entry {number} settles an earlier change")
+    return entry
 
 
 def macs_of(lines):
@@ -135,19 +48,13 @@ def macs_of(lines):
     use."""
     service, aliases, macs = Service(slots=SLOTS), {}, []
     for number, line in enumerate(lines, 1):
-        kind, fields = Reader(line).value()[1]["entry"]
-        if kind != "Acted":
-            raise Differs(f"entry {number} is {kind}")
-        event, reply = event_of(fields["event"]), reply_of(fields["reply"])
+        event, drawn, reply = acted_of(number, line)
         operation = service.out.get(event.get("ticket"))
-        drawn = service.entropy.next_byte
-        wanted = named_code(service.reply(event))
+        wanted, bytes_wanted = service.reply(event), service.entropy.taken()
         if wanted != reply:
             raise Differs(f"entry {number} is answered {reply} and not {wanted}")
-        if any(byte != (drawn + place) % 256 for place, byte in enumerate(fields["drawn"])):
-            raise Differs(f"entry {number} drew {fields['drawn'].hex()}")
-        if (drawn + len(fields["drawn"]) - service.entropy.next_byte) % 256:
-            raise Differs(f"entry {number} drew {len(fields['drawn'])} bytes")
+        if bytes_wanted != drawn:
+            raise Differs(f"entry {number} drew {drawn.hex()} and not {bytes_wanted.hex()}")
         if event["act"] == "createOperation" and "op" in reply:
             aliases[reply["op"]] = event["key"]["alias"]
         if reply.get("out") == MAC:
@@ -165,13 +72,21 @@ def check_book(lines, rounds, threads):
         raise Differs(f"the threads were told otherwise: {last}")
 
 
+def another(value):
+    """Another number, or another text of digits."""
+    if isinstance(value, int):
+        return value + 1
+    last = value[-1:] or "0"
+    digits = "0123456789" if last in "0123456789" else "abcdef"
+    return value[:-1] + digits[(digits.index(last) + 1) % len(digits)] if value else "07"
+
+
 def with_another_reply(line):
     """The line of an entry whose reply is another one."""
-    front, reply = line.split(", reply: ")
-    another = CHANGED.sub(lambda found: "[7" if found[0] == "[" else str((int(found[0]) + 1) % 256), reply, count=1)
-    if another == reply:
-        raise Differs(f"no reply is changed in {line}")
-    return f"{front}, reply: {another}"
+    entry = json.loads(line)
+    reply = entry["reply"]
+    name = next((it for it in reply if it != "code"), "count")
+    return compact(entry | {"reply": reply | {name: another(reply.get(name, 0))}}).decode()
 
 
 def check_changed(book):

@@ -32,6 +32,7 @@ CHECKS = [
     "slips",
     "service",
     "silent_clients",
+    "hostile_clients",
     "fuzz_frames",
     "c_client",
     "turn_orders",

@@ -6,6 +6,7 @@ import itertools
 import json
 import os
 import re
+import resource
 import socket
 import subprocess
 import threading
@@ -179,11 +180,21 @@ def make_store(program: Word, folder: Word) -> None:
 
 
 @contextlib.contextmanager
-def service(
-    program: Word, folder: Word, connections: int, workers: int = 1, environment: Mapping[str, str] | None = None
-) -> Iterator[int]:
-    """A service over the store of a folder, which has so many connections and ends behind the last one with status
-    0; gives its port."""
+def service_process(
+    program: Word,
+    folder: Word,
+    connections: int,
+    workers: int = 1,
+    environment: Mapping[str, str] | None = None,
+    limits: Sequence[tuple[int, int]] = (),
+) -> Iterator[tuple[int, subprocess.Popen[bytes]]]:
+    """A service over the store of a folder; gives its port and its process, which is killed at the end. Of each
+    resource of these limits it has so much and no more."""
+
+    def limit() -> None:
+        for kind, most in limits:
+            resource.setrlimit(kind, (most, most))
+
     port = free_port()
     words: list[Word] = [program, "serve", str(port), str(connections), str(workers)]
     process = subprocess.Popen(
@@ -192,11 +203,39 @@ def service(
         stdout=subprocess.PIPE,
         stderr=subprocess.PIPE,
         env=environment and {**os.environ, **environment},
+        preexec_fn=limit if limits else None,
     )
     try:
-        yield port
-        said, fault = process.communicate(timeout=PATIENCE)
-        check("the end of the service", (process.returncode, said, without_notices(fault)), (0, b"", b""))
+        yield port, process
     finally:
         process.kill()
         process.communicate()
+
+
+@contextlib.contextmanager
+def service(
+    program: Word, folder: Word, connections: int, workers: int = 1, environment: Mapping[str, str] | None = None
+) -> Iterator[int]:
+    """A service over the store of a folder, which has so many connections and ends behind the last one with status
+    0; gives its port."""
+    with service_process(program, folder, connections, workers, environment) as (port, process):
+        yield port
+        said, fault = process.communicate(timeout=PATIENCE)
+        check("the end of the service", (process.returncode, said, without_notices(fault)), (0, b"", b""))
+
+
+def held_by(process: subprocess.Popen[bytes]) -> tuple[int, int]:
+    """How many threads and descriptors a process has."""
+    folder = Path(f"/proc/{process.pid}")
+    return len(list((folder / "task").iterdir())), len(list((folder / "fd").iterdir()))
+
+
+def check_held(process: subprocess.Popen[bytes], before: tuple[int, int]) -> None:
+    """In the end a process has no more threads and no more descriptors than before."""
+
+    def greatest() -> tuple[int, int]:
+        threads, descriptors = held_by(process)
+        return max(threads, before[0]), max(descriptors, before[1])
+
+    until(lambda: greatest() == before or None)
+    check("the threads and descriptors", greatest(), before)

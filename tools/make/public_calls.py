@@ -47,6 +47,7 @@ said of a call that waits for a turn, for another thread, or for bytes of a peer
 # Calls that change what they are lent, without a clause of what stays behind a refusal.
 REASONS = {
     r"byte_strings::put_\w+": "the vector may end with a front of the field; whoever writes into it drops it then",
+    r"line_members::WrittenObject::put_\w+": "the object's line is not written then, and whoever makes it drops it",
     r"soak_lines::(SoakScript::next|Summary::add)": "a load ends there, and its script and summary with it",
 }
 

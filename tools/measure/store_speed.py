@@ -16,7 +16,7 @@ import tempfile
 from keystore.harness import folder_at, parser_of
 from measure.own_program import run_over
 
-USED = ["ks_outside", "tags", "grants", "journal_records", "use_journal", "key_database"]
+USED = ["ks_outside", "disk_calls", "tags", "grants", "journal_records", "use_journal", "lasting_table", "key_database"]
 FILES = {"src/main.rt": "main.rt.in", "specs/Lib.antt": None, "proofs/Lib.antt": None}
 PARTS = (
     "by_name",

@@ -1,6 +1,6 @@
 """A second model of the rules: reads a script on standard input and writes the reply lines.
 
-    tools/ks compare second_model [--fail N,N,..] [--slots N] < SCRIPT
+    tools/ks compare second_model [--fail N,N,..] [--slots N] [--trace] < SCRIPT
 
 It is written from docs/RULES.md's rules, apart from the proved code, so that the two can be compared. Its entropy
 counts 00, 01 .. ff, 00 ..; the draws whose numbers --fail gives, counted from 1, fail. AES, its modes and GCM are
@@ -8,14 +8,15 @@ those of the Python package `cryptography`, the macs those of the standard libra
 the limits of a line and of a script, which end the program's run, are not looked at. keystore/script_events.py reads
 the lines, rules.py has the rules of lists and lengths, keys.py the keys and grants, blobs.py their blobs, tokens.py
 the tokens, and outputs.py the outputs. Each reply is written before the next line is read. No disk stands behind it:
-failing_disk.py tells it which changes failed, and what the settled lines say of them."""
+failing_disk.py tells it which changes failed, and what the settled lines say of them. With --trace it writes
+the lines of a trace in place of replies."""
 from __future__ import annotations
 
 import collections
 import copy
 import json
 import sys
-from collections.abc import Callable, Collection
+from collections.abc import Callable, Collection, Iterator
 from typing import Any
 
 from keystore.harness import parser_of
@@ -35,6 +36,7 @@ from model.rules import (
     read_params,
 )
 from model.tokens import Tokens, fits
+from model.trace_lines import acted_line
 from model.values import (
     APP,
     BLOB,
@@ -106,6 +108,7 @@ class Entropy:
         self.failing = failing
         self.draws = 0
         self.next_byte = 0
+        self.drawn = b""
 
     def draw(self, count: int) -> bytes:
         self.draws += 1
@@ -113,6 +116,12 @@ class Entropy:
             raise Denied(1005)
         drawn = bytes((self.next_byte + i) % 256 for i in range(count))
         self.next_byte = (self.next_byte + count) % 256
+        self.drawn += drawn
+        return drawn
+
+    def taken(self) -> bytes:
+        """The bytes that were drawn since this was last asked."""
+        drawn, self.drawn = self.drawn, b""
         return drawn
 
 
@@ -533,16 +542,34 @@ def text_of(reply: Reply) -> bytes:
     return json.dumps(reply, ensure_ascii=False, separators=(",", ":"), sort_keys=True).encode()
 
 
+def acts_of(service: Service, event: Event) -> Iterator[tuple[Event, bytes, Reply]]:
+    """What a line's event makes of the service, with the leave that follows an enter which is not held: each event
+    with the bytes that were drawn for it and its reply."""
+    service.entropy.taken()
+    reply = service.reply(event)
+    yield event, service.entropy.taken(), reply
+    if "ticket" in reply and not event["hold"]:
+        leave = {"act": "leave", "boot": event["boot"], "wall": event["wall"], "ticket": reply["ticket"]}
+        yield leave, b"", service.reply(leave)
+
+
 def reply_line(service: Service, line: bytes) -> bytes:
     """The reply to a line of a script, both bytes without LF."""
     try:
         event = event_of(line)
     except Malformed:
         return text_of({"code": 20, "rule": "L1"})
-    reply = service.reply(event)
-    if "ticket" in reply and not event["hold"]:
-        reply = service.reply({"act": "leave", "ticket": reply["ticket"]})
+    *_, (_, _, reply) = acts_of(service, event)
     return text_of(reply)
+
+
+def trace_lines(service: Service, line: bytes) -> list[bytes]:
+    """The lines of a trace for a line of a script, all bytes without LF; none where it spells no event."""
+    try:
+        event = event_of(line)
+    except Malformed:
+        return []
+    return [acted_line(*acted) for acted in acts_of(service, event)]
 
 
 def numbers_of(text: str) -> set[int]:
@@ -554,8 +581,11 @@ def main() -> None:
     parser = parser_of(__doc__)
     parser.add_argument("--fail", type=numbers_of, default=set(), metavar="N,N,..", help="draws that fail, from 1")
     parser.add_argument("--slots", type=int, default=16, metavar="N", help="how many operations may be open")
+    parser.add_argument("--trace", action="store_true", help="writes the lines of a trace in place of replies")
     words = parser.parse_args()
     service = Service(words.fail, words.slots)
     for line in sys.stdin.buffer:
-        sys.stdout.buffer.write(reply_line(service, line.removesuffix(b"\n")) + b"\n")
+        text = line.removesuffix(b"\n")
+        lines = trace_lines(service, text) if words.trace else [reply_line(service, text)]
+        sys.stdout.buffer.write(b"".join(it + b"\n" for it in lines))
         sys.stdout.buffer.flush()

@@ -1,4 +1,4 @@
--- What each row is after three rounds of swaps. `tools/swap_lemmas.py` writes this file.
+-- What each row is after three rounds of swaps.
 use Rattle.std.proofs.Common.{◌≡◌, ℕ, List, [], ◌∷◌, slice_index, ◌∙◌, ap}
 use Rattle.std.specs.Int.{bit_at}
 use Rattle.std.specs.Simd.Lanes.{number_l}

@@ -1,4 +1,4 @@
--- Rows that are turned about twice are as they were. `tools/swap_lemmas.py` writes this file.
+-- Rows that are turned about twice are as they were.
 use Rattle.std.proofs.Common.{◌≡◌, ℕ, ◌<◌, List, [], ◌∷◌, map, slice_index, length, sym, ◌∙◌, ap, Fits, w8}
 use Rattle.std.specs.Int.{bit_at}
 use Rattle.std.specs.List.{range_with_len}

@@ -7,7 +7,7 @@ use Rattle.rule_model.specs.declared.event.Act.{Act}
 use Rattle.rule_model.specs.declared.reply.Reply.{Reply}
 use Rattle.connections.specs.Ends.{Serves}
 use Rattle.connections.specs.declared.end.End.{End}
-use Rattle.turn_lock.specs.declared.lock.Pass.{Pass}
+use Rattle.turn_lock.specs.declared.lock.LockPass.{LockPass}
 use Rattle.turn_lock.specs.declared.lock.Locked.{Locked}
 use Rattle.turn_lock.specs.declared.view.View.{View}
 use Rattle.turn_lock.specs.declared.rule.Turns.{Turns}
@@ -36,7 +36,7 @@ ByVisits {L} g answers before now = (visits : List (Visit L)) × Visits g answer
 
 -- a pass to an intake
 abbrev pub IntakePass : Type 0 → Type 0
-IntakePass B = Pass (Intake B) (Unit {0}) (Start B)
+IntakePass B = LockPass (Intake B) (Unit {0}) (Start B)
 
 -- an intake behind its lock
 abbrev pub IntakeLock : Type 0 → Type 0

@@ -5,7 +5,7 @@ ghost use Rattle.connection_workers.specs.Intakes.{IsIntake, is_shut};
 
 use ks_outside::{Failed, Listener};
 use std::snapshot::Snapshot;
-use turn_lock::{History, Pass, TurnLock};
+use turn_lock::{History, LockPass, TurnLock};
 
 /// What a service of connections begins with: its listener, which clauses alone see, and how many connections it is to serve.
 #[derive(Drop)]
@@ -28,11 +28,16 @@ pub struct Intake<B> {
 /// An intake has no entries; it is known by what it began with.
 impl<B: Listener> History<(), Start<B>> for Intake<B> {
     ghost use Rattle.std.specs.Prelude.{[]};
+    ghost use Rattle.std.proofs.Common.{arith};
     ghost use Rattle.connection_workers.specs.Intakes.{IsIntake};
 
     ghost entries = { λ _. [] };
 
     ghost maker = { λ _. 0 };
+
+    ghost level = { λ _. 0 };
+
+    ghost rises = { λ xs ys. omega arith };
 
     ghost fits = { IsIntake B.Listener };
 }
@@ -40,7 +45,7 @@ impl<B: Listener> History<(), Start<B>> for Intake<B> {
 /// An intake behind the turn lock.
 pub type IntakeLock<B> = TurnLock<Intake<B>, (), Start<B>>;
 
-pub type IntakePass<B> = Pass<Intake<B>, (), Start<B>>;
+pub type IntakePass<B> = LockPass<Intake<B>, (), Start<B>>;
 
 impl<B: Listener> Intake<B> {
     /// The next connection; `None` where as many were taken as are wanted, the listener said that no more come, or a call of it failed.

@@ -2,13 +2,13 @@
 
 ghost use Rattle.std.specs.Prelude.{◌≡◌, ◌<◌, ◌^◌, ◌||◌, true, false, length};
 ghost use Rattle.rule_model.specs.declared.event.Act.TheVariants.{Disconnect};
-ghost use Rattle.wire_frames.specs.Spelling.{body_of, is_framed};
+ghost use Rattle.rule_model.specs.Acts.{is_framed};
+ghost use Rattle.wire_frames.specs.Spelling.{body_of};
 ghost use Rattle.wire_frames.specs.Replies.{reply_body};
 ghost use Rattle.connections.specs.Talks.{is_refusal, joins};
 
-use rule_model::Reply;
+use rule_model::{Reply, Request};
 use std::sync::Wait;
-use wire_frames::Request;
 
 /// Answers the requests of one connection, one after another: one call of a service each.
 pub trait Answerer {

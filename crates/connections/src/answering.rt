@@ -11,11 +11,11 @@ use crate::answerer::Answerer;
 use crate::end::End;
 use crate::writing::write_all;
 use ks_outside::Link;
-use rule_model::{Act, Reply};
+use rule_model::{Act, Reply, Request};
 use std::alloc::Global;
 use std::sync::Wait;
 use tags::Code;
-use wire_frames::{Request, reply_frame};
+use wire_frames::{frame_length, reply_frame};
 
 /// Where a connection stands before its next request.
 #[derive(Clone, Copy, Debug)]
@@ -100,7 +100,7 @@ pub(crate) fn answer_all<R: Wait, L: Link, A: Answerer>(
             let offset = progress.place;
             return (answerer, Err(End::BadFrame { offset }));
         }
-        let size = request.frame_length();
+        let size = frame_length(&request);
         let (next, reply, joins) = answer_one(rt, answerer, request);
         answerer = next;
         progress.joined |= joins;

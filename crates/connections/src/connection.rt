@@ -14,10 +14,10 @@ use crate::answerer::Answerer;
 use crate::answering::{Progress, answer_all};
 use crate::end::End;
 use ks_outside::Link;
-use rule_model::Act;
+use rule_model::{Act, Request};
 use std::alloc::Global;
 use std::sync::Wait;
-use wire_frames::{FrameFault, Frames, Request, whole_frames};
+use wire_frames::{FrameFault, Frames, whole_frames};
 
 /// How many bytes are taken at once.
 const PIECE: usize = 16384;

@@ -27,24 +27,24 @@ pub const LAST_STREAM: i32 = 2;
 pub struct StoreFile<'a, R> {
     rt: &'a R,
     path: &'a str,
-    found: Found,
+    found: FoundFile,
     trouble: Option<Trouble>,
 }
 
 /// What stands at the path.
 #[derive(Drop)]
-enum Found {
+enum FoundFile {
     /// it was not looked for yet
     Unknown,
     /// no file
     Nothing,
     /// this one
-    File(Locked),
+    File(LockedFile),
 }
 
 /// A file that is open and locked.
 #[derive(Drop)]
-struct Locked {
+struct LockedFile {
     file: fs::File,
     identity: Identity,
     /// Whether what a read gives is what the disk has, or was written through this file.
@@ -80,7 +80,7 @@ pub fn open_store<'a, R: Files<File = fs::File>>(
     FileDisk::new(StoreFile {
         rt,
         path,
-        found: Found::Unknown,
+        found: FoundFile::Unknown,
         trouble: None,
     })
 }
@@ -94,9 +94,9 @@ impl<R: Files<File = fs::File>> FileDisk<StoreFile<'_, R>> {
     }
 }
 
-impl Locked {
+impl LockedFile {
     /// Locks a regular file that was opened at no standard stream's descriptor.
-    fn of(file: fs::File, is_fresh: bool) -> Result<Locked, Trouble> {
+    fn of(file: fs::File, is_fresh: bool) -> Result<LockedFile, Trouble> {
         if file.as_raw_fd() <= LAST_STREAM {
             return Err(Trouble::Stream);
         }
@@ -105,7 +105,7 @@ impl Locked {
             return Err(Trouble::NoFile);
         }
         match file.try_lock() {
-            Ok(()) => Ok(Locked {
+            Ok(()) => Ok(LockedFile {
                 file,
                 identity: Identity::of(&data),
                 is_fresh,
@@ -159,32 +159,32 @@ impl<R: Files<File = fs::File>> StoreFile<'_, R> {
 
     /// Whether it was looked for, and there is no file.
     pub fn is_absent(&self) -> bool {
-        matches!(self.found, Found::Nothing)
+        matches!(self.found, FoundFile::Nothing)
     }
 
     /// The file at the path, where there is one.
-    fn look_for(&self) -> Result<Found, Trouble> {
+    fn look_for(&self) -> Result<FoundFile, Trouble> {
         match OpenOptions::new()
             .read(true)
             .write(true)
             .open(self.rt, self.path)
         {
-            Ok(file) => Ok(Found::File(Locked::of(file, false)?)),
+            Ok(file) => Ok(FoundFile::File(LockedFile::of(file, false)?)),
             Err(error) if error.kind() != ErrorKind::NotFound => Err(Trouble::System(error)),
             Err(_) => match fs::symlink_metadata(self.rt, self.path) {
                 Ok(_) => Err(Trouble::NoFile),
-                Err(_) => Ok(Found::Nothing),
+                Err(_) => Ok(FoundFile::Nothing),
             },
         }
     }
 
     /// The file, where there is one; the first call looks for it.
-    fn file(&mut self) -> Result<Option<&mut Locked>, Trouble> {
-        if matches!(self.found, Found::Unknown) {
+    fn file(&mut self) -> Result<Option<&mut LockedFile>, Trouble> {
+        if matches!(self.found, FoundFile::Unknown) {
             self.found = self.look_for()?;
         }
         match &mut self.found {
-            Found::File(locked) => Ok(Some(locked)),
+            FoundFile::File(locked) => Ok(Some(locked)),
             _ => Ok(None),
         }
     }
@@ -210,9 +210,9 @@ impl<R: Files<File = fs::File>> StoreFile<'_, R> {
             .create_new(true)
             .mode(0o600)
             .open(self.rt, self.path)?;
-        let locked = Locked::of(file, true)?;
+        let locked = LockedFile::of(file, true)?;
         self.sync_folder()?;
-        self.found = Found::File(locked);
+        self.found = FoundFile::File(locked);
         Ok(())
     }
 

@@ -4,11 +4,11 @@ ghost use Rattle.std.specs.Prelude.{◌≡◌, ◌+◌, ◌^◌, ◌<◌, ◌≤
 ghost use Rattle.wire_frames.specs.Standing.{reach};
 ghost use Rattle.wire_frames.specs.Replies.{entries_of, reply_body};
 
-use rule_model::{Act, Entries, Fields, NO_FIELDS, Reply};
+use rule_model::{Act, Entries, Fields, NO_FIELDS, Reply, Request};
 use std::alloc::Global;
 use std::test::Fail;
 use tags::{Bytes, Code, Rule, RuleTable};
-use wire_frames::{FrameFault, Frames, Request, reply_frame, reply_length, request_frame};
+use wire_frames::{FrameFault, Frames, frame_length, reply_frame, reply_length, request_frame};
 
 /// One frame of each act, in the order of their numbers, and the act in words.
 static FRAMES: [(&[u8], &str); 20] = [
@@ -154,7 +154,7 @@ fn put_frame(alloc: Global, request: &Request, out: &mut Vec<u8>) -> bool {
     let Ok(Some(bytes)) = request_frame(alloc, request) else {
         return false;
     };
-    let same = request.frame_length() == bytes.len() as u64;
+    let same = frame_length(request) == bytes.len() as u64;
     out.extend_from_slice(bytes.as_slice()).is_ok() && same
 }
 
@@ -405,7 +405,7 @@ fn replies_are_written_as_the_format_says(rt: HostRuntime) {
 fn a_disconnect_has_no_frame(rt: HostRuntime) {
     let length = match Request::of(Act::Disconnect) {
         Some(request) => {
-            let length = request.frame_length();
+            let length = frame_length(&request);
             drop(request);
             length
         }

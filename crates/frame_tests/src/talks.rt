@@ -1,7 +1,7 @@
 //! Connections in memory, and who answers a connect with client 1 and all else with no field.
 
 ghost use Rattle.std.specs.Prelude.{◌≡◌, ◌≢◌, ◌<◌, ◌^◌, ◌||◌, ◌&&◌, true, false, length};
-ghost use Rattle.wire_frames.specs.Spelling.{is_framed};
+ghost use Rattle.rule_model.specs.Acts.{is_framed};
 ghost use Rattle.wire_frames.specs.Replies.{reply_body};
 ghost use Rattle.rule_model.specs.Acts as acts;
 ghost use Rattle.rule_model.specs.Entries.{is_done};
@@ -10,11 +10,10 @@ ghost use Rattle.connections.specs.Talks.{is_refusal};
 
 use connections::{Answerer, End, serve_link};
 use ks_outside::MemoryLink;
-use rule_model::{Act, Fields, NO_FIELDS, Reply};
+use rule_model::{Act, Fields, NO_FIELDS, Reply, Request};
 use std::alloc::Global;
 use std::sync::Wait;
 use tags::Code;
-use wire_frames::Request;
 
 /// Answers so many requests, and then says that the run is full.
 #[derive(Drop)]

@@ -4,7 +4,8 @@ ghost use Rattle.std.specs.Prelude.{◌≡◌, ◌<◌, ◌≤◌, ◌+◌, ◌-
 ghost use Rattle.ks_outside.specs.Images.{AllImages, Goes, Passes, Reads};
 ghost use Rattle.gated_records.specs.Areas.{HoldsAt, IsOutside, IsArea, HasArea, IsWithOrWithout, closed_by, with_more, opened_to};
 
-use ks_outside::{Disk, Failed, read_synced_byte, write_synced};
+use disk_calls::{read_synced_byte, write_synced};
+use ks_outside::{Disk, Failed};
 
 /// An open gate.
 pub const OPEN: u8 = 0x4b;

@@ -1,2 +1,7 @@
 pub mod Bodies
 pub mod BothWays
+pub mod KeyLists
+pub mod Leaving
+pub mod Lists
+pub mod Restoring
+pub mod SnapshotBytes

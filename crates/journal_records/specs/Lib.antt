@@ -6,4 +6,6 @@ pub mod Lookups
 pub mod Needs
 pub mod Reading
 pub mod Spelling
+pub mod States
+pub mod Storable
 pub mod Worked

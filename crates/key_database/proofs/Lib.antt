@@ -1,17 +1,5 @@
-pub mod NameOrder
-pub mod KeyRows
-pub mod Counting
-pub mod Entries
-pub mod Indexing
-pub mod Firsts
 pub mod Sizes
-pub mod Whole
-pub mod Nexts
-pub mod Ends
 pub mod Applied
 pub mod OneStore
 pub mod Opened
-pub mod Lockstep
-pub mod Afters
-pub mod Listing
 pub mod Rereading

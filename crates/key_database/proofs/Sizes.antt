@@ -10,7 +10,7 @@ use Rattle.journal_records.specs.declared.change.Change.{Change}
 use Rattle.journal_records.specs.declared.change.Change.TheVariants.{Create, Delete, Use, Grant, Ungrant, Clear, Removed}
 use Rattle.journal_records.specs.LastingPart.{Lasting}
 use Rattle.journal_records.specs.Needs.{is_met, is_number_left, is_owner, has_place_for}
-use Rattle.journal_records.specs.Spelling.{counted, body_of, tail_of, closed_of}
+use Rattle.journal_records.specs.Spelling.{counted, body_of, record_tail, closed_of}
 use Rattle.tags.specs.declared.limits.TheConstants.{ALIAS_BYTES, BLOB_BYTES, KEPT_LIST_BYTES, RECORD_BYTES}
 
 length_counted : (bytes : List ℕ) → length (counted bytes) ≡ 4 + length bytes
@@ -61,5 +61,5 @@ small_body part (Clear domain nspace) met = omega (arith, length-bytes_high_firs
 small_body part (Removed user) met = omega (arith, length-bytes_high_first 4 user)
 
 pub small_record : (part : Lasting) (change : Change) → is_met part change ≡ true → length (closed_of change) ≤ RECORD_BYTES
-unfolding tail_of
+unfolding record_tail
 small_record part change met = omega (arith, small_body part change met, length_counted (body_of change), length-append (counted (body_of change)) (0 ∷ []))

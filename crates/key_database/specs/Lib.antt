@@ -1,9 +1,2 @@
-pub mod First
-pub mod TableView
-pub mod Maps
-pub mod Names
-pub mod Parts
-pub mod Rows
 pub mod Stands
 pub mod Store
-pub mod Table

@@ -18,7 +18,7 @@ use Rattle.journal_records.specs.Spelling.{closed_of}
 use Rattle.use_journal.specs.Journal.{past_of}
 use Rattle.use_journal.specs.Holding.{is_waiting, end_after, end_of, IsSettledOn, IsUnsettledOn}
 use Rattle.key_database.specs.declared.database.KeyDatabase.{KeyDatabase}
-use Rattle.key_database.specs.TableView.{TableView, lasting_in}
+use Rattle.lasting_table.specs.TableView.{TableView, lasting_in}
 use Rattle.key_database.specs.Store.{StandsFor, IsBadStore, MayBe, Between}
 
 -- the lasting part that its look-ups tell

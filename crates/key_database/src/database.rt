@@ -10,16 +10,16 @@ ghost use Rattle.journal_records.specs.Needs.{is_met};
 ghost use Rattle.journal_records.specs.Holding.{Holding, Sure, after_settle};
 ghost use Rattle.journal_records.specs.Spelling.{closed_of};
 ghost use Rattle.use_journal.specs.Holding.{end_of, end_with, is_waiting};
-ghost use Rattle.key_database.specs.TableView.{CanMake, HasRoomForGrant, HasRoomForKey, KeepsRoom, takes_memory};
+ghost use Rattle.lasting_table.specs.TableView.{CanMake, HasRoomForGrant, HasRoomForKey, KeepsRoom, takes_memory};
 ghost use Rattle.key_database.specs.Store.{MayBe, StandsFor};
 ghost use Rattle.tags.specs.declared.limits.TheConstants.{JOURNAL_BYTES};
 
 use crate::appending::append_change;
-use crate::lasting_table::LastingTable;
 use crate::law::one_store;
 use crate::opening::replay;
 use journal_records::{AppendFault, ApplyFault, Change, StoreFault};
 use ks_outside::{Disk, Failed};
+use lasting_table::LastingTable;
 use std::alloc::Global;
 use tags::{NoMemory, Settled};
 use use_journal::{Journal, one_reading};
@@ -60,6 +60,20 @@ impl KeyDatabase {
             },
             Err(fault) => Err(fault),
         }
+    }
+
+    /// The keys, the grants and the next numbers, with their look-ups.
+    pub fn table(&self) -> &LastingTable
+        ensures { result.now ≡ table_of self.now }
+    {
+        &self.table
+    }
+
+    /// How many bytes the store's header and records have.
+    pub fn store_bytes(&self) -> u64
+        ensures { result ≡ store_bytes self.now }
+    {
+        self.journal.end()
     }
 
     /// Whether no change waits to be settled. It takes no memory.

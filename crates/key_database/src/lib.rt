@@ -1,37 +1,26 @@
-//! The keys, grants and next numbers that last: as a table in memory, and over a journal.
+//! The keys, grants and next numbers that last, over a journal.
 //!
-//! Its contract: `LastingTable` is seen as a lasting part (`lasting_in` of `specs/TableView.antt`), each look-up is a search of
-//! it (`journal_records/specs/Lookups.antt`), and a change that is made leaves what `after` says. `KeyDatabase` is such a
-//! table (`lasting` of `specs/Stands.antt`) and the journal that it lies in. `open` reads the one that the bytes stand
-//! for, or tells the place of the first thing wrong; at each moment of `apply` each image stands for the lasting part
-//! before the change or with it; and `settle` makes of an unsettled database what the disk has. What is known of the disk
-//! goes on by `after_commit` and `after_settle` (`journal_records/specs/Holding.antt`). An image stands for one lasting
-//! part at most (`one_store`).
+//! Its contract: `KeyDatabase` is a table of what lasts (`table`, and `lasting` of `specs/Stands.antt`) and the journal that
+//! it lies in. `open` reads the one that the bytes stand for, or tells the place of the first thing wrong; at each moment of
+//! `apply` each image stands for the lasting part before the change or with it; and `settle` makes of an unsettled database
+//! what the disk has. What is known of the disk goes on by `after_commit` and `after_settle`
+//! (`journal_records/specs/Holding.antt`). An image stands for one lasting part at most (`one_store`).
 //!
 //! ```rust
 //! use key_database::KeyDatabase;
 //!
 //! KeyDatabase::format(&mut disk)?;
 //! let mut database = KeyDatabase::open(alloc, &mut disk)?;
-//! if database.is_settled() && database.meets(&change) {
+//! if database.is_settled() && database.table().meets(&change) {
 //!     let applied = database.apply(&mut disk, change);
 //! }
 //! ```
 #![tactic(auto)]
 
 mod appending;
-mod compared;
-mod counts;
 mod database;
-mod keys;
-mod lasting_table;
 mod law;
-mod lookups;
-mod maps;
-mod names;
 mod opening;
-mod part;
 
 pub use database::KeyDatabase;
-pub use lasting_table::LastingTable;
 pub use law::one_store;

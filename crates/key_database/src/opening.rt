@@ -2,8 +2,8 @@
 
 ghost use Rattle.key_database.specs.Stands.{Replays};
 
-use crate::lasting_table::LastingTable;
 use journal_records::{Changes, StoreFault};
+use lasting_table::LastingTable;
 use std::alloc::Global;
 
 /// Makes the changes of a store in turn, each with its need tested.

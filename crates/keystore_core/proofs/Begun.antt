@@ -1,5 +1,5 @@
 -- The beginning of an operation: its answer, and the tables after it.
-use Rattle.std.proofs.Common.{◌≡◌, ℕ, ◌+◌, ◌<◌, ◌≤◌, ◌==◌, ◌||◌, Bool, true, false, not, if◌then◌else◌, List, [], ◌∷◌, length, find, Option, Some, None, Result, Err, is_some, unwrap_or, refl, sym, ap, ◌∙◌, subst, arith, inl, inr, IsTrue}
+use Rattle.std.proofs.Common.{◌≡◌, ℕ, ◌+◌, ◌<◌, ◌≤◌, ◌==◌, ◌||◌, Bool, true, false, not, if◌then◌else◌, List, [], ◌∷◌, length, find, Option, Some, None, Result, Ok, Err, is_some, unwrap_or, refl, sym, ap, ◌∙◌, subst, arith, inl, inr, IsTrue}
 use Rattle.std.specs.Prelude.{IfNone, IfSome, IsSome}
 use Rattle.std.specs.Prelude.{take, drop}
 use Rattle.std.proofs.lemmas.Bool.{cases_Bool, eqb-true}
@@ -17,9 +17,11 @@ use Rattle.cipher_ops.specs.declared.state.CipherState.{CipherState}
 use Rattle.keymint_ops.specs.declared.begin.Begin.{Begin}
 use Rattle.keymint_ops.specs.declared.begin.BeginFault.{BeginFault}
 use Rattle.keymint_ops.specs.declared.begin.BeginFault.TheVariants as Fault
-use Rattle.keymint_ops.specs.Begin.{GivesBegin, MayBegin, nonce_used}
+use Rattle.keymint_ops.specs.Begin.{MayBegin, nonce_used}
 use Rattle.rule_model.specs.declared.entry.Entry.TheVariants.{Acted}
 use Rattle.journal_records.specs.declared.record.KeyRecord.{KeyRecord}
+use Rattle.journal_records.specs.LastingPart.{Lasting}
+use Rattle.tags.specs.declared.secrets.DeviceSecrets.{DeviceSecrets}
 use Rattle.key_domains.specs.declared.access.Access.{Access}
 use Rattle.tags.specs.declared.policy.PolicyRow.{PolicyRow}
 use Rattle.rule_model.specs.declared.event.Act.TheVariants.{CreateOperation}
@@ -47,28 +49,30 @@ use Rattle.rule_model.proofs.Kept.{quiet_stored}
 use Rattle.rule_model.specs.Setup.{Setup}
 use Rattle.rule_model.specs.Slots.{begin_facts, conditions_on, facts_of_open, has_free, has_room, pruned_for}
 use Rattle.rule_model.specs.Jobs.{Stays}
-use Rattle.keystore_core.specs.declared.operations.Operation.{Operation}
+use Rattle.live_tables.specs.declared.operations.Operation.{Operation}
 use Rattle.keystore_core.specs.declared.tables.Tables.{Tables}
-use Rattle.operation_slots.specs.declared.operation.Operation.{Operation as Slot}
+use Rattle.operation_slots.specs.declared.operation.SlotOperation.{SlotOperation as Slot}
 use Rattle.operation_slots.specs.Table as table
 use Rattle.operation_slots.specs.Table.{IsLater, SlotTable, capacity_of, held, idle_operation, idle_value, operations_of}
 use Rattle.pruning.specs.Facts as seen
 use Rattle.pruning.specs.Victim.{OpenFacts, victim}
 use Rattle.rule_model.specs.Answer.{begun_with}
-use Rattle.keystore_core.specs.Alike.{Alike}
-use Rattle.keystore_core.specs.Begins.{begins_in}
-use Rattle.keystore_core.specs.Boot.{SameBoot, conditions_in}
-use Rattle.keystore_core.specs.Device.{early_in, unlocked_in}
-use Rattle.keystore_core.specs.Tokens.{token_key_in, tokens_in}
-use Rattle.keystore_core.specs.Beginning.{GivesAdmitted, IsAdmitted, IsBeginKey, IsNewRow, IsStart, MakesWay, OpensOne}
-use Rattle.keystore_core.specs.declared.beginning.Admitted.{Admitted}
-use Rattle.keystore_core.specs.declared.beginning.BeginKey.{BeginKey as OwnKey}
+use Rattle.live_tables.specs.Alike.{Alike}
+use Rattle.live_tables.specs.Begins.{begins_in}
+use Rattle.live_tables.specs.Boot.{SameBoot, conditions_in}
+use Rattle.live_tables.specs.Device.{early_in, unlocked_in}
+use Rattle.live_tables.specs.Tokens.{token_key_in, tokens_in}
+use Rattle.call_answers.specs.Beginning.{IsBeginKey, IsStart, Opens as OpensKey}
+use Rattle.call_answers.specs.Beginning as answers
+use Rattle.call_answers.specs.declared.begins.AdmittedBegin.{AdmittedBegin as Admitted}
+use Rattle.call_answers.specs.declared.begins.BeginKey.{BeginKey as OwnKey}
+use Rattle.keystore_core.specs.Beginning.{GivesAdmitted, IsAdmitted, IsNewRow, MakesWay, OpensOne}
 use Rattle.key_database.specs.Stands.{lasting}
 use Rattle.keystore_core.specs.Keys.{SameKeys}
-use Rattle.keystore_core.specs.Operations.{IsRow, has_row, operations_given, rows_in}
+use Rattle.live_tables.specs.Operations.{IsRow, has_row, operations_given, rows_in}
 use Rattle.keystore_core.specs.Slots.{IsKept, IsSlot}
 use Rattle.keystore_core.specs.Tables.{AnswersAfter, IsCaller, SameTables, TablesStand, event_by}
-use Rattle.keystore_core.proofs.Alike.{alike_filter, alike_images, alike_length, alike_more}
+use Rattle.live_tables.proofs.Alike.{alike_filter, alike_images, alike_length, alike_more}
 use Rattle.keystore_core.proofs.Booted.{begun_early, begun_tokens, begun_users, boot_after, boot_still, conditions_are, same_boot_twice}
 use Rattle.keystore_core.proofs.KeyTable.{keys_stay, same_keys, same_keys_twice}
 use Rattle.keystore_core.proofs.Ready.{ready_settled}
@@ -103,14 +107,25 @@ challenge_is facts begin drawn may long =
     challenge_by (is_per_operation (key_of facts)) (drop begin.wanted drawn) (omega (arith, length-drop begin.wanted drawn, long))
     ∙ ap (λ n. if is_per_operation (key_of facts) then Some (big_number 8 (drop n drawn)) else None) may.wanted_is
 
--- what may begin over the facts that were gathered may begin over those of the history
-pub may_begin : (begin : Begin) (gathered facts : BeginFacts) → gathered ≡ facts → MayBegin begin gathered → MayBegin begin facts
-may_begin begin gathered facts e may = subst (MayBegin begin) e may
+-- what is admitted over the facts that were gathered is so over those of the history, and what is denied too
+pub admitted_over : (result : Result Admitted BeginFault) (own : OwnKey) (key : BeginKey) (gathered facts : BeginFacts) → IsBeginKey own key → gathered ≡ facts → answers.GivesAdmitted result own gathered → GivesAdmitted result key facts
+admitted_over (Ok admitted) own key gathered facts is e told = record {
+  may = subst (MayBegin admitted.begin) e told.may;
+  id_is = told.id_is ∙ is.id_is;
+  limited_is = told.limited_is ∙ is.limited_is;
+  material_is = told.material_is ∙ is.material_is;
+  list_is = told.list_is ∙ ap key_of e;
+  challenge_is = told.challenge_is ∙ ap (λ (f : BeginFacts). challenge_wanted (key_of f)) e;
+}
+admitted_over (Err (Fault.Broken rule code)) own key gathered facts is e told = sym (ap begin_table.answer e) ∙ told
+admitted_over (Err Fault.Memory) own key gathered facts is e told = tt
 
--- and what keeps an operation from beginning over the facts that were gathered does so over those of the history
-pub may_not : (fault : BeginFault) (key : BeginKey) (gathered facts : BeginFacts) → gathered ≡ facts → GivesBegin (Err fault) gathered → GivesAdmitted (Err fault) key facts
-may_not (Fault.Broken rule code) key gathered facts e told = sym (ap begin_table.answer e) ∙ told
-may_not Fault.Memory key gathered facts e told = tt
+-- the facts that were gathered are those of what the descriptor finds
+pub gathered_facts : (device : DeviceSecrets) (policy : List PolicyRow) (part : Lasting) (caller : Caller) (key : Descriptor) (params : List ℕ) (own : OwnKey) (forced : Bool) (conditions : Conditions)
+    → OpensKey device policy part caller key params own
+    → answers.facts_of policy own caller forced conditions ≡ facts_by policy own.found own.opened.list own.opened.fits (access_by policy part caller key) caller key (asked params) forced conditions
+gathered_facts device policy part caller key params own forced conditions is =
+    λ i. facts_by policy own.found own.opened.list own.opened.fits (is.access_is i) caller (is.key_is i) (is.asked_is i) forced conditions
 
 -- what the choice of the operation that gives way reads of a slot is what it reads of the open operation
 facts_alike : (slot : Slot CipherState) (o : Open) → IsSlot slot o → seen.facts slot ≡ facts_of_open o
@@ -141,11 +156,6 @@ is_free true room None f e = refl
 is_free true room (Some op) f e = tt
 is_free false room None f e = cc
 is_free false room (Some op) f e = tt
-
--- the facts that were gathered say whether there was a slot
-pub gathered_room : (facts : BeginFacts) (policy : List PolicyRow) (found : Bool) (list : Option (List Param)) (fits : Bool) (access : Access) (caller : Caller) (key : Descriptor) (told : Result (List Param) Code) (forced : Bool) (conditions : Conditions)
-    → facts ≡ facts_by policy found list fits access caller key told forced conditions → facts.room ≡ conditions.room
-gathered_room facts policy found list fits access caller key told forced conditions e = ap (λ (f : BeginFacts). f.room) e
 
 pub idle_pruned : (slots : SlotTable Rattle.cipher_ops.specs.declared.state.CipherState.CipherState) (pruned : Option ℕ) → IfSome pruned (λ op. IsSome (idle_value (held slots op))) → (op : ℕ) → pruned ≡ Some op → is_some (idle_value (held slots op)) ≡ true
 idle_pruned slots None idle op e = cc
@@ -282,7 +292,7 @@ module _ (setup : Setup) (past : History) (tables : Tables) (caller : Caller) (k
 
   -- what the operation that gives way leaves
   pub record Way (pruned : Option ℕ) (middle : Tables) : Type 0 where
-    pub clients : Rattle.keystore_core.specs.Clients.SameClients tables.clients middle.clients
+    pub clients : Rattle.live_tables.specs.Clients.SameClients tables.clients middle.clients
     pub keys : SameKeys tables middle
     pub rows : Alike IsRow (rows_in middle.operations) (without_pruned pruned (open_of setup past))
     pub given : operations_given middle.operations ≡ operations_given tables.operations
@@ -290,7 +300,7 @@ module _ (setup : Setup) (past : History) (tables : Tables) (caller : Caller) (k
     pub capacity : capacity_of middle.slots ≡ capacity_of tables.slots
     pub fresh : (number : ℕ) → held tables.slots number ≡ None → held middle.slots number ≡ None
     pub later : (next : ℕ) → IsLater tables.slots next → IsLater middle.slots next
-    pub tickets : Rattle.keystore_core.specs.Tickets.SameTickets tables.tickets middle.tickets
+    pub tickets : Rattle.live_tables.specs.Tickets.SameTickets tables.tickets middle.tickets
     pub boot : SameBoot tables.boot middle.boot
     pub keeps : (n : ℕ) (x : Open) → is_busy x ≡ true → find (has_number n) (open_of setup past) ≡ Some x → find (has_number n) (without_pruned pruned (open_of setup past)) ≡ Some x
 

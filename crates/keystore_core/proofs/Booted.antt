@@ -15,11 +15,11 @@ use Rattle.rule_model.specs.Boot.{BootChange, SameBoot as NoBoot, begins_after, 
 use Rattle.rule_model.specs.Entries.{History}
 use Rattle.rule_model.specs.Setup.{Setup}
 use Rattle.rule_model.specs.Slots.{conditions_on}
-use Rattle.keystore_core.specs.declared.boot.Boot.{Boot}
-use Rattle.keystore_core.specs.Begins.{ChangesBegins, begins_in}
-use Rattle.keystore_core.specs.Boot.{BootStands, SameBoot, conditions_in}
-use Rattle.keystore_core.specs.Device.{ChangesDevice, early_in, unlocked_in}
-use Rattle.keystore_core.specs.Tokens.{ChangesTokens, tokens_in}
+use Rattle.live_tables.specs.declared.boot.Boot.{Boot}
+use Rattle.live_tables.specs.Begins.{ChangesBegins, begins_in}
+use Rattle.live_tables.specs.Boot.{BootStands, SameBoot, conditions_in}
+use Rattle.live_tables.specs.Device.{ChangesDevice, early_in, unlocked_in}
+use Rattle.live_tables.specs.Tokens.{ChangesTokens, tokens_in}
 
 pub same_boot : (boot : Boot) → SameBoot boot boot
 same_boot boot = record { device = refl; tokens = record { tokens = refl; key = refl }; begins = λ key. refl }

@@ -14,7 +14,7 @@ use Rattle.cipher_ops.specs.declared.room.JobRoom.{JobRoom}
 use Rattle.cipher_ops.specs.declared.room.Work.{Work}
 use Rattle.cipher_ops.specs.declared.room.Work.TheVariants.{Aad, Text, Last}
 use Rattle.cipher_ops.specs.declared.state.CipherState.{CipherState}
-use Rattle.operation_slots.specs.declared.operation.Operation.{Operation as Slot}
+use Rattle.operation_slots.specs.declared.operation.SlotOperation.{SlotOperation as Slot}
 use Rattle.operation_slots.specs.Table as table
 use Rattle.operation_slots.specs.Table.{SlotTable, held, made_busy, operations_of}
 use Rattle.journal_records.specs.declared.change.Change.{Change}
@@ -50,21 +50,21 @@ use Rattle.rule_model.specs.Tickets.{Entered, GoesOut, SameTickets as NoTickets,
 use Rattle.rule_model.proofs.Kept.{same_stored}
 use Rattle.rule_model.proofs.UsesMet.{uses_met}
 use Rattle.keystore_core.specs.declared.answered.Answered.{Answered as Answer}
-use Rattle.keystore_core.specs.declared.operations.Operation.{Operation as Row}
-use Rattle.keystore_core.specs.declared.operations.RowChange.TheVariants.{Enters as RowEnters}
+use Rattle.live_tables.specs.declared.operations.Operation.{Operation as Row}
+use Rattle.live_tables.specs.declared.operations.RowChange.TheVariants.{Enters as RowEnters}
 use Rattle.keystore_core.specs.declared.tables.Tables.{Tables}
-use Rattle.keystore_core.specs.declared.tickets.Out.{Out}
-use Rattle.keystore_core.specs.Alike.{BothFound}
+use Rattle.live_tables.specs.declared.tickets.Out.{Out}
+use Rattle.live_tables.specs.Alike.{BothFound}
 use Rattle.keystore_core.specs.Keys.{AreSettled, KeysStand, SameKeys}
 use Rattle.keystore_core.specs.Leaving.{ClosesOne}
-use Rattle.keystore_core.specs.Operations.{IsRow, changed, has_row, operation_in, rows_in}
+use Rattle.live_tables.specs.Operations.{IsRow, changed, has_row, operation_in, rows_in}
 use Rattle.keystore_core.specs.Slots.{IsSlot}
 use Rattle.keystore_core.specs.Stepping.{ClosesIf, IsRoomAt, SendsJob, entering, used_by, used_in}
 use Rattle.keystore_core.specs.Tables.{AnswersAfter, IsCaller, IsLegal, TablesStand, event_by, row_at}
-use Rattle.keystore_core.specs.Tickets as out
-use Rattle.keystore_core.specs.Tickets.{BusyWith, IsOut, SameOut, tickets_given}
+use Rattle.live_tables.specs.Tickets as out
+use Rattle.live_tables.specs.Tickets.{BusyWith, IsOut, SameOut, tickets_given}
 use Rattle.keystore_core.specs.Writing.{Full, IsWrittenIf, Made, StoreGoes, Torn, change_for, used_of}
-use Rattle.keystore_core.proofs.Alike.{alike_change}
+use Rattle.live_tables.proofs.Alike.{alike_change}
 use Rattle.keystore_core.proofs.Booted.{boot_stays}
 use Rattle.keystore_core.proofs.KeyTable.{keys_stay}
 use Rattle.keystore_core.proofs.Opened.{found_apart, found_changed, is_other, stays_by, stays_same}

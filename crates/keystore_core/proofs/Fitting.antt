@@ -222,7 +222,6 @@ accepted_fits tokens token = if_fits no_sizes (length (other_triples token token
 -- each answer by the rules
 rules_fit : (act : Act) (setup : Setup) (past : History) (caller : Caller) (drawn : List ℕ) (out : ℕ) → AreShort (kept setup past) → length (root_of setup past) ≡ 32
     → length drawn ≡ size_of (if (fixed_for act).draws then wanted_by_rules act setup past caller else no_pieces) → HasOutRoom setup past act out → Fits (sizes_of act out) (answer_by_rules act setup past caller drawn)
-rules_fit (Connect uid) setup past caller drawn out short long drew room = record { alias = tt; nonce = tt; out = tt; blob = tt; list = tt; entries = tt }
 rules_fit (GenerateKey key params) setup past caller drawn out short long drew room = generated_fits setup past caller key params drawn long drew
 rules_fit (ImportKey key params format material) setup past caller drawn out short long drew room =
     imported_fits setup past caller key params format material drawn long drew
@@ -266,7 +265,7 @@ rules_fit (DeviceUnlocked user) setup past caller drawn out short long drew room
 rules_fit EarlyBootEnded setup past caller drawn out short long drew room =
     broken_fits no_sizes (early_boot_ended_ruling caller) (Done no_fields) (record { alias = tt; nonce = tt; out = tt; blob = tt; list = tt; entries = tt })
 rules_fit (Leave ticket) setup past caller drawn out short long drew room = leave_fits setup past ticket out (ticket_at past ticket) room
-rules_fit (Restart root) setup past caller drawn out short long drew room = record { alias = tt; nonce = tt; out = tt; blob = tt; list = tt; entries = tt }
+rules_fit _ setup past caller drawn out short long drew room = record { alias = tt; nonce = tt; out = tt; blob = tt; list = tt; entries = tt }
 
 -- ---- each entry, and each step
 

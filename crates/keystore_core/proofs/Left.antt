@@ -11,7 +11,7 @@ use Rattle.cipher_ops.specs.declared.job.Done.{Done as JobDone}
 use Rattle.cipher_ops.specs.declared.room.Work.{Work}
 use Rattle.cipher_ops.specs.declared.room.Work.TheVariants.{Aad, Text, Last}
 use Rattle.cipher_ops.specs.declared.state.CipherState.{CipherState}
-use Rattle.operation_slots.specs.declared.operation.Operation.{Operation as Slot}
+use Rattle.operation_slots.specs.declared.operation.SlotOperation.{SlotOperation as Slot}
 use Rattle.operation_slots.specs.Table as table
 use Rattle.slot_chain.specs.Linked.{AllDiffer}
 use Rattle.operation_slots.specs.Table.{IsLater, given_back, held, numbers_of, operations_of}
@@ -41,19 +41,19 @@ use Rattle.rule_model.specs.StepFacts.{brought_by}
 use Rattle.rule_model.specs.Tickets.{ComesBack, Entered, ticket_after, ticket_at, ticket_change}
 use Rattle.rule_model.specs.Settling.{is_disk_fault, is_system_error}
 use Rattle.rule_model.proofs.Kept.{quiet_stored}
-use Rattle.keystore_core.specs.declared.operations.Operation.{Operation as Row}
-use Rattle.keystore_core.specs.declared.operations.RowChange.TheVariants.{Returns as RowReturns}
+use Rattle.live_tables.specs.declared.operations.Operation.{Operation as Row}
+use Rattle.live_tables.specs.declared.operations.RowChange.TheVariants.{Returns as RowReturns}
 use Rattle.keystore_core.specs.declared.tables.Tables.{Tables}
-use Rattle.keystore_core.specs.declared.tickets.Out.{Out}
-use Rattle.keystore_core.specs.Alike.{Alike, BothFound}
+use Rattle.live_tables.specs.declared.tickets.Out.{Out}
+use Rattle.live_tables.specs.Alike.{Alike, BothFound}
 use Rattle.keystore_core.specs.Leaving.{EndsClient}
-use Rattle.keystore_core.specs.Operations.{IsRow, changed, grown, has_busy_row, has_row, is_row_of, rows_in}
+use Rattle.live_tables.specs.Operations.{IsRow, changed, grown, has_busy_row, has_row, is_row_of, rows_in}
 use Rattle.keystore_core.specs.Slots.{IsKept, IsSlot, IsStateOf}
 use Rattle.keystore_core.specs.Stepping.{TakesBack, added_by, reply_of}
 use Rattle.keystore_core.specs.Tables.{AnswersAfter, IsCaller, TablesStand, event_by}
-use Rattle.keystore_core.specs.Tickets.{BusyWith, IsBusyWith, IsOut, SameOut, out_in}
+use Rattle.live_tables.specs.Tickets.{BusyWith, IsBusyWith, IsOut, SameOut, out_in}
 use Rattle.keystore_core.proofs.Booted.{boot_stays, same_boot}
-use Rattle.keystore_core.proofs.Alike.{alike_any, alike_at, alike_filter, alike_found, alike_images}
+use Rattle.live_tables.proofs.Alike.{alike_any, alike_at, alike_filter, alike_found, alike_images}
 use Rattle.keystore_core.proofs.KeyTable.{keys_stay}
 use Rattle.keystore_core.proofs.Opened.{found_apart, stays_by, stays_same, without_client, without_keeps}
 use Rattle.keystore_core.proofs.Standing.{busy_after, called, clients_stay, count_grows, denied_tables, quiet, rows_after, same_tables, slots_after, tickets_stay, uncounted}
@@ -208,7 +208,7 @@ module _ (setup : Setup) (past : History) (old : Tables) (caller : Caller) (tick
     pub record Moved (change : OperationChange) : Type 0 where
       pub change_same : returns (Some entered) ≡ change
       pub rows : Alike IsRow (rows_in new.operations) (open_after (step_of past) change (open_of setup past))
-      pub given : Rattle.keystore_core.specs.Operations.operations_given new.operations ≡ Rattle.keystore_core.specs.Operations.operations_given old.operations
+      pub given : Rattle.live_tables.specs.Operations.operations_given new.operations ≡ Rattle.live_tables.specs.Operations.operations_given old.operations
       pub slots : Alike IsSlot (operations_of new.slots) (open_after (step_of past) change (open_of setup past))
       pub capacity : table.capacity_of new.slots ≡ table.capacity_of old.slots
       pub fresh : (number : ℕ) → held old.slots number ≡ None → held new.slots number ≡ None

@@ -1,9 +1,6 @@
 pub mod Ready
 pub mod KeyTable
-pub mod Listings
 pub mod Drawn
-pub mod RowTable
-pub mod Alike
 pub mod Opened
 pub mod Booted
 pub mod Standing
@@ -24,5 +21,3 @@ pub mod Fitting
 pub mod Untold
 pub mod PutsOut
 pub mod Steps
-pub mod Users
-pub mod BeginKeys

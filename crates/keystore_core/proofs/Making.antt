@@ -19,7 +19,7 @@ use Rattle.journal_records.specs.declared.change.Change.{Change}
 use Rattle.journal_records.specs.LastingPart.{Lasting}
 use Rattle.journal_records.specs.Needs.{has_place_for, is_number_left, is_owner}
 use Rattle.key_database.specs.declared.database.KeyDatabase.{KeyDatabase}
-use Rattle.key_database.specs.TableView.{HasRoomForKey}
+use Rattle.lasting_table.specs.TableView.{HasRoomForKey}
 use Rattle.key_database.specs.Stands.{SameStore, lasting, table_of}
 use Rattle.key_rules.specs.declared.facts.NewFacts.{NewFacts}
 use Rattle.key_rules.specs.declared.plan.KeyPlan.{KeyPlan}
@@ -59,14 +59,14 @@ use Rattle.rule_model.proofs.Boot.{moves_boot, same_boot as same_boot_after}
 use Rattle.rule_model.proofs.Clients.{moves_clients, same_clients}
 use Rattle.rule_model.proofs.Operations.{moves_operations, same_operations}
 use Rattle.rule_model.proofs.Tickets.{moves_tickets, same_tickets}
-use Rattle.keystore_core.specs.declared.creating.Import.{Import}
+use Rattle.call_answers.specs.declared.new_keys.Import.{Import}
 use Rattle.keystore_core.specs.declared.tables.Tables.{Tables}
-use Rattle.keystore_core.specs.Creating.{CanKeep, blob_made, facts_of_import, keeping, kept_fields, making}
+use Rattle.call_answers.specs.Creating.{CanKeep, blob_made, facts_of_import, keeping, kept_fields, making}
 use Rattle.keystore_core.specs.Keys.{AreSettled}
 use Rattle.keystore_core.specs.Writing.{IsWrittenIf, StoreGoes, use_by}
 use Rattle.keystore_core.proofs.Written.{goes_from, told_follows, told_job, told_keys}
 use Rattle.keystore_core.specs.Tables.{AnswersAfter, IsCaller, SameTables, TablesStand, event_by}
-use Rattle.keystore_core.specs.Device.{early_in}
+use Rattle.live_tables.specs.Device.{early_in}
 use Rattle.keystore_core.proofs.Booted.{boot_stays}
 use Rattle.keystore_core.proofs.Ready.{ready_settled}
 use Rattle.keystore_core.proofs.Opened.{stays_same}

@@ -14,7 +14,7 @@ use Rattle.rule_model.specs.Jobs.{Stays, but_shown}
 use Rattle.rule_model.specs.Operations.{Open, OperationChange, SameOperations, Shows, as_shown, has_number, is_busy, is_for, is_of, open_after, step_of, with_change, without}
 use Rattle.rule_model.specs.Setup.{Setup}
 use Rattle.rule_model.specs.Tickets.{Entered, ticket_at}
-use Rattle.keystore_core.specs.Tickets.{BusyWith}
+use Rattle.live_tables.specs.Tickets.{BusyWith}
 
 -- what was found and passes a test is found among those that pass
 pub found_kept : (n : ℕ) (p : Open → Bool) (os : List Open) (o : Open) → find (has_number n) os ≡ Some o → p o ≡ true → find (has_number n) (filter p os) ≡ Some o

@@ -138,7 +138,6 @@ accepted_not tokens token = if_not (length (other_triples token tokens) == MOST_
 
 -- no answer by the rules is that
 rules_not : (act : Act) (setup : Setup) (past : History) (caller : Caller) (drawn : List ℕ) → is_other_store (answer_by_rules act setup past caller drawn) ≡ false
-rules_not (Connect uid) setup past caller drawn = refl
 rules_not (GenerateKey key params) setup past caller drawn = broken_not (new_key (new_facts setup.policy caller key params None (has_early_ended setup past))) (made_in (kept setup past) caller key (new_blob (device_at setup past) (planned setup.policy caller key params None) None drawn)) (made_not (kept setup past) caller key _)
 rules_not (ImportKey key params format material) setup past caller drawn = broken_not (new_key (new_facts setup.policy caller key params (import_of format material) (has_early_ended setup past))) (made_in (kept setup past) caller key (new_blob (device_at setup past) (planned setup.policy caller key params (import_of format material)) (Some material) drawn)) (made_not (kept setup past) caller key _)
 rules_not (CreateOperation key params forced) setup past caller drawn = broken_not (begin_table.answer (begin_facts setup past caller key params forced)) (begun_with (count_of is_begin past + 1) (challenge_of (begin_facts setup past caller key params forced) drawn) (drawn_nonce (begin_facts setup past caller key params forced) drawn) (pruned_for setup past (owner_of caller) forced)) refl
@@ -160,7 +159,7 @@ rules_not (DeviceLocked user) setup past caller drawn = broken_not (user_call_ru
 rules_not (DeviceUnlocked user) setup past caller drawn = broken_not (user_call_ruling caller user) (Done no_fields) refl
 rules_not EarlyBootEnded setup past caller drawn = broken_not (early_boot_ended_ruling caller) (Done no_fields) refl
 rules_not (Leave ticket) setup past caller drawn = leaving_not setup past (ticket_at past ticket)
-rules_not (Restart root) setup past caller drawn = refl
+rules_not _ setup past caller drawn = refl
 
 -- so an entry that is, is of a restart
 pub other_not : (setup : Setup) (past : History) (event : Event) (drawn : List ℕ) (reply : Reply) → is_restart event.act ≡ false → MayFollow setup past event drawn reply → is_other_store reply ≡ false

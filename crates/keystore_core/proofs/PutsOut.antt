@@ -32,10 +32,10 @@ use Rattle.rule_model.specs.Setup.{Setup}
 use Rattle.rule_model.specs.StepFacts.{brought_by, facts_of}
 use Rattle.rule_model.specs.Tickets.{Entered, goes_out, ticket_after, ticket_at}
 use Rattle.rule_model.proofs.Admitted.{admitted_by_rules, answered_done, broken_done}
-use Rattle.keystore_core.specs.declared.operations.Operation.{Operation as Row}
+use Rattle.live_tables.specs.declared.operations.Operation.{Operation as Row}
 use Rattle.keystore_core.specs.declared.tables.Tables.{Tables}
-use Rattle.keystore_core.specs.Alike.{BothFound}
-use Rattle.keystore_core.specs.Operations.{IsRow}
+use Rattle.live_tables.specs.Alike.{BothFound}
+use Rattle.live_tables.specs.Operations.{IsRow}
 use Rattle.keystore_core.specs.declared.output.TextStep.{TextStep}
 use Rattle.keystore_core.specs.Outputs.{PutsOut, RowGives, StepGives, most_for, open_most, output_out, row_most, step_most, text_step, told_most}
 use Rattle.keystore_core.specs.Tables.{TablesStand, row_at}

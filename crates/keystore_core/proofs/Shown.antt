@@ -9,7 +9,7 @@ use Rattle.call_rules.specs.declared.facts.SystemCallFacts.{SystemCallFacts}
 use Rattle.call_rules.specs.Table.{token_rules}
 use Rattle.auth_tokens.specs.declared.token.AuthToken.{AuthToken}
 use Rattle.cipher_ops.specs.declared.state.CipherState.{CipherState}
-use Rattle.operation_slots.specs.declared.operation.Operation.{Operation as Slot}
+use Rattle.operation_slots.specs.declared.operation.SlotOperation.{SlotOperation as Slot}
 use Rattle.operation_slots.specs.Table.{capacity_of, idle_value, operations_of, stamp_of}
 use Rattle.rule_model.specs.Kept.{open_of, operation_change}
 use Rattle.rule_model.specs.declared.entry.Entry.TheVariants.{Acted}
@@ -28,19 +28,19 @@ use Rattle.rule_model.specs.Operations.{Open, SameOperations, Shows, as_shown, i
 use Rattle.rule_model.specs.Replies.{broken_or, no_fields}
 use Rattle.rule_model.specs.Setup.{Setup}
 use Rattle.rule_model.proofs.Kept.{quiet_stored}
-use Rattle.keystore_core.specs.declared.operations.Operation.{Operation}
+use Rattle.live_tables.specs.declared.operations.Operation.{Operation}
 use Rattle.keystore_core.specs.declared.tables.Tables.{Tables}
-use Rattle.keystore_core.specs.Alike.{Alike}
-use Rattle.keystore_core.specs.Begins.{begins_in}
-use Rattle.keystore_core.specs.Clients.{clients_given, uid_in}
-use Rattle.keystore_core.specs.Device.{early_in, unlocked_in}
-use Rattle.keystore_core.specs.Operations.{IsRow, is_for_row, operations_given, rows_in, shown}
+use Rattle.live_tables.specs.Alike.{Alike}
+use Rattle.live_tables.specs.Begins.{begins_in}
+use Rattle.live_tables.specs.Clients.{clients_given, uid_in}
+use Rattle.live_tables.specs.Device.{early_in, unlocked_in}
+use Rattle.live_tables.specs.Operations.{IsRow, is_for_row, operations_given, rows_in, shown}
 use Rattle.keystore_core.specs.Slots.{IsKept, IsSlot}
 use Rattle.keystore_core.specs.Tables.{AnswersAfter, IsCaller, SameTables, TablesStand, event_by}
-use Rattle.keystore_core.specs.Tickets.{out_in, tickets_given}
+use Rattle.live_tables.specs.Tickets.{out_in, tickets_given}
 use Rattle.keystore_core.specs.TokenCalls.{AcceptsToken, RefusesToken, adding}
-use Rattle.keystore_core.specs.Tokens.{token_key_in, tokens_in}
-use Rattle.keystore_core.proofs.Alike.{alike_change}
+use Rattle.live_tables.specs.Tokens.{token_key_in, tokens_in}
+use Rattle.live_tables.proofs.Alike.{alike_change}
 use Rattle.keystore_core.proofs.Booted.{boot_after}
 use Rattle.keystore_core.proofs.KeyTable.{keys_stay, same_keys_as}
 use Rattle.keystore_core.proofs.Opened.{stays_same, stays_shown}

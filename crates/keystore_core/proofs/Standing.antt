@@ -19,11 +19,11 @@ use Rattle.rule_model.specs.declared.event.Event.{Event}
 use Rattle.rule_model.specs.declared.facts.Caller.{Caller}
 use Rattle.rule_model.specs.declared.reply.Reply.{Reply}
 use Rattle.rule_model.specs.declared.reply.Reply.TheVariants.{Done, Broken, Stopped}
-use Rattle.rule_model.specs.Acts.{fixed_for, is_begin, is_connect, is_enter, is_restart}
+use Rattle.rule_model.specs.Acts.{fixed_for, is_begin, is_connect, is_enter, is_leave, is_restart, left_by}
 use Rattle.rule_model.specs.Boot.{SameBoot as NoBoot, boot_change}
 use Rattle.rule_model.specs.Clients.{SameClients as NoClients, caller_of, client_change, uid_after, uid_of}
 use Rattle.rule_model.specs.Entries.{History, admits, count_of, is_done}
-use Rattle.rule_model.specs.Jobs.{Stays, but_shown}
+use Rattle.rule_model.specs.Jobs.{HasDone, Stays, but_shown}
 use Rattle.rule_model.specs.Operations.{Open, OperationChange, SameOperations, open_after, step_of, stopped_operation}
 use Rattle.rule_model.specs.Settling.{is_faulted, is_unsettled}
 use Rattle.rule_model.specs.Setup.{Setup}
@@ -32,20 +32,20 @@ use Rattle.rule_model.proofs.Boot.{begins_few}
 use Rattle.rule_model.proofs.Counting.{count_few}
 use Rattle.rule_model.proofs.Kept.{same_stored, unfaulted_stored}
 use Rattle.keystore_core.specs.declared.answered.Answered.{Answered}
-use Rattle.keystore_core.specs.declared.begins.Begins.{Begins}
-use Rattle.keystore_core.specs.declared.clients.Clients.{Clients}
+use Rattle.live_tables.specs.declared.begins.Begins.{Begins}
+use Rattle.live_tables.specs.declared.clients.Clients.{Clients}
 use Rattle.key_database.specs.declared.database.KeyDatabase.{KeyDatabase}
 use Rattle.key_database.specs.Stands.{SameStore}
-use Rattle.keystore_core.specs.declared.operations.Operations.{Operations}
+use Rattle.live_tables.specs.declared.operations.Operations.{Operations}
 use Rattle.keystore_core.specs.declared.tables.Tables.{Tables}
-use Rattle.keystore_core.specs.declared.tickets.Tickets.{Tickets}
-use Rattle.keystore_core.specs.Alike.{Alike}
-use Rattle.keystore_core.specs.Begins.{SameBegins, begins_in}
-use Rattle.keystore_core.specs.Clients.{ClientsStand, SameClients, clients_given}
-use Rattle.keystore_core.specs.Operations.{IsRow, OperationsStand, SameRows, operations_given, rows_in}
+use Rattle.live_tables.specs.declared.tickets.Tickets.{Tickets}
+use Rattle.live_tables.specs.Alike.{Alike}
+use Rattle.live_tables.specs.Begins.{SameBegins, begins_in}
+use Rattle.live_tables.specs.Clients.{ClientsStand, SameClients, clients_given}
+use Rattle.live_tables.specs.Operations.{IsRow, OperationsStand, SameRows, operations_given, rows_in}
 use Rattle.keystore_core.specs.Slots.{IsSlot, SlotsStand}
-use Rattle.keystore_core.specs.Tables.{IsAt, IsCaller, IsTables, SameTables, ServesAfter, ServesAt, TablesStand, event_by}
-use Rattle.keystore_core.specs.Tickets.{BusyWith, SameOut, SameTickets, TicketsStand, out_in, tickets_given}
+use Rattle.keystore_core.specs.Tables.{IsAt, IsCaller, IsTables, SameTables, ServesAfter, ServesAt, StandsAt, TablesStand, event_by}
+use Rattle.live_tables.specs.Tickets.{BusyWith, SameOut, SameTickets, TicketsStand, out_in, tickets_given}
 use Rattle.keystore_core.proofs.Booted.{boot_stays, boot_still, same_boot}
 use Rattle.keystore_core.proofs.KeyTable.{keys_stay, same_keys, same_keys_as}
 use Rattle.keystore_core.proofs.Opened.{AreBusy, stays_same}
@@ -274,10 +274,30 @@ at_any old new event (Ok answered) step back serves = λ setup past at. serves s
 at_any old new event (Err fault) step back serves = serves
 
 -- a begin looks at no job
-pub begin_at : (old new : Tables) (caller : Caller) (key : Descriptor) (params : List ℕ) (forced : Bool) (result : Result Answered NoMemory) (step : ℕ) (back : Option JobDone)
-    → ServesAt step None old new (event_by caller (CreateOperation key params forced)) result → ServesAt step back old new (event_by caller (CreateOperation key params forced)) result
-begin_at old new caller key params forced (Ok answered) step back serves = λ setup past at. serves setup past (record { tables_stand = at.tables_stand; step_is = at.step_is; done_is = tt })
-begin_at old new caller key params forced (Err fault) step back serves = serves
+-- an act that gives no ticket back is no leave, and one that gives this one back is its leave
+pub no_leave : (act : Act) → left_by act ≡ None → is_leave act ≡ false
+no_leave (Leave ticket) e = cc
+no_leave _ e = refl
+
+pub leave_is : (act : Act) (ticket : ℕ) → left_by act ≡ Some ticket → act ≡ Leave ticket
+leave_is (Leave own) ticket e = let same : own ≡ ticket = cc in ap (λ n. Leave n) same
+leave_is _ ticket e = cc
+
+-- an act other than a leave looks at nothing that came back
+done_none : (setup : Setup) (past : History) (act : Act) → is_leave act ≡ false → HasDone setup past act None
+done_none setup past (Leave ticket) e = cc
+done_none setup past _ e = tt
+
+pub at_none : (tables : Tables) (step : ℕ) (act : Act) (back : Option JobDone) → is_leave act ≡ false → ∥ IsAt tables step act back ∥₁ → ∥ IsAt tables step act None ∥₁
+at_none tables step act back other at = ∥∥₁_map at (λ t. record {
+  setup = t.setup;
+  past = t.past;
+  stands = record { tables_stand = t.stands.tables_stand; step_is = t.stands.step_is; done_is = done_none t.setup t.past act other };
+  legal = t.legal;
+})
+
+pub stands_none : (setup : Setup) (past : History) (tables : Tables) (step : ℕ) (act : Act) (back : Option JobDone) → is_leave act ≡ false → StandsAt setup tables past step act back → StandsAt setup tables past step act None
+stands_none setup past tables step act back other at = record { tables_stand = at.tables_stand; step_is = at.step_is; done_is = done_none setup past act other }
 
 pub at_begin : (tables : Tables) (step : ℕ) (act : Act) (back : Option JobDone) (key : Descriptor) (params : List ℕ) (forced : Bool) → ∥ IsAt tables step act back ∥₁ → ∥ IsAt tables step (CreateOperation key params forced) None ∥₁
 at_begin tables step act back key params forced at = ∥∥₁_map at (λ t. record {

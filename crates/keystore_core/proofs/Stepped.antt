@@ -18,7 +18,7 @@ use Rattle.cipher_ops.specs.declared.room.Work.TheVariants.{Aad, Text, Last}
 use Rattle.cipher_ops.specs.declared.state.CipherState.{CipherState}
 use Rattle.cipher_ops.specs.Jobs.{JobFor}
 use Rattle.cipher_ops.specs.Running.{GoesOn, IsRoom, MayCome}
-use Rattle.operation_slots.specs.declared.operation.Operation.{Operation as Slot}
+use Rattle.operation_slots.specs.declared.operation.SlotOperation.{SlotOperation as Slot}
 use Rattle.operation_slots.specs.Table as table
 use Rattle.operation_slots.specs.Table.{FindsWithout, SlotTable, held, idle_value, operations_of}
 use Rattle.journal_records.specs.declared.change.Change.TheVariants as changes
@@ -46,16 +46,16 @@ use Rattle.rule_model.specs.StepFacts.{brought_by, brought_by_abort, facts_of, h
 use Rattle.rule_model.specs.Tickets.{GoesOut, SameTickets as NoTickets, next_ticket, ticket_change}
 use Rattle.rule_model.specs.Stored.{stored_bytes, where_stored}
 use Rattle.rule_model.proofs.Kept.{denied_stands, denied_stored, quiet_stored}
-use Rattle.keystore_core.specs.declared.operations.Operation.{Operation as Row}
+use Rattle.live_tables.specs.declared.operations.Operation.{Operation as Row}
 use Rattle.keystore_core.specs.declared.tables.Tables.{Tables}
-use Rattle.keystore_core.specs.Alike.{BothFound}
+use Rattle.live_tables.specs.Alike.{BothFound}
 use Rattle.keystore_core.specs.Keys.{KeysStand}
 use Rattle.keystore_core.specs.Leaving.{ClosesOne}
-use Rattle.keystore_core.specs.Operations.{IsRow, has_row, rows_in}
+use Rattle.live_tables.specs.Operations.{IsRow, has_row, rows_in}
 use Rattle.keystore_core.specs.Slots.{IsKept, IsSlot, IsStateOf}
 use Rattle.keystore_core.specs.Stepping.{CanWork, ClosesIf, Denies, IsRoomAt, MayGrow, entering}
 use Rattle.keystore_core.specs.Tables.{AnswersAfter, IsCaller, TablesStand, event_by, row_at, state_at}
-use Rattle.keystore_core.proofs.Alike.{alike_filter, alike_found}
+use Rattle.live_tables.proofs.Alike.{alike_filter, alike_found}
 use Rattle.keystore_core.proofs.Booted.{boot_stays}
 use Rattle.keystore_core.proofs.KeyTable.{keys_stay}
 use Rattle.keystore_core.proofs.Opened.{is_other, stays_by, stays_same, without_keeps}

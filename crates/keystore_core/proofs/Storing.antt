@@ -37,8 +37,8 @@ use Rattle.rule_model.proofs.Kept.{SameStored, changes_kept, next_holding, quiet
 use Rattle.keystore_core.specs.declared.answered.Answered.{Answered}
 use Rattle.keystore_core.specs.declared.tables.Tables.{Tables}
 use Rattle.keystore_core.specs.Tables.{IsCaller, ServesAfter, ServesAt, TablesStand, event_by}
-use Rattle.keystore_core.specs.Clients.{uid_in}
-use Rattle.keystore_core.specs.Operations.{operation_in}
+use Rattle.live_tables.specs.Clients.{uid_in}
+use Rattle.live_tables.specs.Operations.{operation_in}
 use Rattle.keystore_core.specs.Writing.{LeavesStore, StoreAnswers, StoreGoes, StoreGoesAfter, caller_by, change_for, use_by, used_of}
 use Rattle.keystore_core.proofs.KeyTable.{none_waits}
 use Rattle.keystore_core.proofs.Stepped.{row_found}

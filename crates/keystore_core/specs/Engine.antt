@@ -17,7 +17,7 @@ use Rattle.rule_model.specs.Stored.{holding_of}
 use Rattle.rule_model.specs.Setup.{Setup}
 use Rattle.keystore_core.specs.declared.engine.Engine.{Engine}
 use Rattle.keystore_core.specs.Tables.{TablesStand}
-use Rattle.keystore_core.specs.Tickets.{tickets_given}
+use Rattle.live_tables.specs.Tickets.{tickets_given}
 use Rattle.cipher_ops.specs.declared.job.Done.{Done}
 use Rattle.rule_model.specs.declared.event.Act.{Act}
 use Rattle.rule_model.specs.Jobs.{HasDone}

@@ -3,11 +3,11 @@ use Rattle.std.specs.Prelude.{◌≡◌, ℕ}
 use Rattle.operation_slots.specs.Table.{FindsNoMore, KeepsLater, TakesOut, TakesOutOf}
 use Rattle.rule_model.specs.Clients.{Goes}
 use Rattle.keystore_core.specs.declared.tables.Tables.{Tables}
-use Rattle.keystore_core.specs.Boot.{SameBoot}
-use Rattle.keystore_core.specs.Clients.{ChangesClients, SameClients, clients_given}
+use Rattle.live_tables.specs.Boot.{SameBoot}
+use Rattle.live_tables.specs.Clients.{ChangesClients, SameClients, clients_given}
 use Rattle.keystore_core.specs.Keys.{SameKeys}
-use Rattle.keystore_core.specs.Operations.{DropsRow, DropsRowsOf}
-use Rattle.keystore_core.specs.Tickets.{SameTickets}
+use Rattle.live_tables.specs.Operations.{DropsRow, DropsRowsOf}
+use Rattle.live_tables.specs.Tickets.{SameTickets}
 
 -- a client is gone, and so are its operations
 pub record EndsClient (client : ℕ) (old new : Tables) : Type 0 where

@@ -12,7 +12,7 @@ use Rattle.rule_model.specs.Kept.{operation_at}
 use Rattle.rule_model.specs.Operations.{Open, output_of}
 use Rattle.rule_model.specs.Setup.{Setup}
 use Rattle.rule_model.specs.Tickets.{Entered, ticket_at}
-use Rattle.keystore_core.specs.declared.operations.Operation.{Operation}
+use Rattle.live_tables.specs.declared.operations.Operation.{Operation}
 use Rattle.keystore_core.specs.declared.output.TextStep.{TextStep}
 use Rattle.keystore_core.specs.declared.tables.Tables.{Tables}
 use Rattle.keystore_core.specs.Tables.{row_at}

@@ -14,10 +14,10 @@ use Rattle.rule_model.specs.Entries.{is_done}
 use Rattle.rule_model.specs.Blobs.{root_given}
 use Rattle.rule_model.specs.declared.event.Act.TheVariants.{Restart}
 use Rattle.keystore_core.specs.declared.tables.Tables.{Tables}
-use Rattle.keystore_core.specs.Boot.{Restarts}
-use Rattle.keystore_core.specs.Clients.{ChangesClients, clients_given}
-use Rattle.keystore_core.specs.Operations.{operations_given, rows_in}
-use Rattle.keystore_core.specs.Tickets.{out_in, tickets_given}
+use Rattle.live_tables.specs.Boot.{Restarts}
+use Rattle.live_tables.specs.Clients.{ChangesClients, clients_given}
+use Rattle.live_tables.specs.Operations.{operations_given, rows_in}
+use Rattle.live_tables.specs.Tickets.{out_in, tickets_given}
 
 -- clients, operations, tickets and what lasts until a restart are gone, and the root of trust is the given one where one is given
 pub record Forgets (root : Option (List ℕ)) (old new : Tables) : Type 0 where

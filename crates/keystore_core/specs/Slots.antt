@@ -2,14 +2,14 @@
 use Rattle.std.specs.Prelude.{◌≡◌, ℕ, ◌<◌, length, Option, Some, None}
 use Rattle.cipher_ops.specs.declared.state.CipherState.{CipherState}
 use Rattle.cipher_ops.specs.Standing.{StandsFor}
-use Rattle.operation_slots.specs.declared.operation.Operation.{Operation}
+use Rattle.operation_slots.specs.declared.operation.SlotOperation.{SlotOperation}
 use Rattle.operation_slots.specs.Table.{IsLater, SlotTable, capacity_of, client_of, held, idle_value, number_of, operations_of, stamp_of, uid_of}
 use Rattle.rule_model.specs.Kept.{open_of}
 use Rattle.rule_model.specs.Acts.{is_begin}
 use Rattle.rule_model.specs.Entries.{History, count_of}
 use Rattle.rule_model.specs.Operations.{Open}
 use Rattle.rule_model.specs.Setup.{Setup}
-use Rattle.keystore_core.specs.Alike.{Alike}
+use Rattle.live_tables.specs.Alike.{Alike}
 
 -- the state of an open operation stands for what it has taken
 abbrev pub IsStateOf : CipherState → Open → Type 0
@@ -22,7 +22,7 @@ IsKept (Some state) stamp o None = (stamp ≡ o.touched) × IsStateOf state o
 IsKept None stamp o None = ⊥
 IsKept (Some state) stamp o (Some ticket) = ⊥
 
-pub record IsSlot (slot : Operation CipherState) (o : Open) : Type 0 where
+pub record IsSlot (slot : SlotOperation CipherState) (o : Open) : Type 0 where
   pub number : number_of slot ≡ o.operation.number
   pub uid : uid_of slot ≡ o.operation.uid
   pub client : client_of slot ≡ o.operation.client

@@ -19,7 +19,7 @@ use Rattle.operation_slots.specs.Table.{FindsChanged, FindsNoMore, Gives, IsSoun
 use Rattle.journal_records.specs.declared.change.Change.{Change}
 use Rattle.journal_records.specs.declared.change.Change.TheVariants as changes
 use Rattle.key_database.specs.declared.database.KeyDatabase.{KeyDatabase}
-use Rattle.key_database.specs.TableView.{CanMake}
+use Rattle.lasting_table.specs.TableView.{CanMake}
 use Rattle.key_database.specs.Stands.{table_of}
 use Rattle.keystore_core.specs.Writing.{used_of}
 use Rattle.rule_model.specs.declared.event.Act.{Act}
@@ -28,18 +28,18 @@ use Rattle.rule_model.specs.declared.facts.Brought.{Brought}
 use Rattle.rule_model.specs.declared.reply.Reply.{Reply}
 use Rattle.rule_model.specs.declared.reply.Reply.TheVariants.{Done as done, Stopped}
 use Rattle.rule_model.specs.Replies.{no_fields}
-use Rattle.keystore_core.specs.declared.operations.Added.{Added}
-use Rattle.keystore_core.specs.declared.operations.Operation.{Operation}
-use Rattle.keystore_core.specs.declared.operations.RowChange.TheVariants.{Enters, Returns}
+use Rattle.live_tables.specs.declared.operations.Added.{Added}
+use Rattle.live_tables.specs.declared.operations.Operation.{Operation}
+use Rattle.live_tables.specs.declared.operations.RowChange.TheVariants.{Enters, Returns}
 use Rattle.keystore_core.specs.declared.tables.Tables.{Tables}
-use Rattle.keystore_core.specs.declared.tickets.Out.{Out}
-use Rattle.keystore_core.specs.Boot.{SameBoot}
-use Rattle.keystore_core.specs.Clients.{SameClients}
+use Rattle.live_tables.specs.declared.tickets.Out.{Out}
+use Rattle.live_tables.specs.Boot.{SameBoot}
+use Rattle.live_tables.specs.Clients.{SameClients}
 use Rattle.keystore_core.specs.Keys.{SameKeys}
 use Rattle.keystore_core.specs.Leaving.{ClosesOne}
-use Rattle.keystore_core.specs.Operations.{ChangesRow, DropsRow, operation_in}
+use Rattle.live_tables.specs.Operations.{ChangesRow, DropsRow, operation_in}
 use Rattle.keystore_core.specs.Tables.{state_at}
-use Rattle.keystore_core.specs.Tickets.{GivesTicket, TakesTicket, tickets_given}
+use Rattle.live_tables.specs.Tickets.{GivesTicket, TakesTicket, tickets_given}
 
 -- the act that enters an operation with a work
 abbrev pub entering : ℕ → Work → Act

@@ -15,14 +15,14 @@ use Rattle.rule_model.specs.Operations.{step_of}
 use Rattle.rule_model.specs.Setup.{Setup}
 use Rattle.rule_model.specs.Uses.{IsStored}
 use Rattle.keystore_core.specs.declared.answered.Answered.{Answered}
-use Rattle.keystore_core.specs.declared.operations.Operation.{Operation}
+use Rattle.live_tables.specs.declared.operations.Operation.{Operation}
 use Rattle.keystore_core.specs.declared.tables.Tables.{Tables}
-use Rattle.keystore_core.specs.Boot.{BootStands, SameBoot}
-use Rattle.keystore_core.specs.Clients.{ClientsStand, SameClients, uid_in}
+use Rattle.live_tables.specs.Boot.{BootStands, SameBoot}
+use Rattle.live_tables.specs.Clients.{ClientsStand, SameClients, uid_in}
 use Rattle.keystore_core.specs.Keys.{KeysStand, SameKeys}
-use Rattle.keystore_core.specs.Operations.{OperationsStand, SameRows, operation_in}
+use Rattle.live_tables.specs.Operations.{OperationsStand, SameRows, operation_in}
 use Rattle.keystore_core.specs.Slots.{SlotsStand}
-use Rattle.keystore_core.specs.Tickets.{SameTickets, TicketsStand}
+use Rattle.live_tables.specs.Tickets.{SameTickets, TicketsStand}
 
 -- the tables stand for a history: each answers as the history says
 pub record TablesStand (setup : Setup) (tables : Tables) (past : History) : Type 0 where

@@ -5,8 +5,8 @@ use Rattle.rule_model.specs.declared.event.Act.{Act}
 use Rattle.rule_model.specs.declared.event.Act.TheVariants.{AddAuthToken}
 use Rattle.rule_model.specs.Boot.{Accepts}
 use Rattle.keystore_core.specs.declared.tables.Tables.{Tables}
-use Rattle.keystore_core.specs.Operations.{ShowsRows}
-use Rattle.keystore_core.specs.Tokens.{ChangesTokens, SameTokens}
+use Rattle.live_tables.specs.Operations.{ShowsRows}
+use Rattle.live_tables.specs.Tokens.{ChangesTokens, SameTokens}
 
 -- the act that hands a token over
 abbrev pub adding : AuthToken → Act

@@ -25,9 +25,9 @@ use Rattle.rule_model.specs.Settling.{is_disk_fault}
 use Rattle.rule_model.specs.Stored.{after_reply, has_record_room, record_bytes}
 use Rattle.keystore_core.specs.declared.answered.Answered.{Answered}
 use Rattle.keystore_core.specs.declared.tables.Tables.{Tables}
-use Rattle.keystore_core.specs.declared.operations.Operation.{Operation}
-use Rattle.keystore_core.specs.Clients.{uid_in}
-use Rattle.keystore_core.specs.Operations.{operation_in}
+use Rattle.live_tables.specs.declared.operations.Operation.{Operation}
+use Rattle.live_tables.specs.Clients.{uid_in}
+use Rattle.live_tables.specs.Operations.{operation_in}
 use Rattle.keystore_core.specs.Keys.{SameKeys}
 
 -- a change was made, in the store and in what is held

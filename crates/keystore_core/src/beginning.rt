@@ -1,153 +1,40 @@
 //! The beginning of an operation.
 
-ghost use Rattle.std.specs.Prelude.{◌≡◌, ℕ, ◌+◌, ◌^◌, ◌==◌, ◌<◌, ◌≤◌, List, [], true, false, unwrap_or, Some, None, IfNone, IfOk, IfSome, IsSome, OnOk, is_some, length, if◌then◌else◌};
+ghost use Rattle.std.specs.Prelude.{◌≡◌, ℕ, ◌+◌, ◌^◌, ◌==◌, ◌<◌, ◌≤◌, List, true, false, Some, None, IfNone, IfOk, IfSome, IsSome, OnOk, is_some, length, if◌then◌else◌};
 ghost use Rattle.std.specs.List.{list_any};
-ghost use Rattle.std.specs.Option.{option_and_then, option_copied, option_map_or};
+ghost use Rattle.std.specs.Option.{option_map_or};
 ghost use Rattle.byteorder.specs.Endian.{big_number};
 ghost use Rattle.tags.specs.Plan.{Fits};
-ghost use Rattle.tag_lists.specs.Lookups.{IsKey};
-ghost use Rattle.use_rules.specs.Table.{key_of};
 ghost use Rattle.keymint_ops.specs.Begin.{nonce_used};
 ghost use Rattle.rule_model.specs.declared.event.Act.TheVariants as acts;
-ghost use Rattle.journal_records.specs.declared.record.KeyRecord.{KeyRecord};
-ghost use Rattle.rule_model.specs.BeginFacts as model;
 ghost use Rattle.keystore_core.specs.Beginning as spec;
 ghost use Rattle.keystore_core.specs.Drawn.{DrewForResult, pieces_in};
-ghost use Rattle.keystore_core.specs.Operations.{HasRoomForOperation, SameRows, operations_given};
+ghost use Rattle.live_tables.specs.Operations.{HasRoomForOperation, SameRows, operations_given};
 ghost use Rattle.keystore_core.specs.Room.{room_in};
 ghost use Rattle.keystore_core.specs.Tables.{IsAt, IsCaller, ServesAt, event_by, state_at};
 ghost use Rattle.keystore_core.specs.Writing.{LeavesStore};
 ghost use Rattle.operation_slots.specs.Table.{IsLater, has_room as is_free, held};
-ghost use Rattle.rule_model.specs.Access as users;
 ghost use Rattle.token_store.specs.Fitting.{opens};
-ghost use Rattle.keystore_core.specs.Begins.{ChangesBegins, SameBegins, begins_in};
+ghost use Rattle.live_tables.specs.Begins.{ChangesBegins, SameBegins, begins_in};
 ghost use Rattle.rule_model.specs.Boot.{begins_on as begins_of_key};
-ghost use Rattle.keystore_core.specs.Boot.{conditions_in};
-ghost use Rattle.keystore_core.specs.Tokens.{tokens_in};
+ghost use Rattle.live_tables.specs.Boot.{conditions_in};
+ghost use Rattle.live_tables.specs.Tokens.{tokens_in};
 
-use crate::access::{access_by, bits_in, key_in, owner_of, row_for};
 use crate::answered::Answered;
-use crate::begins::Begins;
-use crate::boot::Boot;
 use crate::draws::DrawnRooms;
-use crate::operations::{Operation, Operations};
 use crate::room::Room;
 use crate::tables::Tables;
-use crate::tokens::Tokens;
 use crate::victims::{has_slot, pruned_for};
 use byteorder::{BigEndian, ByteOrder};
+use call_answers::{AdmittedBegin, BeginKey, owner_of, user_of};
 use cipher_ops::CipherState;
-use journal_records::KeyRecord;
-use key_domains::Access;
-use key_rules::read_asked;
-use keymint_ops::{Begin, BeginFault, OpenedKey, open_key, plan_begin};
+use keymint_ops::BeginFault;
 use ks_outside::Entropy;
+use live_tables::{Begins, Boot, Operation, Operations, Tokens};
 use rule_model::{Caller, Conditions, Fields, NO_FIELDS, Pieces, Reply};
 use std::alloc::Global;
 use tag_lists::AuthList;
-use tags::{Bytes, Code, Descriptor, DeviceSecrets, Material, NoMemory, Policy, Tag, USER_UIDS};
-use use_rules::{BeginFacts, challenge_wanted};
-
-/// The key of a begin.
-struct BeginKey {
-    /// whether there is one
-    found: bool,
-    /// its number, where it is stored
-    id: Option<u64>,
-    /// what its blob gave to the operation's list
-    opened: OpenedKey,
-    /// whether all output comes at the finish
-    limited: bool,
-}
-
-/// What may begin: no rule denies it.
-#[derive(Drop)]
-struct Admitted {
-    /// the number of its key, where that is stored
-    id: Option<u64>,
-    /// whether all output comes at the finish
-    limited: bool,
-    /// what is planned, with the nonce that the caller gave
-    begin: Begin,
-    /// how many bytes of challenge are drawn
-    challenge: usize,
-    /// the list and the material of its key
-    list: AuthList,
-    material: Material,
-}
-
-/// The blob of the stored key, or the one that is handed in; no bytes, which open nowhere, where there is none.
-fn blob_for<'a>(access: &Access, stored: Option<&'a KeyRecord>, key: &'a Descriptor) -> &'a [u8]
-    ensures { result.now ≡ model.blob_for access.now (option_copied stored.entry) key.now }
-{
-    match (access, &key.blob, stored) {
-        (Access::Blob { bits: _ }, Some(blob), _) => blob.as_slice(),
-        (Access::Blob { bits: _ }, None, _) => &[],
-        (_, _, Some(stored)) => stored.blob.as_slice(),
-        (_, _, None) => &[],
-    }
-}
-
-/// Whether all output comes at the finish: a stored key is limited by its record, and a blob that is handed in by its list.
-fn limited_by(access: &Access, stored: Option<&KeyRecord>, list: &Option<AuthList>) -> bool
-    ensures { result ≡ model.limited_by access.now (option_copied stored.entry) list.now }
-{
-    match (access, list, stored) {
-        (Access::Blob { bits: _ }, Some(list), _) => list.stands(Tag::UsageCountLimit),
-        (Access::Blob { bits: _ }, None, _) => false,
-        (_, _, Some(stored)) => stored.limit != 0,
-        (_, _, None) => false,
-    }
-}
-
-/// Whether there is a key: a blob that is handed in always is one.
-fn is_found(access: &Access, stored: Option<&KeyRecord>) -> bool
-    ensures { result ≡ model.is_found access.now (option_copied stored.entry) }
-{
-    match access {
-        Access::Blob { bits: _ } => true,
-        _ => stored.is_some(),
-    }
-}
-
-/// The number of the stored key.
-fn id_of(stored: Option<&KeyRecord>) -> Option<u64>
-    ensures { result ≡ users.id_of (option_copied stored.entry) }
-{
-    match stored {
-        Some(stored) => Some(stored.id),
-        None => None,
-    }
-}
-
-/// The key of a begin, whose blob is opened for the operation's list.
-fn begin_key(
-    alloc: Global,
-    device: &DeviceSecrets,
-    access: &Access,
-    stored: Option<&KeyRecord>,
-    key: &Descriptor,
-    asked: &Result<AuthList, Code>,
-) -> Result<BeginKey, NoMemory>
-    ensures key { IfOk result (λ own. spec.IsBeginKey own (model.begin_key device.now access.now (option_copied stored.entry) key.now asked.now)) }
-    ensures usable { IfOk result (λ own. own.opened.fits ≡ true → IsKey (unwrap_or own.opened.list []) (length own.opened.material)) }
-{
-    let opened = open_key(alloc, device, blob_for(access, stored, key), asked)?;
-    let limited = limited_by(access, stored, &opened.list);
-    Ok(BeginKey {
-        found: is_found(access, stored),
-        id: id_of(stored),
-        opened,
-        limited,
-    })
-}
-
-/// The user of a caller.
-fn user_of(caller: Caller) -> u32
-    ensures { result ≡ users.user_of caller }
-{
-    owner_of(caller) / USER_UIDS
-}
+use tags::{Bytes, Descriptor, NoMemory};
 
 /// Whether one of the last tokens opens the key of a list at the reading `boot`.
 fn is_timely(tokens: &Tokens, opened: &Option<AuthList>, boot: u64) -> bool
@@ -182,51 +69,13 @@ fn conditions(boot: &Boot, caller: Caller, key: &BeginKey, room: bool) -> Condit
     }
 }
 
-/// What the rules of a begin read, by the list of its key, the caller's bits and the conditions.
-fn begin_facts(
-    policy: &Policy,
-    found: bool,
-    opened: Option<AuthList>,
-    fits: bool,
-    access: &Access,
-    caller: Caller,
-    key: Descriptor,
-    asked: Result<AuthList, Code>,
-    forced: bool,
-    conditions: Conditions,
-) -> BeginFacts
-    ensures { result ≡ model.facts_by policy.now found opened fits access.now caller key asked forced conditions }
-{
-    let row = row_for(policy, caller, key.nspace);
-    BeginFacts {
-        connected: caller.uid.is_some(),
-        descriptor: key,
-        row,
-        found,
-        bits: bits_in(access),
-        forced,
-        asked,
-        opened,
-        fits,
-        wall: caller.reading.wall,
-        user: user_of(caller),
-        early_ended: conditions.early_ended,
-        unlocked: conditions.unlocked,
-        timely: conditions.timely,
-        begins: conditions.begins,
-        room: conditions.room,
-    }
-}
-
-/// The list of the key that a begin is on; no parameters where its blob did not open.
-fn list_of(alloc: Global, facts: BeginFacts) -> AuthList
-    ensures { result ≡ key_of facts }
-{
-    facts.opened.unwrap_or(AuthList::empty(alloc))
-}
-
 /// What the rules read of a new operation, with the challenge that it has.
-fn new_operation(number: u64, client: u64, admitted: Admitted, challenge: Option<u64>) -> Operation
+fn new_operation(
+    number: u64,
+    client: u64,
+    admitted: AdmittedBegin,
+    challenge: Option<u64>,
+) -> Operation
     ensures { spec.IsNewRow result number client admitted challenge }
 {
     Operation {
@@ -292,7 +141,7 @@ fn make_ready(
     alloc: Global,
     operations: &mut Operations,
     begins: &mut Begins,
-    admitted: &Admitted,
+    admitted: &AdmittedBegin,
 ) -> Result<DrawnRooms, NoMemory>
     requires { admitted.now.begin.wanted + admitted.now.challenge < 2 ^ 62 }
     ensures nonce { IfOk result (λ rooms. room_in rooms.copy ≡ admitted.now.begin.wanted) }
@@ -309,17 +158,6 @@ fn make_ready(
     operations.reserve()?;
     reserve_begin(begins, admitted.id)?;
     DrawnRooms::of(alloc, pieces)
-}
-
-impl Admitted {
-    /// The state that the operation begins with, where these bytes were drawn for its nonce.
-    fn start(&self, alloc: Global, drawn: &[u8]) -> Result<CipherState, NoMemory>
-        requires { Fits self.now.begin.plan self.now.material (nonce_used self.now.begin.nonce drawn.now) }
-        ensures { IfOk result (λ state. spec.IsStart state self.now drawn.now) }
-    {
-        self.begin
-            .start(alloc, self.limited, self.material.as_slice(), drawn)
-    }
 }
 
 impl Tables {
@@ -375,7 +213,7 @@ impl Tables {
         params: &Bytes,
         forced: bool,
         room: bool,
-    ) -> Result<Admitted, BeginFault>
+    ) -> Result<AdmittedBegin, BeginFault>
         requires { IsCaller self.now caller }
         ensures gives { spec.Admits self.now caller key params.now forced room result }
         ensures room { IfOk result (λ admitted. room ≡ true) }
@@ -383,44 +221,18 @@ impl Tables {
             Fits admitted.begin.plan admitted.material (nonce_used admitted.begin.nonce drawn)) }
         ensures few { IfOk result (λ admitted. admitted.begin.wanted + admitted.challenge < 2 ^ 62) }
     {
-        let access = access_by(&self.policy, &self.keys, caller, &key);
-        let stored = key_in(&self.keys, &access);
-        let asked = read_asked(alloc, params.as_slice())?;
-        let own = begin_key(alloc, &self.device, &access, stored, &key, &asked)?;
-        let conditions = conditions(&self.boot, caller, &own, room);
-        let BeginKey {
-            found,
-            id,
-            opened,
-            limited,
-        } = own;
-        let OpenedKey {
-            list,
-            fits,
-            material,
-        } = opened;
-        let facts = begin_facts(
+        let table = self.keys.table();
+        let own = BeginKey::open(
+            alloc,
+            &self.device,
             &self.policy,
-            found,
-            list,
-            fits,
-            &access,
+            table,
             caller,
             key,
-            asked,
-            forced,
-            conditions,
-        );
-        let begin = plan_begin(alloc, &facts, material.as_slice())?;
-        let challenge = challenge_wanted(&facts);
-        Ok(Admitted {
-            id,
-            limited,
-            begin,
-            challenge,
-            list: list_of(alloc, facts),
-            material,
-        })
+            params,
+        )?;
+        let conditions = conditions(&self.boot, caller, &own, room);
+        own.admit(alloc, &self.policy, caller, forced, conditions)
     }
 
     /// A client begins an operation on a key that its descriptor finds.

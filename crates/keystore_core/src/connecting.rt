@@ -4,7 +4,7 @@ ghost use Rattle.std.specs.Prelude.{◌≡◌, ◌-◌, ◌^◌, None, Ok, IfOk}
 ghost use Rattle.rule_model.specs.declared.event.Act.TheVariants as acts;
 ghost use Rattle.keystore_core.specs.Drawn.{IsUndrawn};
 ghost use Rattle.keystore_core.specs.Leaving.{EndsClient};
-ghost use Rattle.keystore_core.specs.Operations.{has_busy_row};
+ghost use Rattle.live_tables.specs.Operations.{has_busy_row};
 ghost use Rattle.keystore_core.specs.Tables.{IsCaller, IsTables, ServesAfter, event_by};
 ghost use Rattle.keystore_core.specs.Writing.{LeavesStore};
 

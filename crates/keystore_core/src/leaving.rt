@@ -9,10 +9,9 @@ ghost use Rattle.keystore_core.specs.Tables.{IsAt, ServesAt, event_by};
 ghost use Rattle.keystore_core.specs.Writing.{LeavesStore};
 
 use crate::answered::Answered;
-use crate::operations::{Added, RowChange};
 use crate::tables::Tables;
-use crate::tickets::Out;
 use cipher_ops::{CipherState, Done};
+use live_tables::{Added, Out, RowChange};
 use rule_model::{Brought, Caller, Fields, NO_FIELDS, Reply};
 use std::alloc::Global;
 use step_rules::StepKind;

@@ -6,34 +6,22 @@
 //! at each moment of a step each image of the disk stands for what may last before the step or after it.
 #![tactic(auto)]
 
-mod access;
 mod answered;
 mod beginning;
-mod begins;
-mod boot;
 mod calls;
-mod clients;
 mod connecting;
 mod creating;
-mod descriptors;
-mod device;
-mod device_state;
 mod draw_room;
 mod draws;
 mod engine;
 mod leaving;
-mod listing;
-mod operations;
 mod output;
 mod restarting;
 mod room;
-mod rows;
 mod settling;
 mod stepping;
 mod tables;
-mod tickets;
 mod token_calls;
-mod tokens;
 mod victims;
 mod writing;
 

@@ -4,9 +4,9 @@ ghost use Rattle.std.specs.Prelude.{◌≡◌, ◌+◌, ◌≤◌, Some, nat_le}
 ghost use Rattle.keystore_core.specs.Outputs as spec;
 ghost use Rattle.keystore_core.specs.Outputs.{RowGives, StepGives};
 
-use crate::operations::Operation;
 use crate::tables::Tables;
 use cipher_ops::{most_of_finish, most_of_update};
+use live_tables::Operation;
 use rule_model::Act;
 use tags::OPERATION_BYTES;
 

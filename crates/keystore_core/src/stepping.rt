@@ -11,7 +11,7 @@ ghost use Rattle.rule_model.specs.Setup.{Setup};
 ghost use Rattle.rule_model.specs.StepFacts as model;
 ghost use Rattle.keystore_core.specs.Drawn.{IsUndrawn};
 ghost use Rattle.keystore_core.specs.Leaving.{ClosesOne};
-ghost use Rattle.keystore_core.specs.Operations.{HasRoomForOperation};
+ghost use Rattle.live_tables.specs.Operations.{HasRoomForOperation};
 ghost use Rattle.keystore_core.specs.Stepping as spec;
 ghost use Rattle.keystore_core.specs.Keys.{AreSettled, live_key};
 ghost use Rattle.key_database.specs.Stands.{is_unsettled};
@@ -19,17 +19,16 @@ ghost use Rattle.rule_model.specs.Replies.{no_fields};
 ghost use Rattle.rule_model.specs.Settling.{is_disk_fault};
 ghost use Rattle.keystore_core.specs.Tables.{IsCaller, IsTables, ServesAfter, TablesStand, event_by, row_at, state_at};
 ghost use Rattle.keystore_core.specs.Writing.{IsWrittenIf, LeavesStore, StoreGoes, StoreGoesAfter};
-ghost use Rattle.keystore_core.specs.Tickets.{HasRoomForTicket, tickets_given};
+ghost use Rattle.live_tables.specs.Tickets.{HasRoomForTicket, tickets_given};
 
 use crate::answered::Answered;
-use crate::operations::{Operation, RowChange};
 use crate::tables::Tables;
-use crate::tickets::Out;
 use crate::writing::write_change;
 use cipher_ops::{Job, JobRoom, Work};
 use journal_records::Change;
 use key_database::KeyDatabase;
 use ks_outside::Disk;
+use live_tables::{Operation, Out, RowChange};
 use operation_slots::Taken;
 use rule_model::{Brought, Caller, Fields, NO_FIELDS, Reply};
 use std::alloc::Global;
@@ -109,7 +108,7 @@ impl Tables {
         ensures { result ≡ model.has_ended (live_key self.now) key }
     {
         match key {
-            Some(key) => !self.keys.is_live(key),
+            Some(key) => !self.keys.table().is_live(key),
             None => false,
         }
     }

@@ -1,9 +1,9 @@
 //! What the engine knows, and how an event is answered from it.
 
-ghost use Rattle.std.specs.Prelude.{◌≡◌, ◌+◌, ◌^◌, ◌≤◌, true, false, IfOk, IfSome, IsTrue, OnErr};
+ghost use Rattle.std.specs.Prelude.{◌≡◌, ◌+◌, ◌^◌, ◌≤◌, true, false, None, IfOk, IfSome, IsTrue, OnErr};
 ghost use Rattle.cipher_ops.specs.Jobs.{ticket_of};
-ghost use Rattle.keystore_core.specs.Tickets.{tickets_given};
-ghost use Rattle.rule_model.specs.Acts.{fixed_for, is_restart};
+ghost use Rattle.live_tables.specs.Tickets.{tickets_given};
+ghost use Rattle.rule_model.specs.Acts.{fixed_for, is_leave, is_restart};
 ghost use Rattle.rule_model.specs.Setup.{Setup};
 ghost use Rattle.keystore_core.specs.Drawn.{DrewFor, DrewForResult};
 ghost use Rattle.keystore_core.specs.Tables.{AnswersAt, IsAt, IsCaller, ServesAt, TablesStand, event_by};
@@ -17,15 +17,12 @@ ghost use Rattle.keystore_core.specs.Writing.{StoreAnswers, StoreGoesAfter};
 ghost use Rattle.tags.specs.declared.limits.TheConstants.{MOST_SLOTS};
 
 use crate::answered::Answered;
-use crate::boot::Boot;
-use crate::clients::Clients;
-use crate::creating::Import;
-use crate::operations::Operations;
-use crate::tickets::Tickets;
 use auth_tokens::AuthToken;
+use call_answers::{AskedKey, Import};
 use cipher_ops::{CipherState, Done, Work};
 use key_database::KeyDatabase;
 use ks_outside::{Disk, Entropy};
+use live_tables::{Boot, Clients, Operations, Tickets};
 use operation_slots::Slots;
 use rule_model::{Act, Caller, Event, Reading};
 use std::alloc::Global;
@@ -90,7 +87,7 @@ impl Tables {
         }
     }
 
-    /// Serves an act by the rules; a leave takes what its job came back with.
+    /// Serves an act other than a leave by the rules.
     fn serve<D: Disk, N: Entropy>(
         &mut self,
         alloc: Global,
@@ -99,13 +96,13 @@ impl Tables {
         caller: Caller,
         step: u64,
         act: Act,
-        done: &mut Option<Done>,
     ) -> Result<Answered, NoMemory>
-        requires at { ∥ IsAt self.old step act done.old ∥₁ }
+        requires at { ∥ IsAt self.old step act None ∥₁ }
+        requires comes { is_leave act ≡ false }
         requires few { step ≤ 2 ^ 63 }
         requires caller { IsCaller self.old caller }
         requires settled { (fixed_for act).settles ≡ true → AreSettled self.old }
-        ensures serves { ServesAt step done.old self.old self.new (event_by caller act) result }
+        ensures serves { ServesAt step None self.old self.new (event_by caller act) result }
         ensures number { IfOk result (λ answered. IfSome answered.job (λ job. ticket_of job ≡ tickets_given self.old.tickets + 1)) }
         ensures memory { OnErr result (IsTrue (fixed_for act).takes_memory) }
         ensures drew { DrewForResult N.Entropy entropy.old entropy.new result }
@@ -118,7 +115,12 @@ impl Tables {
             Act::Connect { uid } => self.connect(alloc, caller, uid),
             Act::Disconnect => Ok(self.disconnect(alloc, caller)),
             Act::GenerateKey { key, params } => {
-                self.make_key(alloc, disk, entropy, caller, key, params, None)
+                let asked = AskedKey {
+                    key,
+                    params,
+                    import: None,
+                };
+                self.make_key(alloc, disk, entropy, caller, asked)
             }
             Act::ImportKey {
                 key,
@@ -126,8 +128,12 @@ impl Tables {
                 format,
                 material,
             } => {
-                let import = Some(Import { format, material });
-                self.make_key(alloc, disk, entropy, caller, key, params, import)
+                let asked = AskedKey {
+                    key,
+                    params,
+                    import: Some(Import { format, material }),
+                };
+                self.make_key(alloc, disk, entropy, caller, asked)
             }
             Act::CreateOperation {
                 key,
@@ -185,7 +191,7 @@ impl Tables {
             Act::DeviceLocked { user } => Ok(self.device_locked(alloc, caller, user)),
             Act::DeviceUnlocked { user } => Ok(self.device_unlocked(alloc, caller, user)),
             Act::EarlyBootEnded => Ok(self.early_boot_ended(alloc, caller)),
-            Act::Leave { ticket } => Ok(self.leave(alloc, caller, step, ticket, done.take())),
+            Act::Leave { .. } => unreachable!(),
             Act::Restart { root } => self.restart(alloc, disk, caller, root),
         }
     }
@@ -217,8 +223,12 @@ impl Tables {
             act,
         } = event;
         let caller = self.caller(reading, client);
-        let mut done = done;
-        match self.serve(alloc, disk, entropy, caller, step, act, &mut done) {
+        if let Some(ticket) = act.ticket() {
+            drop(act);
+            return self.leave(alloc, caller, step, ticket, done);
+        }
+        drop(done);
+        match self.serve(alloc, disk, entropy, caller, step, act) {
             Ok(answered) => answered,
             Err(NoMemory) => Answered::without_memory(Bytes::empty(alloc)),
         }

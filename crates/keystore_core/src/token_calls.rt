@@ -6,14 +6,14 @@ ghost use Rattle.rule_model.specs.Boot.{other_triples};
 ghost use Rattle.keystore_core.specs.Drawn.{IsUndrawn};
 ghost use Rattle.keystore_core.specs.Tables.{IsCaller, ServesAfter, event_by};
 ghost use Rattle.keystore_core.specs.TokenCalls as spec;
-ghost use Rattle.keystore_core.specs.Tokens.{tokens_in};
+ghost use Rattle.live_tables.specs.Tokens.{tokens_in};
 ghost use Rattle.keystore_core.specs.Writing.{LeavesStore};
 ghost use Rattle.tags.specs.declared.limits.TheConstants.{MOST_TRIPLES};
 
 use crate::answered::Answered;
-use crate::calls::system_facts;
 use crate::tables::Tables;
 use auth_tokens::AuthToken;
+use call_answers::system_facts;
 use call_rules::{check_system_call, check_token, check_user_call};
 use rule_model::{Caller, NO_FIELDS, Reply};
 use std::alloc::Global;

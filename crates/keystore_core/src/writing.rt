@@ -1,7 +1,7 @@
 //! A change of what lasts, on the disk and in the tables.
 
 ghost use Rattle.std.specs.Prelude.{◌≡◌, Some, false};
-ghost use Rattle.key_database.specs.TableView.{CanMake};
+ghost use Rattle.lasting_table.specs.TableView.{CanMake};
 ghost use Rattle.key_database.specs.Stands.{is_unsettled, table_of};
 ghost use Rattle.keystore_core.specs.Writing.{IsWritten, StoreGoes};
 

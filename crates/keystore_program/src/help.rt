@@ -5,9 +5,10 @@ use std::alloc::{AllocError, Global};
 
 const FORMS: &str = "Forms:
   keystore2 init
-  keystore2 run [--fresh] [--slots N]  N from 1 to 64, and 16 where it is not said
+  keystore2 run [--fresh] [--slots N] [--trace]
+                                       N from 1 to 64, and 16 where it is not said
   keystore2 soak SEED N                SEED from 0 to 18446744073709551615, N from 1 to 100000
-  keystore2 serve PORT CONNECTIONS WORKERS
+  keystore2 serve PORT CONNECTIONS WORKERS [--trace]
                                        PORT from 0 to 65535, CONNECTIONS from 1 to 65536, WORKERS from 1 to 64
   keystore2 --help
   keystore2 --version
@@ -19,6 +20,7 @@ Examples:
   keystore2 init
   keystore2 run --slots 4 < examples/hmac.jsonl
   keystore2 run --fresh < examples/hmac.jsonl
+  keystore2 run --fresh --trace < examples/hmac.jsonl
   keystore2 soak 7 1000";
 
 /// The version, with the logic of the toolchain that proves these sources (`rt version`).
@@ -28,13 +30,13 @@ const VERSION: &str = "0.1.0 (logic dac8208d650f15bf)";
 fn command(alloc: Global) -> Result<Command<'static>, AllocError> {
     let init = Command::new(alloc, "init").about("Makes an empty store; what it held is lost");
     let run = Command::new(alloc, "run").about(
-        "Serves a script over the store, which --fresh makes anew, with N slots for operations",
+        "Serves a script over the store, which --fresh makes anew, with N slots for operations; --trace writes its history, keys in the clear",
     );
     let soak = Command::new(alloc, "soak").about(
         "Serves the load of a seed over a store in memory, and prints its summary",
     );
     let serve = Command::new(alloc, "serve").about(
-        "Serves so many connections to a port of this machine over the store, by so many workers",
+        "Serves so many connections to a port of this machine over the store, by so many workers; --trace writes its history at the end, keys in the clear",
     );
     Command::new(alloc, "keystore2")
         .version(VERSION)

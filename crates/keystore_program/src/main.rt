@@ -24,13 +24,15 @@ use crate::notices::{
     DEVICE, POLICY, STORE, tell_counts, tell_device, tell_file, tell_misuse, tell_port, tell_store,
 };
 use crate::streams::hold_streams;
-use crate::tally::Tally;
+use crate::tally::ReplyTally;
+use book_traces::{BookFault, write_book};
 use device_files::{FileTrouble, read_device, read_policy};
 use file_disk::open_store;
 use keystore_run::{Status, run_words};
-use keystore_server::{ServeStatus, serve_port, serve_words};
+use keystore_server::{ServeForm, ServeStatus, serve_form_of, serve_words};
 use ks_outside::{MachineClock, OpenGate, ReaderSource, WriterSink, open_device};
 use outside_net::{Patience, listen};
+use service_book::Book;
 use std::process::ExitCode;
 use std::sync::Wait;
 use std::thread::Threads;
@@ -146,7 +148,7 @@ fn printed(rt: &HostRuntime, text: &str) -> ExitCode {
 /// Runs the words over standard input and output, and the store of the current folder.
 fn run_process(rt: &HostRuntime, words: &[String], device: &Device) -> Status {
     let mut source = ReaderSource::new(rt.reader());
-    let mut sink = Tally::new(WriterSink::new(io::writer(rt)));
+    let mut sink = ReplyTally::new(WriterSink::new(io::writer(rt)));
     let mut disk = open_store(rt, STORE);
     let mut entropy = open_device(rt);
     if asks_to_init(words) {
@@ -185,6 +187,22 @@ fn status_of(status: ServeStatus) -> Status
     }
 }
 
+/// Writes the book of a service that ended well as a trace, and tells how that ended.
+fn trace_of(rt: &HostRuntime, words: &[String], book: &Option<Book>) -> Status {
+    let mut sink = WriterSink::new(io::writer(rt));
+    let written = match book {
+        Some(book) => write_book(rt.alloc(), book, &mut sink),
+        None => Ok(()),
+    };
+    let status = match written {
+        Ok(()) => Status::Ok,
+        Err(BookFault::Memory) => Status::Memory,
+        Err(BookFault::Write) => Status::WriteFault,
+    };
+    tell_status(rt, status, words);
+    status
+}
+
 /// Serves connections to a port of this machine over the store of the current folder, in threads of this handle. It listens before the
 /// store is opened.
 fn serve_process<R: Threads + Wait + Sync>(
@@ -193,7 +211,7 @@ fn serve_process<R: Threads + Wait + Sync>(
     words: &[String],
     device: &Device,
 ) -> Status {
-    let Some(port) = serve_port(words) else {
+    let Some(ServeForm { port, traced, .. }) = serve_form_of(words) else {
         tell_status(rt, Status::Usage, words);
         return Status::Usage;
     };
@@ -225,7 +243,11 @@ fn serve_process<R: Threads + Wait + Sync>(
     if status == Status::ListenFault {
         tell_port(rt, port, end.listener.listener());
     }
-    status
+    if traced && status == Status::Ok {
+        trace_of(rt, words, &end.book)
+    } else {
+        status
+    }
 }
 
 /// Ends before anything was served, as for words that are no form: a file that is there does not read so.

@@ -20,11 +20,11 @@ const NEAR: usize = 2;
 
 const INIT: &str = "init";
 
-const RUN: &str = "run [--fresh] [--slots N]";
+const RUN: &str = "run [--fresh] [--slots N] [--trace]";
 
 const SOAK: &str = "soak SEED N";
 
-const SERVE: &str = "serve PORT CONNECTIONS WORKERS";
+const SERVE: &str = "serve PORT CONNECTIONS WORKERS [--trace]";
 
 static SLOTS: [Number; 1] = [Number {
     name: "N",
@@ -130,7 +130,7 @@ fn nearest<W: fmt::Write>(f: &mut Formatter<W>, near: Option<&'static str>) -> f
 /// The words that forms begin with.
 pub static FORMS: [&str; 4] = ["init", "run", "soak", "serve"];
 
-static OPTIONS: [&str; 2] = ["--fresh", "--slots"];
+static OPTIONS: [&str; 3] = ["--fresh", "--slots", "--trace"];
 
 /// The first of these words that few edits make of a word.
 fn near(
@@ -174,6 +174,40 @@ fn misuse_of_numbers<'a>(
     })
 }
 
+/// What is wrong first in the last words of a form, where `--trace` may stand.
+fn misuse_of_trace<'a>(
+    alloc: Global,
+    form: &'static str,
+    words: &'a [String],
+) -> Result<Option<Misuse<'a>>, AllocError> {
+    let words = match words {
+        [first, rest @ ..] if first.as_str() == "--trace" => rest,
+        _ => words,
+    };
+    let [first, ..] = words else {
+        return Ok(None);
+    };
+    Ok(Some(Misuse::Extra {
+        word: first.as_str(),
+        form,
+        near: near(alloc, first.as_str(), &OPTIONS)?,
+    }))
+}
+
+/// What is wrong first in words that are to be these numbers, behind which `--trace` may stand.
+fn misuse_of_numbers_and_trace<'a>(
+    alloc: Global,
+    form: &'static str,
+    words: &'a [String],
+    numbers: &[Number],
+) -> Result<Option<Misuse<'a>>, AllocError> {
+    let (words, rest) = words.split_at(words.len().min(numbers.len()));
+    match misuse_of_numbers(form, words, numbers) {
+        Some(misuse) => Ok(Some(misuse)),
+        None => misuse_of_trace(alloc, form, rest),
+    }
+}
+
 /// What is wrong first in the words behind `run`.
 fn misuse_of_run(alloc: Global, words: &[String]) -> Result<Option<Misuse<'_>>, AllocError> {
     let words = match words {
@@ -182,14 +216,9 @@ fn misuse_of_run(alloc: Global, words: &[String]) -> Result<Option<Misuse<'_>>, 
     };
     match words {
         [first, rest @ ..] if first.as_str() == "--slots" => {
-            Ok(misuse_of_numbers(RUN, rest, &SLOTS))
+            misuse_of_numbers_and_trace(alloc, RUN, rest, &SLOTS)
         }
-        [first, ..] => Ok(Some(Misuse::Extra {
-            word: first.as_str(),
-            form: RUN,
-            near: near(alloc, first.as_str(), &OPTIONS)?,
-        })),
-        _ => Ok(None),
+        _ => misuse_of_trace(alloc, RUN, words),
     }
 }
 
@@ -206,7 +235,7 @@ pub fn misuse_of(alloc: Global, words: &[String]) -> Result<Option<Misuse<'_>>, 
     } else if first == "soak" {
         Ok(misuse_of_numbers(SOAK, rest, &LOAD))
     } else if first == "serve" {
-        Ok(misuse_of_numbers(SERVE, rest, &SERVICE))
+        misuse_of_numbers_and_trace(alloc, SERVE, rest, &SERVICE)
     } else {
         Ok(Some(Misuse::NoForm {
             word: first,

@@ -154,15 +154,15 @@ impl Lines {
 
 /// A sink that hands on what it takes, and counts what the reply lines in it tell.
 #[derive(Drop)]
-pub struct Tally<K> {
+pub struct ReplyTally<K> {
     sink: K,
     lines: Lines,
 }
 
-impl<K> Tally<K> {
+impl<K> ReplyTally<K> {
     /// Takes the sink; nothing was told so far.
-    pub fn new(sink: K) -> Tally<K> {
-        Tally {
+    pub fn new(sink: K) -> ReplyTally<K> {
+        ReplyTally {
             sink,
             lines: Lines::behind(ReplyCounts::NONE),
         }
@@ -174,7 +174,7 @@ impl<K> Tally<K> {
     }
 }
 
-impl<K: Sink> Sink for Tally<K> {
+impl<K: Sink> Sink for ReplyTally<K> {
     ghost content = { λ t. K.content t.sink };
 
     ghost fault_count = { λ t. K.fault_count t.sink };

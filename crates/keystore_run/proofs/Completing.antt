@@ -26,6 +26,7 @@ use Rattle.rule_model.specs.Setup.{Setup}
 use Rattle.keystore_core.specs.Complete.{HasNoFault}
 use Rattle.keystore_core.specs.Opening.{IsSetup}
 use Rattle.keystore_core.proofs.Completing.{none_rose}
+use Rattle.keystore_run.specs.declared.written.Written.{Written}
 use Rattle.keystore_run.specs.declared.status.Status.{Status}
 use Rattle.keystore_run.specs.declared.status.Status.TheVariants as statuses
 use Rattle.keystore_run.specs.declared.words.Form.TheVariants.{Run}
@@ -34,7 +35,8 @@ use Rattle.keystore_run.specs.Drawn.{DrewAll}
 use Rattle.keystore_run.specs.Ends.{Ends, EndsOk}
 use Rattle.keystore_run.specs.Follows.{Follows}
 use Rattle.keystore_run.specs.KeptStores.{Keeps, failed_of}
-use Rattle.keystore_run.specs.Lines.{AreLines, IsFree, begun_with, ended, lines_of}
+use Rattle.line_members.specs.LineFeeds.{IsFree, begun_with, ended, lines_of}
+use Rattle.keystore_run.specs.Lines.{AreLines}
 use Rattle.keystore_run.specs.Runs.{Does, Formatted, Given, IsRefused, Opened, Refused, Runs, RunsFresh, Unformatted, given}
 use Rattle.keystore_run.proofs.LineLemmas.{lines_of-ended}
 use Rattle.tags.specs.declared.limits.TheConstants.{LINE_BYTES, SCRIPT_BYTES}
@@ -137,7 +139,7 @@ module _ {S K D N : Type 0} (s : SourceGhosts S) (k : SinkGhosts K) (d : DiskGho
 
   module _ (g : Given) (fresh : Bool) (start : Lasting) (bytes : List ℕ) (old new : Outside S K D N) (told : s.content old.source ≡ Some bytes) (few : length bytes < SCRIPT_BYTES) (short : AreLines (lines_of bytes)) (fine : AreFaultless s k d n old new) where
     -- the whole source was served
-    whole : (setup : Setup) (begin : D) → tells d begin ≡ true → HasNoFault (d.fault_count begin) (d.fault_count new.disk) → EndsOk s k d n setup (record old { disk = begin }) new → GivesAll s k d n setup bytes old new
+    whole : (setup : Setup) (begin : D) → tells d begin ≡ true → HasNoFault (d.fault_count begin) (d.fault_count new.disk) → EndsOk s k d n g.written setup (record old { disk = begin }) new → GivesAll s k d n g.written setup bytes old new
     whole setup begin tells_begin disk ends =
         let lines : ends.lines ≡ lines_of bytes = ends.all ∙ ap lines_of (sym (all_known (s.content old.source) bytes ends.taken told ends.known)) in
         record {
@@ -154,7 +156,7 @@ module _ {S K D N : Type 0} (s : SourceGhosts S) (k : SinkGhosts K) (d : DiskGho
 
     -- a run whose store was opened, by its status
     opened_completes : (setup : Setup) (begin : D) (status : Status) → IsSetup setup g.device g.policy g.slots → IsOpenedOn d fresh setup old.disk → setup.start ≡ start → tells d begin ≡ true → d.fault_count begin ≡ d.fault_count old.disk
-        → Ends s k d n setup (record old { disk = begin }) new status → Completes s k d n g fresh start bytes old new status
+        → Ends s k d n g.written setup (record old { disk = begin }) new status → Completes s k d n g fresh start bytes old new status
     opened_completes setup begin statuses.Ok is opens starts tells_begin same ends = Whole setup is opens starts (whole setup begin tells_begin (no_fault_since same fine.disk) ends) refl
     opened_completes setup begin statuses.Memory is opens starts tells_begin same ends = Wanting refl
     opened_completes setup begin statuses.ReadFault is opens starts tells_begin same ends = absurd (none_rose _ _ fine.source (ends.amid.took.faults.rises refl))
@@ -200,9 +202,9 @@ module _ {S K D N : Type 0} (s : SourceGhosts S) (k : SinkGhosts K) (d : DiskGho
     fresh_completes status nothing tells_disk (Unformatted untouched torn) = absurd (none_rose _ _ fine.disk torn.rises)
 
   -- what a form of a run does is complete
-  pub does_complete : (device : DeviceSecrets) (policy : List PolicyRow) (fresh : Bool) (slots : ℕ) (start : Lasting) (bytes : List ℕ) (old new : Outside S K D N) (status : Status)
-      → Does s k d n device policy (Run fresh slots) old new status → IsReady s k d n fresh start bytes old → AreFaultless s k d n old new → Completes s k d n (given device policy slots) fresh start bytes old new status
-  does_complete device policy false slots start bytes old new status does ready fine =
-      stored_completes (given device policy slots) start bytes old new ready.told ready.few ready.short fine status ready.store ready.tells_disk does
-  does_complete device policy true slots start bytes old new status does ready fine =
-      fresh_completes (given device policy slots) start bytes old new ready.told ready.few ready.short fine status ready.store ready.tells_disk does
+  pub does_complete : (device : DeviceSecrets) (policy : List PolicyRow) (fresh : Bool) (slots : ℕ) (written : Written) (start : Lasting) (bytes : List ℕ) (old new : Outside S K D N) (status : Status)
+      → Does s k d n device policy (Run fresh slots written) old new status → IsReady s k d n fresh start bytes old → AreFaultless s k d n old new → Completes s k d n (given device policy slots written) fresh start bytes old new status
+  does_complete device policy false slots written start bytes old new status does ready fine =
+      stored_completes (given device policy slots written) start bytes old new ready.told ready.few ready.short fine status ready.store ready.tells_disk does
+  does_complete device policy true slots written start bytes old new status does ready fine =
+      fresh_completes (given device policy slots written) start bytes old new ready.told ready.few ready.short fine status ready.store ready.tells_disk does

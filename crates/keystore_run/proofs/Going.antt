@@ -16,16 +16,21 @@ use Rattle.keystore_core.specs.Opening.{IsUnwritten}
 use Rattle.keystore_run.specs.declared.session.Session.{Session}
 use Rattle.keystore_run.specs.declared.serve.Halt.{Halt}
 use Rattle.keystore_run.specs.declared.serve.Halt.TheVariants as halts
+use Rattle.keystore_run.specs.declared.written.Written.{Written}
+use Rattle.keystore_run.specs.declared.written.Written.TheVariants.{Replies, Trace}
 use Rattle.keystore_run.specs.declared.status.Status.{Status}
 use Rattle.keystore_run.specs.Drawn.{DrewAll}
 use Rattle.keystore_run.specs.Ends.{AreTaken, EndsAmid, Ends, EndsCut, EndsOk}
 use Rattle.keystore_run.specs.Follows.{Follows}
 use Rattle.keystore_run.specs.Halts.{status_of}
-use Rattle.keystore_run.specs.Lines.{AreLines, IsFree, ended, lines_of}
+use Rattle.line_members.specs.LineFeeds.{IsFree, ended, lines_of}
+use Rattle.keystore_run.specs.Lines.{AreLines}
 use Rattle.keystore_run.specs.Serving.{IsServed, IsServedInPart, IsUnserved, ServesLine}
 use Rattle.keystore_run.specs.KeptStores.{Keeps}
 use Rattle.keystore_run.specs.Session.{GoesOn, StandsFor, devices}
+use Rattle.keystore_run.specs.Written.{Adds, written_of}
 use Rattle.keystore_run.specs.Window.{HasNoFeedBelow, IsFirstFeed}
+use Rattle.keystore_run.proofs.Adding.{adds_nothing, written_on}
 use Rattle.keystore_run.proofs.DrawLemmas.{drew_none, drew_nothing, drew_on}
 use Rattle.keystore_run.proofs.KeepLemmas.{KeptSince, keeps_all, since_none, since_on}
 use Rattle.keystore_run.proofs.LineLemmas.{are_more, ended-more, follows_more, free_take, free_whole, lines_of-ended, lines_of-last, split_feed}
@@ -58,8 +63,8 @@ empty (x ∷ xs) e = absurd (omega arith)
 
 module _ {S K D N : Type 0} (s : SourceGhosts S) (k : SinkGhosts K) (d : DiskGhosts D) (n : EntropyGhosts N)
     (only_now : (disk : D) (c : List ℕ) → d.images_since disk (d.moment disk) c → d.images disk c) where
-  -- the lines so far were served and their text was written, and some bytes are held after them; a read failed, or none did
-  pub record Going (setup : Setup) (old now : Outside S K D N) (session : Session) (held : List ℕ) (taken served : ℕ) (failed : Bool) : Type 0 where
+  -- the lines so far were served and what is written of them was, and some bytes are held after them; a read failed, or none did
+  pub record Going (written : Written) (setup : Setup) (old now : Outside S K D N) (session : Session) (held : List ℕ) (taken served : ℕ) (failed : Bool) : Type 0 where
     pub lines : List (List ℕ)
     pub past : History
     pub text : List ℕ
@@ -67,14 +72,14 @@ module _ {S K D N : Type 0} (s : SourceGhosts S) (k : SinkGhosts K) (d : DiskGho
     pub follows : Follows [] lines past text
     pub drew : DrewAll n old.entropy now.entropy past
     pub since : KeptSince d setup old.disk now.disk past
-    pub put : Put k old.sink now.sink text false
+    pub put : Put k old.sink now.sink (written_of written past text) false
     pub took : Took s old.source now.source (ended lines ++ held) failed
     pub short : AreLines lines
     pub count : served ≡ length lines
     pub sum : taken ≡ length (ended lines ++ held)
 
   -- what the run leaves of the disk
-  kept : {setup : Setup} {old now : Outside S K D N} {session : Session} {held : List ℕ} {taken served : ℕ} {failed : Bool} (going : Going setup old now session held taken served failed) → Keeps d setup old.disk now.disk going.past
+  kept : {written : Written} {setup : Setup} {old now : Outside S K D N} {session : Session} {held : List ℕ} {taken served : ℕ} {failed : Bool} (going : Going written setup old now session held taken served failed) → Keeps d setup old.disk now.disk going.past
   kept {setup = setup} {old = old} {now = now} going = keeps_all d setup only_now old.disk now.disk going.past going.since (held_images d _ now.disk _ going.stands.store)
 
   -- and what it leaves after one line more
@@ -83,10 +88,21 @@ module _ {S K D N : Type 0} (s : SourceGhosts S) (k : SinkGhosts K) (d : DiskGho
   kept_more setup old now disk entropy past session line later text since goes =
       keeps_all d setup only_now old.disk disk later (since_on d setup old.disk now.disk disk past later goes.failed since goes.keeps) (held_images d _ disk _ goes.stands.store)
 
+  -- nothing is written of nothing
+  put_nothing : (written : Written) (sink : K) → Put k sink sink (written_of written [] []) false
+  put_nothing Replies sink = put_none k sink
+  put_nothing Trace sink = put_none k sink
+
+  -- what is written of one line more
+  puts : (written : Written) (past later : History) (old sink sink' : K) (text more added : List ℕ) → Put k old sink (written_of written past text) false → Adds written past later more added → Put k sink sink' added false
+      → Put k old sink' (written_of written later (text ++ more)) false
+  puts written past later old sink sink' text more added so_far adds put =
+      subst (λ (bytes : List ℕ). Put k old sink' bytes false) (sym (written_on written past later text more added adds)) (put_on k old sink sink' (written_of written past text) added false false so_far put)
+
   -- nothing was taken yet
-  pub begins : (setup : Setup) (begin : D) (now : Outside S K D N) (session : Session) (held : List ℕ) (taken : ℕ) → StandsFor d setup session now.disk [] → IsUnwritten d begin now.disk → held ≡ [] → taken ≡ 0
-      → Going setup (record now { disk = begin }) now session held taken 0 false
-  begins setup begin now session held taken for unwritten nothing none = record {
+  pub begins : (written : Written) (setup : Setup) (begin : D) (now : Outside S K D N) (session : Session) (held : List ℕ) (taken : ℕ) → StandsFor d setup session now.disk [] → IsUnwritten d begin now.disk → held ≡ [] → taken ≡ 0
+      → Going written setup (record now { disk = begin }) now session held taken 0 false
+  begins written setup begin now session held taken for unwritten nothing none = record {
     lines = [];
     past = [];
     text = [];
@@ -94,7 +110,7 @@ module _ {S K D N : Type 0} (s : SourceGhosts S) (k : SinkGhosts K) (d : DiskGho
     follows = (refl, refl);
     drew = drew_none n now.entropy;
     since = since_none d setup begin now.disk unwritten;
-    put = put_none k now.sink;
+    put = put_nothing written now.sink;
     took = rw nothing (took_none s now.source);
     short = tt;
     count = refl;
@@ -102,10 +118,10 @@ module _ {S K D N : Type 0} (s : SourceGhosts S) (k : SinkGhosts K) (d : DiskGho
   }
 
   -- more bytes are held
-  pub fills : (setup : Setup) (old now : Outside S K D N) (source : S) (session : Session) (held held' piece : List ℕ) (taken taken' served : ℕ) (failed : Bool)
-      → Going setup old now session held taken served false → held' ≡ held ++ piece → taken' ≡ taken + length piece → Took s now.source source piece failed
-      → Going setup old (record now { source = source }) session held' taken' served failed
-  fills setup old now source session held held' piece taken taken' served failed going e f took =
+  pub fills : (written : Written) (setup : Setup) (old now : Outside S K D N) (source : S) (session : Session) (held held' piece : List ℕ) (taken taken' served : ℕ) (failed : Bool)
+      → Going written setup old now session held taken served false → held' ≡ held ++ piece → taken' ≡ taken + length piece → Took s now.source source piece failed
+      → Going written setup old (record now { source = source }) session held' taken' served failed
+  fills written setup old now source session held held' piece taken taken' served failed going e f took =
       let more : ended going.lines ++ held' ≡ (ended going.lines ++ held) ++ piece = ap (λ l. ended going.lines ++ l) e ∙ sym (append_assoc (ended going.lines) held piece) in
       let grown : length ((ended going.lines ++ held) ++ piece) ≡ length (ended going.lines ++ held) + length piece = length-append (ended going.lines ++ held) piece in
       record {
@@ -124,11 +140,11 @@ module _ {S K D N : Type 0} (s : SourceGhosts S) (k : SinkGhosts K) (d : DiskGho
       }
 
   -- a line is served and passed on
-  pub passes : (setup : Setup) (old now : Outside S K D N) (sink : K) (disk : D) (entropy : N) (session session' : Session) (held : List ℕ) (taken served count : ℕ)
-      → (going : Going setup old now session held taken served false) → IsFirstFeed held count → count ≤ LINE_BYTES
-      → IsServed k d n setup going.past session' (take count held) now.sink sink (devices now.disk now.entropy) (devices disk entropy)
-      → Going setup old (record now { sink = sink; disk = disk; entropy = entropy }) session' (drop (count + 1) held) taken (served + 1) false
-  passes setup old now sink disk entropy session session' held taken served count going feed short done =
+  pub passes : (written : Written) (setup : Setup) (old now : Outside S K D N) (sink : K) (disk : D) (entropy : N) (session session' : Session) (held : List ℕ) (taken served count : ℕ)
+      → (going : Going written setup old now session held taken served false) → IsFirstFeed held count → count ≤ LINE_BYTES
+      → IsServed k d n written setup going.past session' (take count held) now.sink sink (devices now.disk now.entropy) (devices disk entropy)
+      → Going written setup old (record now { sink = sink; disk = disk; entropy = entropy }) session' (drop (count + 1) held) taken (served + 1) false
+  passes written setup old now sink disk entropy session session' held taken served count going feed short done =
       let line : List ℕ = take count held in
       let same = at_feed going.lines held count feed in
       let long : length line ≡ count = length-take-le count held (omega (arith, feed.within)) in
@@ -141,7 +157,7 @@ module _ {S K D N : Type 0} (s : SourceGhosts S) (k : SinkGhosts K) (d : DiskGho
         follows = follows_more [] going.lines line going.past done.later going.text done.text going.follows done.goes_on.says;
         drew = drew_on n old.entropy now.entropy entropy going.past done.later going.drew done.goes_on.drew;
         since = since_on d setup old.disk now.disk disk going.past done.later done.goes_on.failed going.since done.goes_on.keeps;
-        put = put_on k old.sink now.sink sink going.text done.text false false going.put done.put;
+        put = puts written going.past done.later old.sink now.sink sink going.text done.text done.added going.put done.adds done.put;
         took = rw same going.took;
         short = are_more going.lines line going.short free (omega (arith, long));
         count = omega (arith, going.count, length-append going.lines (line ∷ []));
@@ -149,9 +165,9 @@ module _ {S K D N : Type 0} (s : SourceGhosts S) (k : SinkGhosts K) (d : DiskGho
       }
 
   -- the source ends after an LF, or is empty
-  pub ends_empty : (setup : Setup) (old now : Outside S K D N) (session : Session) (held : List ℕ) (taken served : ℕ)
-      → Going setup old now session held taken served false → IsAtEnd (s.content now.source) → taken < SCRIPT_BYTES → length held ≡ 0 → EndsOk s k d n setup old now
-  ends_empty setup old now session held taken served going end few none =
+  pub ends_empty : (written : Written) (setup : Setup) (old now : Outside S K D N) (session : Session) (held : List ℕ) (taken served : ℕ)
+      → Going written setup old now session held taken served false → IsAtEnd (s.content now.source) → taken < SCRIPT_BYTES → length held ≡ 0 → EndsOk s k d n written setup old now
+  ends_empty written setup old now session held taken served going end few none =
       let nothing : held ≡ [] = empty held none in
       let split : lines_of (ended going.lines ++ held) ≡ going.lines = ap (λ l. lines_of (ended going.lines ++ l)) nothing ∙ lines_of-ended going.lines [] going.short ∙ append-nil going.lines in
       record {
@@ -169,10 +185,10 @@ module _ {S K D N : Type 0} (s : SourceGhosts S) (k : SinkGhosts K) (d : DiskGho
       }
 
   -- the source ends in a line without LF, which is served
-  pub ends_last : (setup : Setup) (old now : Outside S K D N) (sink : K) (disk : D) (entropy : N) (session session' : Session) (held : List ℕ) (taken served : ℕ)
-      → (going : Going setup old now session held taken served false) → HasNoFeedBelow held (length held) → length held ≤ LINE_BYTES → IsAtEnd (s.content now.source) → taken < SCRIPT_BYTES → 0 < length held
-      → IsServed k d n setup going.past session' held now.sink sink (devices now.disk now.entropy) (devices disk entropy) → EndsOk s k d n setup old (record now { sink = sink; disk = disk; entropy = entropy })
-  ends_last setup old now sink disk entropy session session' held taken served going feeds short end few some done =
+  pub ends_last : (written : Written) (setup : Setup) (old now : Outside S K D N) (sink : K) (disk : D) (entropy : N) (session session' : Session) (held : List ℕ) (taken served : ℕ)
+      → (going : Going written setup old now session held taken served false) → HasNoFeedBelow held (length held) → length held ≤ LINE_BYTES → IsAtEnd (s.content now.source) → taken < SCRIPT_BYTES → 0 < length held
+      → IsServed k d n written setup going.past session' held now.sink sink (devices now.disk now.entropy) (devices disk entropy) → EndsOk s k d n written setup old (record now { sink = sink; disk = disk; entropy = entropy })
+  ends_last written setup old now sink disk entropy session session' held taken served going feeds short end few some done =
       let free : IsFree held = free_whole held feeds in
       let split : lines_of (ended going.lines ++ held) ≡ going.lines ++ held ∷ [] = lines_of-ended going.lines held going.short ∙ ap (λ ls. going.lines ++ ls) (lines_of-last held free some) in
       record {
@@ -186,7 +202,7 @@ module _ {S K D N : Type 0} (s : SourceGhosts S) (k : SinkGhosts K) (d : DiskGho
           drew = drew_on n old.entropy now.entropy entropy going.past done.later going.drew done.goes_on.drew;
           keeps = kept_more setup old now disk entropy going.past session' held done.later done.text going.since done.goes_on;
         };
-        put = put_on k old.sink now.sink sink going.text done.text false false going.put done.put;
+        put = puts written going.past done.later old.sink now.sink sink going.text done.text done.added going.put done.adds done.put;
         took = going.took;
         end = end;
         all = sym split;
@@ -196,9 +212,9 @@ module _ {S K D N : Type 0} (s : SourceGhosts S) (k : SinkGhosts K) (d : DiskGho
       }
 
   -- the run ends amid the bytes of a line
-  pub ends_amid : (setup : Setup) (old now : Outside S K D N) (session : Session) (held : List ℕ) (taken served : ℕ) (failed : Bool)
-      → (going : Going setup old now session held taken served failed) → HasNoFeedBelow held (length held) → EndsAmid s k d n setup old now going.lines held failed
-  ends_amid setup old now session held taken served failed going feeds = record {
+  pub ends_amid : (written : Written) (setup : Setup) (old now : Outside S K D N) (session : Session) (held : List ℕ) (taken served : ℕ) (failed : Bool)
+      → (going : Going written setup old now session held taken served failed) → HasNoFeedBelow held (length held) → EndsAmid s k d n written setup old now going.lines held failed
+  ends_amid written setup old now session held taken served failed going feeds = record {
     text = going.text;
     served = record { history = going.past; legal = going.stands.stands.legal; follows = going.follows; drew = going.drew; keeps = kept going };
     put = going.put;
@@ -208,25 +224,27 @@ module _ {S K D N : Type 0} (s : SourceGhosts S) (k : SinkGhosts K) (d : DiskGho
   }
 
   -- the run stops at a line that was served with a front of its text written
-  ends_in_part : (setup : Setup) (old now : Outside S K D N) (sink : K) (disk : D) (entropy : N) (session session' : Session) (held line : List ℕ) (taken served : ℕ) (failed : Bool)
-      → (going : Going setup old now session held taken served false) → taken ≤ SCRIPT_BYTES → IsFree line → length line ≤ LINE_BYTES
+  ends_in_part : (written : Written) (setup : Setup) (old now : Outside S K D N) (sink : K) (disk : D) (entropy : N) (session session' : Session) (held line : List ℕ) (taken served : ℕ) (failed : Bool)
+      → (going : Going written setup old now session held taken served false) → taken ≤ SCRIPT_BYTES → IsFree line → length line ≤ LINE_BYTES
       → AreTaken (s.content now.source) (ended going.lines ++ held) (going.lines ++ line ∷ [])
-      → IsServedInPart k d n setup going.past session' line now.sink sink (devices now.disk now.entropy) (devices disk entropy) failed → EndsCut s k d n setup old (record now { sink = sink; disk = disk; entropy = entropy }) failed
-  ends_in_part setup old now sink disk entropy session session' held line taken served failed going few free short are done = record {
+      → IsServedInPart k d n written setup going.past session' line now.sink sink (devices now.disk now.entropy) (devices disk entropy) failed → EndsCut s k d n written setup old (record now { sink = sink; disk = disk; entropy = entropy }) failed
+  ends_in_part written setup old now sink disk entropy session session' held line taken served failed going few free short are done = record {
     front = going.lines;
     last = line ∷ [];
     one = omega arith;
     mid = going.past;
     later = done.later;
     whole = going.text;
+    text = done.text;
     part = done.part;
     missing = done.missing;
     legal = done.goes_on.stands.stands.legal;
     drew = drew_on n old.entropy now.entropy entropy going.past done.later going.drew done.goes_on.drew;
-    keeps = kept_more setup old now disk entropy going.past session' line done.later (done.part ++ done.missing) going.since done.goes_on;
+    keeps = kept_more setup old now disk entropy going.past session' line done.later done.text going.since done.goes_on;
     served = going.follows;
-    stopped = (done.later, done.part ++ done.missing, [], done.goes_on.says, (refl, refl), sym (append-nil (done.part ++ done.missing)));
-    put = put_on k old.sink now.sink sink going.text done.part false failed going.put done.put;
+    stopped = (done.later, done.text, [], done.goes_on.says, (refl, refl), sym (append-nil done.text));
+    adds = done.adds;
+    put = put_on k old.sink now.sink sink (written_of written going.past going.text) done.part false failed going.put done.put;
     taken = ended going.lines ++ held;
     took = going.took;
     are = are;
@@ -235,16 +253,17 @@ module _ {S K D N : Type 0} (s : SourceGhosts S) (k : SinkGhosts K) (d : DiskGho
   }
 
   -- the run stops at a line that was not served
-  ends_unserved : (setup : Setup) (old now : Outside S K D N) (sink : K) (disk : D) (entropy : N) (session session' : Session) (held : List ℕ) (taken served : ℕ)
-      → (going : Going setup old now session held taken served false) → taken ≤ SCRIPT_BYTES
-      → IsUnserved k d n setup going.past session' now.sink sink (devices now.disk now.entropy) (devices disk entropy) → EndsCut s k d n setup old (record now { sink = sink; disk = disk; entropy = entropy }) false
-  ends_unserved setup old now sink disk entropy session session' held taken served going few done = record {
+  ends_unserved : (written : Written) (setup : Setup) (old now : Outside S K D N) (sink : K) (disk : D) (entropy : N) (session session' : Session) (held : List ℕ) (taken served : ℕ)
+      → (going : Going written setup old now session held taken served false) → taken ≤ SCRIPT_BYTES
+      → IsUnserved k d n setup going.past session' now.sink sink (devices now.disk now.entropy) (devices disk entropy) → EndsCut s k d n written setup old (record now { sink = sink; disk = disk; entropy = entropy }) false
+  ends_unserved written setup old now sink disk entropy session session' held taken served going few done = record {
     front = going.lines;
     last = [];
     one = omega arith;
     mid = going.past;
     later = going.past;
     whole = going.text;
+    text = [];
     part = [];
     missing = [];
     legal = going.stands.stands.legal;
@@ -252,7 +271,8 @@ module _ {S K D N : Type 0} (s : SourceGhosts S) (k : SinkGhosts K) (d : DiskGho
     keeps = subst (λ (x : D). Keeps d setup old.disk x going.past) (sym done.stays.uncalled) (kept going);
     served = going.follows;
     stopped = (refl, refl);
-    put = put_on k old.sink now.sink sink going.text [] false false going.put done.put;
+    adds = adds_nothing written going.past;
+    put = put_on k old.sink now.sink sink (written_of written going.past going.text) [] false false going.put done.put;
     taken = ended going.lines ++ held;
     took = going.took;
     are = inl (held, ap (λ ls. ended ls ++ held) (sym (append-nil going.lines)));
@@ -261,18 +281,18 @@ module _ {S K D N : Type 0} (s : SourceGhosts S) (k : SinkGhosts K) (d : DiskGho
   }
 
   -- the run stops at a line, by why it does
-  pub cut_line : (halt : Halt) (status : Status) (setup : Setup) (old now : Outside S K D N) (sink : K) (disk : D) (entropy : N) (session session' : Session) (held line own : List ℕ) (taken served : ℕ)
-      → status ≡ status_of halt → (going : Going setup old now session held taken served false) → taken ≤ SCRIPT_BYTES → IsFree line → length line ≤ LINE_BYTES
+  pub cut_line : (halt : Halt) (status : Status) (written : Written) (setup : Setup) (old now : Outside S K D N) (sink : K) (disk : D) (entropy : N) (session session' : Session) (held line own : List ℕ) (taken served : ℕ)
+      → status ≡ status_of halt → (going : Going written setup old now session held taken served false) → taken ≤ SCRIPT_BYTES → IsFree line → length line ≤ LINE_BYTES
       → AreTaken (s.content now.source) (ended going.lines ++ held) (going.lines ++ line ∷ []) → own ≡ line
-      → ServesLine k d n setup going.past session' own now.sink sink (devices now.disk now.entropy) (devices disk entropy) (Err halt) → Ends s k d n setup old (record now { sink = sink; disk = disk; entropy = entropy }) status
-  cut_line halts.Write status setup old now sink disk entropy session session' held line own taken served e going few free short are is done =
-      rw e (ends_in_part setup old now sink disk entropy session session' held line taken served true going few free short are
-      (subst (λ l. IsServedInPart k d n setup going.past session' l now.sink sink (devices now.disk now.entropy) (devices disk entropy) true) is done))
-  cut_line halts.Memory status setup old now sink disk entropy session session' held line own taken served e going few free short are is (inl done) =
-      rw e (ends_in_part setup old now sink disk entropy session session' held line taken served false going few free short are
-      (subst (λ l. IsServedInPart k d n setup going.past session' l now.sink sink (devices now.disk now.entropy) (devices disk entropy) false) is done))
-  cut_line halts.Memory status setup old now sink disk entropy session session' held line own taken served e going few free short are is (inr done) =
-      rw e (ends_unserved setup old now sink disk entropy session session' held taken served going few done)
+      → ServesLine k d n written setup going.past session' own now.sink sink (devices now.disk now.entropy) (devices disk entropy) (Err halt) → Ends s k d n written setup old (record now { sink = sink; disk = disk; entropy = entropy }) status
+  cut_line halts.Write status written setup old now sink disk entropy session session' held line own taken served e going few free short are is done =
+      rw e (ends_in_part written setup old now sink disk entropy session session' held line taken served true going few free short are
+      (subst (λ l. IsServedInPart k d n written setup going.past session' l now.sink sink (devices now.disk now.entropy) (devices disk entropy) true) is done))
+  cut_line halts.Memory status written setup old now sink disk entropy session session' held line own taken served e going few free short are is (inl done) =
+      rw e (ends_in_part written setup old now sink disk entropy session session' held line taken served false going few free short are
+      (subst (λ l. IsServedInPart k d n written setup going.past session' l now.sink sink (devices now.disk now.entropy) (devices disk entropy) false) is done))
+  cut_line halts.Memory status written setup old now sink disk entropy session session' held line own taken served e going few free short are is (inr done) =
+      rw e (ends_unserved written setup old now sink disk entropy session session' held taken served going few done)
 
 -- a line that is held with its LF
 pub held_line : (held : List ℕ) (count : ℕ) → IsFirstFeed held count → IsFree (take count held)

@@ -1,3 +1,5 @@
+pub mod Adding
+pub mod Answering
 pub mod Completing
 pub mod DrawLemmas
 pub mod Going

@@ -4,7 +4,8 @@ use Rattle.std.proofs.lemmas.Bool.Decides.{nat_tests}
 use Rattle.rule_model.specs.Entries.{History}
 use Rattle.script_lines.specs.Lines.{event_of}
 use Rattle.keystore_run.specs.Follows.{Follows, Says}
-use Rattle.keystore_run.specs.Lines.{AreLines, IsFree, begun_with, ended, lines_of}
+use Rattle.line_members.specs.LineFeeds.{IsFree, begun_with, ended, lines_of}
+use Rattle.keystore_run.specs.Lines.{AreLines}
 use Rattle.keystore_run.specs.Window.{HasNoFeedBelow}
 use Rattle.tags.specs.declared.limits.TheConstants.{LINE_BYTES}
 

@@ -19,6 +19,7 @@ use Rattle.keystore_core.specs.Engine.{OpensFor, OpensStore, Stands, StoreStands
 use Rattle.keystore_core.specs.Opening.{IsRead, IsUnwritten}
 use Rattle.keystore_run.specs.declared.session.Session.{Session}
 use Rattle.keystore_run.specs.declared.status.Status.{Status}
+use Rattle.keystore_run.specs.declared.written.Written.{Written}
 use Rattle.keystore_run.specs.declared.status.Status.TheVariants as statuses
 use Rattle.keystore_run.specs.Ends.{Ends}
 use Rattle.keystore_run.specs.Jobs.{JobsStand}
@@ -70,17 +71,17 @@ faultless same = record { later = omega (arith, same); rises = λ t. absurd (let
 
 module _ {S K D N : Type 0} (s : SourceGhosts S) (k : SinkGhosts K) (d : DiskGhosts D) (n : EntropyGhosts N) where
   -- what the end of a run says of the disk's faults
-  ends_cause : (setup : Setup) (old new : Outside S K D N) (status : Status) → Ends s k d n setup old new status → IsCause (d.fault_count old.disk) (d.fault_count new.disk) (disk_told status)
-  ends_cause setup old new statuses.Ok ends = fine None refl ends.served.keeps.later
-  ends_cause setup old new statuses.Memory ends = fine None refl ends.keeps.later
-  ends_cause setup old new statuses.ReadFault ends = fine None refl ends.amid.served.keeps.later
-  ends_cause setup old new statuses.WriteFault ends = fine None refl ends.keeps.later
-  ends_cause setup old new (statuses.LineTooLong line) ends = fine None refl ends.amid.served.keeps.later
-  ends_cause setup old new statuses.ScriptTooLong ends = fine None refl ends.amid.served.keeps.later
-  ends_cause setup old new statuses.DiskFault ends = absurd ends
-  ends_cause setup old new statuses.Usage ends = absurd ends
-  ends_cause setup old new (statuses.Corrupted offset) ends = absurd ends
-  ends_cause setup old new statuses.ListenFault ends = absurd ends
+  ends_cause : (written : Written) (setup : Setup) (old new : Outside S K D N) (status : Status) → Ends s k d n written setup old new status → IsCause (d.fault_count old.disk) (d.fault_count new.disk) (disk_told status)
+  ends_cause written setup old new statuses.Ok ends = fine None refl ends.served.keeps.later
+  ends_cause written setup old new statuses.Memory ends = fine None refl ends.keeps.later
+  ends_cause written setup old new statuses.ReadFault ends = fine None refl ends.amid.served.keeps.later
+  ends_cause written setup old new statuses.WriteFault ends = fine None refl ends.keeps.later
+  ends_cause written setup old new (statuses.LineTooLong line) ends = fine None refl ends.amid.served.keeps.later
+  ends_cause written setup old new statuses.ScriptTooLong ends = fine None refl ends.amid.served.keeps.later
+  ends_cause written setup old new statuses.DiskFault ends = absurd ends
+  ends_cause written setup old new statuses.Usage ends = absurd ends
+  ends_cause written setup old new (statuses.Corrupted offset) ends = absurd ends
+  ends_cause written setup old new statuses.ListenFault ends = absurd ends
 
   refuses_cause : (old new : D) (status : Status) → IsRefused d old new status → IsCause (d.fault_count old) (d.fault_count new) (disk_told status)
   refuses_cause old new statuses.DiskFault refused = failing refused.later refused.refuses
@@ -101,7 +102,7 @@ module _ {S K D N : Type 0} (s : SourceGhosts S) (k : SinkGhosts K) (d : DiskGho
   pub runs_cause : (g : Given) (begin : D → D) (old new : Outside S K D N) (status : Status) → ((setup : Setup) (opened : D) → IsRead d setup old.disk opened → d.fault_count (begin opened) ≡ d.fault_count old.disk)
       → Runs s k d n g begin old new status → IsCause (d.fault_count old.disk) (d.fault_count new.disk) (disk_told status)
   runs_cause g begin old new status same (Opened opened runs) =
-      cause_since (disk_told status) (same runs.setup opened runs.read) (ends_cause runs.setup (record old { disk = begin opened }) new status runs.ends)
+      cause_since (disk_told status) (same runs.setup opened runs.read) (ends_cause g.written runs.setup (record old { disk = begin opened }) new status runs.ends)
   runs_cause g begin old new status same (Refused untouched refused) = refuses_cause old.disk new.disk status refused
 
   pub fresh_cause : (g : Given) (old new : Outside S K D N) (status : Status) → RunsFresh s k d n g old new status → IsCause (d.fault_count old.disk) (d.fault_count new.disk) (disk_told status)
@@ -111,11 +112,11 @@ module _ {S K D N : Type 0} (s : SourceGhosts S) (k : SinkGhosts K) (d : DiskGho
       subst (λ x. IsCause (d.fault_count old.disk) (d.fault_count new.disk) (disk_told x)) (sym torn.is_fault) (failing torn.later torn.rises)
 
   -- a run of a form never ends with the status of words that are none
-  ends_usage : (setup : Setup) (old new : Outside S K D N) (status : Status) → Ends s k d n setup old new status → status ≡ statuses.Usage → ⊥
-  ends_usage setup old new status ends e = subst (Ends s k d n setup old new) e ends
+  ends_usage : (written : Written) (setup : Setup) (old new : Outside S K D N) (status : Status) → Ends s k d n written setup old new status → status ≡ statuses.Usage → ⊥
+  ends_usage written setup old new status ends e = subst (Ends s k d n written setup old new) e ends
 
   pub runs_usage : (g : Given) (begin : D → D) (old new : Outside S K D N) (status : Status) → Runs s k d n g begin old new status → status ≡ statuses.Usage → ⊥
-  runs_usage g begin old new status (Opened opened runs) e = ends_usage runs.setup (record old { disk = begin opened }) new status runs.ends e
+  runs_usage g begin old new status (Opened opened runs) e = ends_usage g.written runs.setup (record old { disk = begin opened }) new status runs.ends e
   runs_usage g begin old new status (Refused untouched refused) e = subst (λ x. IsRefused d old.disk new.disk x → ⊥) (sym e) (λ (is : IsRefused d old.disk new.disk statuses.Usage). is.refuses) refused
 
   pub fresh_usage : (g : Given) (old new : Outside S K D N) (status : Status) → RunsFresh s k d n g old new status → status ≡ statuses.Usage → ⊥

@@ -22,11 +22,14 @@ use Rattle.script_lines.specs.Lines.{event_of}
 use Rattle.script_lines.specs.Replies.{line_of, malformed_line}
 use Rattle.keystore_run.specs.declared.session.Session.{Session}
 use Rattle.keystore_run.specs.declared.answer.Answer.{Answer}
+use Rattle.keystore_run.specs.declared.written.Written.{Written}
 use Rattle.keystore_run.specs.Answers.{text_in}
 use Rattle.keystore_run.specs.Follows.{SaysStep, leave_at, ticket_due}
 use Rattle.keystore_run.specs.Serving.{IsServedInPart, IsUnserved}
 use Rattle.keystore_run.specs.KeptStores.{KeepsMore}
 use Rattle.keystore_run.specs.Session.{Devices, StandsFor, GoesBy, GoesOn, Serves, ServesBy, Stays, StepsTo, devices}
+use Rattle.keystore_run.specs.Written.{Adds, malformed_text}
+use Rattle.keystore_run.proofs.Adding.{adds_malformed}
 use Rattle.keystore_run.proofs.DrawLemmas.{drew_both, drew_nothing, drew_step, one_more, undrawn_both, undrawn_step}
 use Rattle.keystore_run.proofs.KeepLemmas.{keeps_both, keeps_nothing}
 use Rattle.keystore_run.proofs.Tickets.{leave_alone, none_settled}
@@ -105,31 +108,40 @@ module _ {D N : Type 0} (d : DiskGhosts D) (n : Ghosts N) (setup : Setup) where
       let none = none_settled left.settled (leave_alone setup _ ticket left.settled (leave_at line.event.reading ticket) left.drawn left.reply refl last.follows) in
       both_steps past new before between after line stepped ticket left.settled left.drawn left.reply (stood _ new between.disk after.disk _ left last) none to.keeps last.keeps first second due
 
-  -- a line was served, with its text or for want of memory without
-  pub served : (past : History) (new : Session) (said : Option Line) (before after : Devices D N) (later : History) (text : List ℕ) (result : Result (List ℕ) NoMemory)
-      → GoesBy d n setup past new said before after later text → IfOk result (λ out. out ≡ text) → ServesBy d n setup past new said before after result
-  served past new said before after later text (Ok out) goes is = (later, subst (GoesBy d n setup past new said before after later) (sym is) goes)
-  served past new said before after later text (Err fault) goes is = inl (later, text, goes)
+  -- a line was served, and what is written of it is given, or for want of memory is not
+  pub served : (written : Written) (past : History) (new : Session) (said : Option Line) (before after : Devices D N) (later : History) (text added : List ℕ) (result : Result (List ℕ) NoMemory)
+      → GoesBy d n setup past new said before after later text → Adds written past later text added → IfOk result (λ out. out ≡ added) → ServesBy d n written setup past new said before after result
+  served written past new said before after later text added (Ok out) goes adds is = (later, text, goes, subst (Adds written past later text) (sym is) adds)
+  served written past new said before after later text added (Err fault) goes adds is = inl (later, text, added, goes, adds)
+
+  -- what serves the line that bytes spell serves them
+  pub spelled : (written : Written) (past : History) (new : Session) (bytes : List ℕ) (line : Line) (before after : Devices D N) (result : Result (List ℕ) NoMemory)
+      → event_of bytes ≡ Some line → ServesBy d n written setup past new (Some line) before after result → Serves d n written setup past new bytes before after result
+  spelled written past new bytes line before after result e serves = subst (λ (said : Option Line). ServesBy d n written setup past new said before after result) (sym e) serves
 
   -- a line that spells no event
-  pub malformed : (past : History) (session : Session) (bytes : List ℕ) (disk : D) (entropy : N) (result : Result (List ℕ) NoMemory)
-      → event_of bytes ≡ None → StandsFor d setup session disk past → IfOk result (λ text. text ≡ malformed_line) → Serves d n setup past session bytes (devices disk entropy) (devices disk entropy) result
-  malformed past session bytes disk entropy (Ok text) e for is = (
+  pub malformed : (written : Written) (past : History) (session : Session) (bytes : List ℕ) (disk : D) (entropy : N) (result : Result (List ℕ) NoMemory)
+      → event_of bytes ≡ None → StandsFor d setup session disk past → IfOk result (λ out. out ≡ malformed_text written)
+      → Serves d n written setup past session bytes (devices disk entropy) (devices disk entropy) result
+  malformed written past session bytes disk entropy (Ok out) e for is = (
     past,
+    malformed_line,
     record {
-      says = rw e (refl, is);
+      says = rw e (refl, refl);
       drew = drew_nothing n entropy entropy past (nothing_drawn n entropy);
       failed = false;
       keeps = keeps_nothing d setup disk past;
       one = omega arith;
       stands = for;
     },
+    subst (Adds written past past malformed_line) (sym is) (adds_malformed written past),
   )
-  malformed past session bytes disk entropy (Err fault) e for is = inr (record { stands = for; undrawn = nothing_drawn n entropy; uncalled = refl })
+  malformed written past session bytes disk entropy (Err fault) e for is = inr (record { stands = for; undrawn = nothing_drawn n entropy; uncalled = refl })
 
   -- want of memory, with all of the line's entries made or with none, and nothing written
-  pub unwritten : {K : Type 0} (k : SinkGhosts K) (past : History) (new : Session) (line : List ℕ) (sink : K) (before after : Devices D N)
-      → ((later : History) × (text : List ℕ) × GoesOn d n setup past new line before after later text) ⊎ Stays d n setup past new before after
-      → IsServedInPart k d n setup past new line sink sink before after false ⊎ IsUnserved k d n setup past new sink sink before after
-  unwritten k past new line sink before after (inl (later, text, goes_on)) = inl (record { later = later; part = []; missing = text; goes_on = goes_on; put = put_none k sink })
-  unwritten k past new line sink before after (inr stays) = inr (record { stays = stays; put = put_none k sink })
+  pub unwritten : {K : Type 0} (k : SinkGhosts K) (written : Written) (past : History) (new : Session) (line : List ℕ) (sink : K) (before after : Devices D N)
+      → ((later : History) × (text : List ℕ) × (added : List ℕ) × GoesOn d n setup past new line before after later text × Adds written past later text added) ⊎ Stays d n setup past new before after
+      → IsServedInPart k d n written setup past new line sink sink before after false ⊎ IsUnserved k d n setup past new sink sink before after
+  unwritten k written past new line sink before after (inl (later, text, added, goes_on, adds)) =
+      inl (record { later = later; text = text; part = []; missing = added; goes_on = goes_on; adds = adds; put = put_none k sink })
+  unwritten k written past new line sink before after (inr stays) = inr (record { stays = stays; put = put_none k sink })

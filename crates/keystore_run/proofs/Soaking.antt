@@ -35,6 +35,7 @@ use Rattle.keystore_run.specs.declared.answer.Answer.{Answer}
 use Rattle.keystore_run.specs.declared.session.Session.{Session}
 use Rattle.keystore_run.specs.declared.status.Status.{Status}
 use Rattle.keystore_run.specs.declared.status.Status.TheVariants as statuses
+use Rattle.keystore_run.specs.declared.written.Written.TheVariants.{Replies}
 use Rattle.keystore_run.specs.Answers.{IsAnswer}
 use Rattle.keystore_run.specs.Drawn.{DrewAll}
 use Rattle.keystore_run.specs.Ends.{is_read_fault}
@@ -84,17 +85,18 @@ module _ {D N : Type 0} (d : DiskGhosts D) (n : EntropyGhosts N) where
 
   -- one line more
   pub loads_on : (setup : Setup) (all left rest : List (List ℕ)) (session session' : Session) (disk disk' : D) (old now now' : N) (summary summary' : Summary)
-      (line bytes said : List ℕ) (answer : Answer) (code : ℤ) (told : Bool)
+      (line bytes said : List ℕ) (answer : Answer) (code : ℤ) (fails : Bool)
       → (loading : Loading setup all left session disk old now summary) → left ≡ line ∷ rest → bytes ≡ line
-      → Serves d n setup loading.past session' bytes (devices disk now) (devices disk' now') (Ok answer.text) → IsAnswer answer
-      → told ≡ tells_failure answer → told ≡ false → code ≡ number_of answer.code → said ≡ answer.text
+      → Serves d n Replies setup loading.past session' bytes (devices disk now) (devices disk' now') (Ok answer.text) → IsAnswer Replies answer
+      → fails ≡ tells_failure answer → fails ≡ false → code ≡ number_of answer.code → said ≡ answer.text
       → HasSummed (code ∷ numbers_of loading.replies) (text_of loading.replies ++ said) summary'
       → Loading setup all rest session' disk' old now' summary'
-  loads_on setup all left rest session session' disk disk' old now now' summary summary' line bytes said answer code told loading next bytes_are serves is told_is fine code_is said_is summed =
-      let served = subst (λ (b : List ℕ). Serves d n setup loading.past session' b (devices disk now) (devices disk' now') (Ok answer.text)) bytes_are serves in
-      let goes = served.1 in
-      let both = neither (is_some answer.settled) (is_failure answer.code) (sym told_is ∙ fine) in
-      let text : answer.text ≡ line_of None is.reply = is.text_is ∙ ap (λ (settled : Option Settled). line_of settled is.reply) (none_settled answer.settled both.0) in
+  loads_on setup all left rest session session' disk disk' old now now' summary summary' line bytes said answer code fails loading next bytes_are serves is fails_is fine code_is said_is summed =
+      let served = subst (λ (b : List ℕ). Serves d n Replies setup loading.past session' b (devices disk now) (devices disk' now') (Ok answer.text)) bytes_are serves in
+      let goes = served.2 in
+      let both = neither (is_some answer.settled) (is_failure answer.code) (sym fails_is ∙ fine) in
+      let told : answer.text ≡ line_of None is.reply = is.text_is ∙ ap (λ (settled : Option Settled). line_of settled is.reply) (none_settled answer.settled both.0) in
+      let text : served.1 ≡ line_of None is.reply = sym served.3 ∙ told in
       record {
         lines = loading.lines ++ line ∷ [];
         split = loading.split ∙ ap (λ (ls : List (List ℕ)). loading.lines ++ ls) next ∙ sym (append_assoc loading.lines (line ∷ []) rest);
@@ -102,10 +104,10 @@ module _ {D N : Type 0} (d : DiskGhosts D) (n : EntropyGhosts N) where
         replies = is.reply ∷ loading.replies;
         stands = goes.stands;
         follows = subst (λ (t : List ℕ). Follows [] (loading.lines ++ line ∷ []) served.0 (text_of loading.replies ++ t)) text
-            (follows_more [] loading.lines line loading.past served.0 (text_of loading.replies) answer.text loading.follows goes.says);
+            (follows_more [] loading.lines line loading.past served.0 (text_of loading.replies) served.1 loading.follows goes.says);
         drew = drew_on n old now now' loading.past served.0 loading.drew goes.drew;
         lasting = (subst (λ (c : Option Code). is_failure c ≡ false) is.code_is both.1, loading.lasting);
-        summed = subst (λ (t : List ℕ). HasSummed (numbers_of (is.reply ∷ loading.replies)) (text_of loading.replies ++ t) summary') (said_is ∙ text)
+        summed = subst (λ (t : List ℕ). HasSummed (numbers_of (is.reply ∷ loading.replies)) (text_of loading.replies ++ t) summary') (said_is ∙ told)
             (subst (λ (z : ℤ). HasSummed (z ∷ numbers_of loading.replies) (text_of loading.replies ++ said) summary') (code_is ∙ ap number_of is.code_is) summed);
       }
 

@@ -15,7 +15,7 @@ use Rattle.rule_model.specs.declared.event.Event.{Event}
 use Rattle.rule_model.specs.declared.reply.Fields.{Fields}
 use Rattle.rule_model.specs.declared.reply.Reply.{Reply}
 use Rattle.rule_model.specs.declared.reply.Reply.TheVariants.{Done, Broken, Stopped}
-use Rattle.rule_model.specs.Acts.{fixed_for, is_restart}
+use Rattle.rule_model.specs.Acts.{fixed_for, is_restart, left_by}
 use Rattle.rule_model.specs.Answer.{answer, given_or, leaving}
 use Rattle.rule_model.specs.Drawn.{size_of, wanted}
 use Rattle.rule_model.specs.Entries.{History, after_settling, after_step, is_done}
@@ -32,7 +32,6 @@ use Rattle.ks_outside.specs.declared.disk.Disk.{Ghosts as DiskGhosts}
 use Rattle.keystore_run.specs.declared.jobs.Jobs.{Jobs}
 use Rattle.keystore_run.specs.declared.session.Session.{Session}
 use Rattle.keystore_run.specs.Session.{StandsFor, engine_of, jobs_of}
-use Rattle.keystore_run.specs.Follows.{left_by}
 use Rattle.keystore_run.specs.Jobs.{ClearsJobs, Holds, IsHeld, JobsStand, Ran, RanJob, SameJobs, SetsJob, job_in}
 use Rattle.keystore_run.specs.SessionKept.{IsSession}
 

@@ -17,13 +17,16 @@ use Rattle.rule_model.specs.Setup.{Setup}
 use Rattle.keystore_core.specs.Complete.{HasNoFault}
 use Rattle.keystore_core.specs.Engine.{MayHold}
 use Rattle.keystore_core.specs.Opening.{IsRead, IsSetup}
+use Rattle.keystore_run.specs.declared.written.Written.{Written}
 use Rattle.keystore_run.specs.declared.status.Status.{Status}
 use Rattle.keystore_run.specs.declared.status.Status.TheVariants as statuses
 use Rattle.keystore_run.specs.Drawn.{DrewAll}
 use Rattle.keystore_run.specs.Follows.{Follows}
 use Rattle.keystore_run.specs.KeptStores.{estranged_of, failed_of}
-use Rattle.keystore_run.specs.Lines.{AreLines, lines_of}
+use Rattle.line_members.specs.LineFeeds.{lines_of}
+use Rattle.keystore_run.specs.Lines.{AreLines}
 use Rattle.keystore_run.specs.Runs.{Given, IsFormatted}
+use Rattle.keystore_run.specs.Written.{written_of}
 use Rattle.tags.specs.declared.limits.TheConstants.{SCRIPT_BYTES}
 
 -- how many entries settle an earlier change
@@ -66,20 +69,21 @@ module _ {S K D N : Type 0} (s : SourceGhosts S) (k : SinkGhosts K) (d : DiskGho
     pub store : BeginsWith d fresh old.disk start
     pub tells_disk : tells d old.disk ≡ true
 
-  -- all lines of a script were served by a plain legal history, its whole text was written, and what it keeps is on the disk
-  pub record GivesAll (setup : Setup) (bytes : List ℕ) (old new : Outside S K D N) : Type 0 where
+  -- all lines of a script were served by a plain legal history, the whole text of its replies or all of its trace was written, and what
+  -- it keeps is on the disk
+  pub record GivesAll (written : Written) (setup : Setup) (bytes : List ℕ) (old new : Outside S K D N) : Type 0 where
     pub history : History
     pub text : List ℕ
     pub legal : Legal setup history
     pub follows : Follows [] (lines_of bytes) history text
     pub plain : IsPlain history
     pub drew : DrewAll n old.entropy new.entropy history
-    pub put : Put k old.sink new.sink text false
+    pub put : Put k old.sink new.sink (written_of written history text) false
     pub end : IsAtEnd (s.content new.source)
     pub holds : AllImages d new.disk (MayHold setup history)
 
   -- the run ended with status 0 and all of it, over the lasting part that its store stood for; or memory was wanting
   pub data Completes (g : Given) (fresh : Bool) (start : Lasting) (bytes : List ℕ) (old new : Outside S K D N) (status : Status) : Type 0 where
-    Whole : (setup : Setup) → IsSetup setup g.device g.policy g.slots → IsOpenedOn d fresh setup old.disk → setup.start ≡ start → GivesAll setup bytes old new → status ≡ statuses.Ok
+    Whole : (setup : Setup) → IsSetup setup g.device g.policy g.slots → IsOpenedOn d fresh setup old.disk → setup.start ≡ start → GivesAll g.written setup bytes old new → status ≡ statuses.Ok
         → Completes g fresh start bytes old new status
     Wanting : status ≡ statuses.Memory → Completes g fresh start bytes old new status

@@ -1,7 +1,6 @@
 -- A history with a text that follows a list of lines.
 use Rattle.std.specs.Prelude.{◌≡◌, ℕ, Bool, List, [], ◌∷◌, ◌++◌, Option, Some, None, if◌then◌else◌}
 use Rattle.tags.specs.declared.settled.Settled.{Settled}
-use Rattle.rule_model.specs.declared.event.Act.{Act}
 use Rattle.rule_model.specs.declared.event.Act.TheVariants.{Leave}
 use Rattle.ks_outside.specs.declared.clock.Reading.{Reading}
 use Rattle.rule_model.specs.declared.event.Event.{Event}
@@ -17,11 +16,6 @@ abbrev pub ticket_due : Bool → Reply → Option ℕ
 ticket_due hold (Done fields) = if hold then None else fields.ticket
 ticket_due hold (Broken rule code) = None
 ticket_due hold (Stopped code) = None
-
--- the ticket of a leave
-abbrev pub left_by : Act → Option ℕ
-left_by (Leave ticket) = Some ticket
-left_by _ = None
 
 -- the leave that a line makes: at the reading of its event, by no client
 abbrev pub leave_at : Reading → ℕ → Event

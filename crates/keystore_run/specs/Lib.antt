@@ -16,5 +16,7 @@ pub mod Session
 pub mod SessionKept
 pub mod Soak
 pub mod Status
+pub mod Telling
 pub mod Window
 pub mod Words
+pub mod Written

@@ -17,6 +17,7 @@ use Rattle.journal_records.specs.declared.fault.StoreFault.TheVariants as faults
 use Rattle.keystore_core.specs.Opening.{IsRead, IsSetup}
 use Rattle.keystore_run.specs.declared.status.Status.{Status}
 use Rattle.keystore_run.specs.declared.status.Status.TheVariants as statuses
+use Rattle.keystore_run.specs.declared.written.Written.{Written}
 use Rattle.keystore_run.specs.declared.words.Form.{Form}
 use Rattle.keystore_run.specs.declared.words.Form.TheVariants.{Init, Run, Soak}
 use Rattle.keystore_run.specs.Ends.{Ends}
@@ -28,14 +29,15 @@ pub record IsCause (before now : ℕ) (told : Option Bool) : Type 0 where
   pub rises : told ≡ Some true → Rises before now
   pub same : told ≡ Some false → now ≡ before
 
--- what a run is given beside its script: the device's secrets, the policy, and the slots
+-- what a run is given beside its script: the device's secrets, the policy, the slots, and what it writes
 pub record Given : Type 0 where
   pub device : DeviceSecrets
   pub policy : List PolicyRow
   pub slots : ℕ
+  pub written : Written
 
-abbrev pub given : DeviceSecrets → List PolicyRow → ℕ → Given
-given device policy slots = record { device = device; policy = policy; slots = slots }
+abbrev pub given : DeviceSecrets → List PolicyRow → ℕ → Written → Given
+given device policy slots written = record { device = device; policy = policy; slots = slots; written = written }
 
 -- the status of a run whose store was not opened
 abbrev pub refusal_of : StoreFault → Status
@@ -108,7 +110,7 @@ module _ {S K D N : Type 0} (s : SourceGhosts S) (k : SinkGhosts K) (d : DiskGho
     pub setup : Setup
     pub is : IsSetup setup g.device g.policy g.slots
     pub read : IsRead d setup old.disk opened
-    pub ends : Ends s k d n setup (record old { disk = begin }) new status
+    pub ends : Ends s k d n g.written setup (record old { disk = begin }) new status
 
   -- A run over the store that the disk holds: it was opened; or the run ended before that, and nothing was touched. `begin` says for
   -- the disk after the opening from which moment on the disk's part is told.
@@ -131,6 +133,6 @@ module _ {S K D N : Type 0} (s : SourceGhosts S) (k : SinkGhosts K) (d : DiskGho
   -- what a form does; the disk's part of a run over the store that is there is told from the call on
   abbrev pub Does : DeviceSecrets → List PolicyRow → Form → Outside S K D N → Outside S K D N → Status → Type 0
   Does device policy Init old new status = IsUntouched old new × Formats d old.disk new.disk status
-  Does device policy (Run false slots) old new status = Runs (given device policy slots) (λ opened. old.disk) old new status
-  Does device policy (Run true slots) old new status = RunsFresh (given device policy slots) old new status
+  Does device policy (Run false slots written) old new status = Runs (given device policy slots written) (λ opened. old.disk) old new status
+  Does device policy (Run true slots written) old new status = RunsFresh (given device policy slots written) old new status
   Does device policy (Soak seed lines) old new status = IsApart old new × Soaks k seed lines old.sink new.sink status

@@ -17,10 +17,12 @@ use Rattle.keystore_core.specs.declared.engine.Engine.{Engine}
 use Rattle.keystore_core.specs.Engine.{Stands, StoreStands, entries_of, tickets_of}
 use Rattle.keystore_run.specs.declared.jobs.Jobs.{Jobs}
 use Rattle.keystore_run.specs.declared.session.Session.{Session}
+use Rattle.keystore_run.specs.declared.written.Written.{Written}
 use Rattle.keystore_run.specs.Drawn.{DrewMore}
 use Rattle.keystore_run.specs.Follows.{Says}
 use Rattle.keystore_run.specs.Jobs.{HasRoomForJob, JobsStand}
 use Rattle.keystore_run.specs.KeptStores.{KeepsMore, failed_of}
+use Rattle.keystore_run.specs.Written.{Adds}
 
 -- the disk and the entropy that a session is handed, at one moment
 pub record Devices (D N : Type 0) : Type 0 where
@@ -51,7 +53,7 @@ pub record StandsFor {D : Type 0} (d : DiskGhosts D) (setup : Setup) (session : 
   pub store : StoreHolds d setup session disk past
   pub held : JobsStand setup session.jobs past
 
--- A session went on by a line that says this, with this text. At most one of its entries was answered for a failed call, of the
+-- A session went on by a line that says this, with this text of replies. At most one of its entries was answered for a failed call, of the
 -- disk or of the entropy.
 pub record GoesBy {D N : Type 0} (d : DiskGhosts D) (n : EntropyGhosts N) (setup : Setup) (past : History) (new : Session) (said : Option Line) (before after : Devices D N) (later : History) (text : List ℕ) : Type 0 where
   pub says : Says past said later text
@@ -71,14 +73,17 @@ pub record Stays {D N : Type 0} (d : DiskGhosts D) (n : EntropyGhosts N) (setup 
   pub undrawn : Drew n before.entropy after.entropy [] false
   pub uncalled : after.disk ≡ before.disk
 
--- a line was served, or memory was wanting with all of the line's entries made, or with none
-abbrev pub ServesBy : {D N : Type 0} → DiskGhosts D → EntropyGhosts N → Setup → History → Session → Option Line → Devices D N → Devices D N → Result (List ℕ) NoMemory → Type 0
-ServesBy d n setup past new said before after (Ok text) = (later : History) × GoesBy d n setup past new said before after later text
-ServesBy d n setup past new said before after (Err fault) =
-    ((later : History) × (text : List ℕ) × GoesBy d n setup past new said before after later text) ⊎ Stays d n setup past new before after
+-- A line was served, and this is what is written of it; or memory was wanting with all of the line's entries made, or with none. What
+-- is written of a line is no part of how the session goes on.
+abbrev pub ServesBy : {D N : Type 0} → DiskGhosts D → EntropyGhosts N → Written → Setup → History → Session → Option Line → Devices D N → Devices D N → Result (List ℕ) NoMemory → Type 0
+ServesBy d n written setup past new said before after (Ok added) =
+    (later : History) × (text : List ℕ) × GoesBy d n setup past new said before after later text × Adds written past later text added
+ServesBy d n written setup past new said before after (Err fault) =
+    ((later : History) × (text : List ℕ) × (added : List ℕ) × GoesBy d n setup past new said before after later text × Adds written past later text added)
+    ⊎ Stays d n setup past new before after
 
-abbrev pub Serves : {D N : Type 0} → DiskGhosts D → EntropyGhosts N → Setup → History → Session → List ℕ → Devices D N → Devices D N → Result (List ℕ) NoMemory → Type 0
-Serves d n setup past new line before after result = ServesBy d n setup past new (event_of line) before after result
+abbrev pub Serves : {D N : Type 0} → DiskGhosts D → EntropyGhosts N → Written → Setup → History → Session → List ℕ → Devices D N → Devices D N → Result (List ℕ) NoMemory → Type 0
+Serves d n written setup past new line before after result = ServesBy d n written setup past new (event_of line) before after result
 
 -- the next ticket has room for its job
 abbrev pub HasRoom : Session → Type 0

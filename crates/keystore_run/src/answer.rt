@@ -1,10 +1,12 @@
 //! What a line of a script is answered.
 
-ghost use Rattle.std.specs.Prelude.{◌≡◌, IfOk};
-ghost use Rattle.script_lines.specs.Replies.{line_of as spec_line_of, malformed_line as spec_malformed_line};
+ghost use Rattle.std.specs.Prelude.{◌≡◌, ℕ, List, IfOk};
+ghost use Rattle.script_lines.specs.Replies.{line_of as spec_line_of};
 ghost use Rattle.keystore_run.specs.Answers as spec;
-ghost use Rattle.keystore_run.specs.Answers.{IsAnswer};
+ghost use Rattle.keystore_run.specs.Answers.{IsAnswer, IsReplied};
+ghost use Rattle.keystore_run.specs.Written.{malformed_text as spec_malformed_text};
 
+use crate::written::Written;
 use rule_model::{Reply, Stepped};
 use script_lines::{line_of, malformed_line};
 use std::alloc::Global;
@@ -17,7 +19,7 @@ pub struct Answer {
     pub settled: Option<Settled>,
     /// the code of the reply, where it is no admission
     pub code: Option<Code>,
-    /// all lines, each with its LF
+    /// what is written: all lines, each with its LF
     pub text: Bytes,
 }
 
@@ -35,26 +37,47 @@ fn code_of(reply: &Reply) -> Option<Code>
 /// The answer of a line whose last step is this, with the settling of its first one.
 pub fn answer_of(alloc: Global, stepped: Stepped) -> Result<Answer, NoMemory>
     ensures text { IfOk result (λ answer. answer.text ≡ spec_line_of stepped.settled stepped.reply) }
-    ensures is { IfOk result IsAnswer }
+    ensures is { IfOk result IsReplied }
 {
     let line = line_of(alloc, &stepped);
+    with_text(stepped, line)
+}
+
+/// The answer of a line whose last step is this, with this text.
+pub fn with_text(stepped: Stepped, text: Result<Bytes, NoMemory>) -> Result<Answer, NoMemory>
+    ensures text { (said : List ℕ) → IfOk text (λ t. t ≡ said) → IfOk result (λ answer. answer.text ≡ said) }
+    ensures settled { IfOk result (λ answer. answer.settled ≡ stepped.settled) }
+    ensures code { IfOk result (λ answer. answer.code ≡ spec.code_of stepped.reply) }
+{
     let settled = stepped.settled;
     let code = code_of(&stepped.reply);
     drop(stepped);
-    let text = line?;
-    Ok(Answer {
-        settled,
-        code,
-        text,
-    })
+    match text {
+        Ok(text) => Ok(Answer {
+            settled,
+            code,
+            text,
+        }),
+        Err(NoMemory) => Err(NoMemory),
+    }
+}
+
+/// What is written of a line that spells no event.
+fn malformed_text(written: Written) -> &'static [u8]
+    ensures { result.now ≡ spec_malformed_text written }
+{
+    match written {
+        Written::Replies => malformed_line(),
+        Written::Trace => &[],
+    }
 }
 
 /// The answer of a line that spells no event.
-pub fn malformed(alloc: Global) -> Result<Answer, NoMemory>
-    ensures text { IfOk result (λ answer. answer.text ≡ spec_malformed_line) }
-    ensures is { IfOk result IsAnswer }
+pub fn malformed(alloc: Global, written: Written) -> Result<Answer, NoMemory>
+    ensures text { IfOk result (λ answer. answer.text ≡ spec_malformed_text written) }
+    ensures is { IfOk result (IsAnswer written) }
 {
-    let text = Bytes::copy_of(alloc, malformed_line())?;
+    let text = Bytes::copy_of(alloc, malformed_text(written))?;
     Ok(Answer {
         settled: None,
         code: Some(Code::InvalidArgument),

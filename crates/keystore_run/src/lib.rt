@@ -13,8 +13,11 @@ mod serve;
 mod session;
 mod soak;
 mod status;
+mod telling;
 mod words;
 mod writer;
+mod written;
 
 pub use run::run_words;
 pub use status::Status;
+pub use writer::write_all;

@@ -18,6 +18,7 @@ use crate::session::Session;
 use crate::soak::soak;
 use crate::status::Status;
 use crate::words::{Form, form_of};
+use crate::written::Written;
 use keystore_core::{Engine, OpenFault};
 use ks_outside::{Disk, Entropy, Sink, Source};
 use std::alloc::Global;
@@ -26,6 +27,7 @@ use tags::{DeviceSecrets, Policy};
 /// Serves a script line by line: each line is served and answered before the next one is read.
 fn serve_script<S: Source, K: Sink, D: Disk, N: Entropy>(
     alloc: Global,
+    written: Written,
     session: &mut Session,
     reader: &mut LineReader,
     source: &mut S,
@@ -37,7 +39,7 @@ fn serve_script<S: Source, K: Sink, D: Disk, N: Entropy>(
     requires untaken { reader.old.taken ≡ 0 }
     requires fresh { entries_in session.old ≡ 0 }
     ensures ends { (setup : Setup) (begin : D) → StandsFor D.Disk setup session.old disk.old [] → IsUnwritten D.Disk begin disk.old →
-        Ends S.Source K.Sink D.Disk N.Entropy setup (outside source.old sink.old begin entropy.old) (outside source.new sink.new disk.new entropy.new) result }
+        Ends S.Source K.Sink D.Disk N.Entropy written setup (outside source.old sink.old begin entropy.old) (outside source.new sink.new disk.new entropy.new) result }
     ensures source_faults { CountsFaults (S.fault_count source.old) (S.fault_count source.new) (is_read_fault result) }
     ensures sink_faults { CountsFaults (K.fault_count sink.old) (K.fault_count sink.new) (is_write_fault result) }
 {
@@ -46,7 +48,7 @@ fn serve_script<S: Source, K: Sink, D: Disk, N: Entropy>(
         match reader.fill(source) {
             Found::Line { count } => {
                 let line = reader.line(count);
-                if let Err(halt) = serve_line(alloc, session, sink, disk, entropy, line) {
+                if let Err(halt) = serve_line(alloc, written, session, sink, disk, entropy, line) {
                     return halt.status();
                 }
                 reader.pass(count);
@@ -57,7 +59,7 @@ fn serve_script<S: Source, K: Sink, D: Disk, N: Entropy>(
                 if line.is_empty() {
                     return Status::Ok;
                 }
-                return match serve_line(alloc, session, sink, disk, entropy, line) {
+                return match serve_line(alloc, written, session, sink, disk, entropy, line) {
                     Ok(()) => Status::Ok,
                     Err(halt) => halt.status(),
                 };
@@ -86,6 +88,7 @@ fn serve_store<S: Source, K: Sink, D: Disk, N: Entropy>(
     device: &DeviceSecrets,
     policy: &Policy,
     slots: usize,
+    written: Written,
     source: &mut S,
     sink: &mut K,
     disk: &mut D,
@@ -93,9 +96,9 @@ fn serve_store<S: Source, K: Sink, D: Disk, N: Entropy>(
 ) -> Status
     requires some { 0 < slots }
     requires few { slots ≤ MOST_SLOTS }
-    ensures since_call { Runs S.Source K.Sink D.Disk N.Entropy (given device.now policy.now slots) (λ opened. disk.old)
+    ensures since_call { Runs S.Source K.Sink D.Disk N.Entropy (given device.now policy.now slots written) (λ opened. disk.old)
         (outside source.old sink.old disk.old entropy.old) (outside source.new sink.new disk.new entropy.new) result }
-    ensures since_opened { Runs S.Source K.Sink D.Disk N.Entropy (given device.now policy.now slots) (λ opened. opened)
+    ensures since_opened { Runs S.Source K.Sink D.Disk N.Entropy (given device.now policy.now slots written) (λ opened. opened)
         (outside source.old sink.old disk.old entropy.old) (outside source.new sink.new disk.new entropy.new) result }
     ensures source_faults { CountsFaults (S.fault_count source.old) (S.fault_count source.new) (is_read_fault result) }
     ensures sink_faults { CountsFaults (K.fault_count sink.old) (K.fault_count sink.new) (is_write_fault result) }
@@ -110,6 +113,7 @@ fn serve_store<S: Source, K: Sink, D: Disk, N: Entropy>(
     let mut session = Session::new(alloc, engine);
     let status = serve_script(
         alloc,
+        written,
         &mut session,
         &mut reader,
         source,
@@ -137,6 +141,7 @@ fn serve_fresh<S: Source, K: Sink, D: Disk, N: Entropy>(
     device: &DeviceSecrets,
     policy: &Policy,
     slots: usize,
+    written: Written,
     source: &mut S,
     sink: &mut K,
     disk: &mut D,
@@ -144,7 +149,7 @@ fn serve_fresh<S: Source, K: Sink, D: Disk, N: Entropy>(
 ) -> Status
     requires some { 0 < slots }
     requires few { slots ≤ MOST_SLOTS }
-    ensures runs { RunsFresh S.Source K.Sink D.Disk N.Entropy (given device.now policy.now slots)
+    ensures runs { RunsFresh S.Source K.Sink D.Disk N.Entropy (given device.now policy.now slots written)
         (outside source.old sink.old disk.old entropy.old) (outside source.new sink.new disk.new entropy.new) result }
     ensures source_faults { CountsFaults (S.fault_count source.old) (S.fault_count source.new) (is_read_fault result) }
     ensures sink_faults { CountsFaults (K.fault_count sink.old) (K.fault_count sink.new) (is_write_fault result) }
@@ -152,13 +157,15 @@ fn serve_fresh<S: Source, K: Sink, D: Disk, N: Entropy>(
     let Ok(()) = Engine::format(disk) else {
         return Status::DiskFault;
     };
-    serve_store(alloc, device, policy, slots, source, sink, disk, entropy)
+    serve_store(
+        alloc, device, policy, slots, written, source, sink, disk, entropy,
+    )
 }
 
 /// Serves the words of the command line. `init` writes an empty store to the disk. `run` opens the store of the disk and serves
 /// the script of `source` over it, with 16 slots or those of `--slots N`; with `--fresh` it writes an empty store first, which
-/// erases the one that was there. Each reply line is written to `sink` before the next line is read, and behind what its line
-/// changes of what lasts. What a line draws is taken from `entropy` when the line is served, and nothing else is. Nothing is
+/// erases the one that was there. Each reply line, or with `--trace` each line of an entry in its place, is written to `sink` before the
+/// next line is read, and behind what its line changes of what lasts. What a line draws is taken from `entropy` when the line is served, and nothing else is. Nothing is
 /// written to the sink by a run that ends before its store is open. `soak SEED N` serves a load over a store in memory of its own,
 /// and writes its summary: the source, the disk and the entropy are not touched.
 pub fn run_words<S: Source, K: Sink, D: Disk, N: Entropy>(
@@ -175,17 +182,18 @@ pub fn run_words<S: Source, K: Sink, D: Disk, N: Entropy>(
     ensures usage { (result ≡ Status.Usage) ↔ (form_said words.now ≡ None) }
     ensures untouched { result ≡ Status.Usage → (source.new ≡ source.old) × (sink.new ≡ sink.old) × (disk.new ≡ disk.old) × (entropy.new ≡ entropy.old) }
 
-    // What a form does. Of a run: one legal history over the lasting part of the store follows the lines of the source with a text,
-    // draws what the entropy gives and is kept on the disk, as each status says.
+    // What a form does. Of a run: one legal history over the lasting part of the store follows the lines of the source with a text of
+    // replies, draws what the entropy gives and is kept on the disk, as each status says. What is written is that text, or with `--trace`
+    // the trace of that history.
     ensures does { (form : Form) → form_said words.now ≡ Some form →
         Does S.Source K.Sink D.Disk N.Entropy device.now policy.now form (outside source.old sink.old disk.old entropy.old) (outside source.new sink.new disk.new entropy.new) result }
 
-    // A script within the limits, over a formatted disk that tells its content, with no failed call: status 0 and all of the text,
-    // in which no line is a settled one or has the code 4, 8 or 1005; or want of memory.
-    ensures complete { (fresh : Bool) (slots : ℕ) (start : Lasting) (bytes : List ℕ) → form_said words.now ≡ Some (Form.Run fresh slots) →
+    // A script within the limits, over a formatted disk that tells its content, with no failed call: status 0 and all of the text, or all
+    // of the trace, in which no line is a settled one or has the code 4, 8 or 1005; or want of memory.
+    ensures complete { (fresh : Bool) (slots : ℕ) (written : Written) (start : Lasting) (bytes : List ℕ) → form_said words.now ≡ Some (Form.Run fresh slots written) →
         IsReady S.Source K.Sink D.Disk N.Entropy fresh start bytes (outside source.old sink.old disk.old entropy.old) →
         AreFaultless S.Source K.Sink D.Disk N.Entropy (outside source.old sink.old disk.old entropy.old) (outside source.new sink.new disk.new entropy.new) →
-        Completes S.Source K.Sink D.Disk N.Entropy (given device.now policy.now slots) fresh start bytes
+        Completes S.Source K.Sink D.Disk N.Entropy (given device.now policy.now slots written) fresh start bytes
         (outside source.old sink.old disk.old entropy.old) (outside source.new sink.new disk.new entropy.new) result }
 
     // A read failed exactly where the status says so, and so did a write. With status 6 a call of the disk failed, and with 2 or 7
@@ -201,10 +209,19 @@ pub fn run_words<S: Source, K: Sink, D: Disk, N: Entropy>(
             Form::Run {
                 fresh: false,
                 slots,
+                written,
             },
-        ) => serve_store(alloc, device, policy, slots, source, sink, disk, entropy),
-        Some(Form::Run { fresh: true, slots }) => serve_fresh(
-            alloc, device, policy, slots, source, sink, disk, entropy,
+        ) => serve_store(
+            alloc, device, policy, slots, written, source, sink, disk, entropy,
+        ),
+        Some(
+            Form::Run {
+                fresh: true,
+                slots,
+                written,
+            },
+        ) => serve_fresh(
+            alloc, device, policy, slots, written, source, sink, disk, entropy,
         ),
         Some(Form::Soak { seed, lines }) => soak(alloc, seed, lines, sink),
     }

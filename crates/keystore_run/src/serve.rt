@@ -11,6 +11,7 @@ ghost use Rattle.keystore_run.specs.Session.{StandsFor, devices, entries_in};
 use crate::session::Session;
 use crate::status::Status;
 use crate::writer::write_all;
+use crate::written::Written;
 use ks_outside::{Disk, Entropy, Sink};
 use std::alloc::Global;
 
@@ -37,9 +38,10 @@ impl Halt {
     }
 }
 
-/// Serves a line and writes its text.
+/// Serves a line and writes what is written of it.
 pub fn serve_line<K: Sink, D: Disk, N: Entropy>(
     alloc: Global,
+    written: Written,
     session: &mut Session,
     sink: &mut K,
     disk: &mut D,
@@ -48,14 +50,14 @@ pub fn serve_line<K: Sink, D: Disk, N: Entropy>(
 ) -> Result<(), Halt>
     requires few { entries_in session.old < 2 ^ 62 - 2 }
     ensures serves { (setup : Setup) (past : History) → StandsFor D.Disk setup session.old disk.old past →
-        ServesLine K.Sink D.Disk N.Entropy setup past session.new line.now sink.old sink.new (devices disk.old entropy.old) (devices disk.new entropy.new) result }
+        ServesLine K.Sink D.Disk N.Entropy written setup past session.new line.now sink.old sink.new (devices disk.old entropy.old) (devices disk.new entropy.new) result }
     ensures entries { entries_in session.new ≤ entries_in session.old + 3 }
     ensures sink_faults { CountsFaults (K.fault_count sink.old) (K.fault_count sink.new) (is_write_halt result) }
 {
-    let Ok(text) = session.line(alloc, disk, entropy, line) else {
+    let Ok(answer) = session.answer(alloc, written, disk, entropy, line) else {
         return Err(Halt::Memory);
     };
-    match write_all(sink, text.as_slice()) {
+    match write_all(sink, answer.text.as_slice()) {
         Ok(()) => Ok(()),
         Err(_) => Err(Halt::Write),
     }

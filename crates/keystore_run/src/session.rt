@@ -11,14 +11,17 @@ ghost use Rattle.keystore_run.specs.Answers.{IsAnswer, text_in};
 ghost use Rattle.keystore_run.specs.Follows as spec;
 ghost use Rattle.keystore_run.specs.SessionKept.{IsSession};
 
-use crate::answer::{Answer, answer_of, malformed};
+use crate::answer::{Answer, malformed};
 use crate::jobs::{Jobs, run_job};
+use crate::telling::Telling;
+use crate::written::Written;
 use keystore_core::Engine;
 use ks_outside::{Disk, Entropy};
+use line_members::LineFault;
 use rule_model::{Act, Event, Line, Reading, Reply, Stepped};
-use script_lines::{LineFault, event_of};
+use script_lines::event_of;
 use std::alloc::Global;
-use tags::{Bytes, NoMemory};
+use tags::NoMemory;
 
 /// An engine that takes the lines of a script, one after another, with the jobs of the works that are out.
 #[derive(Drop)]
@@ -38,26 +41,6 @@ fn ticket_due(hold: bool, reply: &Reply) -> Option<u64>
     }
 }
 
-/// The ticket of a leave.
-fn left_by(act: &Act) -> Option<u64>
-    ensures { result ≡ spec.left_by act.now }
-{
-    match act {
-        Act::Leave { ticket } => Some(*ticket),
-        _ => None,
-    }
-}
-
-/// Whether an act is a restart.
-fn is_restart(act: &Act) -> bool
-    ensures { result ≡ acts_spec.is_restart act.now }
-{
-    match act {
-        Act::Restart { .. } => true,
-        _ => false,
-    }
-}
-
 /// The leave that a line makes.
 fn leave_at(reading: Reading, ticket: u64) -> Event
     ensures { result ≡ spec.leave_at reading ticket }
@@ -71,7 +54,7 @@ fn leave_at(reading: Reading, ticket: u64) -> Event
 
 impl Session {
     ghost use Rattle.keystore_run.specs.Jobs.{JobsStand};
-    ghost use Rattle.keystore_run.specs.Session.{HasRoom, StandsFor, Serves, ServesBy, StepsTo, devices, engine_of, entries_in, jobs_of};
+    ghost use Rattle.keystore_run.specs.Session.{HasRoom, StandsFor, Serves, StepsTo, devices, engine_of, entries_in, jobs_of};
     ghost use Rattle.keystore_run.specs.SessionKept.{IsIdle};
 
     /// A session over an engine none of whose works is out.
@@ -115,32 +98,6 @@ impl Session {
         self.engine.step(disk, entropy, event, done)
     }
 
-    /// Makes the step of another event, and holds the job of a work that goes out.
-    fn go<D: Disk, N: Entropy>(&mut self, disk: &mut D, entropy: &mut N, event: Event) -> Stepped
-        requires few { entries_in self.old < 2 ^ 62 }
-        requires room { HasRoom self.old }
-        requires act { spec.left_by event.act ≡ None }
-        requires goes_on { acts_spec.is_restart event.act ≡ false }
-        ensures steps { (setup : Setup) (past : History) → StandsFor D.Disk setup self.old disk.old past → StepsTo D.Disk setup past self.new disk.old disk.new event result }
-        ensures entries { entries_in self.new ≤ entries_in self.old + 2 }
-        ensures drew { Drew N.Entropy entropy.old entropy.new result.drawn (is_entropy_fault result.reply) }
-    {
-        let next = self.engine.next_ticket();
-        let Stepped {
-            settled,
-            reply,
-            job,
-            drawn,
-        } = self.engine.step(disk, entropy, event, None);
-        self.jobs.hold(next, job);
-        Stepped {
-            settled,
-            reply,
-            job: None,
-            drawn,
-        }
-    }
-
     /// Makes the step of a restart. Where it is admitted no work is out any more.
     fn restart<D: Disk, N: Entropy>(
         &mut self,
@@ -159,7 +116,7 @@ impl Session {
         stepped
     }
 
-    /// Makes the step of an event.
+    /// Makes the step of an event: of a leave, of a restart, or of another one, and then it holds the job of a work that goes out.
     fn step<D: Disk, N: Entropy>(&mut self, disk: &mut D, entropy: &mut N, event: Event) -> Stepped
         requires few { entries_in self.old < 2 ^ 62 }
         requires room { HasRoom self.old }
@@ -167,51 +124,31 @@ impl Session {
         ensures entries { entries_in self.new ≤ entries_in self.old + 2 }
         ensures drew { Drew N.Entropy entropy.old entropy.new result.drawn (is_entropy_fault result.reply) }
     {
-        let restarts = is_restart(&event.act);
-        match left_by(&event.act) {
-            Some(ticket) => self.leave(disk, entropy, event, ticket),
-            None => {
-                if restarts {
-                    self.restart(disk, entropy, event)
-                } else {
-                    self.go(disk, entropy, event)
-                }
-            }
+        if let Some(ticket) = event.act.ticket() {
+            return self.leave(disk, entropy, event, ticket);
+        }
+        if event.act.is_restart() {
+            return self.restart(disk, entropy, event);
+        }
+        let next = self.engine.next_ticket();
+        let Stepped {
+            settled,
+            reply,
+            job,
+            drawn,
+        } = self.engine.step(disk, entropy, event, None);
+        self.jobs.hold(next, job);
+        Stepped {
+            settled,
+            reply,
+            job: None,
+            drawn,
         }
     }
 
-    /// Makes the steps of what a line says, and gives their reply lines.
-    fn serve<D: Disk, N: Entropy>(
-        &mut self,
-        alloc: Global,
-        disk: &mut D,
-        entropy: &mut N,
-        line: Line,
-    ) -> Result<Answer, NoMemory>
-        requires few { entries_in self.old < 2 ^ 62 - 2 }
-        ensures serves { (setup : Setup) (past : History) → StandsFor D.Disk setup self.old disk.old past →
-            ServesBy D.Disk N.Entropy setup past self.new (Some line) (devices disk.old entropy.old) (devices disk.new entropy.new) (text_in result) }
-        ensures answer { IfOk result IsAnswer }
-        ensures entries { entries_in self.new ≤ entries_in self.old + 3 }
-    {
-        let Line { event, hold } = line;
-        let reading = event.reading;
-        let Ok(()) = self.reserve() else {
-            drop(event);
-            return Err(NoMemory);
-        };
-        let stepped = self.step(disk, entropy, event);
-        let Some(ticket) = ticket_due(hold, &stepped.reply) else {
-            return answer_of(alloc, stepped);
-        };
-        let settled = stepped.settled;
-        drop(stepped);
-        let left = self.leave(disk, entropy, leave_at(reading, ticket), ticket);
-        answer_of(alloc, Stepped { settled, ..left })
-    }
-
-    /// Makes the steps of one line and gives their reply lines: of a line that enters without holding, the enter and its
-    /// leave, with the leave's reply. Before it stands the settled line, where the first step settled an earlier change.
+    /// Makes the steps of one line and gives what is written of them. Of a line that enters without holding these are the enter and
+    /// its leave, with the leave's reply; before a reply line stands the settled line, where the first step settled an earlier change.
+    /// In a trace each entry has its line.
     /// After want of memory the session stands for the history with all of the line's entries, or with none of them. What the
     /// entropy gave was drawn for these entries. One of them is the reply to a failed draw exactly where a draw failed, or to
     /// a failed call of the disk exactly where one failed, and one at most. At each moment since the line's start each image
@@ -220,39 +157,38 @@ impl Session {
     pub fn answer<D: Disk, N: Entropy>(
         &mut self,
         alloc: Global,
+        written: Written,
         disk: &mut D,
         entropy: &mut N,
         line: &[u8],
     ) -> Result<Answer, NoMemory>
         requires few { entries_in self.old < 2 ^ 62 - 2 }
         ensures serves { (setup : Setup) (past : History) → StandsFor D.Disk setup self.old disk.old past →
-            Serves D.Disk N.Entropy setup past self.new line.now (devices disk.old entropy.old) (devices disk.new entropy.new) (text_in result) }
-        ensures answer { IfOk result IsAnswer }
+            Serves D.Disk N.Entropy written setup past self.new line.now (devices disk.old entropy.old) (devices disk.new entropy.new) (text_in result) }
+        ensures answer { IfOk result (IsAnswer written) }
         ensures entries { entries_in self.new ≤ entries_in self.old + 3 }
     {
-        match event_of(alloc, line) {
-            Ok(line) => self.serve(alloc, disk, entropy, line),
-            Err(LineFault::Malformed) => malformed(alloc),
-            Err(LineFault::Memory) => Err(NoMemory),
-        }
-    }
-
-    /// The same, of which the text alone is given.
-    pub fn line<D: Disk, N: Entropy>(
-        &mut self,
-        alloc: Global,
-        disk: &mut D,
-        entropy: &mut N,
-        line: &[u8],
-    ) -> Result<Bytes, NoMemory>
-        requires few { entries_in self.old < 2 ^ 62 - 2 }
-        ensures serves { (setup : Setup) (past : History) → StandsFor D.Disk setup self.old disk.old past →
-            Serves D.Disk N.Entropy setup past self.new line.now (devices disk.old entropy.old) (devices disk.new entropy.new) result }
-        ensures entries { entries_in self.new ≤ entries_in self.old + 3 }
-    {
-        match self.answer(alloc, disk, entropy, line) {
-            Ok(answer) => Ok(answer.text),
-            Err(NoMemory) => Err(NoMemory),
-        }
+        let line = match event_of(alloc, line) {
+            Ok(line) => line,
+            Err(LineFault::Malformed) => return malformed(alloc, written),
+            Err(LineFault::Memory) => return Err(NoMemory),
+        };
+        let Line { event, hold } = line;
+        let reading = event.reading;
+        let Ok(telling) = Telling::of(alloc, written, &event) else {
+            drop(event);
+            return Err(NoMemory);
+        };
+        let Ok(()) = self.reserve() else {
+            drop(event);
+            drop(telling);
+            return Err(NoMemory);
+        };
+        let stepped = self.step(disk, entropy, event);
+        let Some(ticket) = ticket_due(hold, &stepped.reply) else {
+            return telling.step(alloc, stepped);
+        };
+        let left = self.leave(disk, entropy, leave_at(reading, ticket), ticket);
+        telling.step_and_leave(alloc, stepped, leave_at(reading, ticket), left)
     }
 }

@@ -13,6 +13,7 @@ use crate::answer::Answer;
 use crate::session::Session;
 use crate::status::Status;
 use crate::writer::write_all;
+use crate::written::Written;
 use disk_model::{DiskRoom, MemoryDisk};
 use keystore_core::Engine;
 use ks_outside::{Disk, Entropy, SeededEntropy, Sink};
@@ -75,7 +76,7 @@ fn serve_load<D: Disk, N: Entropy>(
 {
     let mut summary = Summary::new(alloc);
     'lines: while let Some(line) = script.next(alloc)? {
-        let answer = session.answer(alloc, disk, entropy, line.as_bytes())?;
+        let answer = session.answer(alloc, Written::Replies, disk, entropy, line.as_bytes())?;
         if tells_failure(&answer) {
             return Err(NoMemory);
         }

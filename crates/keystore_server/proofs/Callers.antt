@@ -10,7 +10,7 @@ use Rattle.rule_model.specs.declared.reply.Reply.{Reply}
 use Rattle.rule_model.specs.declared.reply.Reply.TheVariants.{Done, Broken, Stopped}
 use Rattle.rule_model.specs.Acts.{is_connect, is_disconnect}
 use Rattle.rule_model.specs.Entries.{is_done}
-use Rattle.wire_frames.specs.Spelling.{is_framed}
+use Rattle.rule_model.specs.Acts.{is_framed}
 use Rattle.service_book.specs.declared.entry.BookEntry.{BookEntry}
 use Rattle.connections.specs.Talks.{is_refusal}
 use Rattle.atomic_table.specs.Seated.{TableId, table_id_coded}
@@ -27,29 +27,8 @@ use Rattle.keystore_server.specs.Equality.{IsEqualInOneWay}
 -- ---- clients
 
 no_disconnect : (act : Act) → is_framed act ≡ true → is_disconnect act ≡ false
-no_disconnect (Connect uid) e = refl
 no_disconnect Disconnect e = absurd (cc)
-no_disconnect (GenerateKey key params) e = refl
-no_disconnect (ImportKey key params format material) e = refl
-no_disconnect (CreateOperation key params forced) e = refl
-no_disconnect (EnterAad op input) e = refl
-no_disconnect (EnterUpdate op input) e = refl
-no_disconnect (EnterFinish op input signature) e = refl
-no_disconnect (Abort op) e = refl
-no_disconnect (GetKeyEntry key) e = refl
-no_disconnect (DeleteKey key) e = refl
-no_disconnect (Grant key uid bits) e = refl
-no_disconnect (Ungrant key uid) e = refl
-no_disconnect (GetNumberOfEntries domain nspace) e = refl
-no_disconnect (ListEntriesBatched domain nspace past) e = refl
-no_disconnect (AddAuthToken challenge user authenticator kind time mac) e = refl
-no_disconnect (DeviceLocked user) e = refl
-no_disconnect (DeviceUnlocked user) e = refl
-no_disconnect EarlyBootEnded e = refl
-no_disconnect (ClearNamespace domain nspace) e = refl
-no_disconnect (UserRemoved user) e = refl
-no_disconnect (Leave ticket) e = refl
-no_disconnect (Restart root) e = refl
+no_disconnect _ e = refl
 
 one_of : (joins made parts before : Bool) → parts ≡ false → (if joins then true else if made && parts then false else before) ≡ (before || joins)
 one_of true made parts true e = refl

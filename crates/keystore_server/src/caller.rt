@@ -6,10 +6,9 @@ ghost use Rattle.keystore_server.specs.Equality.{IsEqualInOneWay};
 
 use connections::Answerer;
 use ks_outside::{Clock, Disk, Entropy, Gate};
-use rule_model::Reply;
+use rule_model::{Reply, Request};
 use shared_service::{Pass, Served, ServiceId, Shared};
 use std::sync::Wait;
-use wire_frames::Request;
 
 /// A pass of a service, with the clocks and the gate of its calls.
 #[derive(Drop)]

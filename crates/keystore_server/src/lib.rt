@@ -25,4 +25,4 @@ pub use end::{ServeEnd, ServeStatus};
 pub use listening::serve_listener;
 pub use service::serve_words;
 pub use serving::serve_connection;
-pub use words::{ServeForm, serve_form_of, serve_port};
+pub use words::{ServeForm, serve_form_of};

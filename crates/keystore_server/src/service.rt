@@ -117,7 +117,7 @@ where
     }
 }
 
-/// Serves the words `serve PORT CONNECTIONS WORKERS`: opens the store of the disk, and serves so many connections of the listener over it,
+/// Serves the words `serve PORT CONNECTIONS WORKERS`, and optionally `--trace`, which is its caller's matter: opens the store of the disk, and serves so many connections of the listener over it,
 /// or as many as come, so many of them at a time where threads can be made. The port is the listener's matter. Each connection is served
 /// as `serve_connection` says, all on one shared service, which is closed at the end. The gate is called between the
 /// two turns of each call that has a work.

@@ -15,11 +15,13 @@ pub struct ServeForm {
     pub connections: u32,
     /// how many of them at a time
     pub workers: u32,
+    /// whether the book is written at the end, as a trace
+    pub traced: bool,
 }
 
 /// The form of three words that give a port, connections and workers.
-fn form_in(port: &[u8], connections: &[u8], workers: &[u8]) -> Option<ServeForm>
-    ensures form { result ≡ spec.form_in port.now connections.now workers.now }
+fn form_in(port: &[u8], connections: &[u8], workers: &[u8], traced: bool) -> Option<ServeForm>
+    ensures form { result ≡ spec.form_in port.now connections.now workers.now traced }
     ensures within { IfSome result IsWithin }
 {
     let port = number_in(0, 65535, port)?;
@@ -29,11 +31,12 @@ fn form_in(port: &[u8], connections: &[u8], workers: &[u8]) -> Option<ServeForm>
         port: port as u16,
         connections: connections as u32,
         workers,
+        traced,
     })
 }
 
-/// The form of the words `serve PORT CONNECTIONS WORKERS`: a port up to 65,535, 1 to 65,536 connections and 1 to 64 workers. Other words
-/// are none. It takes no memory.
+/// The form of the words `serve PORT CONNECTIONS WORKERS`, and optionally `--trace`: a port up to 65,535, 1 to 65,536 connections and 1 to
+/// 64 workers. Other words are none. It takes no memory.
 pub fn serve_form_of(words: &[String]) -> Option<ServeForm>
     ensures form { result ≡ spec.form_of words.now }
     ensures within { IfSome result IsWithin }
@@ -41,21 +44,28 @@ pub fn serve_form_of(words: &[String]) -> Option<ServeForm>
     match words {
         [first, port, connections, workers] => {
             if first.as_str() == "serve" {
-                form_in(port.as_bytes(), connections.as_bytes(), workers.as_bytes())
+                form_in(
+                    port.as_bytes(),
+                    connections.as_bytes(),
+                    workers.as_bytes(),
+                    false,
+                )
+            } else {
+                None
+            }
+        }
+        [first, port, connections, workers, last] => {
+            if first.as_str() == "serve" && last.as_str() == "--trace" {
+                form_in(
+                    port.as_bytes(),
+                    connections.as_bytes(),
+                    workers.as_bytes(),
+                    true,
+                )
             } else {
                 None
             }
         }
         _ => None,
-    }
-}
-
-/// The port of words that serve, and `None` exactly where they are no form of it. It takes no memory.
-pub fn serve_port(words: &[String]) -> Option<u16>
-    ensures { result ≡ spec.port_of (spec.form_of words.now) }
-{
-    match serve_form_of(words) {
-        Some(form) => Some(form.port),
-        None => None,
     }
 }

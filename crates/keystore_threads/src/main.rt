@@ -9,7 +9,7 @@
 //!     keystore_threads book ROUNDS THREADS
 //!
 //! In a round a thread begins and ends a mac of eight bytes, or one of 16 texts of 16 KiB, or one with a key of its own and one
-//! with a key that all threads use and that five uses end; `book` writes the book, an entry a line. The last line counts the macs
+//! with a key that all threads use and that five uses end; `book` writes the book as a trace. The last line counts the macs
 //! of the known text and the book's entries. `check` makes the calls of the rows of `src/rows.rt` and says what they came to.
 #![tactic(auto)]
 
@@ -20,8 +20,22 @@ use crate::rows::{full, held, limited, pair, run_row, show};
 use crate::words::LoadWords;
 use service_book::Book;
 use service_load::{Board, Load, LoadKind, run};
-use std::io;
+use std::alloc::AllocError;
+use std::io::{self, Write};
 use std::process::ExitCode;
+use trace_lines::entry_line;
+
+/// Writes a book as a trace.
+fn write_book(rt: &HostRuntime, book: &Book) -> io::Result<()> {
+    let mut out = io::writer(rt);
+    for row in book.entries() {
+        let Ok(line) = entry_line(rt.alloc(), &row.entry) else {
+            return Err(AllocError.into());
+        };
+        out.write_all(line.as_slice())?;
+    }
+    Ok(())
+}
 
 /// Says what the calls of a load came to.
 fn show_load(rt: &HostRuntime, load: Load, right: u64, book: Option<Book>) -> io::Result<ExitCode> {
@@ -30,9 +44,7 @@ fn show_load(rt: &HostRuntime, load: Load, right: u64, book: Option<Book>) -> io
         return Ok(ExitCode::from(1));
     };
     if load.kind == LoadKind::Book {
-        for entry in book.entries() {
-            println!(rt; "{entry:?}")?;
-        }
+        write_book(rt, &book)?;
     }
     let entries = book.entries().len();
     println!(rt; "{} threads: {right} macs, {entries} entries", load.threads)?;

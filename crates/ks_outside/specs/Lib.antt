@@ -11,4 +11,3 @@ pub mod Ranges
 pub mod Seeded
 pub mod Shown
 pub mod Telling
-pub mod WholeReads

@@ -1,6 +1,6 @@
 //! What the time is.
 
-ghost use Rattle.std.specs.Prelude.{◌≡◌};
+ghost use Rattle.std.specs.Prelude.{◌≡◌, ⊤};
 ghost use Rattle.ks_outside.specs.Clocks.{milliseconds};
 
 use std::time::Duration;
@@ -15,8 +15,14 @@ pub struct Reading {
 
 /// The clocks. A reading cannot fail, and later readings need not be greater.
 pub trait Clock {
+    ghost use Rattle.ks_outside.specs.declared.clock.Reading.{Reading};
+
+    /// The readings that the clocks may show.
+    ghost shows: { Self → Reading → Type 0 };
+
     /// What the clocks say now.
-    fn now(&self) -> Reading;
+    fn now(&self) -> Reading
+        ensures shown { shows self.now result };
 }
 
 /// Clocks that stand.
@@ -35,8 +41,10 @@ impl FixedClock {
 }
 
 impl Clock for FixedClock {
+    ghost shows = { λ clock reading. reading ≡ clock.reading };
+
     fn now(&self) -> Reading
-        ensures { result ≡ self.now.reading }
+        ensures shown { result ≡ self.now.reading }
     {
         self.reading
     }
@@ -67,6 +75,8 @@ fn milliseconds_of(read: io::Result<Duration>) -> u64
 }
 
 impl<R: time::Clock> Clock for MachineClock<'_, R> {
+    ghost shows = { λ _ _. ⊤ };
+
     fn now(&self) -> Reading {
         Reading {
             boot: milliseconds_of(self.rt.monotonic()),

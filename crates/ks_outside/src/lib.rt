@@ -4,8 +4,7 @@
 //!
 //! The one contract: the content (bytes left, bytes written, bytes to come), where an object tells it, moves exactly as a call
 //! answers and stays where it fails; and the object's count of faults rises in a call that fails, and stays as it was in a call that answers Ok. Of
-//! a disk it says besides what a crash may leave now, and might have left since an earlier moment; `write_synced`, `read_synced_byte` and
-//! `read_synced` are said in images alone.
+//! a disk it says besides what a crash may leave now, and might have left since an earlier moment.
 #![tactic(auto)]
 
 mod adapters;
@@ -25,8 +24,6 @@ mod seeded;
 mod sink;
 mod source;
 mod stream_link;
-mod synced;
-mod whole;
 
 pub use adapters::{ReaderSource, WriterSink};
 pub use calls::FailingCalls;
@@ -44,5 +41,3 @@ pub use seeded::SeededEntropy;
 pub use sink::{MemorySink, Sink};
 pub use source::{MemorySource, Source, SteadySource};
 pub use stream_link::StreamLink;
-pub use synced::{read_synced_byte, write_synced};
-pub use whole::{ReadFault, read_synced};

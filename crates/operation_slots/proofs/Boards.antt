@@ -10,7 +10,7 @@ use Rattle.slot_chain.specs.Ordered.{IsAt, IsGap}
 use Rattle.slot_chain.specs.Table.{ChainTable, list_in, places_count, Pushes, Unlinks, without as without_place, IsInNone, IsInOne, is_in}
 use Rattle.slot_chain.specs.Table as chains
 use Rattle.slot_chain.proofs.Ordering.{rising_differ, found_at, found_in_gap, none_named, not_found, rising_inserted, rising_removed, keys_set, set_is_change, remove_is_filter}
-use Rattle.operation_slots.specs.declared.operation.Operation.{Operation}
+use Rattle.operation_slots.specs.declared.operation.SlotOperation.{SlotOperation}
 use Rattle.operation_slots.specs.declared.cells.Cell.{Cell}
 use Rattle.operation_slots.specs.declared.index.Numbered.{Numbered}
 use Rattle.operation_slots.specs.Counted.{CountTable, count_in, Raises, Lowers}
@@ -48,7 +48,7 @@ module _ {T : Type 0} where
   began_first stamp (e ∷ es) h k = ((let one : begun_of e ≤ stamp_of e = h.0 in let two : stamp_of e < stamp = k.0 in omega arith), began_first stamp es h.1 k.1)
 
   -- the operations with a change of the one of this number
-  pub changed_operations : (n : ℕ) (f : PlacedOperation T → PlacedOperation T) (g : Operation T → Operation T) → ((e : PlacedOperation T) → begun_of (f e) ≡ begun_of e) → ((e : PlacedOperation T) → operation_of (f e) ≡ g (operation_of e)) → (es : List (PlacedOperation T))
+  pub changed_operations : (n : ℕ) (f : PlacedOperation T → PlacedOperation T) (g : SlotOperation T → SlotOperation T) → ((e : PlacedOperation T) → begun_of (f e) ≡ begun_of e) → ((e : PlacedOperation T) → operation_of (f e) ≡ g (operation_of e)) → (es : List (PlacedOperation T))
       → operations_in (map (λ e. cond (number_of e == n) (f e) e) es) ≡ with_change n g (operations_in es)
   changed_operations n f g same is es = ap (map operation_of) (order_map begun_of (λ e. cond (number_of e == n) (f e) e) kept es) ∙ mapped (in_order begun_of es) where
     kept : (e : PlacedOperation T) → begun_of (cond (number_of e == n) (f e) e) ≡ begun_of e
@@ -61,7 +61,7 @@ module _ {T : Type 0} where
     mapped [] = refl
     mapped (x ∷ xs) = (λ i. one x i ∷ mapped xs i)
 
-  pub fewer_operations : (p : Operation T → Bool) (es : List (PlacedOperation T)) → operations_in (filter (λ e. p (operation_of e)) es) ≡ filter p (operations_in es)
+  pub fewer_operations : (p : SlotOperation T → Bool) (es : List (PlacedOperation T)) → operations_in (filter (λ e. p (operation_of e)) es) ≡ filter p (operations_in es)
   fewer_operations p es = ap (map operation_of) (order_filter begun_of (λ e. p (operation_of e)) es) ∙ sym (filter_map_is operation_of p (in_order begun_of es))
 
   none_all : (p : ℕ) (xs : List (PlacedOperation T)) → NoneIs p (map place_of xs) → AllByRecursion (λ x. place_of x ≢ p) xs
@@ -321,7 +321,7 @@ module _ {T : Type 0} where
 
     -- ---- one more begins
 
-    module _ (later : List (Cell T)) (left : List ℕ) (place : ℕ) (operation : Operation T) (at : ℕ) (lays : Lays cells free later left place (record { operation = operation; begun = operation.stamp }))
+    module _ (later : List (Cell T)) (left : List ℕ) (place : ℕ) (operation : SlotOperation T) (at : ℕ) (lays : Lays cells free later left place (record { operation = operation; begun = operation.stamp }))
         (gap : IsGap index_number index operation.number at) (newest : All (λ o. o.stamp < operation.stamp) (operations_in (entries cells index))) (idles : is_idle operation ≡ true) where
       abbrev new_entry : PlacedOperation T
       new_entry = record { place = place; cell = record { operation = operation; begun = operation.stamp } }

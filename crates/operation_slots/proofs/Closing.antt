@@ -1,7 +1,7 @@
 -- The walk that takes out the operations of a client.
 use Rattle.std.proofs.Common.{◌≡◌, ◌<◌, ◌≤◌, ◌-◌, ℕ, zero, suc, Bool, true, false, not, cond, List, [], ◌∷◌, ◌++◌, take, drop, filter, length, get_or, Some, refl, sym, ap, ◌∙◌, subst, arith, inl, inr}
 use Rattle.std.specs.List.{remove, slice_get}
-use Rattle.operation_slots.specs.declared.board.Board.{Board}
+use Rattle.operation_slots.specs.declared.board.SlotBoard.{SlotBoard}
 use Rattle.operation_slots.specs.Table.{is_client}
 use Rattle.std.proofs.lemmas.List.{length-map}
 use Rattle.std.proofs.lemmas.Option.{slice_get-get_or}
@@ -42,19 +42,19 @@ module _ {T : Type 0} where
   abbrev pub is_entry_of_client : ℕ → PlacedOperation T → Bool
   is_entry_of_client client e = is_client client (operation_of e)
 
-  pub record IsClosing (old now : Board T) (client at : ℕ) : Type 0 where
+  pub record IsClosing (old now : SlotBoard T) (client at : ℕ) : Type 0 where
     pub kept : IsKept now
     pub entries : entries_of now ≡ left_from (is_entry_of_client client) (entries_of old) at
     pub within : at ≤ length (entries_of old)
     pub capacity : now.capacity ≡ old.capacity
 
-  pub closing_within : (old now : Board T) (client at : ℕ) → IsClosing old now client at → 0 < at → at - 1 < length (entries_of now)
+  pub closing_within : (old now : SlotBoard T) (client at : ℕ) → IsClosing old now client at → 0 < at → at - 1 < length (entries_of now)
   closing_within old now client at so some =
       let E = entries_of old in
       let next : suc (at - 1) ≡ at = omega (arith, some) in
       subst (λ (l : List (PlacedOperation T)). at - 1 < length l) (sym (so.entries ∙ ap (left_from (is_entry_of_client client) E) (sym next))) (left_within (is_entry_of_client client) E (at - 1) (omega (arith, some, so.within)))
 
-  pub closing_step : (old now later : Board T) (client at : ℕ) → IsClosing old now client at → 0 < at → IsKept later → later.capacity ≡ now.capacity
+  pub closing_step : (old now later : SlotBoard T) (client at : ℕ) → IsClosing old now client at → 0 < at → IsKept later → later.capacity ≡ now.capacity
       → ((e : PlacedOperation T) → slice_get (entries_of now) (at - 1) ≡ Some e → entries_of later ≡ cond (is_client client (operation_of e)) (remove (entries_of now) (at - 1)) (entries_of now)) → IsClosing old later client (at - 1)
   closing_step old now later client at so some kept capacity does =
       let out : PlacedOperation T → Bool = is_entry_of_client client in
@@ -75,11 +75,11 @@ module _ {T : Type 0} where
         blank_entry : PlacedOperation T
         blank_entry = record { place = 0; cell = blank }
 
-  pub closing_start : (old : Board T) (client at : ℕ) → IsKept old → at ≡ length old.index.items → IsClosing old old client at
+  pub closing_start : (old : SlotBoard T) (client at : ℕ) → IsKept old → at ≡ length old.index.items → IsClosing old old client at
   closing_start old client at kept e =
       let long : at ≡ length (entries_of old) = e ∙ sym (length-map old.index.items (entry old.cells.items)) in
       record { kept = kept; entries = sym (ap (left_from (is_entry_of_client client) (entries_of old)) long ∙ left_start (is_entry_of_client client) (entries_of old)); within = omega (arith, long); capacity = refl }
 
-  pub closing_end : (old now : Board T) (client at : ℕ) → IsClosing old now client at → at ≡ 0 → operations_on now ≡ filter (λ o. not (is_client client o)) (operations_on old)
+  pub closing_end : (old now : SlotBoard T) (client at : ℕ) → IsClosing old now client at → at ≡ 0 → operations_on now ≡ filter (λ o. not (is_client client o)) (operations_on old)
   closing_end old now client at so e =
       ap operations_in (so.entries ∙ ap (left_from (is_entry_of_client client) (entries_of old)) e) ∙ fewer_operations (λ o. not (is_client client o)) (entries_of old)

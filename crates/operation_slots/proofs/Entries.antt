@@ -6,7 +6,7 @@ use Rattle.std.proofs.lemmas.List.{length-map}
 use Rattle.std.proofs.lemmas.List.Sums.{sum_by-append}
 use Rattle.std.proofs.lemmas.List.Elements.{recursion_from_All, All-from_recursion}
 use Rattle.std.proofs.lemmas.Bool.{cases_Bool, ltb-true, eq-eqb, ne_eqb}
-use Rattle.operation_slots.specs.declared.operation.Operation.{Operation}
+use Rattle.operation_slots.specs.declared.operation.SlotOperation.{SlotOperation}
 use Rattle.operation_slots.specs.declared.cells.Cell.{Cell}
 use Rattle.operation_slots.specs.declared.index.Numbered.{Numbered}
 use Rattle.slot_chain.specs.Linked.{NoneIs, AllDiffer}
@@ -164,23 +164,23 @@ module _ {T : Type 0} where
 
   -- ---- what is known of the operations is known in their places
 
-  pub all_entries : (P : Operation T → Type 0) (es : List (PlacedOperation T)) → All P (operations_in es) → AllByRecursion (λ e. P (operation_of e)) es
+  pub all_entries : (P : SlotOperation T → Type 0) (es : List (PlacedOperation T)) → All P (operations_in es) → AllByRecursion (λ e. P (operation_of e)) es
   all_entries P es h = in_order_all begun_of (λ e. P (operation_of e)) es (all_mapped operation_of P (in_order begun_of es) (recursion_from_All P (operations_in es) h))
 
-  pub all_operations : (P : Operation T → Type 0) (es : List (PlacedOperation T)) → AllByRecursion (λ e. P (operation_of e)) es → All P (operations_in es)
+  pub all_operations : (P : SlotOperation T → Type 0) (es : List (PlacedOperation T)) → AllByRecursion (λ e. P (operation_of e)) es → All P (operations_in es)
   all_operations P es h = All-from_recursion P (operations_in es) (mapped_all operation_of P (in_order begun_of es) (all_in_order begun_of (λ e. P (operation_of e)) es h))
 
   pub found_operation : (n : ℕ) (es : List (PlacedOperation T)) → AllDiffer (map number_of es) → find (has_number n) (operations_in es) ≡ option_map operation_of (find (λ e. number_of e == n) es)
   found_operation n es differ = find_map operation_of (has_number n) (in_order begun_of es) ∙ ap (option_map operation_of) (find_in_order begun_of number_of n es differ)
 
-  pub any_operation : (p : Operation T → Bool) (es : List (PlacedOperation T)) → list_any p (operations_in es) ≡ list_any (λ e. p (operation_of e)) es
+  pub any_operation : (p : SlotOperation T → Bool) (es : List (PlacedOperation T)) → list_any p (operations_in es) ≡ list_any (λ e. p (operation_of e)) es
   any_operation p es = any_map operation_of p (in_order begun_of es) ∙ any_in_order begun_of (λ e. p (operation_of e)) es
 
-  count_mapped : (p : Operation T → Bool) (es : List (PlacedOperation T)) → count_by p (map operation_of es) ≡ count_by (λ e. p (operation_of e)) es
+  count_mapped : (p : SlotOperation T → Bool) (es : List (PlacedOperation T)) → count_by p (map operation_of es) ≡ count_by (λ e. p (operation_of e)) es
   count_mapped p [] = refl
   count_mapped p (e ∷ es) = let one = count_cons p (operation_of e) (map operation_of es) in let two = count_cons (λ x. p (operation_of x)) e es in let rest = count_mapped p es in omega (arith, one, two, rest)
 
-  pub count_operations : (p : Operation T → Bool) (es : List (PlacedOperation T)) → count_by p (operations_in es) ≡ count_by (λ e. p (operation_of e)) es
+  pub count_operations : (p : SlotOperation T → Bool) (es : List (PlacedOperation T)) → count_by p (operations_in es) ≡ count_by (λ e. p (operation_of e)) es
   count_operations p es = count_mapped p (in_order begun_of es) ∙ count_in_order begun_of (λ e. p (operation_of e)) es
 
   pub length_operations : (es : List (PlacedOperation T)) → length (operations_in es) ≡ length es

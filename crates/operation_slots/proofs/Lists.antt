@@ -5,17 +5,17 @@ use Rattle.std.specs.List.{remove}
 use Rattle.std.specs.Option.{option_or}
 use Rattle.std.proofs.lemmas.List.Folds.{find-append}
 use Rattle.std.proofs.lemmas.Bool.{eqb-true, ne_eqb, cases_Bool, eq-eqb}
-use Rattle.operation_slots.specs.declared.operation.Operation.{Operation}
+use Rattle.operation_slots.specs.declared.operation.SlotOperation.{SlotOperation}
 use Rattle.slot_chain.specs.Linked.{NoneIs}
 use Rattle.operation_slots.specs.Table.{has_number, with_change, without, numbers_of}
 
 module _ {T : Type 0} where
   -- what has none of this number stays
-  pub unchanged : (n : ℕ) (f : Operation T → Operation T) (xs : List (Operation T)) → NoneIs n (numbers_of xs) → with_change n f xs ≡ xs
+  pub unchanged : (n : ℕ) (f : SlotOperation T → SlotOperation T) (xs : List (SlotOperation T)) → NoneIs n (numbers_of xs) → with_change n f xs ≡ xs
   unchanged n f [] h = refl
   unchanged n f (x ∷ xs) h = rw (ne_eqb x.number n h.0) (ap (λ ys. x ∷ ys) (unchanged n f xs h.1))
 
-  pub not_found : (n : ℕ) (xs : List (Operation T)) → find (has_number n) xs ≡ None → NoneIs n (numbers_of xs)
+  pub not_found : (n : ℕ) (xs : List (SlotOperation T)) → find (has_number n) xs ≡ None → NoneIs n (numbers_of xs)
   not_found n [] h = tt
   not_found n (x ∷ xs) h = elim (cases_Bool (has_number n x)) [
     | inl e ↦ absurd (let h' : Some x ≡ None = rw e at h in cc)
@@ -24,7 +24,7 @@ module _ {T : Type 0} where
 
   -- ---- what a look-up finds afterwards
 
-  pub found_change : (n : ℕ) (f : Operation T → Operation T) → ((o : Operation T) → (f o).number ≡ o.number) → (xs : List (Operation T)) (m : ℕ) →
+  pub found_change : (n : ℕ) (f : SlotOperation T → SlotOperation T) → ((o : SlotOperation T) → (f o).number ≡ o.number) → (xs : List (SlotOperation T)) (m : ℕ) →
       find (has_number m) (with_change n f xs) ≡ cond (m == n) (option_map f (find (has_number m) xs)) (find (has_number m) xs)
   found_change n f same [] m = elim (cases_Bool (m == n)) [ inl e ↦ rw e refl | inr e ↦ rw e refl ]
   found_change n f same (x ∷ xs) m =
@@ -41,7 +41,7 @@ module _ {T : Type 0} where
         ])
       ]
 
-  pub found_without : (n : ℕ) (xs : List (Operation T)) (m : ℕ) → find (has_number m) (without n xs) ≡ cond (m == n) None (find (has_number m) xs)
+  pub found_without : (n : ℕ) (xs : List (SlotOperation T)) (m : ℕ) → find (has_number m) (without n xs) ≡ cond (m == n) None (find (has_number m) xs)
   found_without n [] m = elim (cases_Bool (m == n)) [ inl e ↦ rw e refl | inr e ↦ rw e refl ]
   found_without n (x ∷ xs) m =
       let later = found_without n xs m in
@@ -56,11 +56,11 @@ module _ {T : Type 0} where
         ])
       ]
 
-  or_none : (o : Option (Operation T)) → option_or o None ≡ o
+  or_none : (o : Option (SlotOperation T)) → option_or o None ≡ o
   or_none None = refl
   or_none (Some o) = refl
 
-  pub found_begun : (xs : List (Operation T)) (x : Operation T) (m : ℕ) → find (has_number x.number) xs ≡ None → find (has_number m) (xs ++ x ∷ []) ≡ cond (m == x.number) (Some x) (find (has_number m) xs)
+  pub found_begun : (xs : List (SlotOperation T)) (x : SlotOperation T) (m : ℕ) → find (has_number x.number) xs ≡ None → find (has_number m) (xs ++ x ∷ []) ≡ cond (m == x.number) (Some x) (find (has_number m) xs)
   found_begun xs x m fresh = find-append (has_number m) xs (x ∷ []) ∙ elim (cases_Bool (m == x.number)) [
     | inl a ↦ (let none : find (has_number m) xs ≡ None = subst (λ (k : ℕ). find (has_number k) xs ≡ None) (sym (eqb-true m x.number a)) fresh in
         rw (none, a, eq-eqb x.number m (sym (eqb-true m x.number a))) refl)

@@ -4,8 +4,8 @@ use Rattle.std.specs.List.{AllByRecursion}
 use Rattle.slot_chain.specs.Ordered.{IsOrdered}
 use Rattle.slot_chain.specs.Table.{ChainTable, list_in, owners_of, places_count}
 use Rattle.slot_chain.specs.Table as chains
-use Rattle.operation_slots.specs.declared.operation.Operation.{Operation}
-use Rattle.operation_slots.specs.declared.board.Board.{Board}
+use Rattle.operation_slots.specs.declared.operation.SlotOperation.{SlotOperation}
+use Rattle.operation_slots.specs.declared.board.SlotBoard.{SlotBoard}
 use Rattle.operation_slots.specs.declared.cells.Cell.{Cell}
 use Rattle.operation_slots.specs.declared.index.Numbered.{Numbered}
 use Rattle.operation_slots.specs.Counted.{CountTable, count_in, total, room_in}
@@ -80,7 +80,7 @@ module _ {T : Type 0} where
   abbrev pub place_of : PlacedOperation T → ℕ
   place_of e = e.place
 
-  abbrev pub operation_of : PlacedOperation T → Operation T
+  abbrev pub operation_of : PlacedOperation T → SlotOperation T
   operation_of e = e.cell.operation
 
   abbrev pub number_of : PlacedOperation T → ℕ
@@ -99,7 +99,7 @@ module _ {T : Type 0} where
   is_entry_of uid e = is_of uid e.cell.operation
 
   -- the operations, in the order in which they began
-  abbrev pub operations_in : List (PlacedOperation T) → List (Operation T)
+  abbrev pub operations_in : List (PlacedOperation T) → List (SlotOperation T)
   operations_in es = map operation_of (in_order begun_of es)
 
   -- the places of the idle operations of a uid, in the order of their stamps
@@ -110,7 +110,7 @@ module _ {T : Type 0} where
   BeganBefore e = begun_of e ≤ stamp_of e
 
   -- what is kept of the list that contracts see
-  pub record IsHeld (operations : List (Operation T)) (capacity : ℕ) : Type 0 where
+  pub record IsHeld (operations : List (SlotOperation T)) (capacity : ℕ) : Type 0 where
     pub numbers : AllDiffer (numbers_of operations)
     pub stamps : AllDiffer (stamps_of operations)
     pub some : 0 < capacity
@@ -132,16 +132,16 @@ module _ {T : Type 0} where
     pub idle_sound : chains.IsSound idle
     pub idle_room : places_count idle ≡ capacity
 
-  abbrev pub entries_of : Board T → List (PlacedOperation T)
+  abbrev pub entries_of : SlotBoard T → List (PlacedOperation T)
   entries_of board = entries board.cells.items board.index.items
 
-  abbrev pub operations_on : Board T → List (Operation T)
+  abbrev pub operations_on : SlotBoard T → List (SlotOperation T)
   operations_on board = operations_in (entries_of board)
 
-  pub record IsKept (board : Board T) : Type 0 where
+  pub record IsKept (board : SlotBoard T) : Type 0 where
     pub held : IsHeld (operations_on board) board.capacity
     pub linked : IsLinked board.cells.items board.index.items board.free.items board.counts board.idle board.capacity
     pub memory : HasMemory board.capacity (vec_capacity board.cells) (vec_capacity board.index) (vec_capacity board.free) board.counts
 
-  abbrev pub seen : Board T → SlotTable T
+  abbrev pub seen : SlotBoard T → SlotTable T
   seen board = record { operations = operations_on board; capacity = board.capacity; owners = owners_of board.idle }

@@ -2,14 +2,14 @@
 use Rattle.std.specs.Prelude.{◌≡◌, option_map, ◌≢◌, ◌<◌, ◌≤◌, ◌^◌, ℕ, Bool, true, false, ◌&&◌, not, ◌==◌, nat_lt, is_some, List, [], ◌∷◌, ◌++◌, Option, Some, None, length, map, filter, find, count_by, All, if◌then◌else◌}
 use Rattle.std.specs.List.{list_any}
 use Rattle.slot_chain.specs.Linked.{AllDiffer}
-use Rattle.operation_slots.specs.declared.operation.Operation.{Operation}
+use Rattle.operation_slots.specs.declared.operation.SlotOperation.{SlotOperation}
 use Rattle.operation_slots.specs.declared.operation.Taken.{Taken}
 use Rattle.operation_slots.specs.declared.operation.Taken.TheVariants.{Found, Busy, Absent}
 
 -- the slots as they are seen
 pub record SlotTable (T : Type 0) : Type 0 where
   -- those that are held, in the order in which they began
-  pub operations : List (Operation T)
+  pub operations : List (SlotOperation T)
   -- how many there may be
   pub capacity : ℕ
   -- the uids that have an idle operation, in an order of which nothing is said
@@ -18,56 +18,56 @@ pub record SlotTable (T : Type 0) : Type 0 where
 module _ {T : Type 0} where
   -- ---- one operation
 
-  abbrev pub number_of : Operation T → ℕ
+  abbrev pub number_of : SlotOperation T → ℕ
   number_of o = o.number
 
-  abbrev pub uid_of : Operation T → ℕ
+  abbrev pub uid_of : SlotOperation T → ℕ
   uid_of o = o.uid
 
-  abbrev pub stamp_of : Operation T → ℕ
+  abbrev pub stamp_of : SlotOperation T → ℕ
   stamp_of o = o.stamp
 
-  abbrev pub client_of : Operation T → ℕ
+  abbrev pub client_of : SlotOperation T → ℕ
   client_of o = o.client
 
-  abbrev pub has_number : ℕ → Operation T → Bool
+  abbrev pub has_number : ℕ → SlotOperation T → Bool
   has_number number o = o.number == number
 
-  abbrev pub is_of : ℕ → Operation T → Bool
+  abbrev pub is_of : ℕ → SlotOperation T → Bool
   is_of uid o = o.uid == uid
 
-  abbrev pub is_client : ℕ → Operation T → Bool
+  abbrev pub is_client : ℕ → SlotOperation T → Bool
   is_client client o = o.client == client
 
   -- its value is there: it is not busy
-  abbrev pub is_idle : Operation T → Bool
+  abbrev pub is_idle : SlotOperation T → Bool
   is_idle o = is_some o.value
 
-  abbrev pub is_idle_of : ℕ → Operation T → Bool
+  abbrev pub is_idle_of : ℕ → SlotOperation T → Bool
   is_idle_of uid o = is_of uid o && is_idle o
 
   -- an idle operation
-  abbrev pub idle_operation : ℕ → ℕ → ℕ → ℕ → T → Operation T
+  abbrev pub idle_operation : ℕ → ℕ → ℕ → ℕ → T → SlotOperation T
   idle_operation number uid client stamp value =
       record { number = number; uid = uid; client = client; stamp = stamp; value = Some value }
 
   -- ---- what is held
 
-  abbrev pub numbers_of : List (Operation T) → List ℕ
+  abbrev pub numbers_of : List (SlotOperation T) → List ℕ
   numbers_of = map (λ o. o.number)
 
-  abbrev pub stamps_of : List (Operation T) → List ℕ
+  abbrev pub stamps_of : List (SlotOperation T) → List ℕ
   stamps_of = map (λ o. o.stamp)
 
   -- the operations, in the order in which they began
-  abbrev pub operations_of : SlotTable T → List (Operation T)
+  abbrev pub operations_of : SlotTable T → List (SlotOperation T)
   operations_of slots = slots.operations
 
   abbrev pub capacity_of : SlotTable T → ℕ
   capacity_of slots = slots.capacity
 
   -- the operation of a number
-  abbrev pub held : SlotTable T → ℕ → Option (Operation T)
+  abbrev pub held : SlotTable T → ℕ → Option (SlotOperation T)
   held slots number = find (has_number number) slots.operations
 
   -- how many operations are held, and how many of them are a uid's
@@ -93,7 +93,7 @@ module _ {T : Type 0} where
   IsLater slots stamp = All (λ o. o.stamp < stamp) slots.operations
 
   -- what `take` answers of the operation that a look-up found
-  abbrev pub taken : Option (Operation T) → Taken T
+  abbrev pub taken : Option (SlotOperation T) → Taken T
   taken None = Absent
   taken (Some o) = value_taken o.value where
     value_taken : Option T → Taken T
@@ -111,12 +111,12 @@ module _ {T : Type 0} where
   is_taken _ = false
 
   -- the value of an idle operation that a look-up found
-  abbrev pub idle_value : Option (Operation T) → Option T
+  abbrev pub idle_value : Option (SlotOperation T) → Option T
   idle_value None = None
   idle_value (Some o) = o.value
 
   -- a look-up found a busy operation
-  abbrev pub is_busy : Option (Operation T) → Bool
+  abbrev pub is_busy : Option (SlotOperation T) → Bool
   is_busy None = false
   is_busy (Some o) = not (is_idle o)
 
@@ -146,20 +146,20 @@ module _ {T : Type 0} where
     pub capacity : new.capacity ≡ old.capacity
 
   -- the operation comes behind the others, which are as they were
-  pub record Begins (old new : SlotTable T) (operation : Operation T) : Type 0 where
+  pub record Begins (old new : SlotTable T) (operation : SlotOperation T) : Type 0 where
     pub operations : new.operations ≡ old.operations ++ operation ∷ []
     pub capacity : new.capacity ≡ old.capacity
 
   -- the operations, with this change of the one of this number, where it stands
-  abbrev pub with_change : ℕ → (Operation T → Operation T) → List (Operation T) → List (Operation T)
+  abbrev pub with_change : ℕ → (SlotOperation T → SlotOperation T) → List (SlotOperation T) → List (SlotOperation T)
   with_change number change = map (λ o. if has_number number o then change o else o)
 
   -- a busy operation keeps its place, number, uid, client and stamp
-  abbrev pub made_busy : Operation T → Operation T
+  abbrev pub made_busy : SlotOperation T → SlotOperation T
   made_busy o = record o { value = None }
 
   -- an operation that is given back has a new stamp and a value
-  abbrev pub given_back : ℕ → T → Operation T → Operation T
+  abbrev pub given_back : ℕ → T → SlotOperation T → SlotOperation T
   given_back stamp value o = record o { stamp = stamp; value = Some value }
 
   -- the operation of this number is busy, and the others are as they were
@@ -173,7 +173,7 @@ module _ {T : Type 0} where
     pub capacity : new.capacity ≡ old.capacity
 
   -- the operations but the one of this number
-  abbrev pub without : ℕ → List (Operation T) → List (Operation T)
+  abbrev pub without : ℕ → List (SlotOperation T) → List (SlotOperation T)
   without number = filter (λ o. not (has_number number o))
 
   -- the operation of this number is gone, and the others are as they were
@@ -189,12 +189,12 @@ module _ {T : Type 0} where
   -- ---- what a look-up finds after a call
 
   -- the operation that began, and else what it found before
-  abbrev pub FindsNew : SlotTable T → SlotTable T → Operation T → Type 0
+  abbrev pub FindsNew : SlotTable T → SlotTable T → SlotOperation T → Type 0
   FindsNew old new operation =
       (number : ℕ) → held new number ≡ (if number == operation.number then Some operation else held old number)
 
   -- at this number the operation with this change, and else what it found before
-  abbrev pub FindsChanged : SlotTable T → SlotTable T → ℕ → (Operation T → Operation T) → Type 0
+  abbrev pub FindsChanged : SlotTable T → SlotTable T → ℕ → (SlotOperation T → SlotOperation T) → Type 0
   FindsChanged old new at change =
       (number : ℕ) → held new number ≡ (if number == at then option_map change (held old number) else held old number)
 
@@ -217,8 +217,8 @@ module _ {T : Type 0} where
   -- ---- the oldest idle operation of a uid
 
   -- this is the number and the stamp of an idle operation of the uid, none of which has a lesser stamp
-  pub record IsOldestAmong (operations : List (Operation T)) (uid number stamp : ℕ) : Type 0 where
-    pub operation : Operation T
+  pub record IsOldestAmong (operations : List (SlotOperation T)) (uid number stamp : ℕ) : Type 0 where
+    pub operation : SlotOperation T
     pub found : find (has_number number) operations ≡ Some operation
     pub idle : is_idle_of uid operation ≡ true
     pub stamp_is : operation.stamp ≡ stamp

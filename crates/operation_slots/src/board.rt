@@ -8,7 +8,7 @@ ghost use Rattle.operation_slots.specs.Boards.{IsKept, entries_of, operation_of,
 use crate::cells::{Cell, give_value, lay, set_free, take_value};
 use crate::counts::UidCounts;
 use crate::index::{Numbered, number_at, put_number};
-use crate::{OpId, Operation, Steps, Taken};
+use crate::{OpId, SlotOperation, Steps, Taken};
 use slot_chain::Chains;
 use std::alloc::Global;
 use std::sync::ledger::Ledger;
@@ -16,7 +16,7 @@ use tags::NoMemory;
 
 /// Operations in places, of which there are as many as slots. An operation keeps its place from its begin to its end.
 #[derive(Drop)]
-pub struct Board<T> {
+pub struct SlotBoard<T> {
     /// by place; past the last one no place was taken yet
     pub cells: Vec<Cell<T>>,
     /// in the order of the numbers
@@ -31,9 +31,9 @@ pub struct Board<T> {
     pub capacity: usize,
 }
 
-impl<T> Board<T> {
+impl<T> SlotBoard<T> {
     /// No operation, in so many slots.
-    pub fn with_capacity(alloc: Global, capacity: usize) -> Result<Board<T>, NoMemory>
+    pub fn with_capacity(alloc: Global, capacity: usize) -> Result<SlotBoard<T>, NoMemory>
         requires some { 0 < capacity }
         requires few { capacity < 4294967295 }
         ensures kept { IfOk result IsKept }
@@ -45,7 +45,7 @@ impl<T> Board<T> {
         let counts = UidCounts::with_room(alloc, capacity)?;
         let idle = Chains::with_places(alloc, capacity)?;
         let cells = Vec::with_capacity(alloc, capacity)?;
-        Ok(Board {
+        Ok(SlotBoard {
             cells,
             index,
             free,
@@ -72,7 +72,7 @@ impl<T> Board<T> {
     }
 
     /// Begins an idle operation in a free place.
-    pub fn begin(&mut self, operation: Operation<T>)
+    pub fn begin(&mut self, operation: SlotOperation<T>)
         requires kept { IsKept self.old }
         requires room { length (operations_on self.old) < self.old.capacity }
         requires fresh { find (has_number operation.number) (operations_on self.old) ≡ None }

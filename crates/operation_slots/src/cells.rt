@@ -3,13 +3,13 @@
 ghost use Rattle.std.specs.Prelude.{◌≡◌, ◌<◌, ◌≤◌, ◌++◌, ◌+◌, ◌^◌, ◌-◌, ℕ, [], ◌∷◌, length, None, vec_capacity};
 ghost use Rattle.operation_slots.specs.Boards.{Lays, PutsCell, cell_at, given_cell, once_in, taken_cell, times};
 
-use crate::Operation;
+use crate::SlotOperation;
 use std::mem;
 
 /// A place with its operation, or with what is left of the last one that it had.
 #[derive(Drop)]
 pub struct Cell<T> {
-    pub operation: Operation<T>,
+    pub operation: SlotOperation<T>,
     /// the stamp with which it began
     pub begun: u64,
 }

@@ -15,7 +15,7 @@ mod index;
 mod operation;
 mod slots;
 
-use operation::Operation;
+use operation::SlotOperation;
 pub use operation::{OpId, Taken};
 pub use slot_chain::Steps;
 pub use slots::Slots;

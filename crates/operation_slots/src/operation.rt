@@ -7,7 +7,7 @@ pub type OpId = u64;
 
 /// An operation that is held. `Slots` hands out none: contracts see these.
 #[derive(Drop)]
-pub struct Operation<T> {
+pub struct SlotOperation<T> {
     pub number: OpId,
     /// whose operation it is
     pub uid: u32,
@@ -31,7 +31,7 @@ pub enum Taken<T> {
     Absent,
 }
 
-impl<T> Operation<T> {
+impl<T> SlotOperation<T> {
     ghost use Rattle.operation_slots.specs.Table.{is_idle, idle_value};
 
     /// Whether its value is there.
@@ -45,7 +45,7 @@ impl<T> Operation<T> {
     pub(crate) fn into_value(self) -> Option<T>
         ensures { result ≡ idle_value (Some self) }
     {
-        let Operation {
+        let SlotOperation {
             number: _,
             uid: _,
             client: _,

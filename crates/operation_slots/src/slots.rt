@@ -3,8 +3,8 @@
 ghost use Rattle.std.specs.Prelude.{◌≡◌, ℕ, ◌+◌, ◌<◌, ◌≤◌, true, false, length, slice_get, Some, None, IfSome, IfNone, OnSome, IfOk};
 ghost use Rattle.operation_slots.specs.Table.{IsSound, IsEmpty, IsLater, Same, Begins, Takes, Gives, TakesOut, TakesOutOf, idle_operation, held, open_count as held_count, open_of as held_of, has_room as room_in, has_idle, owners_of, capacity_of, taken, idle_value, is_busy, is_taken, MatchTaken, FindsNew, FindsChanged, FindsWithout, FindsNoMore, KeepsLater, KeepsLaterThan, made_busy, given_back, IsOldestIdle};
 
-use crate::board::Board;
-use crate::{OpId, Operation, Steps, Taken};
+use crate::board::SlotBoard;
+use crate::{OpId, SlotOperation, Steps, Taken};
 use std::alloc::Global;
 use std::marker::Model;
 use std::sync::ledger::Ledger;
@@ -16,7 +16,7 @@ use tags::{MOST_SLOTS, NoMemory};
 /// what happened: `begin` and `give` are called with one that is greater than every stamp held, so no two are the same.
 #[derive(Drop)]
 pub struct Slots<T> {
-    board: Board<T>,
+    board: SlotBoard<T>,
 }
 
 impl<T> Model for Slots<T> {
@@ -40,7 +40,7 @@ impl<T> Slots<T> {
         ensures later { IfOk result (λ slots. (next : ℕ) → IsLater slots next) }
     {
         Ok(Slots {
-            board: Board::with_capacity(alloc, count)?,
+            board: SlotBoard::with_capacity(alloc, count)?,
         })
     }
 
@@ -113,7 +113,7 @@ impl<T> Slots<T> {
         ensures found { FindsNew self.old self.new (idle_operation op uid client stamp value) }
         ensures later { KeepsLaterThan self.old self.new stamp }
     {
-        self.board.begin(Operation {
+        self.board.begin(SlotOperation {
             number: op,
             uid,
             client,

@@ -33,4 +33,8 @@ mod tickets;
 #[cfg(test)]
 mod tokens;
 #[cfg(test)]
+mod trace_runs;
+#[cfg(test)]
+mod traces;
+#[cfg(test)]
 mod uses;

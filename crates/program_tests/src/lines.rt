@@ -2,8 +2,9 @@
 //! `checks/malformed-lines.jsonl`.
 
 use ks_outside::Reading;
+use line_members::LineFault;
 use rule_model::{Entries, Fields, Line, Reply, Stepped};
-use script_lines::{LineFault, event_of, line_of, malformed_line};
+use script_lines::{event_of, line_of, malformed_line};
 use std::alloc::Global;
 use tags::Bytes;
 

@@ -31,6 +31,9 @@ const BOTH: &str = r#"{"client":1,"code":0}
 
 const CONNECTED: &str = "{\"client\":1,\"code\":0}\n";
 
+const CONNECTED_TRACE: &str =
+    "{\"drawn\":\"\",\"event\":{\"do\":\"connect\",\"t\":[0,1000],\"uid\":10001},\"reply\":{\"client\":1,\"code\":0}}\n";
+
 const MALFORMED: &str = "{\"code\":20,\"rule\":\"L1\"}\n";
 
 /// A script, the reads and the writes that fail, and the status and the text that it is to have.
@@ -150,7 +153,7 @@ fn a_line_has_at_most_262144_bytes(rt: HostRuntime) {
 }
 
 /// Words with the status of a connect under them, and its text: those that are no form do nothing.
-static WORDS: [(&str, Status, &str); 19] = [
+static WORDS: [(&str, Status, &str); 25] = [
     ("run --fresh --slots 1", Status::Ok, CONNECTED),
     ("run --fresh --slots 64", Status::Ok, CONNECTED),
     ("run --fresh --slots 007", Status::Ok, CONNECTED),
@@ -159,6 +162,12 @@ static WORDS: [(&str, Status, &str); 19] = [
         Status::Ok,
         CONNECTED,
     ),
+    ("run --fresh --trace", Status::Ok, CONNECTED_TRACE),
+    ("run --fresh --slots 1 --trace", Status::Ok, CONNECTED_TRACE),
+    ("run --trace --fresh", Status::Usage, ""),
+    ("run --trace --slots 4", Status::Usage, ""),
+    ("run --fresh --trace --trace", Status::Usage, ""),
+    ("init --trace", Status::Usage, ""),
     ("", Status::Usage, ""),
     ("init init", Status::Usage, ""),
     ("init --fresh", Status::Usage, ""),

@@ -4,7 +4,7 @@ use Rattle.std.specs.List.{filter_map, list_all}
 use Rattle.std.proofs.lemmas.List.Folds.{fold-map}
 use Rattle.std.proofs.lemmas.Bool.{cases_Bool, cases_lt, eqb-true, eq-eqb, ne_eqb, and_parts}
 use Rattle.std.proofs.lemmas.Bool.Decides.{nat_tests}
-use Rattle.operation_slots.specs.declared.operation.Operation.{Operation}
+use Rattle.operation_slots.specs.declared.operation.SlotOperation.{SlotOperation}
 use Rattle.slot_chain.specs.Linked.{NoneIs, AllDiffer}
 use Rattle.operation_slots.specs.Table.{SlotTable, operations_of, owners_of, is_idle, is_idle_of, is_of, has_number, has_idle, IsLater, IsSound, IsOldestIdle, stamps_of, numbers_of, held, idle_value}
 use Rattle.operation_slots.specs.Table as slots
@@ -40,21 +40,21 @@ module _ {T : Type 0} where
   -- ---- the candidates
 
   -- an idle operation as it is compared
-  abbrev pub compared : SlotTable T → ℕ → Operation T → Candidate
+  abbrev pub compared : SlotTable T → ℕ → SlotOperation T → Candidate
   compared table now o = record { number = o.number; malus = slots.open_of table o.uid + binary_digits (now - o.stamp); touched = o.stamp }
 
   -- the facts count what the slots count
   pub counts : (table : SlotTable T) (uid : ℕ) → open_of (open_facts table) uid ≡ slots.open_of table uid
   counts table uid = fold-map (λ n o. n + cond (o.uid == uid) 1 0) facts 0 (operations_of table)
 
-  candidate_is : (table : SlotTable T) (now : ℕ) (o : Operation T) → is_idle o ≡ true → candidate (open_facts table) now (facts o) ≡ Some (compared table now o)
+  candidate_is : (table : SlotTable T) (now : ℕ) (o : SlotOperation T) → is_idle o ≡ true → candidate (open_facts table) now (facts o) ≡ Some (compared table now o)
   candidate_is table now o e = rw (e, counts table o.uid) refl
 
-  no_candidate : (table : SlotTable T) (now : ℕ) (o : Operation T) → is_idle o ≡ false → candidate (open_facts table) now (facts o) ≡ None
+  no_candidate : (table : SlotTable T) (now : ℕ) (o : SlotOperation T) → is_idle o ≡ false → candidate (open_facts table) now (facts o) ≡ None
   no_candidate table now o e = rw e refl
 
   -- the candidates are the idle operations as they are compared
-  is_candidate : (table : SlotTable T) (now : ℕ) (os : List (Operation T)) (o : Operation T) → In o os → is_idle o ≡ true → In (compared table now o) (filter_map (candidate (open_facts table) now) (map facts os))
+  is_candidate : (table : SlotTable T) (now : ℕ) (os : List (SlotOperation T)) (o : SlotOperation T) → In o os → is_idle o ≡ true → In (compared table now o) (filter_map (candidate (open_facts table) now) (map facts os))
   is_candidate table now [] o i e = absurd i
   is_candidate table now (p ∷ ps) o (inl s) e = rw (candidate_is table now p (rw s e)) (inl (ap (compared table now) s))
   is_candidate table now (p ∷ ps) o (inr i) e = elim (cases_Bool (is_idle p)) [
@@ -63,16 +63,16 @@ module _ {T : Type 0} where
   ]
 
   -- a candidate and the operation that it is
-  record Compared (table : SlotTable T) (now : ℕ) (os : List (Operation T)) (c : Candidate) : Type 0 where
-    pub operation : Operation T
+  record Compared (table : SlotTable T) (now : ℕ) (os : List (SlotOperation T)) (c : Candidate) : Type 0 where
+    pub operation : SlotOperation T
     pub within : In operation os
     pub idle : is_idle operation ≡ true
     pub is : compared table now operation ≡ c
 
-  further : (table : SlotTable T) (now : ℕ) (p : Operation T) (ps : List (Operation T)) (c : Candidate) → Compared table now ps c → Compared table now (p ∷ ps) c
+  further : (table : SlotTable T) (now : ℕ) (p : SlotOperation T) (ps : List (SlotOperation T)) (c : Candidate) → Compared table now ps c → Compared table now (p ∷ ps) c
   further table now p ps c r = record { operation = r.operation; within = inr r.within; idle = r.idle; is = r.is }
 
-  is_compared : (table : SlotTable T) (now : ℕ) (os : List (Operation T)) (c : Candidate) → In c (filter_map (candidate (open_facts table) now) (map facts os)) → Compared table now os c
+  is_compared : (table : SlotTable T) (now : ℕ) (os : List (SlotOperation T)) (c : Candidate) → In c (filter_map (candidate (open_facts table) now) (map facts os)) → Compared table now os c
   is_compared table now [] c i = absurd i
   is_compared table now (p ∷ ps) c i = elim (cases_Bool (is_idle p)) [
     | inl t ↦ (let j : (compared table now p ≡ c) ⊎ In c (filter_map (candidate (open_facts table) now) (map facts ps)) = rw (candidate_is table now p t) at i in
@@ -84,7 +84,7 @@ module _ {T : Type 0} where
 
   -- the oldest idle operation of an owner is one of the idle ones
   record IsFound (table : SlotTable T) (now uid : ℕ) (c : Candidate) : Type 0 where
-    pub operation : Operation T
+    pub operation : SlotOperation T
     pub within : In operation (operations_of table)
     pub idle : is_idle operation ≡ true
     pub uid_is : operation.uid ≡ uid
@@ -107,7 +107,7 @@ module _ {T : Type 0} where
 
   -- Within one uid the oldest has the greatest malus: as many operations of the uid are open, and its age has no fewer digits. So it
   -- goes before each other idle operation of its owner.
-  oldest_goes_first : (table : SlotTable T) (now place : ℕ) (c : Candidate) (oldest : IsOldestOfOwner table now place c) (o : Operation T) → In o (operations_of table) → is_idle o ≡ true → o.uid ≡ oldest.uid → goes_before c (compared table now o) ≡ true
+  oldest_goes_first : (table : SlotTable T) (now place : ℕ) (c : Candidate) (oldest : IsOldestOfOwner table now place c) (o : SlotOperation T) → In o (operations_of table) → is_idle o ≡ true → o.uid ≡ oldest.uid → goes_before c (compared table now o) ≡ true
   oldest_goes_first table now place c oldest o i e s =
       let stamps : c.touched ≤ o.stamp = at_member (λ p. is_idle_of oldest.uid p ≡ true → c.touched ≤ p.stamp) o (operations_of table) oldest.oldest.oldest i (rw (eq-eqb o.uid oldest.uid s) e) in
       let digits = digits_of_older (now - o.stamp) (now - c.touched) (omega arith) in
@@ -117,11 +117,11 @@ module _ {T : Type 0} where
 
   -- it is idle, and goes before the idle operations of the first owners
   pub record GoesFirst (table : SlotTable T) (now count : ℕ) (c : Candidate) : Type 0 where
-    pub operation : Operation T
+    pub operation : SlotOperation T
     pub within : In operation (operations_of table)
     pub idle : is_idle operation ≡ true
     pub is : compared table now operation ≡ c
-    pub before_all : (k : ℕ) (o : Operation T) → k < count → In o (operations_of table) → is_idle o ≡ true → slice_get (owners_of table) k ≡ Some o.uid → goes_before c (compared table now o) ≡ true
+    pub before_all : (k : ℕ) (o : SlotOperation T) → k < count → In o (operations_of table) → is_idle o ≡ true → slice_get (owners_of table) k ≡ Some o.uid → goes_before c (compared table now o) ≡ true
 
   abbrev pub FirstSoFar : SlotTable T → ℕ → ℕ → Option Candidate → Type 0
   FirstSoFar table now count None = count ≡ 0
@@ -133,7 +133,7 @@ module _ {T : Type 0} where
     pub few : steps ≤ steps_before + count
 
   -- of this owner's idle operations it goes first
-  this_owner : (table : SlotTable T) (now count : ℕ) (c : Candidate) (oldest : IsOldestOfOwner table now count c) (k : ℕ) (o : Operation T) → k ≡ count → In o (operations_of table) → is_idle o ≡ true → slice_get (owners_of table) k ≡ Some o.uid → goes_before c (compared table now o) ≡ true
+  this_owner : (table : SlotTable T) (now count : ℕ) (c : Candidate) (oldest : IsOldestOfOwner table now count c) (k : ℕ) (o : SlotOperation T) → k ≡ count → In o (operations_of table) → is_idle o ≡ true → slice_get (owners_of table) k ≡ Some o.uid → goes_before c (compared table now o) ≡ true
   this_owner table now count c oldest k o s i e owner =
       let here : Some o.uid ≡ Some oldest.uid = sym owner ∙ ap (slice_get (owners_of table)) s ∙ oldest.owner in
       oldest_goes_first table now count c oldest o i e cc
@@ -171,13 +171,13 @@ module _ {T : Type 0} where
     }))
   ]
 
-  no_stamp : (q : Operation T) (qs : List (Operation T)) (p : Operation T) → NoneIs q.stamp (stamps_of qs) → In p qs → q.stamp ≡ p.stamp → ⊥
+  no_stamp : (q : SlotOperation T) (qs : List (SlotOperation T)) (p : SlotOperation T) → NoneIs q.stamp (stamps_of qs) → In p qs → q.stamp ≡ p.stamp → ⊥
   no_stamp q [] p h i e = i
   no_stamp q (r ∷ rs) p h (inl s) e = h.0 (ap (λ o. o.stamp) s ∙ sym e)
   no_stamp q (r ∷ rs) p h (inr i) e = no_stamp q rs p h.1 i e
 
   -- two with one stamp are one
-  same_by_stamp : (os : List (Operation T)) (o p : Operation T) → AllDiffer (stamps_of os) → In o os → In p os → o.stamp ≡ p.stamp → o ≡ p
+  same_by_stamp : (os : List (SlotOperation T)) (o p : SlotOperation T) → AllDiffer (stamps_of os) → In o os → In p os → o.stamp ≡ p.stamp → o ≡ p
   same_by_stamp [] o p h i j e = absurd i
   same_by_stamp (q ∷ qs) o p h (inl s) (inl t) e = sym s ∙ t
   same_by_stamp (q ∷ qs) o p h (inl s) (inr j) e = absurd (no_stamp q qs p h.0 j (ap (λ r. r.stamp) s ∙ e))
@@ -193,7 +193,7 @@ module _ {T : Type 0} where
     | inr f ↦ absurd (let none = rw f at (sound.owners u) in omega (arith, none, is_counted u (owners_of table) k at))
   ]
 
-  covered : (table : SlotTable T) (o : Operation T) → IsSound table → In o (operations_of table) → is_idle o ≡ true → (k : ℕ) × (k < length (owners_of table)) × (slice_get (owners_of table) k ≡ Some o.uid)
+  covered : (table : SlotTable T) (o : SlotOperation T) → IsSound table → In o (operations_of table) → is_idle o ≡ true → (k : ℕ) × (k < length (owners_of table)) × (slice_get (owners_of table) k ≡ Some o.uid)
   covered table o sound i e =
       let some : has_idle table o.uid ≡ true = some_passes (is_idle_of o.uid) (operations_of table) o i (rw (eq-eqb o.uid o.uid refl, e) refl) in
       let one = rw some at (sound.owners o.uid) in
@@ -233,12 +233,12 @@ module _ {T : Type 0} where
 
   -- ---- what goes first is idle
 
-  no_number : (q : Operation T) (qs : List (Operation T)) (p : Operation T) → NoneIs q.number (numbers_of qs) → In p qs → q.number ≡ p.number → ⊥
+  no_number : (q : SlotOperation T) (qs : List (SlotOperation T)) (p : SlotOperation T) → NoneIs q.number (numbers_of qs) → In p qs → q.number ≡ p.number → ⊥
   no_number q [] p h i e = i
   no_number q (r ∷ rs) p h (inl s) e = h.0 (ap (λ o. o.number) s ∙ sym e)
   no_number q (r ∷ rs) p h (inr i) e = no_number q rs p h.1 i e
 
-  found_at : (os : List (Operation T)) (o : Operation T) → AllDiffer (numbers_of os) → In o os → find (has_number o.number) os ≡ Some o
+  found_at : (os : List (SlotOperation T)) (o : SlotOperation T) → AllDiffer (numbers_of os) → In o os → find (has_number o.number) os ≡ Some o
   found_at [] o h i = absurd i
   found_at (q ∷ qs) o h (inl s) = rw (ap (λ r. r.number == o.number) s ∙ eq-eqb o.number o.number refl) (ap Some s)
   found_at (q ∷ qs) o h (inr i) = rw (ne_eqb q.number o.number (no_number q qs o h.0 i)) (found_at qs o h.1 i)

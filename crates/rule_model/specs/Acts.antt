@@ -1,5 +1,5 @@
 -- The acts of the service as one table: what is fixed for each kind, and the kind of an act.
-use Rattle.std.specs.Prelude.{ℕ, Bool, true, false, List, [], ◌∷◌, codes, Option, find}
+use Rattle.std.specs.Prelude.{ℕ, ◌==◌, Bool, true, false, List, [], ◌∷◌, codes, Option, Some, None, find}
 use Rattle.std.specs.Str.{bytes_eq}
 use Rattle.rule_model.specs.declared.act_kind.ActKind.{ActKind}
 use Rattle.rule_model.specs.declared.act_kind.ActKind.TheVariants as kinds
@@ -7,21 +7,23 @@ use Rattle.rule_model.specs.declared.act_kind.ActRow.{ActRow}
 use Rattle.rule_model.specs.declared.event.Act.{Act}
 use Rattle.rule_model.specs.declared.event.Act.TheVariants as acts
 
--- a call of a client: it takes memory, draws nothing, and settles first
+-- a call of a client by a frame: it takes memory, draws nothing, settles first, and makes an entry behind a settling
 abbrev pub call : ℕ → ActRow
-call number = record { number = number; has_client = true; takes_memory = true; draws = false; settles = true; enters = false }
+call number = record { number = number; asked = true; framed = true; has_client = true; takes_memory = true; draws = false; settles = true; enters = false; need = 2 }
 
 -- Each kind's row. These take no memory: disconnect, abort, a token, the device's state, and a leave, whose room its enter
--- took. A disconnect and a leave settle nothing.
+-- took. A disconnect and a leave settle nothing. A disconnect has no frame, and for a leave and a restart no client asks. The
+-- most entries of a call: a connect, since its client's disconnect is to have a place; a call in two steps; a disconnect of a
+-- client that is not connected; and every other call, with a settling.
 abbrev pub row_of : ActKind → ActRow
-row_of kinds.Connect = record (call 1) { has_client = false }
-row_of kinds.Disconnect = record (call 2) { takes_memory = false; settles = false }
+row_of kinds.Connect = record (call 1) { has_client = false; need = 3 }
+row_of kinds.Disconnect = record (call 2) { framed = false; takes_memory = false; settles = false; need = 1 }
 row_of kinds.GenerateKey = record (call 3) { draws = true }
 row_of kinds.ImportKey = record (call 4) { draws = true }
 row_of kinds.CreateOperation = record (call 5) { draws = true }
-row_of kinds.UpdateAad = record (call 6) { enters = true }
-row_of kinds.Update = record (call 7) { enters = true }
-row_of kinds.Finish = record (call 8) { enters = true }
+row_of kinds.UpdateAad = record (call 6) { enters = true; need = 3 }
+row_of kinds.Update = record (call 7) { enters = true; need = 3 }
+row_of kinds.Finish = record (call 8) { enters = true; need = 3 }
 row_of kinds.Abort = record (call 9) { takes_memory = false }
 row_of kinds.GetKeyEntry = call 10
 row_of kinds.DeleteKey = call 11
@@ -35,8 +37,8 @@ row_of kinds.DeviceUnlocked = record (call 18) { takes_memory = false }
 row_of kinds.EarlyBootEnded = record (call 19) { takes_memory = false }
 row_of kinds.ClearNamespace = call 20
 row_of kinds.UserRemoved = call 21
-row_of kinds.Leave = record (call 22) { has_client = false; takes_memory = false; settles = false }
-row_of kinds.Restart = record (call 23) { has_client = false }
+row_of kinds.Leave = record (call 22) { asked = false; framed = false; has_client = false; takes_memory = false; settles = false }
+row_of kinds.Restart = record (call 23) { asked = false; framed = false; has_client = false }
 
 -- the name of each kind, as a script writes it
 abbrev pub text_of : ActKind → List ℕ
@@ -72,6 +74,10 @@ all_kinds = kinds.Connect ∷ kinds.Disconnect ∷ kinds.GenerateKey ∷ kinds.I
 abbrev pub kind_named : List ℕ → Option ActKind
 kind_named name = find (λ kind. bytes_eq (text_of kind) name) all_kinds
 
+-- the kind that a number in a frame stands for
+abbrev pub kind_numbered : ℕ → Option ActKind
+kind_numbered number = find (λ kind. (row_of kind).number == number) all_kinds
+
 -- an act's kind: the row of the table that it has
 abbrev pub kind_of : Act → ActKind
 kind_of (acts.Connect uid) = kinds.Connect
@@ -102,6 +108,22 @@ kind_of (acts.Restart root) = kinds.Restart
 abbrev pub fixed_for : Act → ActRow
 fixed_for act = row_of (kind_of act)
 
+-- a work goes into an operation: additional data, text, or the last text
+abbrev pub is_enter : Act → Bool
+is_enter act = (fixed_for act).enters
+
+-- a client asks for it, and it is no leave or restart
+abbrev pub is_asked : Act → Bool
+is_asked act = (fixed_for act).asked
+
+-- a request frame can ask for it
+abbrev pub is_framed : Act → Bool
+is_framed act = (fixed_for act).framed
+
+-- the most entries of a book that a call with it makes
+abbrev pub need_of : Act → ℕ
+need_of act = (fixed_for act).need
+
 -- the acts of one kind each
 abbrev pub is_connect : Act → Bool
 is_connect (acts.Connect uid) = true
@@ -117,17 +139,15 @@ abbrev pub is_begin : Act → Bool
 is_begin (acts.CreateOperation key params forced) = true
 is_begin _ = false
 
--- a work goes into an operation: additional data, text, or the last text
-abbrev pub is_enter : Act → Bool
-is_enter (acts.EnterAad op input) = true
-is_enter (acts.EnterUpdate op input) = true
-is_enter (acts.EnterFinish op input signature) = true
-is_enter _ = false
-
 -- a work comes back by its ticket
 abbrev pub is_leave : Act → Bool
 is_leave (acts.Leave ticket) = true
 is_leave _ = false
+
+-- the ticket that comes back
+abbrev pub left_by : Act → Option ℕ
+left_by (acts.Leave ticket) = Some ticket
+left_by _ = None
 
 -- the device starts again
 abbrev pub is_restart : Act → Bool

@@ -24,6 +24,5 @@ pub mod StepFacts
 pub mod Drawn
 pub mod Answer
 pub mod Legal
-pub mod Copies
 pub mod ReplyRooms
 pub mod Uses

@@ -1,8 +1,10 @@
 //! The acts of the service as one table: each kind with its number, its name, and what is fixed for it.
 
-ghost use Rattle.std.specs.Prelude.{◌≡◌, false, true};
+ghost use Rattle.std.specs.Prelude.{◌≡◌, ◌≤◌, false, true};
 ghost use Rattle.rule_model.specs.Acts as spec;
-ghost use Rattle.rule_model.specs.Acts.{kind_named, row_of, text_of};
+ghost use Rattle.rule_model.specs.Acts.{fixed_for, is_asked, is_connect, is_disconnect, is_enter, is_leave, is_restart, kind_of, kind_named, kind_numbered, need_of, row_of, text_of};
+
+use crate::Act;
 
 /// The kind of an act. The names are those of Keystore2's AIDL interfaces.
 #[derive(Clone, Copy, Debug, PartialEq, Eq)]
@@ -37,7 +39,11 @@ pub enum ActKind {
 pub struct ActRow {
     /// its number in a request frame
     pub number: u8,
-    /// a client makes it
+    /// a client asks for it; the others the service makes by itself
+    pub asked: bool,
+    /// a request frame can ask for it
+    pub framed: bool,
+    /// a client that has come makes it
     pub has_client: bool,
     /// it may be given up for want of memory
     pub takes_memory: bool,
@@ -45,70 +51,24 @@ pub struct ActRow {
     pub draws: bool,
     /// it settles first where an earlier change waits for that
     pub settles: bool,
-    /// it enters an operation, whose work comes back by a leave
+    /// it enters an operation with an input, whose work comes back by a leave
     pub enters: bool,
+    /// the most entries of a book that a call with it makes
+    pub need: u64,
 }
 
-/// A call of a client: it takes memory, draws nothing, and settles first.
-fn call(number: u8) -> ActRow
-    ensures { result ≡ spec.call number }
-{
-    ActRow {
-        number,
-        has_client: true,
-        takes_memory: true,
-        draws: false,
-        settles: true,
-        enters: false,
-    }
-}
-
-impl ActRow {
-    fn of_no_client(self) -> ActRow
-        ensures { result ≡ record self { has_client = false } }
-    {
-        ActRow {
-            has_client: false,
-            ..self
-        }
-    }
-
-    fn without_memory(self) -> ActRow
-        ensures { result ≡ record self { takes_memory = false } }
-    {
-        ActRow {
-            takes_memory: false,
-            ..self
-        }
-    }
-
-    fn drawing(self) -> ActRow
-        ensures { result ≡ record self { draws = true } }
-    {
-        ActRow {
-            draws: true,
-            ..self
-        }
-    }
-
-    fn settling_nothing(self) -> ActRow
-        ensures { result ≡ record self { settles = false } }
-    {
-        ActRow {
-            settles: false,
-            ..self
-        }
-    }
-
-    fn entering(self) -> ActRow
-        ensures { result ≡ record self { enters = true } }
-    {
-        ActRow {
-            enters: true,
-            ..self
-        }
-    }
-}
+/// A call of a client by a frame: it takes memory, draws nothing, settles first, and makes an entry behind a settling.
+const CALL: ActRow = ActRow {
+    number: 0,
+    asked: true,
+    framed: true,
+    has_client: true,
+    takes_memory: true,
+    draws: false,
+    settles: true,
+    enters: false,
+    need: 2,
+};
 
 impl ActKind {
     /// The kinds in the order of their numbers.
@@ -140,32 +100,106 @@ impl ActKind {
 
     /// What is fixed for the kind.
     pub fn row(self) -> ActRow
-        ensures { result ≡ row_of self }
+        ensures row { result ≡ row_of self }
+        ensures few { result.need ≤ 3 }
     {
         match self {
-            ActKind::Connect => call(1).of_no_client(),
-            ActKind::Disconnect => call(2).without_memory().settling_nothing(),
-            ActKind::GenerateKey => call(3).drawing(),
-            ActKind::ImportKey => call(4).drawing(),
-            ActKind::CreateOperation => call(5).drawing(),
-            ActKind::UpdateAad => call(6).entering(),
-            ActKind::Update => call(7).entering(),
-            ActKind::Finish => call(8).entering(),
-            ActKind::Abort => call(9).without_memory(),
-            ActKind::GetKeyEntry => call(10),
-            ActKind::DeleteKey => call(11),
-            ActKind::Grant => call(12),
-            ActKind::Ungrant => call(13),
-            ActKind::GetNumberOfEntries => call(14),
-            ActKind::ListEntriesBatched => call(15),
-            ActKind::AddAuthToken => call(16).without_memory(),
-            ActKind::DeviceLocked => call(17).without_memory(),
-            ActKind::DeviceUnlocked => call(18).without_memory(),
-            ActKind::EarlyBootEnded => call(19).without_memory(),
-            ActKind::ClearNamespace => call(20),
-            ActKind::UserRemoved => call(21),
-            ActKind::Leave => call(22).of_no_client().without_memory().settling_nothing(),
-            ActKind::Restart => call(23).of_no_client(),
+            ActKind::Connect => ActRow {
+                number: 1,
+                has_client: false,
+                need: 3,
+                ..CALL
+            },
+            ActKind::Disconnect => ActRow {
+                number: 2,
+                framed: false,
+                takes_memory: false,
+                settles: false,
+                need: 1,
+                ..CALL
+            },
+            ActKind::GenerateKey => ActRow {
+                number: 3,
+                draws: true,
+                ..CALL
+            },
+            ActKind::ImportKey => ActRow {
+                number: 4,
+                draws: true,
+                ..CALL
+            },
+            ActKind::CreateOperation => ActRow {
+                number: 5,
+                draws: true,
+                ..CALL
+            },
+            ActKind::UpdateAad => ActRow {
+                number: 6,
+                enters: true,
+                need: 3,
+                ..CALL
+            },
+            ActKind::Update => ActRow {
+                number: 7,
+                enters: true,
+                need: 3,
+                ..CALL
+            },
+            ActKind::Finish => ActRow {
+                number: 8,
+                enters: true,
+                need: 3,
+                ..CALL
+            },
+            ActKind::Abort => ActRow {
+                number: 9,
+                takes_memory: false,
+                ..CALL
+            },
+            ActKind::GetKeyEntry => ActRow { number: 10, ..CALL },
+            ActKind::DeleteKey => ActRow { number: 11, ..CALL },
+            ActKind::Grant => ActRow { number: 12, ..CALL },
+            ActKind::Ungrant => ActRow { number: 13, ..CALL },
+            ActKind::GetNumberOfEntries => ActRow { number: 14, ..CALL },
+            ActKind::ListEntriesBatched => ActRow { number: 15, ..CALL },
+            ActKind::AddAuthToken => ActRow {
+                number: 16,
+                takes_memory: false,
+                ..CALL
+            },
+            ActKind::DeviceLocked => ActRow {
+                number: 17,
+                takes_memory: false,
+                ..CALL
+            },
+            ActKind::DeviceUnlocked => ActRow {
+                number: 18,
+                takes_memory: false,
+                ..CALL
+            },
+            ActKind::EarlyBootEnded => ActRow {
+                number: 19,
+                takes_memory: false,
+                ..CALL
+            },
+            ActKind::ClearNamespace => ActRow { number: 20, ..CALL },
+            ActKind::UserRemoved => ActRow { number: 21, ..CALL },
+            ActKind::Leave => ActRow {
+                number: 22,
+                asked: false,
+                framed: false,
+                has_client: false,
+                takes_memory: false,
+                settles: false,
+                ..CALL
+            },
+            ActKind::Restart => ActRow {
+                number: 23,
+                asked: false,
+                framed: false,
+                has_client: false,
+                ..CALL
+            },
         }
     }
 
@@ -201,12 +235,142 @@ impl ActKind {
     }
 
     /// The kind of a name, and `None` where it names none.
-    pub fn named(name: &str) -> Option<ActKind>
+    pub fn of_name(name: &str) -> Option<ActKind>
         ensures { result ≡ kind_named name.now }
     {
         ActKind::ALL
             .iter()
             .copied()
             .find(|kind| kind.text() == name)
+    }
+
+    /// The kind of a number in a frame, and `None` where no kind has it.
+    pub fn of_number(number: u8) -> Option<ActKind>
+        ensures { result ≡ kind_numbered number }
+    {
+        ActKind::ALL
+            .iter()
+            .copied()
+            .find(|kind| kind.row().number == number)
+    }
+}
+
+impl Act {
+    /// The kind of the act.
+    pub fn kind(&self) -> ActKind
+        ensures { result ≡ kind_of self.now }
+    {
+        match self {
+            Act::Connect { .. } => ActKind::Connect,
+            Act::Disconnect => ActKind::Disconnect,
+            Act::GenerateKey { .. } => ActKind::GenerateKey,
+            Act::ImportKey { .. } => ActKind::ImportKey,
+            Act::CreateOperation { .. } => ActKind::CreateOperation,
+            Act::EnterAad { .. } => ActKind::UpdateAad,
+            Act::EnterUpdate { .. } => ActKind::Update,
+            Act::EnterFinish { .. } => ActKind::Finish,
+            Act::Abort { .. } => ActKind::Abort,
+            Act::GetKeyEntry { .. } => ActKind::GetKeyEntry,
+            Act::DeleteKey { .. } => ActKind::DeleteKey,
+            Act::Grant { .. } => ActKind::Grant,
+            Act::Ungrant { .. } => ActKind::Ungrant,
+            Act::GetNumberOfEntries { .. } => ActKind::GetNumberOfEntries,
+            Act::ListEntriesBatched { .. } => ActKind::ListEntriesBatched,
+            Act::AddAuthToken { .. } => ActKind::AddAuthToken,
+            Act::DeviceLocked { .. } => ActKind::DeviceLocked,
+            Act::DeviceUnlocked { .. } => ActKind::DeviceUnlocked,
+            Act::EarlyBootEnded => ActKind::EarlyBootEnded,
+            Act::ClearNamespace { .. } => ActKind::ClearNamespace,
+            Act::UserRemoved { .. } => ActKind::UserRemoved,
+            Act::Leave { .. } => ActKind::Leave,
+            Act::Restart { .. } => ActKind::Restart,
+        }
+    }
+
+    /// What is fixed for the act.
+    pub fn row(&self) -> ActRow
+        ensures row { result ≡ fixed_for self.now }
+        ensures few { result.need ≤ 3 }
+    {
+        self.kind().row()
+    }
+
+    /// Whether a client comes by the act.
+    pub fn is_connect(&self) -> bool
+        ensures { result ≡ is_connect self.now }
+    {
+        match self {
+            Act::Connect { .. } => true,
+            _ => false,
+        }
+    }
+
+    /// Whether a client goes by the act.
+    pub fn is_disconnect(&self) -> bool
+        ensures { result ≡ is_disconnect self.now }
+    {
+        match self {
+            Act::Disconnect => true,
+            _ => false,
+        }
+    }
+
+    /// Whether the device starts again by the act.
+    pub fn is_restart(&self) -> bool
+        ensures { result ≡ is_restart self.now }
+    {
+        match self {
+            Act::Restart { .. } => true,
+            _ => false,
+        }
+    }
+
+    /// Whether a ticket comes back by the act.
+    pub fn is_leave(&self) -> bool
+        ensures { result ≡ is_leave self.now }
+    {
+        match self {
+            Act::Leave { .. } => true,
+            _ => false,
+        }
+    }
+
+    /// The ticket that comes back by the act.
+    pub fn ticket(&self) -> Option<u64>
+        ensures { result ≡ spec.left_by self.now }
+    {
+        match self {
+            Act::Leave { ticket } => Some(*ticket),
+            _ => None,
+        }
+    }
+
+    /// Whether the act enters an operation.
+    pub fn is_enter(&self) -> bool
+        ensures { result ≡ is_enter self.now }
+    {
+        self.row().enters
+    }
+
+    /// Whether a client asks for the act.
+    pub fn is_asked(&self) -> bool
+        ensures { result ≡ is_asked self.now }
+    {
+        self.row().asked
+    }
+
+    /// Whether the act settles first, where an earlier change waits for that.
+    pub fn settles(&self) -> bool
+        ensures { result ≡ (fixed_for self.now).settles }
+    {
+        self.row().settles
+    }
+
+    /// The most entries of a book that a call with the act makes.
+    pub fn need(&self) -> u64
+        ensures need { result ≡ need_of self.now }
+        ensures few { result ≤ 3 }
+    {
+        self.row().need
     }
 }

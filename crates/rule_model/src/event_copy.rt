@@ -1,7 +1,6 @@
 //! Copies of an act and of an event, in new memory.
 
-ghost use Rattle.std.specs.Prelude.{◌≡◌, true, IfOk};
-ghost use Rattle.rule_model.specs.Copies.{has_numbers};
+ghost use Rattle.std.specs.Prelude.{◌≡◌, IfOk};
 ghost use Rattle.rule_model.specs.declared.event.Act.TheVariants as act;
 
 use crate::{Act, Event};
@@ -92,7 +91,7 @@ fn enter_finish(
     })
 }
 
-/// A copy of an act on a key that a descriptor names, and of one that brings bytes.
+/// A copy of an act. One that has numbers alone takes no memory.
 fn act_of(alloc: Global, source: &Act) -> Result<Act, NoMemory>
     ensures { IfOk result (λ copy. copy ≡ source.now) }
 {
@@ -146,23 +145,13 @@ fn act_of(alloc: Global, source: &Act) -> Result<Act, NoMemory>
             nspace: *nspace,
             past: optional(alloc, past)?,
         }),
-        _ => Ok(numbers_of(source)),
-    }
-}
-
-/// A copy of an act that has numbers alone.
-fn numbers_of(source: &Act) -> Act
-    requires { has_numbers source.now ≡ true }
-    ensures { result ≡ source.now }
-{
-    match source {
-        Act::Connect { uid } => Act::Connect { uid: *uid },
-        Act::Disconnect => Act::Disconnect,
-        Act::Abort { op } => Act::Abort { op: *op },
-        Act::GetNumberOfEntries { domain, nspace } => Act::GetNumberOfEntries {
+        Act::Connect { uid } => Ok(Act::Connect { uid: *uid }),
+        Act::Disconnect => Ok(Act::Disconnect),
+        Act::Abort { op } => Ok(Act::Abort { op: *op }),
+        Act::GetNumberOfEntries { domain, nspace } => Ok(Act::GetNumberOfEntries {
             domain: *domain,
             nspace: *nspace,
-        },
+        }),
         Act::AddAuthToken {
             challenge,
             user,
@@ -170,25 +159,24 @@ fn numbers_of(source: &Act) -> Act
             kind,
             time,
             mac,
-        } => Act::AddAuthToken {
+        } => Ok(Act::AddAuthToken {
             challenge: *challenge,
             user: *user,
             authenticator: *authenticator,
             kind: *kind,
             time: *time,
             mac: *mac,
-        },
-        Act::DeviceLocked { user } => Act::DeviceLocked { user: *user },
-        Act::DeviceUnlocked { user } => Act::DeviceUnlocked { user: *user },
-        Act::EarlyBootEnded => Act::EarlyBootEnded,
-        Act::ClearNamespace { domain, nspace } => Act::ClearNamespace {
+        }),
+        Act::DeviceLocked { user } => Ok(Act::DeviceLocked { user: *user }),
+        Act::DeviceUnlocked { user } => Ok(Act::DeviceUnlocked { user: *user }),
+        Act::EarlyBootEnded => Ok(Act::EarlyBootEnded),
+        Act::ClearNamespace { domain, nspace } => Ok(Act::ClearNamespace {
             domain: *domain,
             nspace: *nspace,
-        },
-        Act::UserRemoved { user } => Act::UserRemoved { user: *user },
-        Act::Leave { ticket } => Act::Leave { ticket: *ticket },
-        Act::Restart { root } => Act::Restart { root: *root },
-        _ => unreachable!(),
+        }),
+        Act::UserRemoved { user } => Ok(Act::UserRemoved { user: *user }),
+        Act::Leave { ticket } => Ok(Act::Leave { ticket: *ticket }),
+        Act::Restart { root } => Ok(Act::Restart { root: *root }),
     }
 }
 

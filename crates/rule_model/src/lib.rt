@@ -5,7 +5,6 @@
 #![tactic(auto)]
 
 mod act_kind;
-mod acts;
 mod entry;
 mod event;
 mod event_copy;
@@ -14,6 +13,7 @@ mod field_sizes;
 mod law;
 mod reply;
 mod reply_room;
+mod request;
 
 pub use act_kind::{ActKind, ActRow};
 pub use entry::{Entry, Stepped};
@@ -24,3 +24,4 @@ pub use ks_outside::Reading;
 pub use law::uses_law;
 pub use reply::{Entries, Fields, NO_FIELDS, Reply};
 pub use reply_room::ReplyRoom;
+pub use request::Request;

@@ -1,3 +1,4 @@
-pub mod NoFloats
-pub mod Texts
-pub mod PairLemmas
+pub mod Depths
+pub mod ReadBack
+pub mod ParamsFound
+pub mod EventsFound

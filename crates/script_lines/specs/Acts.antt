@@ -3,46 +3,49 @@ use Rattle.std.specs.Prelude.{ℕ, List, [], codes, Bool, false, if◌then◌els
 use Rattle.tags.specs.declared.descriptor.Descriptor.{Descriptor}
 use Rattle.rule_model.specs.declared.event.Act.{Act}
 use Rattle.rule_model.specs.declared.event.Act.TheVariants as acts
+use Rattle.rule_model.specs.declared.event.Event.{Event}
 use Rattle.ks_outside.specs.declared.clock.Reading.{Reading}
 use Rattle.rule_model.specs.Acts.{kind_named, row_of}
 use Rattle.serde_json.specs.Data.{Data}
 use Rattle.serde_json.specs.Find.{as_bool, as_str}
-use Rattle.script_lines.specs.Members.{◌>>=◌, u32_of, u64_of, hex_of, hex_32_of, two_of, needed, defaulted, optional}
+use Rattle.line_members.specs.Members.{◌>>=◌, u32_of, u64_of, hex_of, hex_32_of, two_of, needed, defaulted, optional, alias_of}
+use Rattle.line_members.specs.declared.alias_form.AliasForm.{AliasForm}
+use Rattle.line_members.specs.declared.alias_form.AliasForm.TheVariants.{Text}
 use Rattle.script_lines.specs.Params.{params_of}
 use Rattle.rule_model.specs.declared.act_kind.ActKind.{ActKind}
 use Rattle.rule_model.specs.declared.act_kind.ActKind.TheVariants.{Connect, Disconnect, GenerateKey, ImportKey, CreateOperation, UpdateAad, Update, Finish, Abort, GetKeyEntry, DeleteKey, Grant, Ungrant, GetNumberOfEntries, ListEntriesBatched, AddAuthToken, DeviceLocked, DeviceUnlocked, EarlyBootEnded, ClearNamespace, UserRemoved, Leave, Restart}
 
--- a descriptor: an object with a domain, a namespace, an alias as text and a blob in hex
-abbrev pub descriptor_of : Data → Option Descriptor
-descriptor_of members = do
+-- a descriptor: an object with a domain, a namespace, an alias and a blob in hex
+abbrev pub descriptor_of : AliasForm → Data → Option Descriptor
+descriptor_of form members = do
   domain ← needed u32_of (codes "domain") members
   nspace ← defaulted 0 u64_of (codes "nspace") members
-  alias ← optional as_str (codes "alias") members
+  alias ← optional (alias_of form) (codes "alias") members
   blob ← optional hex_of (codes "blob") members
   Some (record { domain = domain; nspace = nspace; alias = alias; blob = blob })
 
-abbrev pub key_of : Data → Option Descriptor
-key_of members = needed descriptor_of (codes "key") members
+abbrev pub key_of : AliasForm → Data → Option Descriptor
+key_of form members = needed (descriptor_of form) (codes "key") members
 
 -- ---- the fields of each act
 
-abbrev pub generate_key : Data → Option Act
-generate_key members = do
-  key ← key_of members
+abbrev pub generate_key : AliasForm → Data → Option Act
+generate_key form members = do
+  key ← key_of form members
   params ← params_of members
   Some (acts.GenerateKey key params)
 
-abbrev pub import_key : Data → Option Act
-import_key members = do
-  key ← key_of members
+abbrev pub import_key : AliasForm → Data → Option Act
+import_key form members = do
+  key ← key_of form members
   params ← params_of members
   format ← needed u32_of (codes "format") members
   material ← needed hex_of (codes "material") members
   Some (acts.ImportKey key params format material)
 
-abbrev pub create_operation : Data → Option Act
-create_operation members = do
-  key ← key_of members
+abbrev pub create_operation : AliasForm → Data → Option Act
+create_operation form members = do
+  key ← key_of form members
   params ← params_of members
   forced ← defaulted false as_bool (codes "forced") members
   Some (acts.CreateOperation key params forced)
@@ -78,16 +81,16 @@ uid_of members = needed u32_of (codes "uid") members
 abbrev pub user_of : Data → Option ℕ
 user_of members = needed u32_of (codes "user") members
 
-abbrev pub grant : Data → Option Act
-grant members = do
-  key ← key_of members
+abbrev pub grant : AliasForm → Data → Option Act
+grant form members = do
+  key ← key_of form members
   uid ← uid_of members
   bits ← needed u32_of (codes "bits") members
   Some (acts.Grant key uid bits)
 
-abbrev pub ungrant : Data → Option Act
-ungrant members = do
-  key ← key_of members
+abbrev pub ungrant : AliasForm → Data → Option Act
+ungrant form members = do
+  key ← key_of form members
   uid ← uid_of members
   Some (acts.Ungrant key uid)
 
@@ -103,11 +106,11 @@ number_of_entries members = do
   nspace ← nspace_of members
   Some (acts.GetNumberOfEntries domain nspace)
 
-abbrev pub list_entries : Data → Option Act
-list_entries members = do
+abbrev pub list_entries : AliasForm → Data → Option Act
+list_entries form members = do
   domain ← domain_of members
   nspace ← nspace_of members
-  past ← optional as_str (codes "past") members
+  past ← optional (alias_of form) (codes "past") members
   Some (acts.ListEntriesBatched domain nspace past)
 
 abbrev pub add_auth_token : Data → Option Act
@@ -127,30 +130,34 @@ clear_namespace members = do
   Some (acts.ClearNamespace domain nspace)
 
 -- the act of a name, with its fields from the members of the line
-abbrev pub act_of : ActKind → Data → Option Act
-act_of Connect members = uid_of members >>= λ uid. Some (acts.Connect uid)
-act_of Disconnect members = Some acts.Disconnect
-act_of GenerateKey members = generate_key members
-act_of ImportKey members = import_key members
-act_of CreateOperation members = create_operation members
-act_of UpdateAad members = update_aad members
-act_of Update members = update members
-act_of Finish members = finish members
-act_of Abort members = op_of members >>= λ op. Some (acts.Abort op)
-act_of GetKeyEntry members = key_of members >>= λ key. Some (acts.GetKeyEntry key)
-act_of DeleteKey members = key_of members >>= λ key. Some (acts.DeleteKey key)
-act_of Grant members = grant members
-act_of Ungrant members = ungrant members
-act_of GetNumberOfEntries members = number_of_entries members
-act_of ListEntriesBatched members = list_entries members
-act_of AddAuthToken members = add_auth_token members
-act_of DeviceLocked members = user_of members >>= λ user. Some (acts.DeviceLocked user)
-act_of DeviceUnlocked members = user_of members >>= λ user. Some (acts.DeviceUnlocked user)
-act_of EarlyBootEnded members = Some acts.EarlyBootEnded
-act_of ClearNamespace members = clear_namespace members
-act_of UserRemoved members = user_of members >>= λ user. Some (acts.UserRemoved user)
-act_of Leave members = needed u64_of (codes "ticket") members >>= λ ticket. Some (acts.Leave ticket)
-act_of Restart members = optional hex_32_of (codes "root") members >>= λ root. Some (acts.Restart root)
+abbrev pub act_of : AliasForm → ActKind → Data → Option Act
+act_of form Connect members = uid_of members >>= λ uid. Some (acts.Connect uid)
+act_of form Disconnect members = Some acts.Disconnect
+act_of form GenerateKey members = generate_key form members
+act_of form ImportKey members = import_key form members
+act_of form CreateOperation members = create_operation form members
+act_of form UpdateAad members = update_aad members
+act_of form Update members = update members
+act_of form Finish members = finish members
+act_of form Abort members = op_of members >>= λ op. Some (acts.Abort op)
+act_of form GetKeyEntry members = key_of form members >>= λ key. Some (acts.GetKeyEntry key)
+act_of form DeleteKey members = key_of form members >>= λ key. Some (acts.DeleteKey key)
+act_of form Grant members = grant form members
+act_of form Ungrant members = ungrant form members
+act_of form GetNumberOfEntries members = number_of_entries members
+act_of form ListEntriesBatched members = list_entries form members
+act_of form AddAuthToken members = add_auth_token members
+act_of form DeviceLocked members = user_of members >>= λ user. Some (acts.DeviceLocked user)
+act_of form DeviceUnlocked members = user_of members >>= λ user. Some (acts.DeviceUnlocked user)
+act_of form EarlyBootEnded members = Some acts.EarlyBootEnded
+act_of form ClearNamespace members = clear_namespace members
+act_of form UserRemoved members = user_of members >>= λ user. Some (acts.UserRemoved user)
+act_of form Leave members = needed u64_of (codes "ticket") members >>= λ ticket. Some (acts.Leave ticket)
+act_of form Restart members = optional hex_32_of (codes "root") members >>= λ root. Some (acts.Restart root)
+
+-- an act without an alias, which is read alike in both forms
+abbrev pub plain_act_of : ActKind → Data → Option Act
+plain_act_of name members = act_of Text name members
 
 -- ---- who, when, and whether an enter waits for its leave
 
@@ -172,3 +179,12 @@ reading_of members = do
 
 abbrev pub name_of : Data → Option ActKind
 name_of members = needed as_str (codes "do") members >>= kind_named
+
+-- an object with a reading, the act's name, a client where the act has one, and the act's fields
+abbrev pub event_in : AliasForm → Data → Option Event
+event_in form members = do
+  reading ← reading_of members
+  name ← name_of members
+  client ← client_of name members
+  act ← act_of form name members
+  Some (record { reading = reading; client = client; act = act })

@@ -1,6 +1,6 @@
-pub mod Reads
-pub mod Members
 pub mod Params
 pub mod Acts
 pub mod Lines
 pub mod Replies
+pub mod EventLines
+pub mod ToldWhole

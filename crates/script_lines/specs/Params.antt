@@ -1,5 +1,5 @@
 -- The parameters of a script line, and the encoded list that they spell.
-use Rattle.std.specs.Prelude.{ℕ, ◌^◌, nat_lt, List, [], ◌∷◌, codes, length, Bool, true, false, if◌then◌else◌, Option, Some, None}
+use Rattle.std.specs.Prelude.{ℕ, ◌^◌, nat_lt, List, [], codes, length, Bool, true, false, if◌then◌else◌, Option, Some, None}
 use Rattle.tags.specs.Tag.{type_of, tag_named}
 use Rattle.tags.specs.declared.param.Param.{Param}
 use Rattle.tags.specs.declared.param.ParamValue.{ParamValue}
@@ -7,9 +7,9 @@ use Rattle.tags.specs.declared.param.ParamValue.TheVariants.{Number, Flag, Raw}
 use Rattle.tags.specs.declared.tag.TagType.{TagType}
 use Rattle.tags.specs.declared.tag.TagType.TheVariants as types
 use Rattle.tag_lists.specs.Spelling.{spelling}
-use Rattle.serde_json.specs.Data.{Data, Items, no_items, item}
+use Rattle.serde_json.specs.Data.{Data, Items}
 use Rattle.serde_json.specs.Find.{get, as_str, as_bool, as_array}
-use Rattle.script_lines.specs.Members.{◌>>=◌, u32_of, u64_of, bytes_of_hex, hex_of, two_of}
+use Rattle.line_members.specs.Members.{◌>>=◌, u32_of, u64_of, bytes_of_hex, hex_of, two_of, each_of}
 
 -- at most 65,535 bytes
 abbrev pub short_bytes : List ℕ → Option ParamValue
@@ -44,8 +44,7 @@ param_of pair = do
 
 -- the pairs, in the order given
 abbrev pub params_in : Items → Option (List Param)
-params_in no_items = Some []
-params_in (item pair pairs) = param_of pair >>= λ first. params_in pairs >>= λ rest. Some (first ∷ rest)
+params_in pairs = each_of param_of pairs
 
 -- the list that they spell, of at most 65,535
 abbrev pub list_of_params : List Param → Option (List ℕ)

@@ -1,6 +1,5 @@
 -- The line that a reply spells: the compact JSON text of an object with its members in byte order, and LF.
-use Rattle.std.specs.Prelude.{ℕ, ℤ, pos, List, [], ◌∷◌, ◌++◌, codes, map, Option, Some, None}
-use Rattle.std.specs.Str.Lossy.{utf8_lossy}
+use Rattle.std.specs.Prelude.{ℕ, pos, List, [], ◌++◌, codes, Option, Some, None}
 use Rattle.tags.specs.Code.{code_number}
 use Rattle.tags.specs.Rule.{rule_text}
 use Rattle.tags.specs.declared.rule.RuleTable.TheVariants as tables
@@ -10,41 +9,10 @@ use Rattle.tags.specs.declared.settled.Settled.TheVariants.{Kept, Lost}
 use Rattle.rule_model.specs.declared.reply.Fields.{Fields}
 use Rattle.rule_model.specs.declared.reply.Reply.{Reply}
 use Rattle.rule_model.specs.declared.reply.Reply.TheVariants.{Done, Broken, Stopped}
-use Rattle.hex.specs.Hex.{encode_lower}
-use Rattle.serde_json.specs.Data.{Data, number, string, array, object, unsigned, item, no_items, Members, no_members, put}
-use Rattle.serde_json.specs.Find.{of_integer}
-use Rattle.serde_json.specs.View.{items_of}
-use Rattle.serde_json.specs.Written.{compact_text}
-
--- ---- values
-
-abbrev pub number_data : ℕ → Data
-number_data n = number (unsigned n)
-
-abbrev pub signed_data : ℤ → Data
-signed_data z = number (of_integer z)
-
--- bytes as lower-case hex
-abbrev pub hex_data : List ℕ → Data
-hex_data bytes = string (encode_lower bytes)
-
--- text as it is; bytes that are no UTF-8 as the replacement character U+FFFD
-abbrev pub text_data : List ℕ → Data
-text_data text = string (utf8_lossy text)
-
--- an entry of a listing: the alias and the key's id
-abbrev pub entry_data : List ℕ × ℕ → Data
-entry_data entry = array (item (text_data entry.0) (item (number_data entry.1) no_items))
-
-abbrev pub entries_data : List (List ℕ × ℕ) → Data
-entries_data entries = array (items_of (map entry_data entries))
+use Rattle.serde_json.specs.Data.{string, Members, no_members, put}
+use Rattle.line_members.specs.Values.{number_data, signed_data, hex_data, text_data, entries_data, with_field, object_line}
 
 -- ---- members
-
--- the members, with this one where there is such a field
-abbrev pub with_field : {A : Type 0} → (A → Data) → List ℕ → Option A → Members → Members
-with_field written name None members = members
-with_field written name (Some x) members = put name (written x) members
 
 abbrev pub with_numbers : Fields → Members → Members
 with_numbers fields members =
@@ -77,18 +45,17 @@ reply_members (Stopped code) = put (codes "code") (signed_data (code_number code
 
 -- ---- lines
 
--- the compact text of an object, and LF
-abbrev pub object_line : Members → List ℕ
-object_line members = compact_text (object members) ++ 10 ∷ []
-
 abbrev pub settled_text : Settled → List ℕ
 settled_text Kept = codes "kept"
 settled_text Lost = codes "lost"
 
+abbrev pub settled_members : Settled → Members
+settled_members settled = put (codes "settled") (string (settled_text settled)) no_members
+
 -- how an earlier change was settled, where that was due
 abbrev pub settled_line : Option Settled → List ℕ
 settled_line None = []
-settled_line (Some settled) = object_line (put (codes "settled") (string (settled_text settled)) no_members)
+settled_line (Some settled) = object_line (settled_members settled)
 
 -- the lines of a step: how an earlier change was settled, where that was due, and the reply
 abbrev pub line_of : Option Settled → Reply → List ℕ

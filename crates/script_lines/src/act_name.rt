@@ -2,10 +2,10 @@
 
 ghost use Rattle.std.specs.Prelude.{◌≡◌};
 ghost use Rattle.serde_json.specs.View.{view};
-ghost use Rattle.script_lines.specs.Reads.{Gives};
+ghost use Rattle.line_members.specs.Reads.{Gives};
 ghost use Rattle.script_lines.specs.Acts.{name_of as spec_name_of};
 
-use crate::LineFault;
+use line_members::LineFault;
 use rule_model::ActKind;
 use serde_json::Value;
 
@@ -19,5 +19,5 @@ pub fn name_of(object: &Value) -> Result<ActKind, LineFault>
     let Some(text) = value.as_str() else {
         return Err(LineFault::Malformed);
     };
-    ActKind::named(text).ok_or(LineFault::Malformed)
+    ActKind::of_name(text).ok_or(LineFault::Malformed)
 }

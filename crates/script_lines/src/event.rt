@@ -1,72 +1,64 @@
 //! The event that a line spells.
 
-ghost use Rattle.std.specs.Prelude.{◌≡◌};
+ghost use Rattle.std.specs.Prelude.{◌≡◌, IfOk};
 ghost use Rattle.serde_json.specs.View.{view};
-ghost use Rattle.script_lines.specs.Reads.{Gives, GivesView};
-ghost use Rattle.script_lines.specs.Acts.{act_of as spec_act_of, client_of as spec_client_of, hold_of as spec_hold_of, reading_of as spec_reading_of};
-ghost use Rattle.script_lines.specs.Lines.{event_of as spec_event_of, line_in as spec_line_in, parsed as spec_parsed};
+ghost use Rattle.line_members.specs.Reads.{Gives};
+ghost use Rattle.script_lines.specs.Acts.{act_of as spec_act_of, client_of as spec_client_of, event_in as spec_event_in, hold_of as spec_hold_of, reading_of as spec_reading_of};
+ghost use Rattle.script_lines.specs.ToldWhole.{IsToldWhole};
+ghost use Rattle.line_members.specs.declared.alias_form.AliasForm.TheVariants.{Text};
+ghost use Rattle.script_lines.specs.Lines.{event_of as spec_event_of, line_in as spec_line_in};
 
-use crate::LineFault;
 use crate::act_name::name_of;
 use crate::key_acts::{
     clear_namespace, create_operation, delete_key, generate_key, get_key_entry,
     get_number_of_entries, grant, import_key, list_entries_batched, ungrant,
 };
-use crate::members::{flag_or_false, needed_u64, two_of, u64_of};
 use crate::service_acts::{
     add_auth_token, connect, device_locked, device_unlocked, restart, user_removed,
 };
 use crate::step_acts::{abort, finish, leave, update, update_aad};
+use line_members::{AliasForm, LineFault, flag_or_false, needed_u64, parsed, two_of, u64_of};
 use rule_model::{Act, ActKind, Event, Line, Reading};
 use serde_json::Value;
 use std::alloc::Global;
-use std::str;
 
 /// The event that a line spells, without its LF, and whether an enter waits for its leave.
 ///
-/// A line is `Malformed` exactly where it is no JSON object of a script (RFC 8259).
+/// A line is `Malformed` exactly where it is no JSON object of a script (RFC 8259). The line of each event that is given spells it again.
 pub fn event_of(alloc: Global, line: &[u8]) -> Result<Line, LineFault>
-    ensures { Gives result (spec_event_of line.now) }
+    ensures event { Gives result (spec_event_of line.now) }
+    ensures whole { IfOk result (λ line. IsToldWhole Text line.event) }
 {
     let object = parsed(alloc, line)?;
     line_in(alloc, &object)
 }
 
-/// The JSON value of a line.
-fn parsed(alloc: Global, line: &[u8]) -> Result<Value, LineFault>
-    ensures { GivesView view result (spec_parsed line.now) }
+fn line_in(alloc: Global, object: &Value) -> Result<Line, LineFault>
+    ensures { Gives result (spec_line_in (view object.now)) }
 {
-    let Ok(text) = str::from_utf8(line) else {
-        return Err(LineFault::Malformed);
-    };
-    match Value::from_str(alloc, text) {
-        Ok(value) => Ok(value),
-        Err(error) if error.is_memory() => Err(LineFault::Memory),
-        Err(_) => Err(LineFault::Malformed),
+    let event = event_in(alloc, AliasForm::Text, object)?;
+    match hold_of(event.act.kind(), object) {
+        Ok(hold) => Ok(Line { event, hold }),
+        Err(fault) => {
+            drop(event);
+            Err(fault)
+        }
     }
 }
 
-fn line_in(alloc: Global, object: &Value) -> Result<Line, LineFault>
-    ensures { Gives result (spec_line_in (view object.now)) }
+/// The event of an object.
+pub fn event_in(alloc: Global, form: AliasForm, object: &Value) -> Result<Event, LineFault>
+    ensures { Gives result (spec_event_in form (view object.now)) }
 {
     let reading = reading_of(object)?;
     let name = name_of(object)?;
     let client = client_of(name, object)?;
-    let act = act_of(alloc, name, object)?;
-    match hold_of(name, object) {
-        Ok(hold) => Ok(Line {
-            event: Event {
-                reading,
-                client,
-                act,
-            },
-            hold,
-        }),
-        Err(fault) => {
-            drop(act);
-            Err(fault)
-        }
-    }
+    let act = act_of(alloc, form, name, object)?;
+    Ok(Event {
+        reading,
+        client,
+        act,
+    })
 }
 
 fn reading_of(object: &Value) -> Result<Reading, LineFault>
@@ -104,25 +96,25 @@ fn hold_of(name: ActKind, object: &Value) -> Result<bool, LineFault>
 }
 
 /// The act of a name, with its fields from the members of the line.
-fn act_of(alloc: Global, name: ActKind, object: &Value) -> Result<Act, LineFault>
-    ensures { Gives result (spec_act_of name (view object.now)) }
+fn act_of(alloc: Global, form: AliasForm, name: ActKind, object: &Value) -> Result<Act, LineFault>
+    ensures { Gives result (spec_act_of form name (view object.now)) }
 {
     match name {
         ActKind::Connect => connect(object),
         ActKind::Disconnect => Ok(Act::Disconnect),
-        ActKind::GenerateKey => generate_key(alloc, object),
-        ActKind::ImportKey => import_key(alloc, object),
-        ActKind::CreateOperation => create_operation(alloc, object),
+        ActKind::GenerateKey => generate_key(alloc, form, object),
+        ActKind::ImportKey => import_key(alloc, form, object),
+        ActKind::CreateOperation => create_operation(alloc, form, object),
         ActKind::UpdateAad => update_aad(alloc, object),
         ActKind::Update => update(alloc, object),
         ActKind::Finish => finish(alloc, object),
         ActKind::Abort => abort(object),
-        ActKind::GetKeyEntry => get_key_entry(alloc, object),
-        ActKind::DeleteKey => delete_key(alloc, object),
-        ActKind::Grant => grant(alloc, object),
-        ActKind::Ungrant => ungrant(alloc, object),
+        ActKind::GetKeyEntry => get_key_entry(alloc, form, object),
+        ActKind::DeleteKey => delete_key(alloc, form, object),
+        ActKind::Grant => grant(alloc, form, object),
+        ActKind::Ungrant => ungrant(alloc, form, object),
         ActKind::GetNumberOfEntries => get_number_of_entries(object),
-        ActKind::ListEntriesBatched => list_entries_batched(alloc, object),
+        ActKind::ListEntriesBatched => list_entries_batched(alloc, form, object),
         ActKind::AddAuthToken => add_auth_token(alloc, object),
         ActKind::DeviceLocked => device_locked(object),
         ActKind::DeviceUnlocked => device_unlocked(object),

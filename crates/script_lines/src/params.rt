@@ -5,11 +5,10 @@ ghost use Rattle.std.specs.List.{AllByRecursion};
 ghost use Rattle.serde_json.specs.View.{view, items_view};
 ghost use Rattle.tag_lists.specs.declared.shape.Shape.TheVariants as shapes;
 ghost use Rattle.tag_lists.specs.Order.{Fits, FitsShape, shape_of};
-ghost use Rattle.script_lines.specs.Reads.{Gives, GivesView};
+ghost use Rattle.line_members.specs.Reads.{Gives, GivesView};
 ghost use Rattle.script_lines.specs.Params as spec;
 
-use crate::LineFault;
-use crate::members::{bytes_of_hex, hex_of, two_of, u32_of, u64_of};
+use line_members::{LineFault, bytes_of_hex, hex_of, two_of, u32_of, u64_of};
 use serde_json::Value;
 use std::alloc::Global;
 use tag_lists::spelled;

@@ -1,10 +1,11 @@
 //! The line that a reply spells.
 
 ghost use Rattle.std.specs.Prelude.{◌≡◌, IfOk, OnOk};
-ghost use Rattle.script_lines.specs.Replies.{with_numbers, with_bytes, reply_members as spec_reply_members, object_line, settled_line as spec_settled_line, line_of as spec_line_of, malformed_line as spec_malformed_line};
-ghost use Rattle.serde_json.specs.View.{members_view};
+ghost use Rattle.script_lines.specs.Replies.{with_numbers, with_bytes, reply_members as spec_reply_members, settled_members, settled_line as spec_settled_line, line_of as spec_line_of, malformed_line as spec_malformed_line};
+ghost use Rattle.line_members.specs.Objects.{members_in};
+ghost use Rattle.line_members.specs.Values.{object_line};
 
-use crate::reply_members::ReplyMembers;
+use line_members::WrittenObject;
 use rule_model::{Fields, Reply, Stepped};
 use std::alloc::{AllocError, Global};
 use tags::{Bytes, NoMemory, Settled};
@@ -33,61 +34,75 @@ pub fn line_of(alloc: Global, stepped: &Stepped) -> Result<Bytes, NoMemory>
 fn settled_line(alloc: Global, settled: Option<Settled>) -> Result<Vec<u8>, AllocError>
     ensures { IfOk result (λ line. line.items ≡ spec_settled_line settled) }
 {
-    let Some(settled) = settled else {
-        return Ok(Vec::new(alloc));
-    };
+    match settled {
+        None => Ok(Vec::new(alloc)),
+        Some(settled) => settled_object(alloc, settled)?.line(),
+    }
+}
+
+/// The object that says how an earlier change was settled.
+pub fn settled_object(alloc: Global, settled: Settled) -> Result<WrittenObject, AllocError>
+    ensures { IfOk result (λ object. members_in object ≡ settled_members settled) }
+{
     let text = match settled {
         Settled::Kept => "kept",
         Settled::Lost => "lost",
     };
-    let mut members = ReplyMembers::new(alloc);
-    members.put_str(alloc, "settled", text)?;
-    members.line(alloc)
+    let mut object = WrittenObject::new(alloc);
+    object.put_str("settled", text)?;
+    Ok(object)
 }
 
 fn reply_line(alloc: Global, reply: &Reply) -> Result<Vec<u8>, AllocError>
     ensures { IfOk result (λ line. line.items ≡ object_line (spec_reply_members reply.now)) }
 {
-    let mut members = ReplyMembers::new(alloc);
+    reply_object(alloc, reply)?.line()
+}
+
+/// The object of a reply: `code`, `rule` where one is broken, and each field that there is.
+pub fn reply_object(alloc: Global, reply: &Reply) -> Result<WrittenObject, AllocError>
+    ensures { IfOk result (λ object. members_in object ≡ spec_reply_members reply.now) }
+{
+    let mut object = WrittenObject::new(alloc);
     match reply {
         Reply::Done(fields) => {
-            members.put_signed(alloc, "code", 0)?;
-            put_numbers(alloc, &mut members, fields)?;
-            put_bytes(alloc, &mut members, fields)?;
+            object.put_signed("code", 0)?;
+            put_numbers(&mut object, fields)?;
+            put_bytes(&mut object, fields)?;
         }
         Reply::Broken { rule, code } => {
             let rule = format!(in alloc; "{rule}")?;
-            members.put_signed(alloc, "code", code.number())?;
-            members.put_str(alloc, "rule", rule.as_str())?;
+            object.put_signed("code", code.number())?;
+            object.put_str("rule", rule.as_str())?;
         }
-        Reply::Stopped { code } => members.put_signed(alloc, "code", code.number())?,
+        Reply::Stopped { code } => object.put_signed("code", code.number())?,
     }
-    members.line(alloc)
+    Ok(object)
 }
 
-fn put_numbers(alloc: Global, members: &mut ReplyMembers, fields: &Fields) -> Result<(), AllocError>
-    ensures { OnOk result (members_view members.new.entries.entries ≡ with_numbers fields.now (members_view members.old.entries.entries)) }
+fn put_numbers(object: &mut WrittenObject, fields: &Fields) -> Result<(), AllocError>
+    ensures { OnOk result (members_in object.new ≡ with_numbers fields.now (members_in object.old)) }
 {
-    members.put_number(alloc, "client", fields.client)?;
-    members.put_number(alloc, "key", fields.key)?;
-    members.put_number(alloc, "op", fields.op)?;
-    members.put_number(alloc, "challenge", fields.challenge)?;
-    members.put_number(alloc, "ticket", fields.ticket)?;
-    members.put_number(alloc, "pruned", fields.pruned)?;
-    members.put_number(alloc, "grant", fields.grant)?;
-    members.put_number(alloc, "count", fields.count)?;
-    members.put_number(alloc, "uses", fields.uses.map(u64::from))?;
-    members.put_number(alloc, "domain", fields.domain.map(u64::from))?;
-    members.put_number(alloc, "nspace", fields.nspace)
+    object.put_number_if("client", fields.client)?;
+    object.put_number_if("key", fields.key)?;
+    object.put_number_if("op", fields.op)?;
+    object.put_number_if("challenge", fields.challenge)?;
+    object.put_number_if("ticket", fields.ticket)?;
+    object.put_number_if("pruned", fields.pruned)?;
+    object.put_number_if("grant", fields.grant)?;
+    object.put_number_if("count", fields.count)?;
+    object.put_number_if("uses", fields.uses.map(u64::from))?;
+    object.put_number_if("domain", fields.domain.map(u64::from))?;
+    object.put_number_if("nspace", fields.nspace)
 }
 
-fn put_bytes(alloc: Global, members: &mut ReplyMembers, fields: &Fields) -> Result<(), AllocError>
-    ensures { OnOk result (members_view members.new.entries.entries ≡ with_bytes fields.now (members_view members.old.entries.entries)) }
+fn put_bytes(object: &mut WrittenObject, fields: &Fields) -> Result<(), AllocError>
+    ensures { OnOk result (members_in object.new ≡ with_bytes fields.now (members_in object.old)) }
 {
-    members.put_text(alloc, "alias", &fields.alias)?;
-    members.put_hex(alloc, "nonce", &fields.nonce)?;
-    members.put_hex(alloc, "out", &fields.out)?;
-    members.put_hex(alloc, "blob", &fields.blob)?;
-    members.put_hex(alloc, "list", &fields.list)?;
-    members.put_entries(alloc, "entries", &fields.entries)
+    object.put_text_if("alias", &fields.alias)?;
+    object.put_hex_if("nonce", &fields.nonce)?;
+    object.put_hex_if("out", &fields.out)?;
+    object.put_hex_if("blob", &fields.blob)?;
+    object.put_hex_if("list", &fields.list)?;
+    object.put_entries_if("entries", &fields.entries)
 }

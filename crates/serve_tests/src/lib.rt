@@ -15,4 +15,6 @@ mod sessions;
 #[cfg(test)]
 mod silent_clients;
 #[cfg(test)]
+mod traces;
+#[cfg(test)]
 mod two_connections;

@@ -1,7 +1,7 @@
 //! A service over connections and a store in memory.
 
 use disk_model::{DiskRoom, MemoryDisk};
-use keystore_server::{ServeStatus, serve_words};
+use keystore_server::{ServeEnd, ServeStatus, serve_words};
 use ks_outside::{Disk, FixedClock, Gate, MemoryLink, MemoryListener, Reading, SteadyEntropy};
 use rule_model::Entry;
 use service_book::{Book, BookEntry};
@@ -176,39 +176,37 @@ pub(crate) fn counts_of(book: &Option<Book>) -> (Option<usize>, usize) {
     }
 }
 
-/// Serves the words over a listener and a disk.
-fn outcome_over<R: Threads + Wait + Sync, G: Gate + Sync>(
+/// How a service of the words over such a disk and such links ends; `None` where memory is wanting before.
+pub(crate) fn end_of<'a, R: Threads + Wait + Sync, G: Gate + Sync>(
     rt: &R,
     alloc: Global,
-    words: &[String],
-    policy: &Policy,
-    listener: MemoryListener<'_>,
-    disk: MemoryDisk<'static>,
+    words: &str,
+    held: Held,
+    sent: Links<'a>,
     gate: &G,
-    told: Told<'_>,
-) -> Outcome {
+) -> Option<ServeEnd<MemoryListener<'a>, MemoryDisk<'static>, SteadyEntropy>> {
+    let policy = Policy::demo(alloc).ok()?;
+    let disk = disk_of(alloc, held)?;
+    let Some(listener) = listener_of(alloc, sent) else {
+        drop(disk);
+        return None;
+    };
+    let words = words_of(alloc, words);
     let end = serve_words(
         rt,
         alloc,
-        words,
+        &words,
         &DeviceSecrets::demo(),
-        policy,
+        &policy,
         listener,
         disk,
         SteadyEntropy::counting(),
         &FixedClock::at(NOW),
         gate,
     );
-    let (entries, gone) = counts_of(&end.book);
-    let outcome = Outcome {
-        status: end.status,
-        given: end.listener.given(),
-        told: links_that_told(end.listener.served(), told),
-        entries,
-        gone,
-    };
-    drop(end);
-    outcome
+    drop(words);
+    drop(policy);
+    Some(end)
 }
 
 /// What comes of the words over such a disk and such links; `None` where memory is wanting before.
@@ -221,15 +219,15 @@ pub(crate) fn outcome_of<R: Threads + Wait + Sync, G: Gate + Sync>(
     gate: &G,
     told: Told<'_>,
 ) -> Option<Outcome> {
-    let policy = Policy::demo(alloc).ok()?;
-    let disk = disk_of(alloc, held)?;
-    let Some(listener) = listener_of(alloc, sent) else {
-        drop(disk);
-        return None;
+    let end = end_of(rt, alloc, words, held, sent, gate)?;
+    let (entries, gone) = counts_of(&end.book);
+    let outcome = Outcome {
+        status: end.status,
+        given: end.listener.given(),
+        told: links_that_told(end.listener.served(), told),
+        entries,
+        gone,
     };
-    let words = words_of(alloc, words);
-    let outcome = outcome_over(rt, alloc, &words, &policy, listener, disk, gate, told);
-    drop(words);
-    drop(policy);
+    drop(end);
     Some(outcome)
 }

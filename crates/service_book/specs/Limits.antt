@@ -3,9 +3,9 @@ use Rattle.std.specs.Prelude.{ℕ, ◌+◌, ◌-◌, ◌*◌, nat_lt, Bool, true
 use Rattle.rule_model.specs.declared.entry.Entry.{Entry}
 use Rattle.rule_model.specs.declared.entry.Entry.TheVariants.{Acted, Settling}
 use Rattle.rule_model.specs.declared.event.Act.{Act}
-use Rattle.rule_model.specs.declared.event.Act.TheVariants.{Connect, Disconnect, EnterAad, EnterUpdate, EnterFinish}
+use Rattle.rule_model.specs.declared.event.Act.TheVariants.{Disconnect}
 use Rattle.rule_model.specs.declared.reply.Reply.{Reply}
-use Rattle.rule_model.specs.Acts.{is_connect, is_disconnect, is_enter, is_leave}
+use Rattle.rule_model.specs.Acts.{is_connect, is_disconnect, is_enter, is_leave, need_of}
 use Rattle.rule_model.specs.Entries.{admits}
 use Rattle.wire_frames.specs.Replies.{reply_of}
 use Rattle.wire_frames.specs.Sizes.{frame_length}
@@ -52,16 +52,6 @@ bytes_of (Acted event drawn reply) = acted_bytes event.act reply
 abbrev pub recorded : List BookEntry → ℕ
 recorded [] = 0
 recorded (e ∷ log) = recorded log + bytes_of e.entry
-
--- the most entries of a call: a connect, since its client's disconnect is to have a place; a call in two steps; a disconnect of a
--- client that is not connected; and every other call, with a settling
-abbrev pub need_of : Act → ℕ
-need_of (Connect uid) = 3
-need_of (EnterAad op input) = 3
-need_of (EnterUpdate op input) = 3
-need_of (EnterFinish op input signature) = 3
-need_of Disconnect = 1
-need_of _ = 2
 
 -- the entries with a call: those of the book, one for each client's disconnect and each ticket's leave, and those of the call
 abbrev pub entries_with : Act → List BookEntry → ℕ

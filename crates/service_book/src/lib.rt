@@ -11,4 +11,4 @@ mod tally;
 
 pub use book::Book;
 pub use entry::BookEntry;
-pub use tally::{Tally, need_of};
+pub use tally::Tally;

@@ -1,12 +1,11 @@
 //! What the limits of a run ask of a book, counted entry by entry.
 
 ghost use Rattle.std.specs.Prelude.{◌≡◌, ◌+◌, ◌<◌, ◌≤◌, ◌^◌, [], ◌∷◌, List, length};
-ghost use Rattle.wire_frames.specs.Spelling.{body_of};
+ghost use Rattle.wire_frames.specs.Sizes.{frame_length};
 ghost use Rattle.service_book.specs.declared.entry.BookEntry.{BookEntry};
-ghost use Rattle.service_book.specs.Limits.{bytes_of, clients_in, need_of, passes_limit, tickets_in, MOST_ENTRIES, MOST_BYTES, CALL_BYTES};
+ghost use Rattle.service_book.specs.Limits.{bytes_of, clients_in, passes_limit, tickets_in, MOST_ENTRIES, MOST_BYTES, CALL_BYTES};
 
 use rule_model::{Act, Entry};
-use wire_frames::Request;
 
 /// The most entries of a book.
 const MOST_ENTRIES: u64 = 1_048_576;
@@ -31,21 +30,6 @@ pub struct Tally {
     ghost few_disconnects: { disconnects ≤ entries },
     ghost few_enters: { enters ≤ entries },
     ghost few_leaves: { leaves ≤ entries },
-}
-
-/// The most entries of a call.
-pub fn need_of(act: &Act) -> u64
-    ensures need { result ≡ need_of act.now }
-    ensures small { result ≤ 3 }
-{
-    match act {
-        Act::Connect { .. } => 3,
-        Act::EnterAad { .. } => 3,
-        Act::EnterUpdate { .. } => 3,
-        Act::EnterFinish { .. } => 3,
-        Act::Disconnect => 1,
-        _ => 2,
-    }
 }
 
 impl Tally {
@@ -110,17 +94,18 @@ impl Tally {
         self.enters.saturating_sub(self.leaves)
     }
 
-    /// Whether a call passes a limit: with it, with the disconnect of each client and with the leave of each ticket that is out,
+    /// Whether a call of an act with a frame of this length passes a limit: with it, with the disconnect of each client and with the leave of each ticket that is out,
     /// the book would have more than 1,048,576 entries, or record more than 536,870,912 bytes.
-    pub fn is_full(&self, request: &Request) -> bool
-        requires short { length (body_of request.now) < 2 ^ 32 }
+    pub fn is_full(&self, act: &Act, frame: u64) -> bool
+        requires frame { frame ≡ frame_length act.now }
+        requires short { frame < 2 ^ 33 }
         requires few { entries_in self.now ≤ 2 ^ 32 }
         requires small { bytes_in self.now ≤ 2 ^ 62 }
-        ensures { (log : List BookEntry) → IsTally log self.now → result ≡ passes_limit request.now log }
+        ensures { (log : List BookEntry) → IsTally log self.now → result ≡ passes_limit act.now log }
     {
         let tickets = self.tickets();
-        let entries = self.entries + self.clients() + tickets + need_of(request.act());
-        let bytes = self.bytes + request.frame_length() + CALL_BYTES + CALL_BYTES * tickets;
+        let entries = self.entries + self.clients() + tickets + act.need();
+        let bytes = self.bytes + frame + CALL_BYTES + CALL_BYTES * tickets;
         MOST_ENTRIES < entries || MOST_BYTES < bytes
     }
 }

@@ -4,10 +4,9 @@ ghost use Rattle.std.specs.Prelude.{◌≡◌, ◌≤◌, ◌<◌, ◌^◌, leng
 ghost use Rattle.wire_frames.specs.Spelling.{body_of};
 
 use crate::plan::LoadCall;
-use rule_model::Act;
+use rule_model::{Act, Request};
 use std::alloc::Global;
 use tags::{Bytes, Descriptor, Material, NoMemory};
-use wire_frames::Request;
 
 /// PURPOSE 2 and 3, ALGORITHM 128, DIGEST 4, MIN_MAC_LENGTH 64, NO_AUTH_REQUIRED, as a list is spelled.
 static OWN_KEY: [u8; 47] = [

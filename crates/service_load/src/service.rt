@@ -13,12 +13,12 @@ use crate::board::Board;
 use disk_model::{DiskRoom, MemoryDisk};
 use keystore_core::Engine;
 use ks_outside::{Disk, MemoryEntropy, Reading};
+use rule_model::Request;
 use service_book::Book;
 use shared_service::{Pass, Served, Shared};
 use std::alloc::Global;
 use std::sync::Wait;
 use tags::{DeviceSecrets, MOST_SLOTS, Policy};
-use wire_frames::Request;
 
 /// The service, without the types of its devices: what goes to threads names no lifetime.
 #[derive(Drop)]

@@ -5,14 +5,14 @@ use Rattle.std.proofs.Math.Seq.{get_or-append_seam}
 use Rattle.std.specs.Prelude.{IfOk}
 use mathlib.Core.Logic.{dite}
 use native.Mathlib.Decide.{ℕ_discrete}
-use Rattle.turn_lock.specs.declared.lock.Pass.{Pass}
+use Rattle.turn_lock.specs.declared.lock.LockPass.{LockPass}
 use Rattle.turn_lock.specs.Passes.{Closing, Took}
 use Rattle.shared_list.specs.declared.list.PlainList.{PlainList}
 use Rattle.shared_list.specs.declared.list.ListEntry.{ListEntry}
 use Rattle.shared_list.specs.Runs.{HasAppended, TookIts}
 
 abbrev P : Type 0
-P = Pass PlainList ListEntry (Unit {0})
+P = LockPass PlainList ListEntry (Unit {0})
 
 abbrev C : Type 0
 C = Closing PlainList ListEntry (Unit {0})

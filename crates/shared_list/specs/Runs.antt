@@ -1,6 +1,6 @@
 -- The passes of a run, by their numbers.
 use Rattle.std.specs.Prelude.{◌≡◌, ◌<◌, ℕ, List, [], length, slice_index_or, Result, IfOk}
-use Rattle.turn_lock.specs.declared.lock.Pass.{Pass}
+use Rattle.turn_lock.specs.declared.lock.LockPass.{LockPass}
 use Rattle.turn_lock.specs.Rule.{own}
 use Rattle.turn_lock.specs.Passes.{Closing, front, number_of, Took}
 use Rattle.shared_list.specs.declared.list.PlainList.{PlainList}
@@ -16,7 +16,7 @@ abbrev pub EachOk : {A F : Type 0} → (ℕ → A → Type 0) → List (Result A
 EachOk P = Each (λ k r. IfOk r (P k))
 
 abbrev ListPass : Type 0
-ListPass = Pass PlainList ListEntry (Unit {0})
+ListPass = LockPass PlainList ListEntry (Unit {0})
 
 -- a new pass with the number k
 pub record IsNew (k : ℕ) (pass : ListPass) : Type 0 where

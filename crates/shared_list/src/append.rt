@@ -25,8 +25,8 @@ pub fn append<R: Wait>(
     let number = pass.number();
     let (turn, mut list) = lock.enter(rt, pass);
     match list.push(ListEntry { by: number, item }) {
-        Ok(()) => Ok(lock.leave(turn, list, 1)),
-        Err(_) => Err(lock.leave(turn, list, 0)),
+        Ok(()) => Ok(lock.leave(turn, list, 1, 0)),
+        Err(_) => Err(lock.leave(turn, list, 0, 0)),
     }
 }
 

@@ -2,7 +2,7 @@
 ghost use Rattle.std.specs.Prelude.{◌≡◌, ◌++◌, ◌∷◌, [], OnOk, OnErr};
 
 use std::alloc::{AllocError, Global};
-use turn_lock::{Closing, History, Maker, Pass, TurnLock};
+use turn_lock::{Closing, History, LockPass, Maker, TurnLock};
 
 /// An item, with the number of the pass that appended it.
 #[derive(Clone, Copy, Debug, PartialEq, Eq)]
@@ -18,9 +18,15 @@ pub struct PlainList {
 }
 
 impl History<ListEntry, ()> for PlainList {
+    ghost use Rattle.std.proofs.Common.{arith};
+
     ghost entries = { λ list. list.entries.items };
 
     ghost maker = { λ e. e.by };
+
+    ghost level = { λ _. 0 };
+
+    ghost rises = { λ xs ys. omega arith };
 
     ghost fits = { λ _ _. Unit {0} };
 }
@@ -29,7 +35,7 @@ impl History<ListEntry, ()> for PlainList {
 pub type ListLock = TurnLock<PlainList, ListEntry, ()>;
 
 /// A pass to the lock.
-pub type ListPass = Pass<PlainList, ListEntry, ()>;
+pub type ListPass = LockPass<PlainList, ListEntry, ()>;
 
 /// What makes passes to the lock.
 pub type ListMaker = Maker<PlainList, ListEntry, ()>;

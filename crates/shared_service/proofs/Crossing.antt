@@ -9,6 +9,7 @@ use Rattle.service_book.specs.contracts.tally.Tally as tally_type
 use Rattle.shared_service.specs.contracts.record.Record as service_record_type
 use Rattle.shared_service.specs.contracts.name.ServiceId as name_type
 use Rattle.shared_service.specs.contracts.desk.Desk as desk_type
+use Rattle.shared_service.specs.contracts.pass.Kept as kept_type
 use Rattle.shared_service.specs.contracts.pass.Pass as pass_type
 use Rattle.shared_service.specs.contracts.shared.Shared as shared_type
 use Rattle.atomic_table.specs.declared.shared.TableRule.{Ghosts as RuleGhosts}
@@ -39,21 +40,21 @@ use Rattle.journal_records.specs.contracts.record.KeyRecord as record_type
 use Rattle.journal_records.specs.contracts.change.Change as change_type
 use Rattle.grants.specs.contracts.maps.GrantMaps as grant_maps_type
 use Rattle.grants.specs.contracts.table.Grants as grants_type
-use Rattle.key_database.specs.contracts.maps.KeyMaps as key_maps_type
-use Rattle.key_database.specs.contracts.keys.Keys as keys_type
-use Rattle.key_database.specs.contracts.part.Part as part_type
-use Rattle.key_database.specs.contracts.lasting_table.LastingTable as lasting_type
+use Rattle.lasting_table.specs.contracts.maps.KeyMaps as key_maps_type
+use Rattle.lasting_table.specs.contracts.keys.Keys as keys_type
+use Rattle.lasting_table.specs.contracts.part.Part as part_type
+use Rattle.lasting_table.specs.contracts.lasting.LastingTable as lasting_type
 use Rattle.use_journal.specs.contracts.journal.Journal as journal_type
 use Rattle.key_database.specs.contracts.database.KeyDatabase as database_type
 use Rattle.cipher_ops.specs.contracts.state.CipherState as cipher_type
-use Rattle.keystore_core.specs.contracts.operations.Operation as operation_type
-use Rattle.keystore_core.specs.contracts.operations.Operations as operations_type
-use Rattle.keystore_core.specs.contracts.tickets.Tickets as tickets_type
-use Rattle.keystore_core.specs.contracts.begins.Begins as begins_type
-use Rattle.keystore_core.specs.contracts.device.Device as device_type
+use Rattle.live_tables.specs.contracts.operations.Operation as operation_type
+use Rattle.live_tables.specs.contracts.operations.Operations as operations_type
+use Rattle.live_tables.specs.contracts.tickets.Tickets as tickets_type
+use Rattle.live_tables.specs.contracts.begins.Begins as begins_type
+use Rattle.live_tables.specs.contracts.device.DeviceState as device_type
 use Rattle.token_store.specs.contracts.store.TokenStore as tokens_type
-use Rattle.keystore_core.specs.contracts.boot.Boot as boot_type
-use Rattle.keystore_core.specs.contracts.clients.Clients as clients_type
+use Rattle.live_tables.specs.contracts.boot.Boot as boot_type
+use Rattle.live_tables.specs.contracts.clients.Clients as clients_type
 use Rattle.keystore_core.specs.contracts.tables.Tables as tables_type
 use Rattle.keystore_core.specs.contracts.engine.Engine as engine_type
 use Rattle.rule_model.specs.contracts.event.Act as act_type
@@ -209,8 +210,11 @@ name_sync = search (owned, sendable) depth 60 fits 20000
 pub name_shown : IsSync name_type.the_row
 name_shown = search (owned, sendable) depth 60 fits 20000
 
+pub kept_send : IsSend (kept_type.the_field).row
+kept_send = search (badges.the_send, owned, sendable) depth 60 fits 20000
+
 pub pass_send : IsSend (pass_type.the_field).row
-pass_send = search (badges.the_send, owned, sendable) depth 60 fits 20000
+pass_send = search (kept_send, badges.the_send, owned, sendable) depth 60 fits 20000
 
 -- at the heap, since `search` finds no allocator's ghost members in a row
 lease_sync : (T : RattleType) → IsSync (lease_type.the_row T heap_type.the_row heap_ghosts)

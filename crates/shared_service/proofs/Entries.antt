@@ -14,7 +14,7 @@ use Rattle.rule_model.specs.Acts.{is_connect, is_disconnect, is_enter, is_leave,
 use Rattle.rule_model.specs.Clients.{ClientChange, SameClients, Comes, Goes, admitted_client, client_change, comes, uid_after, uid_of}
 use Rattle.rule_model.specs.Entries.{admits, count_of, gives, is_done}
 use Rattle.rule_model.specs.Tickets.{TicketChange, SameTickets, GoesOut, ComesBack, Entered, admitted_ticket, goes_out, stopped_ticket, ticket_after, ticket_at, ticket_change, next_ticket}
-use Rattle.wire_frames.specs.Spelling.{is_asked}
+use Rattle.rule_model.specs.Acts.{is_asked}
 use Rattle.service_book.specs.declared.entry.BookEntry.{BookEntry}
 use Rattle.service_book.specs.Book.{Counts, client_given, client_of, gives_ticket, history_of, later_client, pass_of_ticket, ticket_in}
 use Rattle.service_book.specs.Limits.{count, is_of}

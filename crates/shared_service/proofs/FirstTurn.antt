@@ -1,5 +1,5 @@
 -- What the first turn of a call comes to.
-use Rattle.std.proofs.Common.{◌≡◌, ℕ, ◌<◌, ◌^◌, ◌&&◌, Bool, true, false, List, ◌++◌, length, Option, Some, None, unwrap_or, refl, sym, ap, ◌∙◌, subst, arith, ⊎_elim}
+use Rattle.std.proofs.Common.{◌≡◌, ℕ, ◌<◌, ◌^◌, ◌&&◌, Bool, true, false, List, ◌++◌, length, Option, Some, None, Err, unwrap_or, refl, sym, ap, ◌∙◌, subst, arith, ⊎_elim}
 use Rattle.std.proofs.Math.Logic.{∥∥₁_elim, ∥∥₁_map, ∥∥₁_map₂}
 use Rattle.ks_outside.specs.declared.clock.Reading.{Reading}
 use Rattle.ks_outside.specs.declared.disk.Disk.{Ghosts as DiskGhosts}
@@ -40,6 +40,7 @@ use Rattle.shared_service.specs.Kinds.{client_after, connected_after, kind_of}
 use Rattle.shared_service.specs.Owning.{by, client_for, event_for, is_connected, is_parting}
 use Rattle.shared_service.specs.Passes.{connected_of, front_of, number_of}
 use Rattle.shared_service.specs.Requests.{AreNumbers, GoesOut, IsCaller, IsLeaveRoom, IsRequested}
+use Rattle.shared_service.specs.Turns.{Requests}
 use Rattle.shared_service.specs.Sending.{sent}
 use Rattle.shared_service.proofs.Entries.{enter_asked, enter_no_leave}
 use Rattle.shared_service.proofs.Naming.{caller_prop}
@@ -58,6 +59,13 @@ call_full pass reading act front book begins passes stays = Full (record { begin
 pub call_poor : (pass : ℕ) (reading : Reading) (act : Act) (front book : List BookEntry) → IsFrontOf by pass front book → passes_limit act (log_of book) ≡ false → is_parting act pass (log_of book) ≡ false
     → IsCall pass reading act front book (Refused MemoryAllocationFailed)
 call_poor pass reading act front book begins within stays = Poor (record { begins = begins; within = within; stays = stays; is_want = refl; none_first = refl; none_last = refl })
+
+-- what a refusal tells: nothing is added, and the call is refused so
+pub refused_so : (name : ServiceId) (pass : ℕ) (reading : Reading) (act : Act) (front old new : List BookEntry) (code : Code) → IsFrontOf by pass front old → Requests name pass (event_for reading act pass (log_of old)) old new (Err code)
+    → (new ≡ old) × (is_parting act pass (log_of old) ≡ false) × IsCall pass reading act front old (Refused code)
+refused_so name pass reading act front old new RunFull begins told = (told.0, told.2, call_full pass reading act front old begins told.1 told.2)
+refused_so name pass reading act front old new MemoryAllocationFailed begins told = (told.0, told.2, call_poor pass reading act front old begins told.1 told.2)
+refused_so name pass reading act front old new _ begins told = absurd told
 
 pub refused_told : (code : Code) (served : Served) → served ≡ Refused code → length (reply_body served.reply) < 2 ^ 32
 refused_told code served is = subst (λ (r : Reply). length (reply_body r) < 2 ^ 32) (sym (ap (λ (s : Served). s.reply) is)) (body_few _ (Stopped code) (small_sizes Disconnect 0 (omega arith)) tt)

@@ -31,6 +31,13 @@ appends_one pass old new grows one =
     let long : length new ≡ length old + length grows.more = ap length grows.grown ∙ length-append old grows.more in
     record { more = grows.more; grown = grows.grown; long = omega arith; made = grows.made }
 
+pub appends_by : (pass first last : ℕ) (old new : List BookEntry) → GrowsBy pass old new → AreNumbers old new first last → Appends by pass (last + 1 - first) old new
+appends_by pass first last old new grows numbers =
+    let from = numbers.first_is in
+    let to = numbers.last_is in
+    let long : length new ≡ length old + length grows.more = ap length grows.grown ∙ length-append old grows.more in
+    record { more = grows.more; grown = grows.grown; long = omega arith; made = grows.made }
+
 pub added_some : (first last : ℕ) (old new : List BookEntry) → length old < length new → AreNumbers old new first last → 0 < last + 1 - first
 added_some first last old new longer numbers =
     let from = numbers.first_is in

@@ -208,7 +208,6 @@ token_no : (b : Bool) → Lacks (if b then Stopped TokensFull else Done no_field
 token_no b = if_no b (Stopped TokensFull) (Done no_fields) tokens_full (done_lacks no_fields)
 
 rules_no : (act : Act) (setup : Setup) (past : History) (caller : Caller) (drawn : List ℕ) → is_leave act ≡ false → Lacks (answer_by_rules act setup past caller drawn)
-rules_no (Connect uid) setup past caller drawn l = done_lacks _
 rules_no (GenerateKey key params) setup past caller drawn l = broken_no _ _ (made_no _ _)
 rules_no (ImportKey key params format material) setup past caller drawn l = broken_no _ _ (made_no _ _)
 rules_no (CreateOperation key params forced) setup past caller drawn l = broken_no _ _ (done_lacks _)
@@ -231,7 +230,7 @@ rules_no (DeviceLocked user) setup past caller drawn l = broken_no _ _ (done_lac
 rules_no (DeviceUnlocked user) setup past caller drawn l = broken_no _ _ (done_lacks _)
 rules_no EarlyBootEnded setup past caller drawn l = broken_no _ _ (done_lacks _)
 rules_no (Leave ticket) setup past caller drawn l = cc
-rules_no (Restart root) setup past caller drawn l = done_lacks _
+rules_no _ setup past caller drawn l = done_lacks _
 
 restart_no : (code : Code) → IsTrue (is_restart_refusal code) → Lacks (Stopped code)
 restart_no NoTicket e = cc

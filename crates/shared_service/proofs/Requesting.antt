@@ -30,17 +30,16 @@ use Rattle.rule_model.specs.Legal.{Legal, MayFollow, MayStep}
 use Rattle.rule_model.specs.Replies.{broken_or, no_fields}
 use Rattle.rule_model.specs.Setup.{Setup}
 use Rattle.rule_model.specs.Tickets.{ticket_at}
-use Rattle.wire_frames.specs.Spelling.{is_asked}
+use Rattle.rule_model.specs.Acts.{is_asked}
 use Rattle.keystore_core.specs.declared.engine.Engine.{Engine}
 use Rattle.keystore_core.specs.Engine.{Stands}
 use Rattle.service_book.specs.declared.entry.BookEntry.{BookEntry}
 use Rattle.service_book.specs.Book.{history_of, log_of, ticket_in}
-use Rattle.shared_service.specs.declared.desk.rooms.Rooms.{Rooms}
 use Rattle.shared_service.specs.declared.name.ServiceId.{ServiceId}
 use Rattle.shared_service.specs.Calls.{OneStep, entries_of}
 use Rattle.shared_service.specs.Desks.{HasMade}
 use Rattle.shared_service.specs.Facts.{AllFacts}
-use Rattle.shared_service.specs.Going.{AreRooms, MayGo}
+use Rattle.shared_service.specs.Going.{HasLeaveRoom, MayGo}
 use Rattle.shared_service.specs.Names.{IsSetupOf}
 use Rattle.shared_service.specs.Owning.{is_parting}
 use Rattle.shared_service.specs.Requests.{GoesOut, IsRequested}
@@ -130,7 +129,7 @@ ticket_enters setup past event drawn fields ticket l may given = by_act event.ac
   by_act (DeviceUnlocked user) caller l e = differ (none_given _ _ fields refl e)
   by_act EarlyBootEnded caller l e = differ (none_given _ _ fields refl e)
   by_act (Leave ticket) caller l e = cc
-  by_act (Restart root) caller l e = differ (ticket_of_done no_fields fields e)
+  by_act _ caller l e = differ (ticket_of_done no_fields fields e)
 
 asked_no_leave : (act : Act) → is_asked act ≡ true → is_leave act ≡ false
 asked_no_leave (Leave ticket) e = cc
@@ -143,12 +142,12 @@ enters_of setup past event drawn (Stopped code) ticket l may given = cc
 
 -- ---- what goes out with an enter
 
-goes_out : (name : ServiceId) (setup : Setup) (engine : Engine) (pass : ℕ) (s : OneStep) (old new : List BookEntry) (reply : Reply) (job : Option Job) (rooms : Rooms) → ((s : Setup) → IsSetupOf name s → Stands s engine (history_of (log_of old)))
+goes_out : (name : ServiceId) (setup : Setup) (engine : Engine) (pass : ℕ) (s : OneStep) (old new : List BookEntry) (reply : Reply) (job : Option Job) (leave : Option FieldSizes) → ((s : Setup) → IsSetupOf name s → Stands s engine (history_of (log_of old)))
     → IsSetupOf name setup → ((z : Setup) → IsSetupOf name z → Legal z (history_of (log_of new))) → new ≡ old ++ entries_of pass s → s.reply ≡ reply → is_leave s.event.act ≡ false → HasJob setup (history_of (log_of new)) reply job
-    → is_some rooms.leave ≡ is_enter s.event.act → IfSome rooms.leave (IsOutput engine s.event.act) → GoesOut name new (ticket_in reply) job rooms.leave
-goes_out name setup engine pass s old new (Broken rule code) job rooms stands is legal grown same l has some room = has
-goes_out name setup engine pass s old new (Stopped code) job rooms stands is legal grown same l has some room = has
-goes_out name setup engine pass s old new (Done fields) job rooms stands is legal grown same l has some room = by_ticket fields.ticket refl job has where
+    → is_some leave ≡ is_enter s.event.act → IfSome leave (IsOutput engine s.event.act) → GoesOut name new (ticket_in reply) job leave
+goes_out name setup engine pass s old new (Broken rule code) job leave stands is legal grown same l has some room = has
+goes_out name setup engine pass s old new (Stopped code) job leave stands is legal grown same l has some room = has
+goes_out name setup engine pass s old new (Done fields) job leave stands is legal grown same l has some room = by_ticket fields.ticket refl job has where
   follows : (z : Setup) → IsSetupOf name z → MayStep z (history_of (log_of old)) s.settled s.event s.drawn (Done fields)
   follows z of = subst (MayStep z (history_of (log_of old)) s.settled s.event s.drawn) same (may_made z pass s old new grown (legal z of))
 
@@ -162,22 +161,22 @@ goes_out name setup engine pass s old new (Done fields) job rooms stands is lega
         (room.enough z (history_of (log_of old)) s.settled s.event s.drawn fields ticket (stands z of) refl (follows z of) given);
   }
 
-  by_ticket : (t : Option ℕ) → fields.ticket ≡ t → (job : Option Job) → GoesWith setup (history_of (log_of new)) fields.ticket job → GoesOut name new t job rooms.leave
+  by_ticket : (t : Option ℕ) → fields.ticket ≡ t → (job : Option Job) → GoesWith setup (history_of (log_of new)) fields.ticket job → GoesOut name new t job leave
   by_ticket None e job has = subst (λ (t : Option ℕ). GoesWith setup (history_of (log_of new)) t job) e has
   by_ticket (Some ticket) e None has = subst (λ (t : Option ℕ). GoesWith setup (history_of (log_of new)) t None) e has
   by_ticket (Some ticket) e (Some job) has =
       let enters = ticket_enters setup (after_settling s.settled (history_of (log_of old))) s.event s.drawn fields ticket l (follows setup is).follows e in
-      by_room ticket job rooms.leave e (some ∙ enters) room
+      by_room ticket job leave e (some ∙ enters) room
 
-pub requested_made : (name : ServiceId) (setup : Setup) (engine : Engine) (pass : ℕ) (event : Event) (old new : List BookEntry) (places : ℕ) (reply : Reply) (job : Option Job) (rooms : Rooms) → ((s : Setup) → IsSetupOf name s → Stands s engine (history_of (log_of old)))
-    → IsSetupOf name setup → ((z : Setup) → IsSetupOf name z → Legal z (history_of (log_of new))) → MayGo pass event (log_of old) places → AreRooms engine event rooms → HasMade name pass event old new reply job → IsRequested name pass event old new reply job rooms.leave
-requested_made name setup engine pass event old new places reply job rooms stands is legal may are made =
+pub requested_made : (name : ServiceId) (setup : Setup) (engine : Engine) (pass : ℕ) (event : Event) (old new : List BookEntry) (places : ℕ) (reply : Reply) (job : Option Job) (leave : Option FieldSizes) → ((s : Setup) → IsSetupOf name s → Stands s engine (history_of (log_of old)))
+    → IsSetupOf name setup → ((z : Setup) → IsSetupOf name z → Legal z (history_of (log_of new))) → MayGo pass event (log_of old) places → HasLeaveRoom engine event.act leave → HasMade name pass event old new reply job → IsRequested name pass event old new reply job leave
+requested_made name setup engine pass event old new places reply job leave stands is legal may are made =
     let l : is_leave made.s.event.act ≡ false = ap (λ (e : Event). is_leave e.act) made.event_is ∙ asked_no_leave event.act may.asked in
     let follows = may_made setup pass made.s old new made.grown (legal setup is) in
     record {
       made = made;
-      goes = goes_out name setup engine pass made.s old new reply job rooms stands is legal made.grown made.reply_is l (made.job_is setup is) (are.has_leave ∙ ap (λ (e : Event). is_enter e.act) (sym made.event_is))
-          (subst (λ (e : Event). IfSome rooms.leave (IsOutput engine e.act)) (sym made.event_is) are.leave_is);
+      goes = goes_out name setup engine pass made.s old new reply job leave stands is legal made.grown made.reply_is l (made.job_is setup is) (are.has_leave ∙ ap (λ (e : Event). is_enter e.act) (sym made.event_is))
+          (subst (λ (e : Event). IfSome leave (IsOutput engine e.act)) (sym made.event_is) are.leave_is);
       within = inr may.within;
       enters = λ ticket given. ap (λ (e : Event). is_enter e.act) (sym made.event_is)
           ∙ enters_of setup (after_settling made.s.settled (history_of (log_of old))) made.s.event made.s.drawn made.s.reply ticket l follows.follows (ap ticket_in made.reply_is ∙ given);

@@ -23,7 +23,8 @@ use Rattle.keystore_core.specs.declared.engine.Engine.{Engine}
 use Rattle.keystore_core.specs.Engine.{Stands}
 use Rattle.service_book.specs.declared.entry.BookEntry.{BookEntry}
 use Rattle.service_book.specs.Book.{IsOwnAct, client_of, history_of, log_of, pass_of_ticket}
-use Rattle.service_book.specs.Limits.{MOST_ENTRIES, count, need_of}
+use Rattle.rule_model.specs.Acts.{need_of}
+use Rattle.service_book.specs.Limits.{MOST_ENTRIES, count}
 use Rattle.service_book.specs.Limits as limits
 use Rattle.shared_service.specs.declared.name.ServiceId.{ServiceId}
 use Rattle.shared_service.specs.Calls.{OneStep}

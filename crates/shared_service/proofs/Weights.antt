@@ -10,7 +10,8 @@ use Rattle.rule_model.specs.Acts.{is_connect, is_disconnect, is_enter, is_leave}
 use Rattle.rule_model.specs.Entries.{admits, is_done}
 use Rattle.service_book.specs.declared.entry.BookEntry.{BookEntry}
 use Rattle.service_book.specs.Book.{Counts}
-use Rattle.service_book.specs.Limits.{count, is_of, need_of}
+use Rattle.rule_model.specs.Acts.{need_of}
+use Rattle.service_book.specs.Limits.{count, is_of}
 use Rattle.shared_service.specs.Calls.{OneStep, entry_by, settling_by}
 use Rattle.shared_service.specs.Desks.{weight}
 use Rattle.shared_service.specs.Facts.{has}

@@ -35,17 +35,17 @@ module _ {D N : Type 0} {d : DiskGhosts D} {n : EntropyGhosts N} where
 
   -- a call of this pass that is away, of this service
   pub record IsAwayOf (shared : Shared D N d n) (pass : Pass) (reading : Reading) (act : Act) (away : Away) : Type 0 where
-    pub resting : IsRestingPassAt (service_lock shared) (service_name shared) away.pass
+    pub resting : IsRestingPassAt (service_lock shared) (service_name shared) away.seat
     pub maker_is : HoldsMaker (service_lock shared) (service_name shared) (passes_of shared) (number_of pass) away.kept.maker
-    pub number_is : resting_number away.pass ≡ number_of pass
+    pub number_is : resting_number away.seat ≡ number_of pass
     pub reading_is : away.reading ≡ reading
     pub enters : is_enter act ≡ true
     pub connected_is : away.kept.connected ≡ connected_of pass
-    pub entered : ∥ IsEntered (service_name shared) (number_of pass) away.kept.client away.kept.connected reading act (front_of pass) (resting_front away.pass) away.first away.ticket away.room ∥₁
+    pub entered : ∥ IsEntered (service_name shared) (number_of pass) away.kept.client away.kept.connected reading act (front_of pass) (resting_front away.seat) away.first away.ticket away.room ∥₁
 
   abbrev pub Asks : Shared D N d n → Pass → Reading → Act → Asked → Type 0
   Asks shared pass reading act (Answered next served) = IsAnswered shared pass reading act next served
-  Asks shared pass reading act (Out away job) = IsAwayOf shared pass reading act away × ∥ IsJobAway (service_name shared) (resting_front away.pass) away.ticket job ∥₁
+  Asks shared pass reading act (Out away job) = IsAwayOf shared pass reading act away × ∥ IsJobAway (service_name shared) (resting_front away.seat) away.ticket job ∥₁
 
   -- a call that adds nothing and is answered with a code, with its pass, which has then seen this book
   pub record IsTurnedAway (shared : Shared D N d n) (number : ℕ) (book : List BookEntry) (connected : Bool) (code : Code) (next : Pass) (served : Served) : Type 0 where

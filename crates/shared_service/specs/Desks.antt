@@ -13,14 +13,15 @@ use Rattle.rule_model.specs.Jobs.{HasDone, HasJob}
 use Rattle.rule_model.specs.Legal.{Legal}
 use Rattle.rule_model.specs.ReplyRooms.{sizes_of}
 use Rattle.rule_model.specs.Setup.{Setup}
-use Rattle.wire_frames.specs.Spelling.{is_asked}
+use Rattle.rule_model.specs.Acts.{is_asked}
 use Rattle.keystore_core.specs.declared.engine.Engine.{Engine}
 use Rattle.keystore_core.specs.Engine.{Stands, StoreStands}
 use Rattle.keystore_core.specs.Outputs.{HasOutRoom}
 use Rattle.service_book.specs.declared.entry.BookEntry.{BookEntry}
 use Rattle.service_book.specs.Book.{AreLater, Counts, IsCaused, IsOwnAct, client_of, counts_after, history_of, log_of}
 use Rattle.rule_model.specs.Acts.{is_leave}
-use Rattle.service_book.specs.Limits.{MOST_ENTRIES, clients_in, need_of, tickets_in}
+use Rattle.rule_model.specs.Acts.{need_of}
+use Rattle.service_book.specs.Limits.{MOST_ENTRIES, clients_in, tickets_in}
 use Rattle.shared_service.specs.declared.name.ServiceId.{ServiceId}
 use Rattle.shared_service.specs.Calls.{OneStep, entries_of}
 use Rattle.shared_service.specs.Facts.{AllFacts}

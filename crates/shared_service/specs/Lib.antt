@@ -14,7 +14,7 @@ pub mod Away
 pub mod Asking
 pub mod Kinds
 pub mod Sending
-pub mod Comings
+pub mod Prepared
 pub mod Going
 pub mod Stamps
 pub mod Making

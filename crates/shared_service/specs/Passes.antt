@@ -17,15 +17,15 @@ use Rattle.shared_service.specs.declared.shared.Shared.{Shared}
 use Rattle.shared_service.specs.Names as names
 
 abbrev pub number_of : Pass → ℕ
-number_of pass = resting_number pass.pass
+number_of pass = resting_number pass.seat
 
 -- the front of the book that it has seen
 abbrev pub front_of : Pass → List BookEntry
-front_of pass = resting_front pass.pass
+front_of pass = resting_front pass.seat
 
 -- whether it has a client that is connected
 abbrev pub connected_of : Pass → Bool
-connected_of pass = pass.connected
+connected_of pass = pass.kept.connected
 
 -- of so many passes the last has the right to make passes, so that none is made any more where it ends the service
 abbrev pub HoldsMaker : TableId → ServiceId → ℕ → ℕ → Option (RestingMaker BookEntry ServiceId) → Type 0
@@ -34,7 +34,7 @@ HoldsMaker lock name count number (Some maker) = IsRestingMakerAt lock name make
 
 -- a pass of the lock with this identity and name
 abbrev pub RestsAt : TableId → ServiceId → Pass → Type 0
-RestsAt lock name pass = IsRestingPassAt lock name pass.pass
+RestsAt lock name pass = IsRestingPassAt lock name pass.seat
 
 module _ {D N : Type 0} {d : DiskGhosts D} {n : EntropyGhosts N} where
   abbrev pub service_name : Shared D N d n → ServiceId
@@ -61,7 +61,7 @@ module _ {D N : Type 0} {d : DiskGhosts D} {n : EntropyGhosts N} where
   -- a pass of this service
   pub record IsOurs (shared : Shared D N d n) (pass : Pass) : Type 0 where
     pub resting : RestsAt (service_lock shared) (service_name shared) pass
-    pub maker_is : HoldsMaker (service_lock shared) (service_name shared) (passes_of shared) (number_of pass) pass.maker
+    pub maker_is : HoldsMaker (service_lock shared) (service_name shared) (passes_of shared) (number_of pass) pass.kept.maker
 
 -- whether a pass of this number is among them
 abbrev pub has_number : ℕ → List Pass → Bool
@@ -82,6 +82,6 @@ IsNew pass = (front_of pass ≡ []) × (connected_of pass ≡ false)
 -- the pass of this number, of so many
 pub record IsNewPass (lock : TableId) (name : ServiceId) (count number : ℕ) (pass : Pass) : Type 0 where
   pub rests : RestsAt lock name pass
-  pub maker_is : HoldsMaker lock name count (number_of pass) pass.maker
+  pub maker_is : HoldsMaker lock name count (number_of pass) pass.kept.maker
   pub number_is : number_of pass ≡ number
   pub new : IsNew pass

@@ -1,8 +1,9 @@
 -- What the two turns of a call tell.
-use Rattle.std.specs.Prelude.{◌≡◌, ◌≢◌, ◌<◌, ◌^◌, ℕ, true, false, List, ◌++◌, length, Some, None}
+use Rattle.std.specs.Prelude.{◌≡◌, ◌≢◌, ◌<◌, ◌^◌, ℕ, true, false, List, ◌++◌, length, Some, None, Result, Ok, Err}
 use Rattle.cipher_ops.specs.declared.job.Done.{Done as JobDone}
 use Rattle.ks_outside.specs.declared.clock.Reading.{Reading}
-use Rattle.tags.specs.declared.code.Code.TheVariants.{MemoryAllocationFailed, NoTicket}
+use Rattle.tags.specs.declared.code.Code.{Code}
+use Rattle.tags.specs.declared.code.Code.TheVariants.{MemoryAllocationFailed, NoTicket, RunFull}
 use Rattle.rule_model.specs.declared.event.Act.TheVariants.{Leave}
 use Rattle.rule_model.specs.declared.event.Event.{Event}
 use Rattle.rule_model.specs.declared.field_sizes.FieldSizes.{FieldSizes}
@@ -14,8 +15,7 @@ use Rattle.service_book.specs.declared.entry.BookEntry.{BookEntry}
 use Rattle.service_book.specs.Book.{history_of, log_of}
 use Rattle.service_book.specs.Limits.{passes_limit}
 use Rattle.wire_frames.specs.Replies.{reply_body}
-use Rattle.shared_service.specs.declared.made.Requested.{Requested}
-use Rattle.shared_service.specs.declared.made.Requested.TheVariants.{Made, Full, Poor}
+use Rattle.shared_service.specs.declared.step.Step.{Step}
 use Rattle.shared_service.specs.declared.name.ServiceId.{ServiceId}
 use Rattle.shared_service.specs.Calls.{OneStep, entries_of}
 use Rattle.shared_service.specs.Names.{IsSetupOf}
@@ -23,11 +23,12 @@ use Rattle.shared_service.specs.Owning.{is_parting, out_of}
 use Rattle.shared_service.specs.Requests.{AreNumbers, GrowsBy, IsLeaveRoom, IsRequested}
 
 -- what a request came to
-abbrev pub Requests : ServiceId → ℕ → Event → List BookEntry → List BookEntry → Requested → Type 0
-Requests name pass event old new (Made made) =
-    ∥ IsRequested name pass event old new made.reply made.job made.leave ∥₁ × AreNumbers old new made.first made.last × GrowsBy pass old new × (length (reply_body made.reply) < 2 ^ 32)
-Requests name pass event old new Full = (new ≡ old) × (passes_limit event.act (log_of old) ≡ true) × (is_parting event.act pass (log_of old) ≡ false)
-Requests name pass event old new Poor = (new ≡ old) × (passes_limit event.act (log_of old) ≡ false) × (is_parting event.act pass (log_of old) ≡ false)
+abbrev pub Requests : ServiceId → ℕ → Event → List BookEntry → List BookEntry → Result Step Code → Type 0
+Requests name pass event old new (Ok step) =
+    ∥ IsRequested name pass event old new step.reply step.job step.leave ∥₁ × AreNumbers old new step.first step.last × GrowsBy pass old new × (length (reply_body step.reply) < 2 ^ 32)
+Requests name pass event old new (Err RunFull) = (new ≡ old) × (passes_limit event.act (log_of old) ≡ true) × (is_parting event.act pass (log_of old) ≡ false)
+Requests name pass event old new (Err MemoryAllocationFailed) = (new ≡ old) × (passes_limit event.act (log_of old) ≡ false) × (is_parting event.act pass (log_of old) ≡ false)
+Requests name pass event old new (Err _) = ⊥
 
 -- a pass may bring its ticket back with what its job came to, and there is room for the reply
 pub record MayLeave (name : ServiceId) (log : List BookEntry) (pass ticket : ℕ) (back : JobDone) (room : FieldSizes) : Type 0 where

@@ -37,11 +37,16 @@ pub struct Desk<D: Disk, N: Entropy> {
 
 impl<D: Disk, N: Entropy> History<BookEntry, ServiceId> for Desk<D, N> {
     ghost use Rattle.std.specs.Prelude.{◌≡◌};
+    ghost use Rattle.std.proofs.Common.{arith};
     ghost use Rattle.shared_service.specs.Records.{book_in};
 
     ghost entries = { λ desk. book_in desk.book };
 
     ghost maker = { λ e. e.pass };
+
+    ghost level = { λ _. 0 };
+
+    ghost rises = { λ xs ys. omega arith };
 
     ghost fits = { λ name desk. desk.name ≡ name };
 }

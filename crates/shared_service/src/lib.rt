@@ -6,15 +6,15 @@
 //! call, while the lock is free.
 #![tactic(auto)]
 
-mod coming;
 mod desk;
-mod made;
 mod name;
 mod pass;
+mod prepared;
 mod record;
 mod served;
 mod shared;
 mod stamp;
+mod step;
 
 pub use desk::Desk;
 pub use name::ServiceId;

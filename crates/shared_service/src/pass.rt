@@ -16,10 +16,17 @@ mod numbers;
 /// and has all that it made itself.
 #[derive(Drop)]
 pub struct Pass {
-    pub(crate) pass: RestingPass<BookEntry, ServiceId>,
+    pub(crate) seat: RestingPass<BookEntry, ServiceId>,
+    pub(crate) kept: Kept,
+    ghost seen: { (lock : TableId) (name : ServiceId) → IsRestingPassAt lock name seat → ∥ HasSeen name (resting_number seat) (resting_front seat) kept.client kept.connected ∥₁ },
+}
+
+/// What a pass keeps beside its place at the lock: its client.
+#[derive(Drop)]
+pub(crate) struct Kept {
     /// the number of its client, and 0 where it has none
     pub(crate) client: u64,
     pub(crate) connected: bool,
+    /// the right to make passes, which one pass of a service has
     pub(crate) maker: Option<RestingMaker<BookEntry, ServiceId>>,
-    ghost seen: { (lock : TableId) (name : ServiceId) → IsRestingPassAt lock name pass → ∥ HasSeen name (resting_number pass) (resting_front pass) client connected ∥₁ },
 }

@@ -4,12 +4,10 @@ ghost use Rattle.std.specs.Prelude.{◌≡◌, ◌+◌, ◌≤◌, ◌<◌, ◌^
 ghost use Rattle.service_book.specs.Book.{log_of};
 ghost use Rattle.service_book.specs.Limits.{bytes_of, passes_limit, recorded};
 ghost use Rattle.service_book.specs.Tallies.{IsTally};
-ghost use Rattle.wire_frames.specs.Spelling.{body_of};
 
 use service_book::{Book, BookEntry, Tally};
 use std::alloc::Global;
 use tags::NoMemory;
-use wire_frames::Request;
 
 /// The entries, the oldest first, and what the limits ask of them.
 #[derive(Drop)]

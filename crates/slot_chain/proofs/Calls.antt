@@ -4,7 +4,7 @@ use Rattle.std.proofs.Math.ListN.{set}
 use Rattle.std.specs.List.{insert, remove, slice_get}
 use Rattle.std.proofs.lemmas.List.{length-map}
 use Rattle.slot_chain.specs.declared.heads.Head.{Head}
-use Rattle.slot_chain.specs.declared.links.Link.{Link}
+use Rattle.slot_chain.specs.declared.links.ChainLink.{ChainLink}
 use Rattle.slot_chain.specs.Ordered.{IsAt, IsGap}
 use Rattle.slot_chain.specs.Linked.{Puts, NoneIs, IsKept, blank, owner_of, before_of, after_of, owners, befores, afters, uid_of, has_uid, new_head, list_of}
 use Rattle.slot_chain.specs.Table.{ChainTable, seen, list_in, places_count, Pushes, Unlinks, owners_of, IsSound, IsInNone, IsInOne}
@@ -32,7 +32,7 @@ more_of old after links before owner heads more room uid place e is long = recor
   sound = sound links before owner more room is.kept;
 }
 
-module _ (old : ChainTable) (links : List Link) (heads : List Head) (room uid place : ℕ) (view : seen (afters links) heads ≡ old) (kept : IsKept (afters links) (befores links) (owners links) heads room)
+module _ (old : ChainTable) (links : List ChainLink) (heads : List Head) (room uid place : ℕ) (view : seen (afters links) heads ≡ old) (kept : IsKept (afters links) (befores links) (owners links) heads room)
     (below : place < places_count old) (out : IsInNone old place) where
   within : place < length (afters links)
   within = subst (λ (o : ChainTable). place < places_count o) (sym view) below
@@ -47,7 +47,7 @@ module _ (old : ChainTable) (links : List Link) (heads : List Head) (room uid pl
   has_room = omega (arith, kept.memory, kept.owned, heads_few (afters links) (befores links) (owners links) place heads kept.heads_are (frees (afters links) (befores links) (owners links) heads room uid place kept within free) (rising_differ (map uid_of heads) kept.uids) (omega (arith, within, kept.owned)))
 
   -- of a uid that has no list
-  pub begun : (owned : List Link) (later at : ℕ) → Puts (owners links) (owners owned) place uid → length (owners owned) ≡ length (owners links) → befores owned ≡ befores links → afters owned ≡ afters links → room ≤ later → IsGap uid_of heads uid at
+  pub begun : (owned : List ChainLink) (later at : ℕ) → Puts (owners links) (owners owned) place uid → length (owners owned) ≡ length (owners links) → befores owned ≡ befores links → afters owned ≡ afters links → room ≤ later → IsGap uid_of heads uid at
       → IsMore old (afters owned) (befores owned) (owners owned) (insert heads at (new_head uid place)) later uid place
   begun owned later at puts long befores_are afters_are more gap = rw (befores_are, afters_are)
       (more_of old (afters links) (afters links) (befores links) (owners owned) heads (insert heads at (new_head uid place)) later uid place view
@@ -67,7 +67,7 @@ module _ (old : ChainTable) (links : List Link) (heads : List Head) (room uid pl
     pub count_fits : head.count + 1 < 2 ^ 32
     count_fits = omega (arith, count_few (afters links) (befores links) (owners links) head head_found.head_is, kept.owned, kept.few)
 
-    pub pushed : (owned linked earlier : List Link) → Puts (owners links) (owners owned) place uid → length (owners owned) ≡ length (owners links) → befores owned ≡ befores links → afters owned ≡ afters links
+    pub pushed : (owned linked earlier : List ChainLink) → Puts (owners links) (owners owned) place uid → length (owners owned) ≡ length (owners links) → befores owned ≡ befores links → afters owned ≡ afters links
         → Puts (afters owned) (afters linked) head.newest place → length (afters linked) ≡ length (afters owned) → owners linked ≡ owners owned → befores linked ≡ befores owned
         → Puts (befores linked) (befores earlier) place head.newest → length (befores earlier) ≡ length (befores linked) → owners earlier ≡ owners linked → afters earlier ≡ afters linked
         → IsMore old (afters earlier) (befores earlier) (owners earlier) (set heads at (record head { newest = place; count = head.count + 1 })) room uid place
@@ -93,14 +93,14 @@ less_of old after links before owner heads fewer room place e is long = record {
   sound = sound links before owner fewer room is.kept;
 }
 
-module _ (old : ChainTable) (links : List Link) (heads : List Head) (room place : ℕ) (view : seen (afters links) heads ≡ old) (kept : IsKept (afters links) (befores links) (owners links) heads room) (there : IsInOne old place) where
+module _ (old : ChainTable) (links : List ChainLink) (heads : List Head) (room place : ℕ) (view : seen (afters links) heads ≡ old) (kept : IsKept (afters links) (befores links) (owners links) heads room) (there : IsInOne old place) where
   is_listed : IsListed (afters links) (befores links) (owners links) heads place
   is_listed = listed old (afters links) (befores links) (owners links) heads room place kept view there
 
   pub is_linked : place < length links
   is_linked = omega (arith, is_listed.owns.0, length-map links owner_of)
 
-  module _ (link : Link) (link_is : link ≡ get_or links place blank) where
+  module _ (link : ChainLink) (link_is : link ≡ get_or links place blank) where
     owner_is : link.owner ≡ get_or (owners links) place 0
     owner_is = ap owner_of link_is ∙ sym (owner_read links place)
 
@@ -138,7 +138,7 @@ module _ (old : ChainTable) (links : List Link) (heads : List Head) (room place 
         pub after_within : link.after < length links
         after_within = subst (λ (n : ℕ). n < length links) after_is (omega (arith, length-map links owner_of, (behind_is (afters links) (befores links) (owners links) heads room is.uid place kept at head head is.inside is.at_is is.found is.there (λ e. ne (sym e)) (λ e. apart (sym e))).0))
 
-        pub less_inner : (linked earlier : List Link) → Puts (afters links) (afters linked) link.before link.after → length (afters linked) ≡ length (afters links) → owners linked ≡ owners links → befores linked ≡ befores links
+        pub less_inner : (linked earlier : List ChainLink) → Puts (afters links) (afters linked) link.before link.after → length (afters linked) ≡ length (afters links) → owners linked ≡ owners links → befores linked ≡ befores links
             → Puts (befores linked) (befores earlier) link.after link.before → length (befores earlier) ≡ length (befores linked) → owners earlier ≡ owners linked → afters earlier ≡ afters linked
             → IsLess old (afters earlier) (befores earlier) (owners earlier) (set heads at (record head { count = head.count - 1 })) room place
         less_inner linked earlier behind long o1 b1 ahead earlier_long o2 a2 = rw (o2, o1, a2) (less _ _ _
@@ -148,16 +148,16 @@ module _ (old : ChainTable) (links : List Link) (heads : List Head) (room place 
 
 -- ---- what is read
 
-pub first_found : (old : ChainTable) (links : List Link) (heads : List Head) (room uid at : ℕ) (head : Head) → seen (afters links) heads ≡ old → IsKept (afters links) (befores links) (owners links) heads room
+pub first_found : (old : ChainTable) (links : List ChainLink) (heads : List Head) (room uid at : ℕ) (head : Head) → seen (afters links) heads ≡ old → IsKept (afters links) (befores links) (owners links) heads room
     → IsAt uid_of heads uid at → head ≡ get_or heads at head → Some head.oldest ≡ slice_get (list_in old uid) 0
 first_found old links heads room uid at head view kept here head_is =
     let found : find (has_uid uid) heads ≡ Some head = found_at uid_of heads uid at head (rising_differ (map uid_of heads) kept.uids) here ∙ ap (λ (h : Head). Some h) (sym head_is) in
     rw (← view, list_seen (afters links) heads uid, found) refl
 
-pub none_found : (old : ChainTable) (links : List Link) (heads : List Head) (uid at : ℕ) → seen (afters links) heads ≡ old → IsGap uid_of heads uid at → None ≡ slice_get (list_in old uid) 0
+pub none_found : (old : ChainTable) (links : List ChainLink) (heads : List Head) (uid at : ℕ) → seen (afters links) heads ≡ old → IsGap uid_of heads uid at → None ≡ slice_get (list_in old uid) 0
 none_found old links heads uid at view gap = rw (← view, list_seen (afters links) heads uid, found_in_gap uid_of heads uid at gap) refl
 
-pub sound_seen : (old : ChainTable) (links : List Link) (heads : List Head) (room : ℕ) → seen (afters links) heads ≡ old → IsKept (afters links) (befores links) (owners links) heads room → IsSound old
+pub sound_seen : (old : ChainTable) (links : List ChainLink) (heads : List Head) (room : ℕ) → seen (afters links) heads ≡ old → IsKept (afters links) (befores links) (owners links) heads room → IsSound old
 sound_seen old links heads room view kept = subst IsSound view (sound (afters links) (befores links) (owners links) heads room kept)
 
 owner_in : (heads : List Head) (at : ℕ) → slice_get (map uid_of heads) at ≡ option_map uid_of (slice_get heads at)
@@ -165,10 +165,10 @@ owner_in [] at = refl
 owner_in (k ∷ ks) zero = refl
 owner_in (k ∷ ks) (suc at) = owner_in ks at
 
-pub owner_seen : (old : ChainTable) (links : List Link) (heads : List Head) (at : ℕ) (head : Head) → seen (afters links) heads ≡ old → at < length heads → head ≡ get_or heads at head → Some head.uid ≡ slice_get (owners_of old) at
+pub owner_seen : (old : ChainTable) (links : List ChainLink) (heads : List Head) (at : ℕ) (head : Head) → seen (afters links) heads ≡ old → at < length heads → head ≡ get_or heads at head → Some head.uid ≡ slice_get (owners_of old) at
 owner_seen old links heads at head view within head_is =
     let there : slice_get heads at ≡ Some head = slice_get-get_or heads at head within ∙ ap (λ (h : Head). Some h) (sym head_is) in
     rw (← view, uids_seen (afters links) heads, owner_in heads at, there) refl
 
-pub owner_past : (old : ChainTable) (links : List Link) (heads : List Head) (at : ℕ) → seen (afters links) heads ≡ old → length heads ≤ at → None ≡ slice_get (owners_of old) at
+pub owner_past : (old : ChainTable) (links : List ChainLink) (heads : List Head) (at : ℕ) → seen (afters links) heads ≡ old → length heads ≤ at → None ≡ slice_get (owners_of old) at
 owner_past old links heads at view past = rw (← view, uids_seen (afters links) heads, owner_in heads at, slice_get_past heads at past) refl

@@ -2,32 +2,32 @@
 use Rattle.std.specs.Prelude.{◌≡◌, ◌≢◌, ◌<◌, ◌≤◌, ◌-◌, ◌^◌, ℕ, zero, suc, Bool, ◌==◌, List, [], ◌∷◌, map, length, get_or, find, Option, Some, None, if◌then◌else◌, ⊤}
 use Rattle.std.specs.List.{AllByRecursion}
 use Rattle.slot_chain.specs.declared.heads.Head.{Head}
-use Rattle.slot_chain.specs.declared.links.Link.{Link}
+use Rattle.slot_chain.specs.declared.links.ChainLink.{ChainLink}
 use Rattle.slot_chain.specs.Ordered.{IsOrdered}
 
 -- ---- the array
 
 -- what an array has past its end
-abbrev pub blank : Link
+abbrev pub blank : ChainLink
 blank = record { owner = 0; before = 0; after = 0 }
 
-abbrev pub owner_of : Link → ℕ
+abbrev pub owner_of : ChainLink → ℕ
 owner_of link = link.owner
 
-abbrev pub before_of : Link → ℕ
+abbrev pub before_of : ChainLink → ℕ
 before_of link = link.before
 
-abbrev pub after_of : Link → ℕ
+abbrev pub after_of : ChainLink → ℕ
 after_of link = link.after
 
 -- of each place whose list it is in, the place before it, and the one behind it
-abbrev pub owners : List Link → List ℕ
+abbrev pub owners : List ChainLink → List ℕ
 owners links = map owner_of links
 
-abbrev pub befores : List Link → List ℕ
+abbrev pub befores : List ChainLink → List ℕ
 befores links = map before_of links
 
-abbrev pub afters : List Link → List ℕ
+abbrev pub afters : List ChainLink → List ℕ
 afters links = map after_of links
 
 -- one number was written

@@ -4,7 +4,7 @@ ghost use Rattle.std.specs.Prelude.{◌≡◌, ◌<◌, ◌+◌, ◌-◌, ◌^�
 ghost use Rattle.slot_chain.specs.Table.{IsEmpty, IsInNone, IsInOne, IsSound, Pushes, Unlinks, list_in, owners_of, places_count};
 
 use crate::heads::{Head, begin_list, end_list, head_at};
-use crate::links::{Link, link_at, put_after, put_before, put_owner};
+use crate::links::{ChainLink, link_at, put_after, put_before, put_owner};
 use crate::steps::Steps;
 use std::alloc::Global;
 use std::marker::Model;
@@ -15,7 +15,7 @@ use tags::NoMemory;
 #[derive(Drop)]
 pub struct Chains {
     /// how each place is linked
-    links: Vec<Link>,
+    links: Vec<ChainLink>,
     /// of each list that has a place, in the order of the uids
     heads: Vec<Head>,
 }
@@ -40,7 +40,7 @@ impl Chains {
         ensures empty { IfOk result (λ chains. IsEmpty chains count) }
         ensures sound { IfOk result IsSound }
     {
-        let link = Link {
+        let link = ChainLink {
             owner: 0,
             before: 0,
             after: 0,

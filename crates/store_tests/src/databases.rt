@@ -1,12 +1,13 @@
 //! A database over a disk, and the table of what lasts without one.
 
 ghost use Rattle.std.specs.Prelude.{◌≡◌, OnOk};
-ghost use Rattle.key_database.specs.TableView.{lasting_in, HasRoomFor};
+ghost use Rattle.lasting_table.specs.TableView.{lasting_in, HasRoomFor};
 
 use disk_model::{DiskRoom, MemoryDisk};
 use journal_records::{ApplyFault, Change, parse};
-use key_database::{KeyDatabase, LastingTable};
+use key_database::KeyDatabase;
 use key_domains::{GrantedRow, KeyLookups, KeyRow, Permissions};
+use lasting_table::LastingTable;
 use std::alloc::Global;
 use std::test::Fail;
 use tags::{NoMemory, Settled};
@@ -157,7 +158,7 @@ fn apply(
     let Ok(change) = parse(alloc, record) else {
         return None;
     };
-    let (settled, met) = (database.is_settled(), database.meets(&change));
+    let (settled, met) = (database.is_settled(), database.table().meets(&change));
     if !settled || !met {
         drop(change);
         return None;
@@ -165,17 +166,8 @@ fn apply(
     Some(database.apply(disk, change))
 }
 
-/// What a database tells.
-fn told(database: &KeyDatabase) -> Told {
-    (
-        (database.count(0, 10_001), database.count(2, 10_001)),
-        database.grants().len(),
-        database.next_numbers(),
-    )
-}
-
 /// What a table tells.
-fn table_told(table: &LastingTable) -> Told {
+fn told(table: &LastingTable) -> Told {
     (
         (table.count(0, 10_001), table.count(2, 10_001)),
         table.grants().len(),
@@ -187,7 +179,7 @@ fn table_told(table: &LastingTable) -> Told {
 fn told_anew(alloc: Global, disk: &mut MemoryDisk) -> Option<Told> {
     match KeyDatabase::open(alloc, disk) {
         Ok(database) => {
-            let told = told(&database);
+            let told = told(database.table());
             drop(database);
             Some(told)
         }
@@ -215,7 +207,7 @@ fn make_steps(
         let made = make(alloc, table, record);
         let applied = apply(alloc, database, disk, record) == Some(Ok(()));
         let anew = told_anew(alloc, disk);
-        let all = (made, applied, table_told(table), told(database), anew);
+        let all = (made, applied, told(table), told(database.table()), anew);
         same &= all == (true, true, *wanted, *wanted, Some(*wanted));
     }
     same
@@ -330,7 +322,7 @@ fn settles(
         return false;
     }
     let is_settled = database.settle(disk) == Ok(settled);
-    let found = (told(database).0, count_anew(alloc, disk));
+    let found = (told(database.table()).0, count_anew(alloc, disk));
     is_settled & (found == ((count, 0), Some((count, 0))))
 }
 
@@ -343,7 +335,7 @@ fn refuses(
     count: u64,
 ) -> bool {
     let made = apply(alloc, database, disk, SHARED[0]);
-    let refused = made == Some(Err(ApplyFault::Device)) && told(database).0 == (0, 0);
+    let refused = made == Some(Err(ApplyFault::Device)) && told(database.table()).0 == (0, 0);
     refused & settles(alloc, database, disk, settled, count)
 }
 

@@ -1,7 +1,8 @@
 ghost use Rattle.disk_model.specs.Listed.{five, over, past, two, synced, AreImages, AreNoImages, of_five, not_of_five, of_over, not_of_over, of_past, not_of_past, of_two, not_of_two, of_synced, not_of_synced};
 
+use disk_calls::{read_synced, read_synced_byte, write_synced};
 use disk_model::{Choice, DiskRoom, MemoryDisk, StoppedDisk};
-use ks_outside::{Disk, Failed, read_synced, read_synced_byte, write_synced};
+use ks_outside::{Disk, Failed};
 use std::alloc::{AllocError, Global};
 use std::test::Fail;
 

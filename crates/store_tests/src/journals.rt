@@ -2,9 +2,10 @@ ghost use Rattle.std.specs.Prelude.{None};
 ghost use Rattle.ks_outside.specs.Telling.{none_is_some};
 
 use crate::records::is_read_and_written;
+use disk_calls::{read_synced, write_synced};
 use disk_model::{Choice, DiskRoom, MemoryDisk};
 use journal_records::{AppendFault, StoreFault};
-use ks_outside::{Disk, Failed, read_synced, write_synced};
+use ks_outside::{Disk, Failed};
 use std::alloc::{AllocError, Global};
 use tags::Settled;
 use use_journal::Journal;

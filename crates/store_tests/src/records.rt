@@ -1,6 +1,9 @@
-ghost use Rattle.journal_records.specs.Worked.{WorkedExamples};
+ghost use Rattle.journal_records.specs.Worked.{WorkedAreas, WorkedExamples};
 
-use journal_records::{RecordFault, frame, frame_into, framed_length, parse};
+use journal_records::{
+    RecordFault, frame, frame_into, frame_record_into, framed_length, parse, read_record,
+    record_length,
+};
 use std::alloc::Global;
 use std::test::Fail;
 
@@ -88,13 +91,65 @@ fn the_fields_of_a_new_key(rt: HostRuntime) -> Result<(), Fail> {
     Ok(())
 }
 
+/// A row of each kind: the next numbers 5 and 4; key 2 of uid 10001, m, with one use left of two; grant 3 of it to uid 10002.
+static ROWS: [&[u8]; 3] = [
+    b"\x4b\x00\x00\x00\x11\x08\x00\x00\x00\x00\x00\x00\x00\x05\x00\x00\x00\x00\x00\x00\x00\x04",
+    b"\x4b\x00\x00\x00\x2a\x09\x00\x00\x00\x00\x00\x00\x00\x02\x00\x00\x00\x00\x00\x00\x00\x27\x11\
+\x00\x00\x00\x01m\x00\x00\x00\x01\xaa\x00\x00\x00\x02\x00\x00\x00\x00\x00\x02\x00\x00\x00\x01",
+    b"\x4b\x00\x00\x00\x19\x0a\x00\x00\x00\x00\x00\x00\x00\x03\x00\x00\x00\x00\x00\x00\x00\x02\
+\x00\x00\x27\x12\x00\x00\x01\x00",
+];
+
+/// Whether the row is read where kinds up to 10 may stand, and written so again with a byte 00 behind it and nothing more.
+fn is_row(alloc: Global, row: &[u8]) -> bool {
+    let Ok((it, rest)) = read_record(alloc, 10, row.get(1..).unwrap_or(&[])) else {
+        return false;
+    };
+    let whole = rest.is_empty();
+    let mut out = [9; 80];
+    if record_length(&it) > out.len() {
+        return false;
+    }
+    let end = frame_record_into(&it, &mut out);
+    drop(it);
+    whole
+        && out.starts_with(row)
+        && out.get(end - 1) == Some(&0)
+        && out.get(end) == Some(&9)
+        && end == row.len() + 1
+}
+
+/// Whether it is no record where changes alone may stand.
+fn is_no_change(alloc: Global, row: &[u8]) -> bool {
+    matches!(
+        read_record(alloc, 7, row.get(1..).unwrap_or(&[])),
+        Err(RecordFault::Bad)
+    ) && is_no_record(alloc, row)
+}
+
+#[test]
+fn rows_of_each_kind(rt: HostRuntime) {
+    let mut read = true;
+    for row in &ROWS {
+        read &= is_row(rt.alloc(), row);
+        read &= is_no_change(rt.alloc(), row);
+    }
+    assert!(rt; read);
+}
+
 /// What a few changes leave of the lasting part, by its definitions.
 fn worked_examples()
     ensures { WorkedExamples }
 {}
 
-// The examples are proved; the call is here so that they are.
+/// What a few records of an area leave, by their definitions.
+fn worked_areas()
+    ensures { WorkedAreas }
+{}
+
+// The examples are proved; the calls are here so that they are.
 #[test]
 fn what_a_few_changes_leave() {
     worked_examples();
+    worked_areas();
 }

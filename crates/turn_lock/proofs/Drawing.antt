@@ -14,12 +14,12 @@ use Rattle.turn_lock.specs.Rule.{own, Tally, IsSound}
 use Rattle.turn_lock.specs.Steps.{numbered, drew, drew_if}
 use Rattle.turn_lock.proofs.Prefixes.{own_none}
 use Rattle.turn_lock.proofs.Sums.{put, put_here, put_else}
-use Rattle.turn_lock.proofs.Standing.{stands_by, holds_by, views_set, kept_by}
+use Rattle.turn_lock.proofs.Standing.{told_still, stands_by, holds_by, views_set, kept_by}
 
-module _ {T E K : Type 0} (entries : T → List E) (maker : E → ℕ) (fits : K → T → Type 0) (name : K) where
+module _ {T E K : Type 0} (entries : T → List E) (maker : E → ℕ) (fits : K → T → Type 0) (level : List E → ℕ) (name : K) where
   -- kind 9: a pass's number is drawn
   pub draws_number : (slots id : ℕ) (me : Me (Option T) (View E K)) (k : ℕ) (called : K) (front : List E) → me.0 ≡ view (Makes k) (hand called None front ∷ []) → k + 1 < 2 ^ 64
-      → Allows (IsSound entries maker fits name) slots id me 0 (λ n. (n + 1) % 2 ^ 64) (numbered (step slots 0 1 0 none) me)
+      → Allows (IsSound entries maker fits level name) slots id me 0 (λ n. (n + 1) % 2 ^ 64) (numbered (step slots 0 1 0 none) me)
   draws_number slots id me k called front is room s r deep at _ =
       let f : Tally E = r.tally in
       let v : View E K = view (Makes k) (hand called None front ∷ []) in
@@ -48,6 +48,7 @@ module _ {T E K : Type 0} (entries : T → List E) (maker : E → ℕ) (fits : K
             count_is = get_or-set_other s.words 0 3 y 0 (λ e. omega arith) ∙ r.words.count_is;
           };
           few = room;
+          told = told_still (level f.log) s.words 0 y (λ e. omega arith) r.told;
           later = λ m h. r.later m (omega arith);
           views = views_set maker name f f' s.views id v w at' r.views (omega arith) refl
               record {
@@ -67,7 +68,7 @@ module _ {T E K : Type 0} (entries : T → List E) (maker : E → ℕ) (fits : K
 
   -- kind 3: a turn is drawn
   pub draws_turn : (slots id : ℕ) (me : Me (Option T) (View E K)) → me.0.stage ≡ Idle → 0 < numbers_in me.0.hands
-      → Allows (IsSound entries maker fits name) slots id me 1 (λ n. (n + 1) % 2 ^ 64) (drew (step slots 1 1 0 none) me)
+      → Allows (IsSound entries maker fits level name) slots id me 1 (λ n. (n + 1) % 2 ^ 64) (drew (step slots 1 1 0 none) me)
   draws_turn slots id me is some_number s r deep at _ =
       let f : Tally E = r.tally in
       let v : View E K = me.0 in
@@ -94,6 +95,7 @@ module _ {T E K : Type 0} (entries : T → List E) (maker : E → ℕ) (fits : K
             count_is = get_or-set_other s.words 1 3 y 0 (λ e. omega arith) ∙ r.words.count_is;
           };
           few = r.few;
+          told = told_still (level f.log) s.words 1 y (λ e. omega arith) r.told;
           later = r.later;
           views = views_set maker name f f' s.views id v w at r.views refl (omega arith)
               record { may = omega arith; stands = (omega arith, omega arith, put_here f.server t id); hold = known.hold }
@@ -110,21 +112,21 @@ module _ {T E K : Type 0} (entries : T → List E) (maker : E → ℕ) (fits : K
 
   -- a turn is drawn where the word of the next one is the number that was asked for
   pub draws_free : (slots id : ℕ) (me : Me (Option T) (View E K)) (old new : ℕ) → new ≡ (old + 1) % 18446744073709551616 → me.0.stage ≡ Idle → 0 < numbers_in me.0.hands
-      → Allows (IsSound entries maker fits name) slots id me 1 (λ n. either (eqb n old) new n) (drew_if (step slots 1 old new none) me)
+      → Allows (IsSound entries maker fits level name) slots id me 1 (λ n. either (eqb n old) new n) (drew_if (step slots 1 old new none) me)
   draws_free slots id me old new next is some_number s r deep at small =
       let n : ℕ = get_or s.words 1 0 in
       exchanged n old new
-      (λ y. (w : View E K) × (a : Act (Option T)) × Valid s.homes me.1 a × IsSound entries maker fits name (stepped s 1 y id me.1 w a) × drew_if (step slots 1 old new none) me n (w, carried_after me.1 a))
+      (λ y. (w : View E K) × (a : Act (Option T)) × Valid s.homes me.1 a × IsSound entries maker fits level name (stepped s 1 y id me.1 w a) × drew_if (step slots 1 old new none) me n (w, carried_after me.1 a))
       (λ hit.
       let d = draws_turn slots id me is some_number s r deep at small in
       let path : (n + 1) % 18446744073709551616 ≡ new = ap (λ (z : ℕ). (z + 1) % 18446744073709551616) hit ∙ sym next in (
         d.0,
         d.1,
         d.2,
-        subst (λ (y : ℕ). IsSound entries maker fits name (stepped s 1 y id me.1 d.0 d.1)) path d.3,
+        subst (λ (y : ℕ). IsSound entries maker fits level name (stepped s 1 y id me.1 d.0 d.1)) path d.3,
         ((λ _. d.4), λ miss. absurd (miss hit)),
       ))
       (λ miss.
       let same : s ≡ record { words = set s.words 1 n; homes = s.homes; views = set s.views id me.0 } =
       λ k. record { words = sym (set-get_or s.words 1 0) k; homes = s.homes; views = sym (set_again s.views id me.0 at) k } in
-      (me.0, keeps, tt, subst (IsSound entries maker fits name) same r, ((λ hit. absurd (miss hit)), λ _. refl)))
+      (me.0, keeps, tt, subst (IsSound entries maker fits level name) same r, ((λ hit. absurd (miss hit)), λ _. refl)))

@@ -9,3 +9,4 @@ pub mod Posing
 pub mod Counting
 pub mod Closings
 pub mod Resting
+pub mod Catching

@@ -12,14 +12,14 @@ use Rattle.turn_lock.specs.Rule.{total, Tally, Stands, Knows, ViewsAre, IsSound}
 use Rattle.turn_lock.specs.Steps.{longer, kept_part, heir_part, note_part, gathered, completed, nobody, compare, BothBegin, compared}
 use Rattle.turn_lock.proofs.Prefixes.{longer_prefix, longer_own, longer_owned, longer_begins}
 use Rattle.turn_lock.proofs.Sums.{total_set, moved, moved_here, moved_else}
-use Rattle.turn_lock.proofs.Standing.{stands_by, holds_by, holds_append, holds_unnumbered, views_set, views_more, words_again, numbers_append, numbers_unnumbered, kept_by, kept_longer}
+use Rattle.turn_lock.proofs.Standing.{told_again, stands_by, holds_by, holds_append, holds_unnumbered, views_set, views_more, words_again, numbers_append, numbers_unnumbered, kept_by, kept_longer}
 
-module _ {T E K : Type 0} (entries : T → List E) (maker : E → ℕ) (fits : K → T → Type 0) (name : K) where
+module _ {T E K : Type 0} (entries : T → List E) (maker : E → ℕ) (fits : K → T → Type 0) (level : List E → ℕ) (name : K) where
   abbrev V : Type 0
   V = View E K
 
   -- kind 1: the right to draw numbers goes to a new seat
-  pub heirs : (id : ℕ) (v : V) (k : ℕ) → v.stage ≡ Makes k → Splits (IsSound entries maker fits name) id v (kept_part v) (heir_part v)
+  pub heirs : (id : ℕ) (v : V) (k : ℕ) → v.stage ≡ Makes k → Splits (IsSound entries maker fits level name) id v (kept_part v) (heir_part v)
   heirs id v k is s r at =
       let f : Tally E = r.tally in
       let known = r.views.each id v at in
@@ -41,6 +41,7 @@ module _ {T E K : Type 0} (entries : T → List E) (maker : E → ℕ) (fits : K
         tally = f';
         words = record { wide = r.words.wide; drawn_is = r.words.drawn_is; next_is = r.words.next_is; served_is = r.words.served_is; count_is = r.words.count_is };
         few = r.few;
+        told = r.told;
         later = r.later;
         views = views_more maker name f' f' (set s.views id l) h cut refl (numbers_unnumbered v.hands) (omega arith)
             record {
@@ -53,28 +54,29 @@ module _ {T E K : Type 0} (entries : T → List E) (maker : E → ℕ) (fits : K
       }
 
   -- kind 1: a copy of what was seen
-  pub notes : (id : ℕ) (v : V) → Splits (IsSound entries maker fits name) id v v (note_part v)
+  pub notes : (id : ℕ) (v : V) → Splits (IsSound entries maker fits level name) id v v (note_part v)
   notes id v s r at =
       let f : Tally E = r.tally in
       let known = r.views.each id v at in
       let h : V = note_part v in
-      let out : IsSound entries maker fits name record { words = s.words; homes = s.homes; views = s.views ++ h ∷ [] } = record {
+      let out : IsSound entries maker fits level name record { words = s.words; homes = s.homes; views = s.views ++ h ∷ [] } = record {
         tally = f;
         words = r.words;
         few = r.few;
+        told = r.told;
         later = r.later;
         views = views_more maker name f f s.views h r.views refl (numbers_unnumbered v.hands) (omega arith)
             record { may = omega arith; stands = tt; hold = holds_unnumbered maker name f id (length s.views) v.hands known.hold }
             (λ j u _ o. o);
         slot = kept_longer entries fits name f.log s.homes s.views h r.slot;
       } in
-      subst (λ (vs : List V). IsSound entries maker fits name record { words = s.words; homes = s.homes; views = vs ++ h ∷ [] }) (sym (set_again s.views id v at)) out
+      subst (λ (vs : List V). IsSound entries maker fits level name record { words = s.words; homes = s.homes; views = vs ++ h ∷ [] }) (sym (set_again s.views id v at)) out
 
   -- kind 2: one seat takes the hands of another, which has no turn, and stands then so
   joined : (id : ℕ) (v : V) (other : ℕ) (w : V) (st : Stage E) (drawer : Tally E → ℕ) → turns_of w.stage ≡ 0 → turns_of st ≡ turns_of v.stage → (IsServing w.stage → ⊥) → (IsServing v.stage → IsServing st)
       → ((f : Tally E) (holder : ℕ → ℕ) → Stands f id v.stage → Stands f other w.stage → Stands (record f { drawer = drawer f; holder = holder }) id st)
       → ((f : Tally E) (holder : ℕ → ℕ) (j : ℕ) (u : Stage E) → j ≢ id → j ≢ other → Stands f id v.stage → Stands f other w.stage → Stands f j u → Stands (record f { drawer = drawer f; holder = holder }) j u)
-      → Joins (IsSound entries maker fits name) id v other w (view st (v.hands ++ w.hands)) nobody
+      → Joins (IsSound entries maker fits level name) id v other w (view st (v.hands ++ w.hands)) nobody
   joined id v other w st drawer idle same_turn no_value on mine_stands rest_stand s r at apart there =
       let f : Tally E = r.tally in
       let b : V = view st (v.hands ++ w.hands) in
@@ -105,6 +107,7 @@ module _ {T E K : Type 0} (entries : T → List E) (maker : E → ℕ) (fits : K
         tally = f';
         words = record { wide = r.words.wide; drawn_is = r.words.drawn_is; next_is = r.words.next_is; served_is = r.words.served_is; count_is = r.words.count_is };
         few = r.few;
+        told = r.told;
         later = r.later;
         views = record {
           drawn_by = omega arith;
@@ -126,13 +129,13 @@ module _ {T E K : Type 0} (entries : T → List E) (maker : E → ℕ) (fits : K
       }
 
   -- kind 2: one seat takes the hands of another
-  pub gathers : (id : ℕ) (v : V) (other : ℕ) (w : V) → w.stage ≡ Idle → Joins (IsSound entries maker fits name) id v other w (gathered v w) nobody
+  pub gathers : (id : ℕ) (v : V) (other : ℕ) (w : V) → w.stage ≡ Idle → Joins (IsSound entries maker fits level name) id v other w (gathered v w) nobody
   gathers id v other w is = joined id v other w v.stage (λ f. f.drawer) (ap turns_of is) refl (λ z. subst IsServing is z) (λ z. z)
       (λ f h mine _. stands_by f (record f { holder = h }) id (λ _ a c. (a, c)) (λ _ a c d. (a, c, d)) (λ _ a c d. (a, c, d, refl)) v.stage mine)
       (λ f h j u _ _ _ _ stands. stands_by f (record f { holder = h }) j (λ _ a c. (a, c)) (λ _ a c d. (a, c, d)) (λ _ a c d. (a, c, d, refl)) u stands)
 
   -- kind 2: the last turn takes the right to draw numbers
-  pub completes : (id : ℕ) (v : V) (other : ℕ) (w : V) (t k : ℕ) → v.stage ≡ Closes t → w.stage ≡ Makes k → Joins (IsSound entries maker fits name) id v other w (completed v w) nobody
+  pub completes : (id : ℕ) (v : V) (other : ℕ) (w : V) (t k : ℕ) → v.stage ≡ Closes t → w.stage ≡ Makes k → Joins (IsSound entries maker fits level name) id v other w (completed v w) nobody
   completes id v other w t k closes makes =
       joined id v other w (Ends (turn_in v.stage) (made_in w.stage)) (λ _. id) (ap turns_of makes) (sym (ap turns_of closes)) (λ z. subst IsServing makes z) (λ z. subst IsServing closes z)
       (λ f h mine yours.
@@ -147,7 +150,7 @@ module _ {T E K : Type 0} (entries : T → List E) (maker : E → ℕ) (fits : K
 
   -- kind 2: of two hands the first takes the longer front, and the second is let go
   pub compares : (slots id : ℕ) (me : Me (Option T) V) (called other : K) (n : ℕ) (front note : List E) → me.0 ≡ view Idle (hand called (Some n) front ∷ hand other None note ∷ [])
-      → Allows (IsSound entries maker fits name) slots id me 0 (λ c. c) (compared maker (step slots 0 0 0 none) me)
+      → Allows (IsSound entries maker fits level name) slots id me 0 (λ c. c) (compared maker (step slots 0 0 0 none) me)
   compares slots id me called other n front note is s r deep at _ =
       let f : Tally E = r.tally in
       let v : V = view Idle (hand called (Some n) front ∷ hand other None note ∷ []) in
@@ -165,6 +168,7 @@ module _ {T E K : Type 0} (entries : T → List E) (maker : E → ℕ) (fits : K
           tally = f;
           words = words_again f s.words 0 r.words;
           few = r.few;
+          told = told_again (level f.log) s.words 0 r.told;
           later = r.later;
           views = views_set maker name f f s.views id v w at' r.views refl refl
               record {

@@ -12,9 +12,9 @@ use Rattle.turn_lock.specs.Views.{log_in, turn_in, hand, view, front_to}
 use Rattle.turn_lock.specs.Rule.{own, Tally, IsSound}
 use Rattle.turn_lock.specs.Steps.{left, left_seeing, closed}
 use Rattle.turn_lock.proofs.Prefixes.{prefix_self}
-use Rattle.turn_lock.proofs.Standing.{stands_by, views_set, words_again}
+use Rattle.turn_lock.proofs.Standing.{told_again, told_still, stands_by, views_set, words_again}
 
-module _ {T E K : Type 0} (entries : T → List E) (maker : E → ℕ) (fits : K → T → Type 0) (name : K) where
+module _ {T E K : Type 0} (entries : T → List E) (maker : E → ℕ) (fits : K → T → Type 0) (level : List E → ℕ) (name : K) where
   abbrev V : Type 0
   V = View E K
 
@@ -22,7 +22,7 @@ module _ {T E K : Type 0} (entries : T → List E) (maker : E → ℕ) (fits : K
   M = Me (Option T) V
 
   abbrev Sound : State (Option T) V → Type 0
-  Sound = IsSound entries maker fits name
+  Sound = IsSound entries maker fits level name
 
   -- the value goes back with the history as it is, and the next turn is served
   passed_on : (s : State (Option T) V) (r : Sound s) (id t n : ℕ) (log front now : List E) (called : K) (x : T) → 0 < length s.homes
@@ -51,6 +51,7 @@ module _ {T E K : Type 0} (entries : T → List E) (maker : E → ℕ) (fits : K
           count_is = get_or-set_other s.words 2 3 y 0 (λ z. omega arith) ∙ r.words.count_is;
         };
         few = r.few;
+        told = told_still (level f.log) s.words 2 y (λ z. omega arith) r.told;
         later = r.later;
         views = views_set maker name f f' s.views id v w at r.views refl (omega arith)
             record { may = omega arith; stands = tt; hold = (hold.0, subst (IsPrefix now) stands.3 pre, (hold.2.0, hold.2.1, owned ∙ ap (own maker n) stands.3), tt) }
@@ -116,6 +117,7 @@ module _ {T E K : Type 0} (entries : T → List E) (maker : E → ℕ) (fits : K
         tally = f;
         words = words_again f s.words 0 r.words;
         few = r.few;
+        told = told_again (level f.log) s.words 0 r.told;
         later = r.later;
         views = views_set maker name f f s.views id v w at' r.views refl refl
             record { may = known.may; stands = (stands.0, stands.1, stands.2); hold = hold }

@@ -17,9 +17,9 @@ use Rattle.turn_lock.specs.Endings.{serving_one, same_at}
 use Rattle.turn_lock.specs.Steps.{AllSee, held, recorded, looked, counted}
 use Rattle.turn_lock.proofs.Prefixes.{prefix_self, prefix_more, prefix_trans, take_next, own_other}
 use Rattle.turn_lock.proofs.Sums.{at_inside}
-use Rattle.turn_lock.proofs.Standing.{stands_by, holds_by, views_set, waiting_few, words_again, owned_of}
+use Rattle.turn_lock.proofs.Standing.{told_again, told_still, stands_by, holds_by, views_set, waiting_few, words_again, owned_of}
 
-module _ {T E K : Type 0} (entries : T → List E) (maker : E → ℕ) (fits : K → T → Type 0) (name : K) where
+module _ {T E K : Type 0} (entries : T → List E) (maker : E → ℕ) (fits : K → T → Type 0) (level : List E → ℕ) (name : K) where
   -- each hand begins the history of the value
   sees : (f : Tally E) (seat : ℕ) (x : T) → entries x ≡ f.log → fits name x → (hs : List (Hand E K)) → AllHold maker f.log f.drawn f.holder seat name hs → AllSee entries maker fits x hs
   sees f seat x e fit [] h = tt
@@ -32,7 +32,7 @@ module _ {T E K : Type 0} (entries : T → List E) (maker : E → ℕ) (fits : K
 
   -- kind 4: a look at which turn is served, and where it is the seat's own, the slot
   pub looks : (slots id : ℕ) (me : Me (Option T) (View E K)) (t : ℕ) → me.0.stage ≡ Waits t
-      → Allows (IsSound entries maker fits name) slots id me 2 (λ n. n) (looked entries maker fits (step slots 2 0 0 none) me)
+      → Allows (IsSound entries maker fits level name) slots id me 2 (λ n. n) (looked entries maker fits (step slots 2 0 0 none) me)
   looks slots id me t is s r deep at _ =
       let f : Tally E = r.tally in
       let v : View E K = me.0 in
@@ -60,6 +60,7 @@ module _ {T E K : Type 0} (entries : T → List E) (maker : E → ℕ) (fits : K
           tally = f;
           words = words_again f s.words 2 r.words;
           few = r.few;
+          told = told_again (level f.log) s.words 2 r.told;
           later = r.later;
           views = views_set maker name f f s.views id v w at r.views refl (omega arith)
               record { may = omega arith; stands = (turn ∙ sym now, omega arith, ap f.server turn ∙ stands.2, h.2); hold = known.hold }
@@ -78,13 +79,13 @@ module _ {T E K : Type 0} (entries : T → List E) (maker : E → ℕ) (fits : K
       (λ miss.
       let same : s ≡ record { words = set s.words 2 n; homes = s.homes; views = set s.views id v } =
       λ k. record { words = sym (set-get_or s.words 2 0) k; homes = s.homes; views = sym (set_again s.views id v at) k } in
-      (v, keeps, tt, subst (IsSound entries maker fits name) same r, ((λ hit. absurd (miss hit)), λ _. refl)))
+      (v, keeps, tt, subst (IsSound entries maker fits level name) same r, ((λ hit. absurd (miss hit)), λ _. refl)))
 
   -- kind 6: an entry of the value in the slot is counted
   pub counts_entry : (slots id : ℕ) (me : Me (Option T) (View E K)) (t n : ℕ) (log front : List E) (called : K) (x : T) (e : E) (es : List E)
-      → me ≡ (view (Serves t log) (hand called (Some n) front ∷ []), (0, Some x) ∷ []) → entries x ≡ log ++ e ∷ es → maker e ≡ n → length log + 1 < 2 ^ 64
-      → Allows (IsSound entries maker fits name) slots id me 3 (λ c. (c + 1) % 2 ^ 64) (counted entries (step slots 3 1 0 none) me)
-  counts_entry slots id me t n log front called x e es is grown made room s r deep at _ =
+      → me ≡ (view (Serves t log) (hand called (Some n) front ∷ []), (0, Some x) ∷ []) → entries x ≡ log ++ e ∷ es → maker e ≡ n → length log + 1 < 2 ^ 64 → ((xs ys : List E) → level xs ≤ level (xs ++ ys))
+      → Allows (IsSound entries maker fits level name) slots id me 3 (λ c. (c + 1) % 2 ^ 64) (counted entries (step slots 3 1 0 none) me)
+  counts_entry slots id me t n log front called x e es is grown made room rises s r deep at _ =
       let f : Tally E = r.tally in
       let v : View E K = view (Serves t log) (hand called (Some n) front ∷ []) in
       let at' : get_elem? s.views id ≡ some v = subst (λ (m : Me (Option T) (View E K)). get_elem? s.views id ≡ some m.0) is at in
@@ -119,6 +120,7 @@ module _ {T E K : Type 0} (entries : T → List E) (maker : E → ℕ) (fits : K
             count_is = get_or-set_same s.words 3 y 0 (omega arith) ∙ next;
           };
           few = r.few;
+          told = let a = told_still (level f.log) s.words 3 y (λ z. omega arith) r.told in let b = subst (λ (z : List E). level z ≤ level now) stands.3 (rises log (e ∷ [])) in omega arith;
           later = λ m h. sym (same_own m (λ z. omega arith)) ∙ r.later m h;
           views = views_set maker name f f' s.views id v w at' r.views refl refl
               record { may = omega arith; stands = (stands.0, stands.1, stands.2, refl); hold = (hold.0, prefix_self now, (owns.0, owns.1, refl), tt) }

@@ -1,5 +1,5 @@
 -- The parts of the rule that each step keeps in the same way.
-use Rattle.std.proofs.Common.{◌≡◌, ◌≢◌, ℕ, zero, suc, ◌+◌, ◌<◌, ◌≤◌, List, [], ◌∷◌, ◌++◌, length, get_or, set, sym, refl, ap, ◌∙◌, subst, ⊎_elim, inl, inr, arith, Option, Some, None}
+use Rattle.std.proofs.Common.{◌≡◌, ◌≢◌, ℕ, zero, suc, ◌+◌, ◌<◌, ◌≤◌, List, [], ◌∷◌, ◌++◌, length, get_or, get_or-set_other, set, sym, refl, ap, ◌∙◌, subst, ⊎_elim, inl, inr, arith, Option, Some, None}
 use mathlib.Core.Logic.{dite}
 use mathlib.Core.Option.{some, some-ne-none, some-injective}
 use mathlib.Core.Option as maybe
@@ -97,6 +97,13 @@ module _ {E K : Type 0} (maker : E → ℕ) (name : K) where
 pub words_again : {E : Type 0} (f : Tally E) (ws : List ℕ) (i : ℕ) → WordsAre f ws → WordsAre f (set ws i (get_or ws i 0))
 words_again f ws i r = subst (WordsAre f) (sym (set-get_or ws i 0)) r
 
+pub told_again : (k : ℕ) (ws : List ℕ) (i : ℕ) → get_or ws 4 0 ≤ k → get_or (set ws i (get_or ws i 0)) 4 0 ≤ k
+told_again k ws i h = subst (λ (l : List ℕ). get_or l 4 0 ≤ k) (sym (set-get_or ws i 0)) h
+
+-- another word changes
+pub told_still : (k : ℕ) (ws : List ℕ) (i y : ℕ) → 4 ≢ i → get_or ws 4 0 ≤ k → get_or (set ws i y) 4 0 ≤ k
+told_still k ws i y other h = subst (λ (z : ℕ). z ≤ k) (sym (get_or-set_other ws i 4 y 0 other)) h
+
 pub numbers_append : {E K : Type 0} (hs ks : List (Hand E K)) → numbers_in (hs ++ ks) ≡ numbers_in hs + numbers_in ks
 numbers_append [] ks = omega arith
 numbers_append (x ∷ hs) ks = omega (arith, numbers_append hs ks)
@@ -125,13 +132,14 @@ module _ {T E K : Type 0} (entries : T → List E) (fits : K → T → Type 0) (
   kept_longer log homes vs w kept = ⊎_elim (λ t. inl t)
       (λ (t : (j : ℕ) × (u : View E K) × (get_elem? vs j ≡ some u) × IsServing u.stage). inr (t.0, t.1, at_longer vs (w ∷ []) t.0 t.1 t.2, t.3)) kept
 
-module _ {T E K : Type 0} (entries : T → List E) (maker : E → ℕ) (fits : K → T → Type 0) (name : K) where
+module _ {T E K : Type 0} (entries : T → List E) (maker : E → ℕ) (fits : K → T → Type 0) (level : List E → ℕ) (name : K) where
   -- at the start
-  pub opens : (x : T) → entries x ≡ [] → fits name x → IsSound entries maker fits name (opening (0 ∷ 0 ∷ 0 ∷ 0 ∷ []) (Some x ∷ []) (first_view name))
+  pub opens : (x : T) → entries x ≡ [] → fits name x → IsSound entries maker fits level name (opening (0 ∷ 0 ∷ 0 ∷ 0 ∷ 0 ∷ []) (Some x ∷ []) (first_view name))
   opens x none_yet fit = let f : Tally E = record { log = []; drawn = 0; passed = 0; waiting = 0; drawer = 0; server = λ _. 0; holder = λ _. 0 } in record {
     tally = f;
     words = record { wide = refl; drawn_is = refl; next_is = refl; served_is = refl; count_is = refl };
     few = omega arith;
+    told = omega arith;
     later = λ n _. refl;
     views = record { drawn_by = refl; waiting_by = refl; each = first f refl refl };
     slot = inl (x, refl, none_yet, fit);

@@ -51,8 +51,8 @@ word_at : (ws : List ℕ) (d : ℕ) → get_elem? ws 0 ≡ some d → get_or ws 
 word_at [] d e = absurd (some-ne-none d (sym e))
 word_at (x ∷ ws) d e = some-injective x d e
 
-module _ {T E K : Type 0} (entries : T → List E) (maker : E → ℕ) (fits : K → T → Type 0) where
-  pub end_known : (name : K) (id drawn : ℕ) (v : View E K) (ws : List ℕ) (xs : List (Option T)) (slot : Option T) → IsClosing v → Final (Seen (IsSound entries maker fits name) id v) ws xs
+module _ {T E K : Type 0} (entries : T → List E) (maker : E → ℕ) (fits : K → T → Type 0) (level : List E → ℕ) where
+  pub end_known : (name : K) (id drawn : ℕ) (v : View E K) (ws : List ℕ) (xs : List (Option T)) (slot : Option T) → IsClosing v → Final (Seen (IsSound entries maker fits level name) id v) ws xs
       → get_elem? ws 0 ≡ some drawn → get_elem? xs 0 ≡ some slot → Ended entries maker fits name v drawn slot
   end_known name id drawn v ws xs slot is fin word taken =
       let t : ℕ = turn_in v.stage in

@@ -2,7 +2,7 @@
 use Rattle.std.specs.Prelude.{◌≡◌, ℕ, List, [], ◌∷◌, Option, Some}
 use Rattle.atomic_table.specs.Seated.{TableId}
 use Rattle.turn_lock.specs.declared.lock.Locked.{Locked}
-use Rattle.turn_lock.specs.declared.lock.Pass.{Pass}
+use Rattle.turn_lock.specs.declared.lock.LockPass.{LockPass}
 use Rattle.turn_lock.specs.declared.lock.Turn.{Turn}
 use Rattle.turn_lock.specs.declared.lock.Note.{Note}
 use Rattle.turn_lock.specs.declared.lock.LastTurn.{LastTurn}
@@ -40,15 +40,15 @@ module _ {S V : Type 0} where
 -- ---- what was seen
 
 module _ {T E K : Type 0} where
-  abbrev pub number_of : Pass T E K → ℕ
+  abbrev pub number_of : LockPass T E K → ℕ
   number_of pass = pass.number
 
   -- the lock that a pass is of, as `lock_id` tells it
-  abbrev pub pass_lock : Pass T E K → TableId
+  abbrev pub pass_lock : LockPass T E K → TableId
   pass_lock pass = pass.seat.table_id
 
   -- the front of the history that a pass has seen
-  abbrev pub front : Pass T E K → List E
+  abbrev pub front : LockPass T E K → List E
   front pass = front_in pass.seat.me.0.hands
 
   abbrev pub note_front : Note T E K → List E
@@ -77,7 +77,7 @@ module _ {T E K : Type 0} where
 
 module _ {T E K : Type 0} where
   -- of the lock with this identity and name
-  pub record IsPassAt (lock : TableId) (name : K) (pass : Pass T E K) : Type 0 where
+  pub record IsPassAt (lock : TableId) (name : K) (pass : LockPass T E K) : Type 0 where
     pub here : pass.seat.table_id ≡ lock
     pub named : AllNamed name pass.seat.me.0.hands
 
@@ -105,12 +105,12 @@ module _ {T E K : Type 0} where
     pub closes : IsClosing closing.seat.me.0
 
   -- the closing has taken the pass in
-  abbrev pub Took : Closing T E K → Pass T E K → Type 0
+  abbrev pub Took : Closing T E K → LockPass T E K → Type 0
   Took closing pass = HasHand closing.seat.me.0.hands pass.number (front pass)
 
 module _ {S V T E K P : Type 0} where
   -- of this lock
-  abbrev pub IsPassOf : Locked S V K P → Pass T E K → Type 0
+  abbrev pub IsPassOf : Locked S V K P → LockPass T E K → Type 0
   IsPassOf lock pass = IsPassAt (lock_id lock) (name_of lock) pass
 
   abbrev pub IsNoteOf : Locked S V K P → Note T E K → Type 0

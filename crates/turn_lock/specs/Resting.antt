@@ -1,9 +1,10 @@
--- What contracts say of passes and makers at rest.
+-- What contracts say of passes, notes and makers at rest.
 use Rattle.std.proofs.Common.{◌≡◌, ℕ, List, [], ◌∷◌, length, sym, ◌∙◌, arith}
 use Rattle.atomic_table.specs.Seated.{TableId}
 use Rattle.turn_lock.specs.declared.lock.Locked.{Locked}
 use Rattle.turn_lock.specs.declared.lock.RestingPass.{RestingPass}
 use Rattle.turn_lock.specs.declared.lock.RestingMaker.{RestingMaker}
+use Rattle.turn_lock.specs.declared.lock.RestingNote.{RestingNote}
 use Rattle.turn_lock.specs.declared.view.Hand.{Hand}
 use Rattle.turn_lock.specs.Views.{AllNamed, front_in, hands_of}
 use Rattle.turn_lock.specs.Passes.{lock_id, name_of}
@@ -16,6 +17,9 @@ module _ {E K : Type 0} where
   abbrev pub resting_front : RestingPass E K → List E
   resting_front pass = front_in (hands_of pass.badge.views)
 
+  abbrev pub resting_note_front : RestingNote E K → List E
+  resting_note_front note = front_in (hands_of note.badge.views)
+
   abbrev pub resting_made : RestingMaker E K → ℕ
   resting_made maker = maker.made
 
@@ -23,6 +27,10 @@ module _ {E K : Type 0} where
   pub record IsRestingPassAt (lock : TableId) (name : K) (pass : RestingPass E K) : Type 0 where
     pub here : pass.badge.table_id ≡ lock
     pub named : AllNamed name (hands_of pass.badge.views)
+
+  pub record IsRestingNoteAt (lock : TableId) (name : K) (note : RestingNote E K) : Type 0 where
+    pub here : note.badge.table_id ≡ lock
+    pub named : AllNamed name (hands_of note.badge.views)
 
   pub record IsRestingMakerAt (lock : TableId) (name : K) (maker : RestingMaker E K) : Type 0 where
     pub here : maker.badge.table_id ≡ lock
@@ -32,6 +40,9 @@ module _ {S V E K P : Type 0} where
   -- of this lock
   abbrev pub IsRestingPassOf : Locked S V K P → RestingPass E K → Type 0
   IsRestingPassOf lock pass = IsRestingPassAt (lock_id lock) (name_of lock) pass
+
+  abbrev pub IsRestingNoteOf : Locked S V K P → RestingNote E K → Type 0
+  IsRestingNoteOf lock note = IsRestingNoteAt (lock_id lock) (name_of lock) note
 
   abbrev pub IsRestingMakerOf : Locked S V K P → RestingMaker E K → Type 0
   IsRestingMakerOf lock maker = IsRestingMakerAt (lock_id lock) (name_of lock) maker

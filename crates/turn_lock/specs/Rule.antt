@@ -1,7 +1,7 @@
 -- The one rule of a lock's table.
--- Word 0 counts the numbers of passes that were drawn, word 1 is the next turn, word 2 the turn that is served, and
--- word 3 counts the entries of the history. Slot 0 has the value. Turns go on without a bound, and their words go round
--- at 2^64.
+-- Word 0 counts the numbers of passes that were drawn, word 1 is the next turn, word 2 the turn that is served, word 3
+-- counts the entries of the history, and word 4 is the highest level of it that was told. Slot 0 has the value. Turns go on
+-- without a bound, and their words go round at 2^64.
 use Rattle.std.specs.Prelude.{◌≡◌, ◌⊎◌, ℕ, ◌+◌, ◌%◌, ◌^◌, ◌<◌, ◌≤◌, List, [], ◌∷◌, length, slice_index, filter, eqb, Option, Some, None}
 use mathlib.Core.Option.{some}
 use mathlib.Core.Option as maybe
@@ -65,7 +65,7 @@ pub record Knows {E K : Type 0} (maker : E → ℕ) (name : K) (f : Tally E) (se
 
 -- the words, as the tally has them
 pub record WordsAre {E : Type 0} (f : Tally E) (words : List ℕ) : Type 0 where
-  pub wide : length words ≡ 4
+  pub wide : length words ≡ 5
   pub drawn_is : slice_index words 0 ≡ f.drawn
   pub next_is : slice_index words 1 ≡ (f.passed + f.waiting) % 2 ^ 64
   pub served_is : slice_index words 2 ≡ f.passed % 2 ^ 64
@@ -85,10 +85,12 @@ IsKept {T} {E} {K} entries fits name log homes views =
     ⊎ ((seat : ℕ) × (v : View E K) × (get_elem? views seat ≡ some v) × IsServing v.stage)
 
 -- The rule
-pub record IsSound {T E K : Type 0} (entries : T → List E) (maker : E → ℕ) (fits : K → T → Type 0) (name : K) (s : State (Option T) (View E K)) : Type 0 where
+pub record IsSound {T E K : Type 0} (entries : T → List E) (maker : E → ℕ) (fits : K → T → Type 0) (level : List E → ℕ) (name : K) (s : State (Option T) (View E K)) : Type 0 where
   pub tally : Tally E
   pub words : WordsAre tally s.words
   pub few : tally.drawn < 2 ^ 64
+  -- the level that was told is at most the history's
+  pub told : slice_index s.words 4 ≤ level tally.log
   -- no entry has a number that was not drawn
   pub later : (n : ℕ) → tally.drawn ≤ n → own maker n tally.log ≡ []
   pub views : ViewsAre maker name tally s.views

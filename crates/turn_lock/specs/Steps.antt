@@ -1,5 +1,5 @@
 -- What each step tells the seat that makes it: of the step, the seat before, the number found and the seat after.
-use Rattle.std.specs.Prelude.{◌≡◌, ◌≢◌, ℕ, ◌+◌, ◌%◌, ◌^◌, List, [], ◌∷◌, ◌++◌, length, take, if◌then◌else◌, Option, Some, None}
+use Rattle.std.specs.Prelude.{◌≡◌, ◌≢◌, ℕ, ◌+◌, ◌%◌, ◌^◌, ◌≤◌, List, [], ◌∷◌, ◌++◌, length, take, if◌then◌else◌, Option, Some, None}
 use Rattle.std.proofs.Common.{leb}
 use mathlib.Core.List.{IsPrefix}
 use Rattle.atomic_table.specs.Table.{Me, Step, rest}
@@ -77,6 +77,11 @@ module _ {E K : Type 0} where
       IsPrefix x.front (longer x.front y.front) × IsPrefix y.front (longer x.front y.front)
       × IsOwned maker (longer x.front y.front) x.front x.number
 
+-- the first hand's front begins the history, which has no more of its own
+abbrev pub FirstBegins : {E K : Type 0} → (E → ℕ) → List E → List (Hand E K) → Type 0
+FirstBegins maker log [] = Unit {0}
+FirstBegins maker log (h ∷ hs) = IsPrefix h.front log × IsOwned maker log h.front h.number
+
 abbrev At : Type 0 → Type 0
 At T = Step (Option T)
 
@@ -122,3 +127,11 @@ module _ {T E K : Type 0} where
   -- of two hands the first has the longer front
   abbrev pub compared : (E → ℕ) → At T → Sat T E K → ℕ → Sat T E K → Type 0
   compared maker st m n m' = (m' ≡ (view m.0.stage (compare m.0.hands), m.1)) × BothBegin maker m.0.hands
+
+  -- the front is the whole history, whose level is at least the number found
+  abbrev pub caught_up : (E → ℕ) → (List E → ℕ) → At T → Sat T E K → ℕ → Sat T E K → Type 0
+  caught_up maker level st m n m' = (log : List E) × (n ≤ level log) × (m' ≡ (view m.0.stage (front_to log m.0.hands), m.1)) × FirstBegins maker log m.0.hands
+
+  -- a level is told; the seat knows what it knew
+  abbrev pub told : At T → Sat T E K → ℕ → Sat T E K → Type 0
+  told st m n m' = m' ≡ m

@@ -27,13 +27,13 @@ pub struct Locked<S, V, K, P: TableRule<S, V, K>> {
     /// The mark of those that sleep until a turn is passed, on which they sleep: 1 where whoever passes one has to wake one of
     /// them.
     asleep: AtomicU64,
-    ghost sized: { (table.shared.table_id.words ≡ 4) × (table.shared.table_id.slots ≡ 1) },
+    ghost sized: { (table.shared.table_id.words ≡ 5) × (table.shared.table_id.slots ≡ 1) },
     ghost named: { table.shared.key ≡ name },
 }
 
 /// The right to take turns, one after another, under a number. It has seen a front of the history.
 #[derive(Drop)]
-pub struct Pass<T, E, K> {
+pub struct LockPass<T, E, K> {
     seat: Place<T, E, K>,
     number: u64,
     ghost rests: { seat ≡ posed seat (view Idle (number_to number seat.me.0.hands)) [] },
@@ -64,6 +64,14 @@ pub struct RestingMaker<E, K> {
     badge: Badge<View<E, K>>,
     made: u64,
     ghost makes: { badge ≡ badged badge (view (Makes made) (blank (hands_of badge.views))) },
+    ghost single: { length (hands_of badge.views) ≡ 1 },
+}
+
+/// A note between its making and its meeting. Its type names the entries, and not the value behind the lock.
+#[derive(Drop)]
+pub struct RestingNote<E, K> {
+    badge: Badge<View<E, K>>,
+    ghost rests: { badge ≡ badged badge (view Idle (unnumbered (hands_of badge.views))) },
     ghost single: { length (hands_of badge.views) ≡ 1 },
 }
 

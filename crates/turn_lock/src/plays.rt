@@ -1,5 +1,5 @@
 //! What each step on the table tells the seat that makes it.
-ghost use Rattle.turn_lock.specs.Steps.{numbered, drew_if, looked, counted, left, left_seeing, closed, kept_part, heir_part, note_part, gathered, completed, compared, nobody};
+ghost use Rattle.turn_lock.specs.Steps.{numbered, drew_if, looked, counted, left, left_seeing, closed, caught_up, told, kept_part, heir_part, note_part, gathered, completed, compared, nobody};
 
 use crate::history::History;
 use crate::view::View;
@@ -59,6 +59,20 @@ pub(crate) struct Compare;
 
 impl<T: History<E, K>, E, K> Play<Option<T>, View<E, K>> for Compare {
     ghost then = { compared T.maker };
+}
+
+/// Tells a level.
+pub(crate) struct Tell;
+
+impl<T, E, K> Play<Option<T>, View<E, K>> for Tell {
+    ghost then = { told };
+}
+
+/// The front becomes the whole history.
+pub(crate) struct CatchUp;
+
+impl<T: History<E, K>, E, K> Play<Option<T>, View<E, K>> for CatchUp {
+    ghost then = { caught_up T.maker T.level };
 }
 
 /// The right to draw numbers goes to the new seat.

@@ -1,4 +1,4 @@
-//! The table under the lock: four words and a slot.
+//! The table under the lock: five words and a slot.
 
 ghost use Rattle.std.specs.Prelude.{◌≡◌, ℕ, List};
 ghost use mathlib.Core.Option.{some};
@@ -29,7 +29,7 @@ impl<T: History<E, K>, E, K> TableRule<Option<T>, View<E, K>, K> for Turns {
     ghost use Rattle.turn_lock.specs.Views.{first_view};
     ghost use Rattle.turn_lock.specs.Rule.{IsSound};
 
-    ghost holds = { λ name. IsSound T.entries T.maker T.fits name };
+    ghost holds = { λ name. IsSound T.entries T.maker T.fits T.level name };
 
     ghost first = { first_view };
 }
@@ -42,7 +42,7 @@ impl<T: History<E, K>, E, K> EndRule<Option<T>, View<E, K>, K> for Turns {
 
     ghost ended = { Ended T.entries T.maker T.fits };
 
-    ghost ends = { end_known T.entries T.maker T.fits };
+    ghost ends = { end_known T.entries T.maker T.fits T.level };
 }
 
 /// A seat at the table.

@@ -4,8 +4,8 @@ use Rattle.std.specs.List.{AllByRecursion}
 use Rattle.std.proofs.lemmas.List.{append-nil, append_cancel_left, reverse-append, reverse-reverse, take-take, take_at}
 use Rattle.journal_records.specs.declared.change.Change.{Change}
 use Rattle.journal_records.specs.Spelling.{tail_of, framed, IsChange}
-use Rattle.journal_records.specs.Reading.{record_at}
-use Rattle.journal_records.proofs.Bodies.{record_again}
+use Rattle.journal_records.specs.Reading.{change_at}
+use Rattle.journal_records.proofs.Bodies.{change_again}
 use Rattle.use_journal.specs.Journal.{header, written, IsJournal, AreChanges, up_to_end, HasNoRecord, IsBrokenOff, IsCorrupted, NoHeader, BrokenOff}
 use Rattle.tags.specs.declared.limits.TheConstants.{JOURNAL_BYTES}
 
@@ -40,7 +40,7 @@ broken_stops : (left : List ℕ) → HasNoRecord left → IsStop left
 broken_stops [] broken x rest fits e = absurd cc
 broken_stops (gate ∷ left) broken x rest fits e =
     let behind : left ≡ tail_of x ++ rest = cc in
-    let found : ◌≡◌ {A = Option (Change × List ℕ)} None (Some (x, rest)) = sym broken.1 ∙ ap record_at behind ∙ record_again x rest fits in
+    let found : ◌≡◌ {A = Option (Change × List ℕ)} None (Some (x, rest)) = sym broken.1 ∙ ap change_at behind ∙ change_again x rest fits in
     cc
 
 -- records and a stop are read in one way
@@ -55,7 +55,7 @@ one_list (x ∷ xs) [] l m a b p q e = absurd (q x (frames xs ++ l) a.0 (sym e �
 one_list (x ∷ xs) (y ∷ ys) l m a b p q e =
     let behind : (tail_of x ++ frames xs) ++ l ≡ (tail_of y ++ frames ys) ++ m = cc in
     let apart = sym (append_assoc (tail_of x) (frames xs) l) ∙ behind ∙ append_assoc (tail_of y) (frames ys) m in
-    let read : Some (x, frames xs ++ l) ≡ Some (y, frames ys ++ m) = sym (record_again x (frames xs ++ l) a.0) ∙ ap record_at apart ∙ record_again y (frames ys ++ m) b.0 in
+    let read : Some (x, frames xs ++ l) ≡ Some (y, frames ys ++ m) = sym (change_again x (frames xs ++ l) a.0) ∙ ap change_at apart ∙ change_again y (frames ys ++ m) b.0 in
     let pair = some_is (x, frames xs ++ l) (y, frames ys ++ m) read in
     let rest = one_list xs ys l m a.1 b.1 p q (ap (λ (t : Change × List ℕ). t.1) pair) in
     record { lists = λ i. (pair i).0 ∷ rest.lists i; left = rest.left }

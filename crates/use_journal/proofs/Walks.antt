@@ -8,7 +8,7 @@ use Rattle.journal_records.specs.declared.fault.StoreFault.{StoreFault}
 use Rattle.journal_records.specs.declared.fault.StoreFault.TheVariants as faults
 use Rattle.journal_records.specs.Commits.{open_failed}
 use Rattle.journal_records.specs.Spelling.{tail_of, framed, IsChange}
-use Rattle.journal_records.specs.Reading.{record_at}
+use Rattle.journal_records.specs.Reading.{change_at}
 use Rattle.use_journal.specs.declared.journal.Journal.{Journal}
 use Rattle.use_journal.specs.Journal.{header, written, IsJournal, AreChanges, up_to_end, HasNoRecord, IsCorrupted, NoHeader, BrokenOff, past_of, placed}
 use Rattle.use_journal.specs.Holding.{FindsJournal, ReadsJournal}
@@ -104,9 +104,9 @@ finds_of past bytes (Err (faults.Corrupted offset)) fit j reads fits places = no
 finds_of past bytes (Err faults.Memory) fit j reads fits places = tt
 
 -- an open gate with no record behind it
-pub no_record : (rest : List ℕ) → 1 ≤ length rest → get_or rest 0 0 ≡ 75 → record_at (take (length rest - 1) (drop 1 rest)) ≡ None → HasNoRecord rest
+pub no_record : (rest : List ℕ) → 1 ≤ length rest → get_or rest 0 0 ≡ 75 → change_at (take (length rest - 1) (drop 1 rest)) ≡ None → HasNoRecord rest
 no_record [] some opened none = absurd (omega (arith, some))
-no_record (gate ∷ rest) some opened none = (opened, ap record_at (sym (take_rest (gate ∷ rest) 1)) ∙ none)
+no_record (gate ∷ rest) some opened none = (opened, ap change_at (sym (take_rest (gate ∷ rest) 1)) ∙ none)
 
 pub no_byte : (rest : List ℕ) → length rest < 1 → HasNoRecord rest
 no_byte [] none = tt

@@ -4,7 +4,7 @@ use Rattle.std.specs.List.{AllByRecursion}
 use Rattle.gated_records.specs.Areas.{IsArea}
 use Rattle.journal_records.specs.declared.change.Change.{Change}
 use Rattle.journal_records.specs.Spelling.{framed, IsChange}
-use Rattle.journal_records.specs.Reading.{record_at}
+use Rattle.journal_records.specs.Reading.{change_at}
 use Rattle.tags.specs.declared.limits.TheConstants.{JOURNAL_BYTES}
 
 -- KSJRNL01
@@ -37,7 +37,7 @@ up_to_end image = take JOURNAL_BYTES image
 -- at a gate's place no byte stands, or an open gate with no record behind it
 abbrev pub HasNoRecord : List ℕ → Type 0
 HasNoRecord [] = ⊤
-HasNoRecord (gate ∷ rest) = (gate ≡ 75) × (record_at rest ≡ None)
+HasNoRecord (gate ∷ rest) = (gate ≡ 75) × (change_at rest ≡ None)
 
 -- the bytes have the header and the records of these changes, and at the next gate's place no record and no gate
 -- that is shut

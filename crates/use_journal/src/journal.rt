@@ -9,9 +9,10 @@ ghost use Rattle.journal_records.specs.Spelling.{closed_of, IsChange};
 ghost use Rattle.tags.specs.declared.limits.TheConstants.{JOURNAL_BYTES};
 
 use crate::opening::read_disk;
+use disk_calls::write_synced;
 use gated_records::{is_published, publish};
 use journal_records::{AppendFault, Changes, StoreFault};
-use ks_outside::{Disk, Failed, write_synced};
+use ks_outside::{Disk, Failed};
 use std::alloc::Global;
 use tags::{JOURNAL_BYTES, Settled};
 

@@ -8,9 +8,10 @@ ghost use Rattle.use_journal.specs.Journal.{written, IsJournal, AreChanges, past
 ghost use Rattle.use_journal.specs.Holding.{end_of, is_waiting, FindsJournal, IsSettledOn, ReadsJournal};
 
 use crate::journal::{FRESH, HEADER_BYTES, Journal};
+use disk_calls::{ReadFault, read_synced};
 use gated_records::OPEN;
-use journal_records::{Changes, RecordFault, StoreFault, read_record};
-use ks_outside::{Disk, ReadFault, read_synced};
+use journal_records::{Changes, RecordFault, StoreFault, read_change};
+use ks_outside::Disk;
 use std::alloc::Global;
 use tags::JOURNAL_BYTES;
 
@@ -38,7 +39,7 @@ fn walk(alloc: Global, bytes: &[u8]) -> Result<(Journal, Changes), StoreFault>
         if *gate != OPEN {
             return Ok((Journal::at(at), changes));
         }
-        match read_record(alloc, after) {
+        match read_change(alloc, after) {
             Ok((change, left)) => {
                 let Ok(()) = changes.push(at, change) else {
                     return Err(StoreFault::Memory);

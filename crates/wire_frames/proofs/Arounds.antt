@@ -5,14 +5,17 @@ use Rattle.std.proofs.lemmas.Bool.{cases_lt, lt-ltb, le-ltb, leb-true, and_parts
 use Rattle.std.proofs.lemmas.List.{length-append, length-drop, drop-append-le, drop-drop, drop_more, nil_from_length}
 use Rattle.byteorder.specs.Endian.{big_number}
 use Rattle.byteorder.specs.Numbers.{big_from-append}
+use Rattle.rule_model.specs.declared.act_kind.ActKind.{ActKind}
+use Rattle.rule_model.specs.declared.act_kind.ActKind.TheVariants as kinds
+use Rattle.rule_model.specs.Acts.{kind_numbered}
 use Rattle.rule_model.specs.declared.event.Act.{Act}
 use Rattle.rule_model.specs.declared.event.Act.TheVariants.{EnterAad, EnterUpdate, EnterFinish}
 use Rattle.wire_frames.specs.declared.fault.BodyFault.{BodyFault}
 use Rattle.wire_frames.specs.declared.fault.BodyFault.TheVariants.{Bad, Memory}
 use Rattle.wire_frames.specs.declared.held.giving.HeldRequest.{HeldRequest}
-use Rattle.byte_strings.specs.Readers.{byte_at, number_at, bytes_at, counted_at, optional_at, row_of, ended}
-use Rattle.wire_frames.specs.Reading.{Says, acts, act_in}
-use Rattle.wire_frames.specs.Apart.{has_input, HasInput, with_input, around}
+use Rattle.byte_strings.specs.Readers.{byte_at, number_at, bytes_at, counted_at, optional_at, ended}
+use Rattle.wire_frames.specs.Reading.{Says, fields_at, act_in}
+use Rattle.wire_frames.specs.Apart.{enters, has_input, HasInput, with_input, around, around_of}
 use Rattle.wire_frames.proofs.Filling.{behind, behind_is}
 
 -- ---- fields of which the bytes before the input have all
@@ -44,17 +47,20 @@ finished_by op text (Some s) = ended_by (eqb (length s.1) 0) (EnterFinish op tex
 
 -- the act of a number, and its fields
 abbrev fields_in : ℕ → List ℕ → Option Act
-fields_in number bytes = ended (row_of number acts bytes)
+fields_in number bytes = ended (fields_at (kind_numbered number) bytes)
 
-three : (n : ℕ) → has_input n ≡ true → (n ≡ 6) ⊎ ((n ≡ 7) ⊎ (n ≡ 8))
-three n e =
-    let parts = and_parts (leb 6 n) (leb n 8) e in
-    let low = leb-true 6 n parts.0 in
-    let high = leb-true n 8 parts.1 in
-    ⊎_elim
-    (λ (six : n < 7). inl (omega (arith, six, low)))
-    (λ (more : 7 ≤ n). ⊎_elim (λ (seven : n < 8). inr (inl (omega (arith, seven, more)))) (λ (eight : 8 ≤ n). inr (inr (omega (arith, eight, high)))) (cases_lt n 8))
-    (cases_lt n 7)
+-- the number of an act that enters an operation
+abbrev Enters : ℕ → Type 0
+Enters number = (kind_numbered number ≡ Some kinds.UpdateAad) ⊎ ((kind_numbered number ≡ Some kinds.Update) ⊎ (kind_numbered number ≡ Some kinds.Finish))
+
+three : (number : ℕ) → has_input number ≡ true → Enters number
+three number e = by_found (kind_numbered number) refl e where
+  by_found : (found : Option ActKind) → kind_numbered number ≡ found → enters found ≡ true
+      → (found ≡ Some kinds.UpdateAad) ⊎ ((found ≡ Some kinds.Update) ⊎ (found ≡ Some kinds.Finish))
+  by_found (Some kinds.UpdateAad) is e = inl refl
+  by_found (Some kinds.Update) is e = inr (inl refl)
+  by_found (Some kinds.Finish) is e = inr (inr refl)
+  by_found _ is e = cc
 
 -- the twelve bytes behind the act's number, and the input with what stands behind it
 module _ (fields input : List ℕ) (long : length fields ≡ 12) where
@@ -64,32 +70,32 @@ module _ (fields input : List ℕ) (long : length fields ≡ 12) where
   text_in : counted_at 4 (drop 8 fields ++ input) ≡ bytes_at (big_number 4 (drop 8 fields)) input
   text_in = counted_more (drop 8 fields) input (omega (arith, length-drop 8 fields))
 
-  short_by : (number : ℕ) → (number ≡ 6) ⊎ ((number ≡ 7) ⊎ (number ≡ 8)) → length input < big_number 4 (drop 8 fields) → fields_in number (fields ++ input) ≡ None
+  short_by : (number : ℕ) → Enters number → length input < big_number 4 (drop 8 fields) → fields_in number (fields ++ input) ≡ None
   short_by number which short =
       let size = big_number 4 (drop 8 fields) in
       let test : ltb (length input) size ≡ true = lt-ltb (length input) size short in
       let text : counted_at 4 (drop 8 fields ++ input) ≡ None = text_in ∙ ap (λ (b : Bool). cond b None (Some (take size input, drop size input))) test in
       ⊎_elim
-      (λ (six : number ≡ 6). ap (λ (n : ℕ). fields_in n (fields ++ input)) six ∙ rw (op_in, text) refl)
-      (λ (later : (number ≡ 7) ⊎ (number ≡ 8)). ⊎_elim
-      (λ (seven : number ≡ 7). ap (λ (n : ℕ). fields_in n (fields ++ input)) seven ∙ rw (op_in, text) refl)
-      (λ (eight : number ≡ 8). ap (λ (n : ℕ). fields_in n (fields ++ input)) eight ∙ rw (op_in, text) refl)
+      (λ (aad : kind_numbered number ≡ Some kinds.UpdateAad). ap (λ (k : Option ActKind). ended (fields_at k (fields ++ input))) aad ∙ rw (op_in, text) refl)
+      (λ (later : (kind_numbered number ≡ Some kinds.Update) ⊎ (kind_numbered number ≡ Some kinds.Finish)). ⊎_elim
+      (λ (update : kind_numbered number ≡ Some kinds.Update). ap (λ (k : Option ActKind). ended (fields_at k (fields ++ input))) update ∙ rw (op_in, text) refl)
+      (λ (finish : kind_numbered number ≡ Some kinds.Finish). ap (λ (k : Option ActKind). ended (fields_at k (fields ++ input))) finish ∙ rw (op_in, text) refl)
       later)
       which
 
-  whole_by : (number : ℕ) → (number ≡ 6) ⊎ ((number ≡ 7) ⊎ (number ≡ 8)) → big_number 4 (drop 8 fields) ≤ length input
+  whole_by : (number : ℕ) → Enters number → big_number 4 (drop 8 fields) ≤ length input
       → fields_in number (fields ++ input) ≡ option_map (with_input (take (big_number 4 (drop 8 fields)) input)) (around number (big_number 8 fields) (drop (big_number 4 (drop 8 fields)) input))
   whole_by number which enough =
       let size = big_number 4 (drop 8 fields) in
       let op = big_number 8 fields in
       let test : ltb (length input) size ≡ false = le-ltb (length input) size enough in
       let text : counted_at 4 (drop 8 fields ++ input) ≡ Some (take size input, drop size input) = text_in ∙ ap (λ (b : Bool). cond b None (Some (take size input, drop size input))) test in
-      let Same : ℕ → Type 0 = λ n. fields_in n (fields ++ input) ≡ option_map (with_input (take size input)) (around n op (drop size input)) in
+      let Same : Option ActKind → Type 0 = λ k. ended (fields_at k (fields ++ input)) ≡ option_map (with_input (take size input)) (around_of k op (drop size input)) in
       ⊎_elim
-      (λ (six : number ≡ 6). subst Same (sym six) (rw (op_in, text) (ended_by (eqb (length (drop size input)) 0) (EnterAad op (take size input)) (EnterAad op []) (with_input (take size input)) refl)))
-      (λ (later : (number ≡ 7) ⊎ (number ≡ 8)). ⊎_elim
-      (λ (seven : number ≡ 7). subst Same (sym seven) (rw (op_in, text) (ended_by (eqb (length (drop size input)) 0) (EnterUpdate op (take size input)) (EnterUpdate op []) (with_input (take size input)) refl)))
-      (λ (eight : number ≡ 8). subst Same (sym eight) (rw (op_in, text) (finished_by op (take size input) (optional_at 4 (drop size input)))))
+      (λ (aad : kind_numbered number ≡ Some kinds.UpdateAad). subst Same (sym aad) (rw (op_in, text) (ended_by (eqb (length (drop size input)) 0) (EnterAad op (take size input)) (EnterAad op []) (with_input (take size input)) refl)))
+      (λ (later : (kind_numbered number ≡ Some kinds.Update) ⊎ (kind_numbered number ≡ Some kinds.Finish)). ⊎_elim
+      (λ (update : kind_numbered number ≡ Some kinds.Update). subst Same (sym update) (rw (op_in, text) (ended_by (eqb (length (drop size input)) 0) (EnterUpdate op (take size input)) (EnterUpdate op []) (with_input (take size input)) refl)))
+      (λ (finish : kind_numbered number ≡ Some kinds.Finish). subst Same (sym finish) (rw (op_in, text) (finished_by op (take size input) (optional_at 4 (drop size input)))))
       later)
       which
 
@@ -107,7 +113,7 @@ module _ (head input : List ℕ) (has : HasInput head) where
   act_is =
       let here : drop 4 (head ++ input) ≡ slice_index head 4 ∷ (fields ++ input) =
       drop-append-le 4 head input (omega (arith, has.0)) ∙ ap (λ (l : List ℕ). l ++ input) (drop_more head 4 0 (omega (arith, has.0))) in
-      ap (λ (l : List ℕ). ended (option_and_then (λ (number : ℕ × List ℕ). row_of number.0 acts number.1) (byte_at l))) here
+      ap (λ (l : List ℕ). ended (option_and_then (λ (number : ℕ × List ℕ). fields_at (kind_numbered number.0) number.1) (byte_at l))) here
 
   size_there : (size : ℕ) → size ≡ big_number 4 (behind 13 head) → size ≡ big_number 4 (drop 8 fields)
   size_there size is = is ∙ ap (big_number 4) (behind_is 13 head ∙ sym (drop-drop 8 5 head))

@@ -1,14 +1,21 @@
 -- Each kind of body: what was read is spelled so, and what is spelled is read again.
-use Rattle.std.proofs.Common.{◌≡◌, ℕ, Bool, true, List, ◌∷◌, drop, Option, Some, refl}
+use Rattle.std.proofs.Common.{◌≡◌, ◌==◌, ℕ, Bool, true, List, [], ◌∷◌, Option, Some, None, refl, subst, inl, inr}
+use Rattle.std.specs.Prelude.{find}
+use Rattle.std.proofs.lemmas.Bool.{cases_Bool, eqb-true}
+use Rattle.std.proofs.lemmas.Option.{none-some, same_Some}
 use Rattle.byte_strings.specs.Readers.{Reader, optional_at}
 use Rattle.byte_strings.specs.Codecs.{IsBytes, IsCodec, IsRead, IsAgain}
 use Rattle.byte_strings.proofs.Fields.{byte_codec, u32_codec, u64_codec, bytes_codec, counted_u32_codec, optional_codec, flag_codec, wide4}
-use Rattle.byte_strings.proofs.Rows.{made_read, field_read, last_read, field_again, last_again, rows_read, row_codec, whole_takes, whole_again}
+use Rattle.byte_strings.proofs.Rows.{made_read, field_read, last_read, field_again, last_again, row_codec, whole_takes, whole_again}
 use Rattle.tags.specs.declared.descriptor.Descriptor.{Descriptor}
 use Rattle.rule_model.specs.declared.event.Act.{Act}
 use Rattle.rule_model.specs.declared.event.Act.TheVariants.{Connect, Disconnect, GenerateKey, ImportKey, CreateOperation, EnterAad, EnterUpdate, EnterFinish, Abort, GetKeyEntry, DeleteKey, Grant, Ungrant, GetNumberOfEntries, ListEntriesBatched, AddAuthToken, DeviceLocked, DeviceUnlocked, EarlyBootEnded, ClearNamespace, UserRemoved, Leave, Restart}
-use Rattle.wire_frames.specs.Spelling.{optional, key_of, body_of, IsShort, IsKey, AreFields, is_asked}
-use Rattle.wire_frames.specs.Reading.{key_at, connected_at, generated_at, imported_at, created_at, aad_at, update_at, finish_at, aborted_at, found_at, deleted_at, granted_at, ungranted_at, counted_entries_at, listed_at, token_at, locked_at, unlocked_at, booted_at, cleared_at, removed_at, acts, act_at, act_in}
+use Rattle.rule_model.specs.declared.act_kind.ActKind.{ActKind}
+use Rattle.rule_model.specs.declared.act_kind.ActKind.TheVariants as kinds
+use Rattle.rule_model.specs.Acts.{all_kinds, is_asked, kind_numbered, row_of}
+use Rattle.wire_frames.specs.Spelling.{optional, key_of, body_of, IsShort, IsKey, AreFields}
+use Rattle.wire_frames.specs.Spelling.{fields_of as fields_spelled}
+use Rattle.wire_frames.specs.Reading.{key_at, connected_at, generated_at, imported_at, created_at, aad_at, update_at, finish_at, aborted_at, found_at, deleted_at, granted_at, ungranted_at, counted_entries_at, listed_at, token_at, locked_at, unlocked_at, booted_at, cleared_at, removed_at, nothing_at, fields_of, fields_at, act_at, act_in}
 
 -- ---- fields
 
@@ -36,115 +43,122 @@ key_codec = row_codec key_read key_again
 abbrev IsBody : List ℕ → Act → Type 0
 IsBody text act = (text ≡ body_of act) × AreFields act
 
--- a row gives the fields behind this number
-abbrev IsAct : ℕ → Reader Act → Type 0
-IsAct number row = IsRead row (λ text act. IsBody (number ∷ text) act)
+-- the fields of a kind's acts, behind its number
+abbrev IsAct : ActKind → Reader Act → Type 0
+IsAct kind row = IsRead row (λ text act. IsBody ((row_of kind).number ∷ text) act)
 
-connected_read : IsAct 1 connected_at
+connected_read : IsAct kinds.Connect connected_at
 connected_read = last_read u32_codec _ (λ uid is_uid. (refl, is_uid))
 
-generated_read : IsAct 3 generated_at
+generated_read : IsAct kinds.GenerateKey generated_at
 generated_read = field_read key_codec (λ key is_key. last_read counted_u32_codec _ (λ params is_params. (refl, (is_key, is_params))))
 
-imported_read : IsAct 4 imported_at
+imported_read : IsAct kinds.ImportKey imported_at
 unfolding imported_at
 imported_read = field_read key_codec (λ key is_key. field_read counted_u32_codec (λ params is_params. field_read u32_codec (λ format is_format. last_read counted_u32_codec _ (λ material is_material. (refl, (is_key, is_params, is_format, is_material))))))
 
-created_read : IsAct 5 created_at
+created_read : IsAct kinds.CreateOperation created_at
 unfolding created_at
 created_read = field_read key_codec (λ key is_key. field_read counted_u32_codec (λ params is_params. last_read flag_codec _ (λ forced is_forced. (refl, (is_key, is_params)))))
 
-aad_read : IsAct 6 aad_at
+aad_read : IsAct kinds.UpdateAad aad_at
 aad_read = field_read u64_codec (λ op is_op. last_read counted_u32_codec _ (λ input is_input. (refl, (is_op, is_input))))
 
-update_read : IsAct 7 update_at
+update_read : IsAct kinds.Update update_at
 update_read = field_read u64_codec (λ op is_op. last_read counted_u32_codec _ (λ input is_input. (refl, (is_op, is_input))))
 
-finish_read : IsAct 8 finish_at
+finish_read : IsAct kinds.Finish finish_at
 finish_read = field_read u64_codec (λ op is_op. field_read counted_u32_codec (λ input is_input. last_read optional_u32_codec _ (λ signature is_signature. (refl, (is_op, is_input, is_signature)))))
 
-aborted_read : IsAct 9 aborted_at
+aborted_read : IsAct kinds.Abort aborted_at
 aborted_read = last_read u64_codec _ (λ op is_op. (refl, is_op))
 
-found_read : IsAct 10 found_at
+found_read : IsAct kinds.GetKeyEntry found_at
 found_read = last_read key_codec _ (λ key is_key. (refl, is_key))
 
-deleted_read : IsAct 11 deleted_at
+deleted_read : IsAct kinds.DeleteKey deleted_at
 deleted_read = last_read key_codec _ (λ key is_key. (refl, is_key))
 
-granted_read : IsAct 12 granted_at
+granted_read : IsAct kinds.Grant granted_at
 granted_read = field_read key_codec (λ key is_key. field_read u32_codec (λ uid is_uid. last_read u32_codec _ (λ bits is_bits. (refl, (is_key, is_uid, is_bits)))))
 
-ungranted_read : IsAct 13 ungranted_at
+ungranted_read : IsAct kinds.Ungrant ungranted_at
 ungranted_read = field_read key_codec (λ key is_key. last_read u32_codec _ (λ uid is_uid. (refl, (is_key, is_uid))))
 
-counted_entries_read : IsAct 14 counted_entries_at
+counted_entries_read : IsAct kinds.GetNumberOfEntries counted_entries_at
 counted_entries_read = field_read u32_codec (λ domain is_domain. last_read u64_codec _ (λ nspace is_nspace. (refl, (is_domain, is_nspace))))
 
-listed_read : IsAct 15 listed_at
+listed_read : IsAct kinds.ListEntriesBatched listed_at
 listed_read = field_read u32_codec (λ domain is_domain. field_read u64_codec (λ nspace is_nspace. last_read optional_u32_codec _ (λ past is_past. (refl, (is_domain, is_nspace, is_past)))))
 
-token_read : IsAct 16 token_at
+token_read : IsAct kinds.AddAuthToken token_at
 unfolding token_at
 token_read = field_read u64_codec (λ challenge is_challenge. field_read u64_codec (λ user is_user. field_read u64_codec (λ authenticator is_authenticator. field_read u32_codec (λ kind is_kind. field_read u64_codec (λ time is_time. last_read (bytes_codec 32) _ (λ mac is_mac. (refl, (is_challenge, is_user, is_authenticator, is_kind, is_time, is_mac))))))))
 
-locked_read : IsAct 17 locked_at
+locked_read : IsAct kinds.DeviceLocked locked_at
 locked_read = last_read u32_codec _ (λ user is_user. (refl, is_user))
 
-unlocked_read : IsAct 18 unlocked_at
+unlocked_read : IsAct kinds.DeviceUnlocked unlocked_at
 unlocked_read = last_read u32_codec _ (λ user is_user. (refl, is_user))
 
-cleared_read : IsAct 20 cleared_at
+cleared_read : IsAct kinds.ClearNamespace cleared_at
 cleared_read = field_read u32_codec (λ domain is_domain. last_read u64_codec _ (λ nspace is_nspace. (refl, (is_domain, is_nspace))))
 
-removed_read : IsAct 21 removed_at
+removed_read : IsAct kinds.UserRemoved removed_at
 removed_read = last_read u32_codec _ (λ user is_user. (refl, is_user))
 
-booted_read : IsAct 19 booted_at
+booted_read : IsAct kinds.EarlyBootEnded booted_at
 booted_read = made_read EarlyBootEnded (refl, tt)
 
+none_read : {IsSo : List ℕ → Act → Type 0} → IsRead nothing_at IsSo
+none_read = record { takes = λ bytes x rest fits e. absurd (let never : ◌≡◌ {A = Option (Act × List ℕ)} None (Some (x, rest)) = e in cc) }
+
+kind_read : (kind : ActKind) → IsAct kind (fields_of kind)
+kind_read kinds.Connect = connected_read
+kind_read kinds.GenerateKey = generated_read
+kind_read kinds.ImportKey = imported_read
+kind_read kinds.CreateOperation = created_read
+kind_read kinds.UpdateAad = aad_read
+kind_read kinds.Update = update_read
+kind_read kinds.Finish = finish_read
+kind_read kinds.Abort = aborted_read
+kind_read kinds.GetKeyEntry = found_read
+kind_read kinds.DeleteKey = deleted_read
+kind_read kinds.Grant = granted_read
+kind_read kinds.Ungrant = ungranted_read
+kind_read kinds.GetNumberOfEntries = counted_entries_read
+kind_read kinds.ListEntriesBatched = listed_read
+kind_read kinds.AddAuthToken = token_read
+kind_read kinds.DeviceLocked = locked_read
+kind_read kinds.DeviceUnlocked = unlocked_read
+kind_read kinds.EarlyBootEnded = booted_read
+kind_read kinds.ClearNamespace = cleared_read
+kind_read kinds.UserRemoved = removed_read
+kind_read kinds.Disconnect = none_read
+kind_read kinds.Leave = none_read
+kind_read kinds.Restart = none_read
+
+-- what a search finds passes its test
+find_holds : {A : Type 0} (p : A → Bool) (xs : List A) (x : A) → find p xs ≡ Some x → p x ≡ true
+find_holds p [] x e = absurd (none-some x e)
+find_holds p (y ∷ xs) x e =
+    elim (cases_Bool (p y)) [
+      | inl here ↦ subst (λ z. p z ≡ true) (same_Some y x (rw here at e)) here
+      | inr there ↦ find_holds p xs x (rw there at e)
+    ]
+
+-- the number of a kind that a number stands for is that number
+numbered_is : (number : ℕ) (kind : ActKind) → kind_numbered number ≡ Some kind → (row_of kind).number ≡ number
+numbered_is number kind e = eqb-true (row_of kind).number number (find_holds (λ k. (row_of k).number == number) all_kinds kind e)
+
+numbered_read : (number : ℕ) → IsRead (fields_at (kind_numbered number)) (λ text act. IsBody (number ∷ text) act)
+numbered_read number = by_found (kind_numbered number) refl where
+  by_found : (found : Option ActKind) → kind_numbered number ≡ found → IsRead (fields_at found) (λ text act. IsBody (number ∷ text) act)
+  by_found None e = none_read
+  by_found (Some kind) e = subst (λ n. IsRead (fields_of kind) (λ text act. IsBody (n ∷ text) act)) (numbered_is number kind e) (kind_read kind)
+
 act_read : IsRead act_at IsBody
-act_read = field_read byte_codec (λ number small.
-    rows_read IsBody acts number (
-      connected_read,
-      (
-        token_read,
-        (
-          locked_read,
-          (
-            unlocked_read,
-            (
-              booted_read,
-              (
-                removed_read,
-                (
-                  counted_entries_read,
-                  (
-                    listed_read,
-                    (
-                      cleared_read,
-                      (
-                        aad_read,
-                        (
-                          update_read,
-                          (
-                            finish_read,
-                            (
-                              aborted_read,
-                              (generated_read, (imported_read, (created_read, (found_read, (deleted_read, (granted_read, (ungranted_read, tt))))))),
-                            ),
-                          ),
-                        ),
-                      ),
-                    ),
-                  ),
-                ),
-              ),
-            ),
-          ),
-        ),
-      ),
-    ))
+act_read = field_read byte_codec (λ number small. numbered_read number)
 
 pub act_takes : (body : List ℕ) (act : Act) → IsBytes body → act_in body ≡ Some act → (body ≡ body_of act) × AreFields act
 unfolding act_in
@@ -152,9 +166,9 @@ act_takes body act fits e = whole_takes act_read body act fits e
 
 -- ---- what is spelled is read again
 
--- a row reads the fields of the act behind its number
+-- a row reads the fields of the act
 abbrev IsReadAgain : Reader Act → Act → Type 0
-IsReadAgain row act = IsAgain row (drop 1 (body_of act)) act
+IsReadAgain row act = IsAgain row (fields_spelled act) act
 
 connected_again : (uid : ℕ) → AreFields (Connect uid) → IsReadAgain connected_at (Connect uid)
 connected_again uid h = last_again u32_codec _ uid h
@@ -247,26 +261,6 @@ act_again act h = whole_again (body_again act h)
 
 -- the act of a frame is one that a client asks for
 pub framed_asked : (act : Act) → AreFields act → is_asked act ≡ true
-framed_asked (Connect uid) h = refl
-framed_asked Disconnect h = refl
-framed_asked (GenerateKey key params) h = refl
-framed_asked (ImportKey key params format material) h = refl
-framed_asked (CreateOperation key params forced) h = refl
-framed_asked (EnterAad op input) h = refl
-framed_asked (EnterUpdate op input) h = refl
-framed_asked (EnterFinish op input signature) h = refl
-framed_asked (Abort op) h = refl
-framed_asked (GetKeyEntry key) h = refl
-framed_asked (DeleteKey key) h = refl
-framed_asked (Grant key uid bits) h = refl
-framed_asked (Ungrant key uid) h = refl
-framed_asked (GetNumberOfEntries domain nspace) h = refl
-framed_asked (ListEntriesBatched domain nspace past) h = refl
-framed_asked (AddAuthToken challenge user authenticator kind time mac) h = refl
-framed_asked (DeviceLocked user) h = refl
-framed_asked (DeviceUnlocked user) h = refl
-framed_asked EarlyBootEnded h = refl
-framed_asked (ClearNamespace domain nspace) h = refl
-framed_asked (UserRemoved user) h = refl
 framed_asked (Leave ticket) h = absurd h
 framed_asked (Restart root) h = absurd h
+framed_asked _ h = refl

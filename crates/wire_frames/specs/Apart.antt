@@ -1,12 +1,20 @@
 -- How a frame is held whose act has an input: what comes behind the input's length lies apart.
-use Rattle.std.specs.Prelude.{◌≡◌, ℕ, ◌<◌, Bool, true, ◌&&◌, nat_le, ◌==◌, if◌then◌else◌, List, [], length, slice_index, Option, Some}
+use Rattle.std.specs.Prelude.{◌≡◌, ℕ, ◌<◌, Bool, true, false, List, [], length, slice_index, Option, Some, None}
 use Rattle.byte_strings.specs.Readers.{Reader, optional_at, ◌>>=◌, done, ended}
+use Rattle.rule_model.specs.declared.act_kind.ActKind.{ActKind}
+use Rattle.rule_model.specs.declared.act_kind.ActKind.TheVariants as kinds
+use Rattle.rule_model.specs.Acts.{kind_numbered, row_of}
 use Rattle.rule_model.specs.declared.event.Act.{Act}
 use Rattle.rule_model.specs.declared.event.Act.TheVariants.{EnterAad, EnterUpdate, EnterFinish}
 
+-- whether an act of the kind enters an operation, with an input
+abbrev pub enters : Option ActKind → Bool
+enters None = false
+enters (Some kind) = (row_of kind).enters
+
 -- the acts on an operation that have an input
 abbrev pub has_input : ℕ → Bool
-has_input number = nat_le 6 number && nat_le number 8
+has_input number = enters (kind_numbered number)
 
 -- the first 17 bytes of a frame whose act has an input: its length, the act, the operation and the input's length
 abbrev pub HasInput : List ℕ → Type 0
@@ -31,9 +39,12 @@ finish_around op = do
   signature ← optional_at 4
   done (EnterFinish op [] signature)
 
--- the act of this number on an operation with an empty input, where these bytes stand behind the input
+-- the act of this kind on an operation with an empty input, where these bytes stand behind the input
+abbrev pub around_of : Option ActKind → ℕ → List ℕ → Option Act
+around_of (Some kinds.UpdateAad) op behind = ended (Some (EnterAad op [], behind))
+around_of (Some kinds.Update) op behind = ended (Some (EnterUpdate op [], behind))
+around_of _ op behind = ended (finish_around op behind)
+
+-- the same of its number
 abbrev pub around : ℕ → ℕ → List ℕ → Option Act
-around number op behind =
-    if number == 6 then ended (Some (EnterAad op [], behind))
-    else if number == 7 then ended (Some (EnterUpdate op [], behind))
-    else ended (finish_around op behind)
+around number op behind = around_of (kind_numbered number) op behind

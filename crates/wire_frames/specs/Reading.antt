@@ -1,7 +1,10 @@
 -- Reading the body of a frame from left to right.
 use Rattle.std.specs.Prelude.{◌≡◌, ℕ, List, [], ◌∷◌, Option, Some, None, Result, Ok, Err}
-use Rattle.byte_strings.specs.Readers.{Reader, byte_at, number_at, bytes_at, counted_at, optional_at, flag_at, ◌>>=◌, done, row_of, ended}
+use Rattle.byte_strings.specs.Readers.{Reader, byte_at, number_at, bytes_at, counted_at, optional_at, flag_at, ◌>>=◌, done, ended}
 use Rattle.tags.specs.declared.descriptor.Descriptor.{Descriptor}
+use Rattle.rule_model.specs.declared.act_kind.ActKind.{ActKind}
+use Rattle.rule_model.specs.declared.act_kind.ActKind.TheVariants as kinds
+use Rattle.rule_model.specs.Acts.{kind_numbered}
 use Rattle.rule_model.specs.declared.event.Act.{Act}
 use Rattle.rule_model.specs.declared.event.Act.TheVariants.{Connect, GenerateKey, ImportKey, CreateOperation, EnterAad, EnterUpdate, EnterFinish, Abort, GetKeyEntry, DeleteKey, Grant, Ungrant, GetNumberOfEntries, ListEntriesBatched, AddAuthToken, DeviceLocked, DeviceUnlocked, EarlyBootEnded, ClearNamespace, UserRemoved}
 use Rattle.wire_frames.specs.declared.fault.BodyFault.{BodyFault}
@@ -22,6 +25,13 @@ key_at = do
   alias ← optional_at 4
   blob ← optional_at 4
   done (record { domain = domain; nspace = nspace; alias = alias; blob = blob })
+
+-- an owner: its domain, and its uid or namespace
+abbrev pub owner_at : Reader (ℕ × ℕ)
+owner_at = do
+  domain ← number_at 4
+  nspace ← number_at 8
+  done (domain, nspace)
 
 -- ---- the fields of each act
 
@@ -145,29 +155,48 @@ removed_at = do
   user ← number_at 4
   done (UserRemoved user)
 
+-- no frame has such an act
+abbrev pub nothing_at : Reader Act
+nothing_at bytes = None
+
+-- the fields of an act of a kind
+abbrev pub fields_of : ActKind → Reader Act
+fields_of kinds.Connect = connected_at
+fields_of kinds.Disconnect = nothing_at
+fields_of kinds.GenerateKey = generated_at
+fields_of kinds.ImportKey = imported_at
+fields_of kinds.CreateOperation = created_at
+fields_of kinds.UpdateAad = aad_at
+fields_of kinds.Update = update_at
+fields_of kinds.Finish = finish_at
+fields_of kinds.Abort = aborted_at
+fields_of kinds.GetKeyEntry = found_at
+fields_of kinds.DeleteKey = deleted_at
+fields_of kinds.Grant = granted_at
+fields_of kinds.Ungrant = ungranted_at
+fields_of kinds.GetNumberOfEntries = counted_entries_at
+fields_of kinds.ListEntriesBatched = listed_at
+fields_of kinds.AddAuthToken = token_at
+fields_of kinds.DeviceLocked = locked_at
+fields_of kinds.DeviceUnlocked = unlocked_at
+fields_of kinds.EarlyBootEnded = booted_at
+fields_of kinds.ClearNamespace = cleared_at
+fields_of kinds.UserRemoved = removed_at
+fields_of kinds.Leave = nothing_at
+fields_of kinds.Restart = nothing_at
+
 -- ---- bodies
 
--- the acts by their numbers: those on a key that a descriptor names, those on an operation, those on all keys of an
--- owner, and the others
-abbrev pub key_acts : List (ℕ × Reader Act)
-key_acts =
-    (3, generated_at) ∷ (4, imported_at) ∷ (5, created_at) ∷ (10, found_at) ∷ (11, deleted_at) ∷ (12, granted_at) ∷ (13, ungranted_at) ∷ []
-
-abbrev pub work_acts : List (ℕ × Reader Act)
-work_acts = (6, aad_at) ∷ (7, update_at) ∷ (8, finish_at) ∷ (9, aborted_at) ∷ key_acts
-
-abbrev pub owner_acts : List (ℕ × Reader Act)
-owner_acts = (14, counted_entries_at) ∷ (15, listed_at) ∷ (20, cleared_at) ∷ work_acts
-
-abbrev pub acts : List (ℕ × Reader Act)
-acts =
-    (1, connected_at) ∷ (16, token_at) ∷ (17, locked_at) ∷ (18, unlocked_at) ∷ (19, booted_at) ∷ (21, removed_at) ∷ owner_acts
+-- the fields behind a number, where an act has it
+abbrev pub fields_at : Option ActKind → Reader Act
+fields_at None = nothing_at
+fields_at (Some kind) = fields_of kind
 
 -- the number of an act, and its fields
 abbrev pub act_at : Reader Act
 act_at = do
   number ← byte_at
-  row_of number acts
+  fields_at (kind_numbered number)
 
 -- the act that a body spells
 unfoldable pub act_in : List ℕ → Option Act

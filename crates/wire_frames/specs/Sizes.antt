@@ -1,7 +1,8 @@
 -- Sizes as far as the four bytes of a length can name them.
 use Rattle.std.specs.Prelude.{◌≡◌, ℕ, ◌≤◌, ◌<◌, ◌^◌, length, if◌then◌else◌}
 use Rattle.rule_model.specs.declared.event.Act.{Act}
-use Rattle.wire_frames.specs.Spelling.{frame_of, is_framed}
+use Rattle.rule_model.specs.Acts.{is_framed}
+use Rattle.wire_frames.specs.Spelling.{frame_of}
 
 -- the size is the length, where four bytes can name it, and else it is too great as well
 pub record IsSize (size length : ℕ) : Type 0 where

@@ -1,9 +1,10 @@
 -- How an act is spelled in a frame. Numbers are big-endian.
-use Rattle.std.specs.Prelude.{◌≡◌, ℕ, ◌<◌, ◌≤◌, ◌^◌, Bool, true, false, List, [], ◌∷◌, ◌++◌, length, Option}
+use Rattle.std.specs.Prelude.{◌≡◌, ℕ, ◌<◌, ◌≤◌, ◌^◌, Bool, true, false, List, [], ◌∷◌, ◌++◌, length, Option, if◌then◌else◌}
 use Rattle.byteorder.specs.Endian.{big_bytes}
 use Rattle.byte_strings.specs.Fields as fields
 use Rattle.byte_strings.specs.Fields.{flag}
 use Rattle.tags.specs.declared.descriptor.Descriptor.{Descriptor}
+use Rattle.rule_model.specs.Acts.{fixed_for, is_framed}
 use Rattle.rule_model.specs.declared.event.Act.{Act}
 use Rattle.rule_model.specs.declared.event.Act.TheVariants.{Connect, Disconnect, GenerateKey, ImportKey, CreateOperation, EnterAad, EnterUpdate, EnterFinish, Abort, GetKeyEntry, DeleteKey, Grant, Ungrant, GetNumberOfEntries, ListEntriesBatched, AddAuthToken, DeviceLocked, DeviceUnlocked, EarlyBootEnded, ClearNamespace, UserRemoved, Leave, Restart}
 use Rattle.tags.specs.declared.limits.TheConstants.{FRAME_BYTES}
@@ -23,32 +24,36 @@ key_of key = big_bytes 4 key.domain ++ (big_bytes 8 key.nspace ++ (optional key.
 
 -- ---- bodies
 
--- the number of the act and its fields in their order; three acts have no frame
+-- the fields of the act in their order; three acts have no frame
+abbrev pub fields_of : Act → List ℕ
+fields_of (Connect uid) = big_bytes 4 uid
+fields_of Disconnect = []
+fields_of (GenerateKey key params) = key_of key ++ counted params
+fields_of (ImportKey key params format material) = key_of key ++ (counted params ++ (big_bytes 4 format ++ counted material))
+fields_of (CreateOperation key params forced) = key_of key ++ (counted params ++ flag forced)
+fields_of (EnterAad op input) = big_bytes 8 op ++ counted input
+fields_of (EnterUpdate op input) = big_bytes 8 op ++ counted input
+fields_of (EnterFinish op input signature) = big_bytes 8 op ++ (counted input ++ optional signature)
+fields_of (Abort op) = big_bytes 8 op
+fields_of (GetKeyEntry key) = key_of key
+fields_of (DeleteKey key) = key_of key
+fields_of (Grant key uid bits) = key_of key ++ (big_bytes 4 uid ++ big_bytes 4 bits)
+fields_of (Ungrant key uid) = key_of key ++ big_bytes 4 uid
+fields_of (GetNumberOfEntries domain nspace) = big_bytes 4 domain ++ big_bytes 8 nspace
+fields_of (ListEntriesBatched domain nspace past) = big_bytes 4 domain ++ (big_bytes 8 nspace ++ optional past)
+fields_of (AddAuthToken challenge user authenticator kind time mac) =
+    big_bytes 8 challenge ++ (big_bytes 8 user ++ (big_bytes 8 authenticator ++ (big_bytes 4 kind ++ (big_bytes 8 time ++ mac))))
+fields_of (DeviceLocked user) = big_bytes 4 user
+fields_of (DeviceUnlocked user) = big_bytes 4 user
+fields_of EarlyBootEnded = []
+fields_of (ClearNamespace domain nspace) = big_bytes 4 domain ++ big_bytes 8 nspace
+fields_of (UserRemoved user) = big_bytes 4 user
+fields_of (Leave ticket) = []
+fields_of (Restart root) = []
+
+-- the number of the act and its fields, where it has a frame
 abbrev pub body_of : Act → List ℕ
-body_of (Connect uid) = 1 ∷ big_bytes 4 uid
-body_of Disconnect = []
-body_of (GenerateKey key params) = 3 ∷ (key_of key ++ counted params)
-body_of (ImportKey key params format material) = 4 ∷ (key_of key ++ (counted params ++ (big_bytes 4 format ++ counted material)))
-body_of (CreateOperation key params forced) = 5 ∷ (key_of key ++ (counted params ++ flag forced))
-body_of (EnterAad op input) = 6 ∷ (big_bytes 8 op ++ counted input)
-body_of (EnterUpdate op input) = 7 ∷ (big_bytes 8 op ++ counted input)
-body_of (EnterFinish op input signature) = 8 ∷ (big_bytes 8 op ++ (counted input ++ optional signature))
-body_of (Abort op) = 9 ∷ big_bytes 8 op
-body_of (GetKeyEntry key) = 10 ∷ key_of key
-body_of (DeleteKey key) = 11 ∷ key_of key
-body_of (Grant key uid bits) = 12 ∷ (key_of key ++ (big_bytes 4 uid ++ big_bytes 4 bits))
-body_of (Ungrant key uid) = 13 ∷ (key_of key ++ big_bytes 4 uid)
-body_of (GetNumberOfEntries domain nspace) = 14 ∷ (big_bytes 4 domain ++ big_bytes 8 nspace)
-body_of (ListEntriesBatched domain nspace past) = 15 ∷ (big_bytes 4 domain ++ (big_bytes 8 nspace ++ optional past))
-body_of (AddAuthToken challenge user authenticator kind time mac) =
-    16 ∷ (big_bytes 8 challenge ++ (big_bytes 8 user ++ (big_bytes 8 authenticator ++ (big_bytes 4 kind ++ (big_bytes 8 time ++ mac)))))
-body_of (DeviceLocked user) = 17 ∷ big_bytes 4 user
-body_of (DeviceUnlocked user) = 18 ∷ big_bytes 4 user
-body_of EarlyBootEnded = 19 ∷ []
-body_of (ClearNamespace domain nspace) = 20 ∷ (big_bytes 4 domain ++ big_bytes 8 nspace)
-body_of (UserRemoved user) = 21 ∷ big_bytes 4 user
-body_of (Leave ticket) = []
-body_of (Restart root) = []
+body_of act = if is_framed act then (fixed_for act).number ∷ fields_of act else []
 
 -- the length of the body, and the body
 unfoldable pub frame_of : Act → List ℕ
@@ -88,17 +93,6 @@ AreFields (ClearNamespace domain nspace) = (domain < 2 ^ 32) × (nspace < 2 ^ 64
 AreFields (UserRemoved user) = user < 2 ^ 32
 AreFields (Leave ticket) = ⊥
 AreFields (Restart root) = ⊥
-
--- an act that a client asks for, and no leave or restart
-abbrev pub is_asked : Act → Bool
-is_asked (Leave ticket) = false
-is_asked (Restart root) = false
-is_asked act = true
-
--- one that has a frame
-abbrev pub is_framed : Act → Bool
-is_framed Disconnect = false
-is_framed act = is_asked act
 
 -- one on a key that a descriptor names
 abbrev pub is_on_key : Act → Bool

@@ -5,8 +5,8 @@ ghost use Rattle.wire_frames.specs.Streams as spec;
 
 use crate::fault::BodyFault;
 use crate::reading::act_in;
-use crate::request::Request;
 use byteorder::{BigEndian, ByteOrder};
+use rule_model::Request;
 use std::alloc::Global;
 use tags::{FRAME_BYTES, NoMemory};
 

@@ -4,7 +4,7 @@
 //! (`specs/Spelling.antt`), up to a frame that is bad or not whole (`specs/Streams.antt`); and `Frames::feed` gives them
 //! however the stream is cut, each once, with a bad frame told by its first byte when all before it were given
 //! (`specs/Standing.antt`). `request_frame` and `reply_frame` write the spelling, and
-//! `Request::frame_length` and `reply_length` tell its length. The format is the service's own; numbers
+//! `frame_length` and `reply_length` tell its length. The format is the service's own; numbers
 //! are big-endian.
 //!
 //! ```rust
@@ -26,7 +26,6 @@ mod held;
 mod laws;
 mod outcome;
 mod reading;
-mod request;
 mod request_length;
 mod texts;
 mod writing;
@@ -34,5 +33,5 @@ mod writing;
 pub use fault::FrameFault;
 pub use frames::Frames;
 pub use laws::{one_reading, same_requests, spelled_again, whole_frames};
-pub use request::Request;
+pub use request_length::frame_length;
 pub use writing::{reply_frame, reply_length, request_frame};

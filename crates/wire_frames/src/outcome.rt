@@ -1,7 +1,7 @@
 //! What was read of a text.
 
 use crate::held::PartialFrame;
-use crate::request::Request;
+use rule_model::Request;
 use std::alloc::Global;
 
 /// What was read of a text: its requests, how many bytes their frames had, and behind them the part of a frame, or a bad

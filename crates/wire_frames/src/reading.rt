@@ -7,7 +7,7 @@ ghost use Rattle.wire_frames.specs.Reading.{Says};
 
 use crate::fault::BodyFault;
 use byte_strings::{bytes_at, counted_u32_at, flag_at, optional_u32_at, u8_at, u32_at, u64_at};
-use rule_model::Act;
+use rule_model::{Act, ActKind};
 use std::alloc::Global;
 use tags::{Bytes, Descriptor, Material};
 
@@ -125,26 +125,34 @@ fn ungranted_at(alloc: Global, bytes: &[u8]) -> Result<(Act, &[u8]), BodyFault>
     Ok((Act::Ungrant { key, uid }, rest))
 }
 
-/// The acts on a key that a descriptor names.
-fn key_act_at(alloc: Global, number: u8, bytes: &[u8]) -> Result<(Act, &[u8]), BodyFault>
-    ensures { Says (λ x. (x.0, x.1.now)) result (readers.row_of number spec.key_acts bytes.now) }
+fn found_at(alloc: Global, bytes: &[u8]) -> Result<(Act, &[u8]), BodyFault>
+    ensures { Says (λ x. (x.0, x.1.now)) result (spec.found_at bytes.now) }
 {
-    match number {
-        3 => generated_at(alloc, bytes),
-        4 => imported_at(alloc, bytes),
-        5 => created_at(alloc, bytes),
-        10 => {
-            let (key, rest) = key_at(alloc, bytes)?;
-            Ok((Act::GetKeyEntry { key }, rest))
-        }
-        11 => {
-            let (key, rest) = key_at(alloc, bytes)?;
-            Ok((Act::DeleteKey { key }, rest))
-        }
-        12 => granted_at(alloc, bytes),
-        13 => ungranted_at(alloc, bytes),
-        _ => Err(BodyFault::Bad),
-    }
+    let (key, rest) = key_at(alloc, bytes)?;
+    Ok((Act::GetKeyEntry { key }, rest))
+}
+
+fn deleted_at(alloc: Global, bytes: &[u8]) -> Result<(Act, &[u8]), BodyFault>
+    ensures { Says (λ x. (x.0, x.1.now)) result (spec.deleted_at bytes.now) }
+{
+    let (key, rest) = key_at(alloc, bytes)?;
+    Ok((Act::DeleteKey { key }, rest))
+}
+
+fn aad_at(alloc: Global, bytes: &[u8]) -> Result<(Act, &[u8]), BodyFault>
+    ensures { Says (λ x. (x.0, x.1.now)) result (spec.aad_at bytes.now) }
+{
+    let (op, rest) = u64_at(bytes)?;
+    let (input, rest) = copied_at(alloc, rest)?;
+    Ok((Act::EnterAad { op, input }, rest))
+}
+
+fn update_at(alloc: Global, bytes: &[u8]) -> Result<(Act, &[u8]), BodyFault>
+    ensures { Says (λ x. (x.0, x.1.now)) result (spec.update_at bytes.now) }
+{
+    let (op, rest) = u64_at(bytes)?;
+    let (input, rest) = copied_at(alloc, rest)?;
+    Ok((Act::EnterUpdate { op, input }, rest))
 }
 
 fn finished_at(alloc: Global, bytes: &[u8]) -> Result<(Act, &[u8]), BodyFault>
@@ -161,58 +169,26 @@ fn finished_at(alloc: Global, bytes: &[u8]) -> Result<(Act, &[u8]), BodyFault>
     Ok((act, rest))
 }
 
-/// The acts on an operation.
-fn work_act_at(alloc: Global, number: u8, bytes: &[u8]) -> Result<(Act, &[u8]), BodyFault>
-    ensures { Says (λ x. (x.0, x.1.now)) result (readers.row_of number spec.work_acts bytes.now) }
+/// An owner: its domain, and its uid or namespace.
+fn owner_at(bytes: &[u8]) -> Result<((u32, u64), &[u8]), BodyFault>
+    ensures { Says (λ x. (x.0, x.1.now)) result (spec.owner_at bytes.now) }
 {
-    match number {
-        6 => {
-            let (op, rest) = u64_at(bytes)?;
-            let (input, rest) = copied_at(alloc, rest)?;
-            Ok((Act::EnterAad { op, input }, rest))
-        }
-        7 => {
-            let (op, rest) = u64_at(bytes)?;
-            let (input, rest) = copied_at(alloc, rest)?;
-            Ok((Act::EnterUpdate { op, input }, rest))
-        }
-        8 => finished_at(alloc, bytes),
-        9 => {
-            let (op, rest) = u64_at(bytes)?;
-            Ok((Act::Abort { op }, rest))
-        }
-        _ => key_act_at(alloc, number, bytes),
-    }
+    let (domain, rest) = u32_at(bytes)?;
+    let (nspace, rest) = u64_at(rest)?;
+    Ok(((domain, nspace), rest))
 }
 
-/// The acts on all keys of an owner.
-fn owner_act_at(alloc: Global, number: u8, bytes: &[u8]) -> Result<(Act, &[u8]), BodyFault>
-    ensures { Says (λ x. (x.0, x.1.now)) result (readers.row_of number spec.owner_acts bytes.now) }
+fn listed_at(alloc: Global, bytes: &[u8]) -> Result<(Act, &[u8]), BodyFault>
+    ensures { Says (λ x. (x.0, x.1.now)) result (spec.listed_at bytes.now) }
 {
-    match number {
-        14 => {
-            let (domain, rest) = u32_at(bytes)?;
-            let (nspace, rest) = u64_at(rest)?;
-            Ok((Act::GetNumberOfEntries { domain, nspace }, rest))
-        }
-        15 => {
-            let (domain, rest) = u32_at(bytes)?;
-            let (nspace, rest) = u64_at(rest)?;
-            let (past, rest) = optional_at(alloc, rest)?;
-            let act = Act::ListEntriesBatched {
-                domain,
-                nspace,
-                past,
-            };
-            Ok((act, rest))
-        }
-        20 => {
-            let (domain, rest) = u32_at(bytes)?;
-            let (nspace, rest) = u64_at(rest)?;
-            Ok((Act::ClearNamespace { domain, nspace }, rest))
-        }
-        _ => work_act_at(alloc, number, bytes),
-    }
+    let ((domain, nspace), rest) = owner_at(bytes)?;
+    let (past, rest) = optional_at(alloc, rest)?;
+    let act = Act::ListEntriesBatched {
+        domain,
+        nspace,
+        past,
+    };
+    Ok((act, rest))
 }
 
 #[tactic(auto, unfolding(crate::specs::Reading::token_at))]
@@ -236,30 +212,55 @@ fn token_at(bytes: &[u8]) -> Result<(Act, &[u8]), BodyFault>
     Ok((act, rest))
 }
 
-/// The act of a number, and its fields.
-fn fields_at(alloc: Global, number: u8, bytes: &[u8]) -> Result<(Act, &[u8]), BodyFault>
-    ensures { Says (λ x. (x.0, x.1.now)) result (readers.row_of number spec.acts bytes.now) }
+/// The fields of an act of a kind; three kinds have no frame.
+fn fields_at(alloc: Global, kind: ActKind, bytes: &[u8]) -> Result<(Act, &[u8]), BodyFault>
+    ensures { Says (λ x. (x.0, x.1.now)) result (spec.fields_of kind bytes.now) }
 {
-    match number {
-        1 => {
+    match kind {
+        ActKind::Connect => {
             let (uid, rest) = u32_at(bytes)?;
             Ok((Act::Connect { uid }, rest))
         }
-        16 => token_at(bytes),
-        17 => {
+        ActKind::GenerateKey => generated_at(alloc, bytes),
+        ActKind::ImportKey => imported_at(alloc, bytes),
+        ActKind::CreateOperation => created_at(alloc, bytes),
+        ActKind::UpdateAad => aad_at(alloc, bytes),
+        ActKind::Update => update_at(alloc, bytes),
+        ActKind::Finish => finished_at(alloc, bytes),
+        ActKind::Abort => {
+            let (op, rest) = u64_at(bytes)?;
+            Ok((Act::Abort { op }, rest))
+        }
+        ActKind::GetKeyEntry => found_at(alloc, bytes),
+        ActKind::DeleteKey => deleted_at(alloc, bytes),
+        ActKind::Grant => granted_at(alloc, bytes),
+        ActKind::Ungrant => ungranted_at(alloc, bytes),
+        ActKind::GetNumberOfEntries => {
+            let ((domain, nspace), rest) = owner_at(bytes)?;
+            Ok((Act::GetNumberOfEntries { domain, nspace }, rest))
+        }
+        ActKind::ListEntriesBatched => listed_at(alloc, bytes),
+        ActKind::AddAuthToken => token_at(bytes),
+        ActKind::DeviceLocked => {
             let (user, rest) = u32_at(bytes)?;
             Ok((Act::DeviceLocked { user }, rest))
         }
-        18 => {
+        ActKind::DeviceUnlocked => {
             let (user, rest) = u32_at(bytes)?;
             Ok((Act::DeviceUnlocked { user }, rest))
         }
-        19 => Ok((Act::EarlyBootEnded, bytes)),
-        21 => {
+        ActKind::EarlyBootEnded => Ok((Act::EarlyBootEnded, bytes)),
+        ActKind::ClearNamespace => {
+            let ((domain, nspace), rest) = owner_at(bytes)?;
+            Ok((Act::ClearNamespace { domain, nspace }, rest))
+        }
+        ActKind::UserRemoved => {
             let (user, rest) = u32_at(bytes)?;
             Ok((Act::UserRemoved { user }, rest))
         }
-        _ => owner_act_at(alloc, number, bytes),
+        ActKind::Disconnect => Err(BodyFault::Bad),
+        ActKind::Leave => Err(BodyFault::Bad),
+        ActKind::Restart => Err(BodyFault::Bad),
     }
 }
 
@@ -269,6 +270,9 @@ pub(crate) fn act_in(alloc: Global, body: &[u8]) -> Result<Act, BodyFault>
     ensures { Says (λ x. x) result (spec.act_in body.now) }
 {
     let (number, fields) = u8_at(body)?;
-    let (act, rest) = fields_at(alloc, number, fields)?;
+    let Some(kind) = ActKind::of_number(number) else {
+        return Err(BodyFault::Bad);
+    };
+    let (act, rest) = fields_at(alloc, kind, fields)?;
     ended(act, rest)
 }

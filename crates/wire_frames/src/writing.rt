@@ -1,12 +1,12 @@
 //! Writing frames.
 
 ghost use Rattle.std.specs.Prelude.{◌≡◌, ◌↔◌, true, ◌≤◌, ◌<◌, ◌^◌, length, IfOk, IfSome, IsSome};
-ghost use Rattle.wire_frames.specs.Spelling.{body_of, frame_of, is_framed};
+ghost use Rattle.rule_model.specs.Acts.{is_framed};
+ghost use Rattle.wire_frames.specs.Spelling.{body_of, frame_of};
 ghost use Rattle.wire_frames.specs.Replies.{reply_body, reply_of};
 
-use crate::request::Request;
 use byteorder::{BigEndian, ByteOrder};
-use rule_model::Reply;
+use rule_model::{Reply, Request};
 use std::alloc::Global;
 use tags::{Bytes, FRAME_BYTES, NoMemory};
 

@@ -1,45 +1,33 @@
 //! A request of a caller, and the leave of its ticket.
 
-ghost use Rattle.std.specs.Prelude.{◌≡◌, ◌+◌, ◌≤◌, ◌<◌, ◌^◌, ℕ, None, true, false, length, is_some, IfOk, IfSome, unwrap_or};
-ghost use Rattle.ks_outside.specs.declared.clock.Reading.{Reading};
+ghost use Rattle.std.specs.Prelude.{◌≡◌, ◌+◌, ◌≤◌, ◌<◌, ◌^◌, ℕ, true, false, length, is_some, Err, IfOk, IfSome};
 ghost use Rattle.rule_model.specs.Acts as acts_spec;
+ghost use Rattle.rule_model.specs.Acts.{need_of};
 ghost use Rattle.rule_model.specs.declared.event.Act.TheVariants.{Disconnect};
-ghost use Rattle.service_book.specs.Book.{client_of, log_of};
-ghost use Rattle.service_book.specs.Limits.{need_of, passes_limit};
+ghost use Rattle.service_book.specs.Book.{log_of};
+ghost use Rattle.service_book.specs.Limits.{passes_limit};
 ghost use Rattle.wire_frames.specs.Replies.{reply_body};
 ghost use Rattle.wire_frames.specs.Sizes as sizes;
 ghost use Rattle.wire_frames.specs.Spelling.{body_of};
-ghost use Rattle.shared_service.specs.declared.name.ServiceId.{ServiceId};
-ghost use Rattle.shared_service.specs.Comings.{AreCopies, Comes, act_in};
+ghost use Rattle.ks_outside.specs.declared.clock.Reading.{Reading};
+ghost use Rattle.shared_service.specs.Prepared.{Comes, IsAt, IsReady, act_in};
 ghost use Rattle.shared_service.specs.DeskWords.{desk_book, desk_engine, desk_name, desk_places};
 ghost use Rattle.shared_service.specs.Desks.{weight};
-ghost use Rattle.shared_service.specs.Going.{AreRooms, MayAsk, MayGo, disconnect_by};
-ghost use Rattle.shared_service.specs.Owning as owning;
-ghost use Rattle.shared_service.specs.Owning.{event_by, event_for, out_of};
+ghost use Rattle.shared_service.specs.Going.{HasLeaveRoom, MayGo};
+ghost use Rattle.shared_service.specs.Owning.{event_for, is_parting};
+ghost use Rattle.shared_service.specs.declared.name.ServiceId.{ServiceId};
 ghost use Rattle.shared_service.specs.Requests.{AreNumbers, GrowsBy, IsCaller, IsRequested};
 ghost use Rattle.shared_service.specs.Rooms.{IsOutput};
 ghost use Rattle.shared_service.specs.Turns.{HasLeft, MayLeave, Requests, leave_by};
 
 use super::Desk;
-use super::rooms::Rooms;
-use crate::coming::{Coming, Copies, event_of};
-use crate::made::{Made, Requested};
+use crate::prepared::Prepared;
+use crate::step::Step;
 use cipher_ops::Done;
 use ks_outside::{Disk, Entropy};
-use rule_model::{Act, Event, Reading, ReplyRoom};
-use tags::NoMemory;
-use wire_frames::Request;
-
-/// The disconnect of a client.
-fn disconnect_of(reading: Reading, client: u64) -> Event
-    ensures { result ≡ disconnect_by reading client }
-{
-    Event {
-        reading,
-        client,
-        act: Act::Disconnect,
-    }
-}
+use rule_model::{Act, Event, Reading, ReplyRoom, Request};
+use tags::{Code, NoMemory};
+use wire_frames::frame_length;
 
 /// The leave of a ticket.
 fn leave_at(reading: Reading, client: u64, ticket: u64) -> Event
@@ -54,35 +42,32 @@ fn leave_at(reading: Reading, client: u64, ticket: u64) -> Event
 
 impl<D: Disk, N: Entropy> Desk<D, N> {
     /// Makes the disconnect of a connected client. It takes no memory.
-    fn part(&mut self, pass: u64, client: u64, reading: Reading) -> Made
-        requires caller { IsCaller pass client true (log_of (desk_book self.old)) }
+    fn part(&mut self, pass: u64, prepared: Prepared) -> Step
+        requires ready { IsReady prepared }
+        requires disconnects { prepared.event.act ≡ Disconnect }
+        requires caller { IsCaller pass prepared.event.client true (log_of (desk_book self.old)) }
         ensures name { desk_name self.new ≡ desk_name self.old }
-        ensures requested { ∥ IsRequested (desk_name self.old) pass (event_for reading Disconnect pass (log_of (desk_book self.old))) (desk_book self.old) (desk_book self.new) result.reply result.job result.leave ∥₁ }
+        ensures requested { ∥ IsRequested (desk_name self.old) pass (event_for prepared.event.reading Disconnect pass (log_of (desk_book self.old))) (desk_book self.old) (desk_book self.new) result.reply result.job result.leave ∥₁ }
         ensures numbers { AreNumbers (desk_book self.old) (desk_book self.new) result.first result.last }
         ensures grown { GrowsBy pass (desk_book self.old) (desk_book self.new) }
         ensures told { length (reply_body result.reply) < 2 ^ 32 }
     {
-        let event = disconnect_of(reading, client);
-        let copy = disconnect_of(reading, client);
-        let room = ReplyRoom::empty(self.alloc);
-        self.step(pass, event, copy, 0, room, None)
+        self.step(pass, prepared, None)
     }
 
-    /// Makes the step of a request, with all its memory.
-    fn go(&mut self, pass: u64, event: Event, frame: u64, rooms: Rooms) -> Made
-        requires frame { (frame ≡ sizes.frame_length event.act) × (frame < 2 ^ 33) }
-        requires may { MayGo pass event (log_of (desk_book self.old)) (desk_places self.old) }
-        requires rooms { AreRooms (desk_engine self.old) event rooms }
+    /// Makes the step of a request, with all its memory; of an enter with the room for the reply to its leave.
+    fn go(&mut self, pass: u64, prepared: Prepared, leave: Option<ReplyRoom>) -> Step
+        requires ready { IsReady prepared }
+        requires may { MayGo pass prepared.event (log_of (desk_book self.old)) (desk_places self.old) }
+        requires leave { HasLeaveRoom (desk_engine self.old) prepared.event.act leave }
         ensures name { desk_name self.new ≡ desk_name self.old }
-        ensures requested { ∥ IsRequested (desk_name self.old) pass event (desk_book self.old) (desk_book self.new) result.reply result.job result.leave ∥₁ }
+        ensures requested { ∥ IsRequested (desk_name self.old) pass prepared.event (desk_book self.old) (desk_book self.new) result.reply result.job result.leave ∥₁ }
         ensures numbers { AreNumbers (desk_book self.old) (desk_book self.new) result.first result.last }
         ensures grown { GrowsBy pass (desk_book self.old) (desk_book self.new) }
         ensures told { length (reply_body result.reply) < 2 ^ 32 }
     {
-        let Rooms { copies, leave } = rooms;
-        let Copies { event: copy, reply } = copies;
-        let made = self.step(pass, event, copy, frame, reply, None);
-        Made { leave, ..made }
+        let step = self.step(pass, prepared, None);
+        Step { leave, ..step }
     }
 
     /// Takes the places of an act in the book, and for an enter the room for the reply to its leave.
@@ -97,98 +82,57 @@ impl<D: Disk, N: Entropy> Desk<D, N> {
         self.leave_room(act)
     }
 
-    /// Makes the step of a request that passes no limit, where there is memory for what the desk alone can take.
-    fn admit(
-        &mut self,
-        pass: u64,
-        client: u64,
-        reading: Reading,
-        request: Request,
-        copies: Copies,
-    ) -> Requested
-        requires short { length (body_of request) < 2 ^ 32 }
-        requires may { MayAsk pass client request (log_of (desk_book self.old)) }
-        requires copies { AreCopies (event_by reading client request) copies }
-        ensures name { desk_name self.new ≡ desk_name self.old }
-        ensures requests { Requests (desk_name self.old) pass (event_for reading request pass (log_of (desk_book self.old))) (desk_book self.old) (desk_book self.new) result }
+    /// Whether a request with a frame of this length passes a limit.
+    fn is_full(&self, act: &Act, frame: u64) -> bool
+        requires frame { frame ≡ sizes.frame_length act.now }
+        requires small { frame < 2 ^ 33 }
+        ensures { result ≡ passes_limit act.now (log_of (desk_book self.now)) }
     {
-        let frame = request.frame_length();
-        let event = event_of(reading, client, request);
-        match self.make_ready(&event.act) {
-            Ok(leave) => Requested::Made(self.go(pass, event, frame, Rooms { copies, leave })),
-            Err(NoMemory) => {
-                drop(event);
-                drop(copies);
-                Requested::Poor
-            }
-        }
+        self.book.is_full(act, frame)
     }
 
-    /// Whether a request passes a limit.
-    fn is_full(&self, request: &Request) -> bool
+    /// Why a request is refused for whose copies memory was wanting: a limit that it passes is told first.
+    fn refusal(&self, request: &Request) -> Code
         requires short { length (body_of request.now) < 2 ^ 32 }
-        ensures { result ≡ passes_limit request.now (log_of (desk_book self.now)) }
+        ensures { (name : ServiceId) (pass : ℕ) (reading : Reading) → is_parting request.now pass (log_of (desk_book self.now)) ≡ false
+            → Requests name pass (event_for reading request.now pass (log_of (desk_book self.now))) (desk_book self.now) (desk_book self.now) (Err result) }
     {
-        self.book.is_full(request)
-    }
-
-    /// Takes a request with its copies.
-    fn take(
-        &mut self,
-        pass: u64,
-        client: u64,
-        reading: Reading,
-        request: Request,
-        copies: Copies,
-    ) -> Requested
-        requires short { length (body_of request) < 2 ^ 32 }
-        requires client { client ≡ unwrap_or (client_of pass (log_of (desk_book self.old))) 0 }
-        requires idle { out_of pass (log_of (desk_book self.old)) ≡ None }
-        requires stays { owning.is_parting request pass (log_of (desk_book self.old)) ≡ false }
-        requires copies { AreCopies (event_by reading client request) copies }
-        ensures name { desk_name self.new ≡ desk_name self.old }
-        ensures requests { Requests (desk_name self.old) pass (event_for reading request pass (log_of (desk_book self.old))) (desk_book self.old) (desk_book self.new) result }
-    {
-        if self.is_full(&request) {
-            drop(request);
-            drop(copies);
-            return Requested::Full;
-        }
-        self.admit(pass, client, reading, request, copies)
-    }
-
-    /// Refuses a request for whose copies memory was wanting: a limit that it passes is told first.
-    fn refuse(&self, request: Request) -> Requested
-        requires short { length (body_of request) < 2 ^ 32 }
-        ensures { (name : ServiceId) (pass : ℕ) (reading : Reading) → owning.is_parting request pass (log_of (desk_book self.now)) ≡ false
-            → Requests name pass (event_for reading request pass (log_of (desk_book self.now))) (desk_book self.now) (desk_book self.now) result }
-    {
-        let full = self.is_full(&request);
-        drop(request);
-        if full {
-            Requested::Full
+        if self.is_full(request.act(), frame_length(request)) {
+            Code::RunFull
         } else {
-            Requested::Poor
+            Code::MemoryAllocationFailed
         }
     }
 
-    /// Takes what comes of a pass that has this client.
+    /// Takes what comes of a pass: its step, or the code with which it is turned away, where it passes a limit or memory was
+    /// wanting.
     pub(crate) fn request(
         &mut self,
         pass: u64,
-        client: u64,
-        reading: Reading,
-        coming: Coming,
-    ) -> Requested
+        coming: Result<Prepared, Request>,
+    ) -> Result<Step, Code>
         requires short { length (body_of (act_in coming)) < 2 ^ 32 }
-        requires comes { Comes pass client reading (log_of (desk_book self.old)) coming }
+        requires comes { Comes pass (log_of (desk_book self.old)) coming }
         ensures name { desk_name self.new ≡ desk_name self.old }
-        ensures requests { Requests (desk_name self.old) pass (event_for reading (act_in coming) pass (log_of (desk_book self.old))) (desk_book self.old) (desk_book self.new) result }
+        ensures requests { (reading : Reading) → IsAt reading coming → Requests (desk_name self.old) pass (event_for reading (act_in coming) pass (log_of (desk_book self.old))) (desk_book self.old) (desk_book self.new) result }
     {
-        match coming {
-            Coming::Parting => Requested::Made(self.part(pass, client, reading)),
-            Coming::Ready(request, copies) => self.take(pass, client, reading, request, copies),
-            Coming::Poor(request) => self.refuse(request),
+        let prepared = match coming {
+            Ok(prepared) => prepared,
+            Err(request) => return Err(self.refusal(&request)),
+        };
+        if prepared.parting {
+            return Ok(self.part(pass, prepared));
+        }
+        if self.is_full(&prepared.event.act, prepared.frame) {
+            drop(prepared);
+            return Err(Code::RunFull);
+        }
+        match self.make_ready(&prepared.event.act) {
+            Ok(leave) => Ok(self.go(pass, prepared, leave)),
+            Err(NoMemory) => {
+                drop(prepared);
+                Err(Code::MemoryAllocationFailed)
+            }
         }
     }
 
@@ -201,7 +145,7 @@ impl<D: Disk, N: Entropy> Desk<D, N> {
         ticket: u64,
         back: Done,
         room: ReplyRoom,
-    ) -> Made
+    ) -> Step
         requires may { ∥ MayLeave (desk_name self.old) (log_of (desk_book self.old)) pass ticket back room ∥₁ }
         ensures name { desk_name self.new ≡ desk_name self.old }
         ensures left { ∥ HasLeft (desk_name self.old) pass client reading ticket (desk_book self.old) (desk_book self.new) result.reply ∥₁ }
@@ -209,8 +153,13 @@ impl<D: Disk, N: Entropy> Desk<D, N> {
         ensures grown { GrowsBy pass (desk_book self.old) (desk_book self.new) }
         ensures told { length (reply_body result.reply) < 2 ^ 32 }
     {
-        let event = leave_at(reading, client, ticket);
-        let copy = leave_at(reading, client, ticket);
-        self.step(pass, event, copy, 0, room, Some(back))
+        let prepared = Prepared {
+            event: leave_at(reading, client, ticket),
+            copy: leave_at(reading, client, ticket),
+            frame: 0,
+            room,
+            parting: false,
+        };
+        self.step(pass, prepared, Some(back))
     }
 }

@@ -5,24 +5,15 @@ ghost use Rattle.std.specs.Option.{option_copied};
 ghost use Rattle.rule_model.specs.Acts as acts_spec;
 ghost use Rattle.rule_model.specs.ReplyRooms.{no_sizes};
 ghost use Rattle.service_book.specs.Book.{log_of};
-ghost use Rattle.service_book.specs.Limits.{need_of};
+ghost use Rattle.rule_model.specs.Acts.{need_of};
 ghost use Rattle.shared_service.specs.Desks.{weight};
 ghost use Rattle.shared_service.specs.DeskWords.{desk_book, desk_engine, desk_name, desk_places};
 ghost use Rattle.shared_service.specs.Rooms.{IsOutput};
 
 use super::Desk;
-use crate::coming::Copies;
 use ks_outside::{Disk, Entropy};
 use rule_model::{Act, ReplyRoom};
-use service_book::need_of;
 use tags::NoMemory;
-
-/// The copies of a request, and for an enter room for the reply to its leave.
-#[derive(Drop)]
-pub(super) struct Rooms {
-    pub(super) copies: Copies,
-    pub(super) leave: Option<ReplyRoom>,
-}
 
 impl<D: Disk, N: Entropy> Desk<D, N> {
     /// Takes the places of a request in the book.
@@ -30,7 +21,7 @@ impl<D: Disk, N: Entropy> Desk<D, N> {
         ensures same { (desk_name self.new ≡ desk_name self.old) × (desk_book self.new ≡ desk_book self.old) × (desk_engine self.new ≡ desk_engine self.old) }
         ensures places { OnOk result (weight (log_of (desk_book self.old)) + need_of act.now ≤ desk_places self.new) }
     {
-        self.book.reserve(need_of(act))
+        self.book.reserve(act.need())
     }
 
     /// Room for the reply to the leave of an enter, which the engine alone can tell.

@@ -14,11 +14,12 @@ ghost use Rattle.shared_service.specs.Requests.{GrowsBy};
 ghost use Rattle.shared_service.specs.DeskWords.{desk_book, desk_name, desk_places};
 
 use super::Desk;
-use crate::made::Made;
+use crate::prepared::Prepared;
 use crate::stamp::Stamp;
+use crate::step::Step;
 use cipher_ops::Done;
 use ks_outside::{Disk, Entropy};
-use rule_model::{Act, Entry, Event, Reply, ReplyRoom, Stepped};
+use rule_model::{Act, Entry, Reply, Stepped};
 use wire_frames::reply_length;
 
 /// How many bytes an event and its reply record, by the length of its request's frame.
@@ -36,30 +37,28 @@ fn recorded_bytes(act: &Act, frame: u64, reply: &Reply) -> u64
 }
 
 impl<D: Disk, N: Entropy> Desk<D, N> {
-    /// Makes the step of an event and records it, with `copy` as the book's copy of the event and `room` for that of the
-    /// reply. `frame` is the length of the request's frame.
-    pub(super) fn step(
-        &mut self,
-        pass: u64,
-        event: Event,
-        copy: Event,
-        frame: u64,
-        room: ReplyRoom,
-        back: Option<Done>,
-    ) -> Made
-        requires same { copy ≡ event }
-        requires frame { frame ≡ sizes.frame_length event.act }
-        requires small { frame < 2 ^ 33 }
-        requires may { ∥ MayMake (desk_name self.old) (log_of (desk_book self.old)) pass event room back ∥₁ }
-        requires places { HasPlaces event.act pass (log_of (desk_book self.old)) (desk_places self.old) }
+    /// Makes the step of an event and records it.
+    pub(super) fn step(&mut self, pass: u64, prepared: Prepared, back: Option<Done>) -> Step
+        requires same { prepared.copy ≡ prepared.event }
+        requires frame { prepared.frame ≡ sizes.frame_length prepared.event.act }
+        requires small { prepared.frame < 2 ^ 33 }
+        requires may { ∥ MayMake (desk_name self.old) (log_of (desk_book self.old)) pass prepared.event prepared.room back ∥₁ }
+        requires places { HasPlaces prepared.event.act pass (log_of (desk_book self.old)) (desk_places self.old) }
         ensures name { desk_name self.new ≡ desk_name self.old }
-        ensures made { ∥ HasMade (desk_name self.old) pass event (desk_book self.old) (desk_book self.new) result.reply result.job ∥₁ }
+        ensures made { ∥ HasMade (desk_name self.old) pass prepared.event (desk_book self.old) (desk_book self.new) result.reply result.job ∥₁ }
         ensures grown { GrowsBy pass (desk_book self.old) (desk_book self.new) }
         ensures first { result.first ≡ length (desk_book self.old) + 1 }
         ensures last { result.last ≡ length (desk_book self.new) }
-        ensures parts { is_parting event.act pass (log_of (desk_book self.old)) ≡ true → is_done result.reply ≡ true }
+        ensures parts { is_parting prepared.event.act pass (log_of (desk_book self.old)) ≡ true → is_done result.reply ≡ true }
         ensures told { length (reply_body result.reply) < 2 ^ 32 }
     {
+        let Prepared {
+            event,
+            copy,
+            frame,
+            room,
+            parting: _,
+        } = prepared;
         let first = self.book.len() + 1;
         let disk_before = self.disk.faults();
         let entropy_before = self.entropy.faults();
@@ -89,7 +88,7 @@ impl<D: Disk, N: Entropy> Desk<D, N> {
             }),
             bytes,
         );
-        Made {
+        Step {
             first,
             last: self.book.len(),
             reply,

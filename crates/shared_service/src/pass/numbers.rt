@@ -10,13 +10,13 @@ impl Pass {
     pub fn number(&self) -> u64
         ensures { result ≡ number_of self.now }
     {
-        self.pass.number()
+        self.seat.number()
     }
 
     /// Whether a client has come by it that was not disconnected.
     pub fn is_connected(&self) -> bool
         ensures { result ≡ connected_of self.now }
     {
-        self.connected
+        self.kept.connected
     }
 }

@@ -3,18 +3,17 @@
 ghost use Rattle.std.specs.Prelude.{◌≡◌, ◌+◌, ◌≤◌, ◌<◌, ◌^◌, ◌++◌, ◌∷◌, [], length, IsSome, OnOk};
 ghost use Rattle.service_book.specs.Book.{log_of};
 ghost use Rattle.service_book.specs.Limits.{bytes_of, clients_in, passes_limit, recorded, tickets_in};
-ghost use Rattle.wire_frames.specs.Spelling.{body_of};
+ghost use Rattle.wire_frames.specs.Sizes as sizes;
 ghost use Rattle.shared_service.specs.Calls.{settling_by};
 ghost use Rattle.shared_service.specs.Records.{book_in, places_in};
 ghost use Rattle.shared_service.specs.Stamps.{stamped_before, stamped_behind};
 
 use super::Record;
 use crate::stamp::Stamp;
-use rule_model::Entry;
+use rule_model::{Act, Entry};
 use service_book::{Book, BookEntry, Tally};
 use std::alloc::Global;
 use tags::{NoMemory, Settled};
-use wire_frames::Request;
 
 impl Record {
     /// The empty book.
@@ -34,14 +33,15 @@ impl Record {
         self.book.len() as u64
     }
 
-    /// Whether a call passes a limit.
-    pub(crate) fn is_full(&self, request: &Request) -> bool
-        requires short { length (body_of request.now) < 2 ^ 32 }
+    /// Whether a call with a frame of this length passes a limit.
+    pub(crate) fn is_full(&self, act: &Act, frame: u64) -> bool
+        requires frame { frame ≡ sizes.frame_length act.now }
+        requires short { frame < 2 ^ 33 }
         requires few { length (book_in self.now) ≤ 2 ^ 32 }
         requires small { recorded (log_of (book_in self.now)) ≤ 2 ^ 62 }
-        ensures { result ≡ passes_limit request.now (log_of (book_in self.now)) }
+        ensures { result ≡ passes_limit act.now (log_of (book_in self.now)) }
     {
-        self.tally.is_full(request)
+        self.tally.is_full(act, frame)
     }
 
     /// Takes so many places, beside one for each connected client and one for each ticket that is out.

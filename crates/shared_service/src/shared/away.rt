@@ -5,25 +5,17 @@ ghost use Rattle.service_book.specs.Book.{ticket_in};
 ghost use Rattle.shared_service.specs.Sending as sending;
 
 use crate::name::ServiceId;
-use crate::pass::Pass;
+use crate::pass::{Kept, Pass};
 use crate::served::Served;
 use cipher_ops::Job;
 use rule_model::{Reading, Reply, ReplyRoom};
 use service_book::BookEntry;
-use turn_lock::{RestingMaker, RestingPass};
-
-/// What a pass keeps beside its place at the lock.
-#[derive(Drop)]
-pub(crate) struct Kept {
-    pub(crate) client: u64,
-    pub(crate) connected: bool,
-    pub(crate) maker: Option<RestingMaker<BookEntry, ServiceId>>,
-}
+use turn_lock::RestingPass;
 
 /// The pass of a call whose ticket is out, with the room for the reply to the leave.
 #[derive(Drop)]
 pub(crate) struct Away {
-    pub(crate) pass: RestingPass<BookEntry, ServiceId>,
+    pub(crate) seat: RestingPass<BookEntry, ServiceId>,
     pub(crate) kept: Kept,
     pub(crate) reading: Reading,
     pub(crate) first: u64,

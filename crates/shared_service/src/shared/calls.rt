@@ -18,9 +18,8 @@ use super::away::Asked;
 use crate::pass::Pass;
 use crate::served::Served;
 use ks_outside::{Disk, Entropy, Gate};
-use rule_model::Reading;
+use rule_model::{Reading, Request};
 use std::sync::Wait;
-use wire_frames::Request;
 
 impl<D: Disk, N: Entropy> Shared<D, N> {
     /// Makes a call of a pass: its step in a turn of the lock; or its enter in one turn, then the work and the gate while

@@ -49,8 +49,8 @@ fn take_in<D: Disk, N: Entropy>(
     let mut closing = closing;
     let mut passes = passes;
     while let Some(next) = passes.pop() {
-        let Pass { pass, .. } = next;
-        lock.absorb(&mut closing, lock.wake(pass));
+        let Pass { seat, .. } = next;
+        lock.absorb(&mut closing, lock.wake(seat));
     }
     closing
 }
@@ -81,9 +81,11 @@ impl<D: Disk, N: Entropy> Shared<D, N> {
         let Some(place) = place_of(&passes, u64::from(count - 1)) else {
             unreachable!()
         };
-        let Pass { pass, maker, .. } = passes.swap_remove(place);
-        let Some(maker) = maker else { unreachable!() };
-        let last = lock.last_turn(rt, lock.wake(pass), lock.wake_maker(maker));
+        let Pass { seat, kept } = passes.swap_remove(place);
+        let Some(maker) = kept.maker else {
+            unreachable!()
+        };
+        let last = lock.last_turn(rt, lock.wake(seat), lock.wake_maker(maker));
         let closing = take_in(&lock, last, passes);
         let (slot, _made) = lock.end(closing);
         let Some(desk) = slot else { unreachable!() };

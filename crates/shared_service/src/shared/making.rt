@@ -13,7 +13,7 @@ ghost use Rattle.shared_service.specs.Passes.{AreNumbered, HasAll, HoldsMaker, I
 use super::Shared;
 use crate::desk::Desk;
 use crate::name::ServiceId;
-use crate::pass::Pass;
+use crate::pass::{Kept, Pass};
 use keystore_core::Engine;
 use ks_outside::{Disk, Entropy};
 use service_book::BookEntry;
@@ -31,10 +31,12 @@ fn new_pass(
         → IsNewPass lock name count (resting_number pass) result }
 {
     Pass {
-        pass,
-        client: 0,
-        connected: false,
-        maker,
+        seat: pass,
+        kept: Kept {
+            client: 0,
+            connected: false,
+            maker,
+        },
     }
 }
 

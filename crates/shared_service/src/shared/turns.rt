@@ -14,26 +14,26 @@ ghost use Rattle.shared_service.specs.Away.{IsBack};
 ghost use Rattle.shared_service.specs.DeskWords.{desk_book, desk_name};
 ghost use Rattle.shared_service.specs.Desks.{HasSeen};
 ghost use Rattle.shared_service.specs.Kinds.{client_after, kind_of};
+ghost use Rattle.shared_service.specs.Kinds.{client_after as spec_after};
 ghost use Rattle.shared_service.specs.Owning.{by};
 ghost use Rattle.shared_service.specs.Passes.{HoldsMaker, IsOurs, connected_of, front_of, number_of, passes_of, service_lock, service_name};
 ghost use Rattle.shared_service.specs.Requests.{IsCaller};
 
 use super::Shared;
-use super::away::{Asked, Away, Kept, Sent, sent_with};
-use crate::coming::Coming;
+use super::away::{Asked, Away, Sent, sent_with};
 use crate::desk::Desk;
-use crate::made::{Made, Requested};
 use crate::name::ServiceId;
-use crate::pass::Pass;
+use crate::pass::{Kept, Pass};
+use crate::prepared::Prepared;
 use crate::served::Served;
+use crate::step::Step;
 use cipher_ops::Done;
 use ks_outside::{Disk, Entropy};
-use rule_model::{Act, Reading, Reply};
+use rule_model::{Act, Reading, Reply, Request};
 use service_book::BookEntry;
 use std::sync::Wait;
 use tags::Code;
 use turn_lock::{RestingPass, Turn};
-use wire_frames::Request;
 
 /// What a call changes of its pass's client.
 #[derive(Clone, Copy)]
@@ -67,6 +67,21 @@ fn client_after(kind: ClientChange, client: u64, connected: bool, reply: &Reply)
     }
 }
 
+impl Kept {
+    /// The same, with the client that the pass has after a reply.
+    fn after(self, kind: ClientChange, reply: &Reply) -> Kept
+        ensures client { (result.client, result.connected) ≡ spec_after kind reply.now (self.client, self.connected) }
+        ensures maker { result.maker ≡ self.maker }
+    {
+        let (client, connected) = client_after(kind, self.client, self.connected, reply);
+        Kept {
+            client,
+            connected,
+            maker: self.maker,
+        }
+    }
+}
+
 /// The answer of a call that adds nothing.
 fn refused(code: Code) -> Served
     ensures { result ≡ record { first = 0; last = 0; reply = replies.Stopped code } }
@@ -89,17 +104,7 @@ impl<D: Disk, N: Entropy> Shared<D, N> {
         ensures front { front_of result ≡ resting_front pass }
         ensures connected { connected_of result ≡ kept.connected }
     {
-        let Kept {
-            client,
-            connected,
-            maker,
-        } = kept;
-        Pass {
-            pass,
-            client,
-            connected,
-            maker,
-        }
+        Pass { seat: pass, kept }
     }
 
     /// The end of a call that adds nothing: it gives its turn back, and its pass has then seen the whole book.
@@ -133,78 +138,59 @@ impl<D: Disk, N: Entropy> Shared<D, N> {
         requires short { length (body_of request) < 2 ^ 32 }
         ensures asks { Asks self.now pass reading request result }
     {
-        let Pass {
-            pass,
-            client,
-            connected,
-            maker,
-        } = pass;
-        let kept = Kept {
-            client,
-            connected,
-            maker,
-        };
+        let Pass { seat, kept } = pass;
         let kind = kind_of(request.act());
-        let number = pass.number();
-        let coming = Coming::of(self.alloc, reading, client, connected, request);
-        let (turn, mut desk) = self.lock.enter(rt, self.lock.wake(pass));
-        match desk.request(number, client, reading, coming) {
-            Requested::Full => self.turned_away(turn, desk, kept, Code::RunFull),
-            Requested::Poor => self.turned_away(turn, desk, kept, Code::MemoryAllocationFailed),
-            Requested::Made(made) => {
-                let Made {
-                    first,
-                    last,
-                    reply,
-                    job,
-                    leave,
-                } = made;
-                let added = last + 1 - first;
-                let pass = self.lock.rest(self.lock.leave(turn, desk, added));
-                let (client, connected) = client_after(kind, client, connected, &reply);
-                let kept = Kept {
-                    client,
-                    connected,
-                    ..kept
-                };
-                match sent_with(&reply, job, leave) {
-                    Some(Sent { ticket, job, room }) => {
-                        drop(reply);
-                        let away = Away {
-                            pass,
-                            kept,
-                            reading,
-                            first,
-                            ticket,
-                            room,
-                        };
-                        Asked::Out(away, job)
-                    }
-                    None => Asked::Answered(self.seated(pass, kept), Served { first, last, reply }),
-                }
-            }
-        }
+        let number = seat.number();
+        let coming = Prepared::of(self.alloc, reading, kept.client, kept.connected, request);
+        let (turn, mut desk) = self.lock.enter(rt, self.lock.wake(seat));
+        let step = match desk.request(number, coming) {
+            Ok(step) => step,
+            Err(code) => return self.turned_away(turn, desk, kept, code),
+        };
+        let Step {
+            first,
+            last,
+            reply,
+            job,
+            leave,
+        } = step;
+        let added = last + 1 - first;
+        let seat = self.lock.rest(self.lock.leave(turn, desk, added, 0));
+        let kept = kept.after(kind, &reply);
+        let Some(Sent { ticket, job, room }) = sent_with(&reply, job, leave) else {
+            return Asked::Answered(self.seated(seat, kept), Served { first, last, reply });
+        };
+        drop(reply);
+        let away = Away {
+            seat,
+            kept,
+            reading,
+            first,
+            ticket,
+            room,
+        };
+        Asked::Out(away, job)
     }
 
     /// The second turn of a call: its leave.
     pub(super) fn bring_back<R: Wait>(&self, rt: &R, away: Away, back: Done) -> (Pass, Served)
         requires away { IsOut self.now away }
-        requires back { ∥ IsBack (service_name self.now) (resting_front away.pass) away.ticket back ∥₁ }
+        requires back { ∥ IsBack (service_name self.now) (resting_front away.seat) away.ticket back ∥₁ }
         ensures brings { (pass : Pass) (reading : Reading) (act : Act) → IsAwayOf self.now pass reading act away → IsAnswered self.now pass reading act result.0 result.1 }
     {
         let Away {
-            pass,
+            seat,
             kept,
             reading,
             first,
             ticket,
             room,
         } = away;
-        let number = pass.number();
-        let (turn, mut desk) = self.lock.enter(rt, self.lock.wake(pass));
-        let made = desk.bring(number, kept.client, reading, ticket, back, room);
-        let Made { last, reply, .. } = made;
-        let pass = self.lock.rest(self.lock.leave(turn, desk, 1));
-        (self.seated(pass, kept), Served { first, last, reply })
+        let number = seat.number();
+        let (turn, mut desk) = self.lock.enter(rt, self.lock.wake(seat));
+        let step = desk.bring(number, kept.client, reading, ticket, back, room);
+        let Step { last, reply, .. } = step;
+        let seat = self.lock.rest(self.lock.leave(turn, desk, 1, 0));
+        (self.seated(seat, kept), Served { first, last, reply })
     }
 }

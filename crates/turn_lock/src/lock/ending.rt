@@ -2,7 +2,7 @@
 ghost use Rattle.std.specs.Prelude.{◌≡◌};
 ghost use Rattle.turn_lock.specs.Passes.{lock_id, name_of, view_of, closing_lock, made_of, made_before, IsPassOf, IsMakerOf, IsClosingOf, Took};
 
-use super::{Closing, LastTurn, Locked, Maker, Pass, TurnLock};
+use super::{Closing, LastTurn, LockPass, Locked, Maker, TurnLock};
 use crate::history::History;
 use crate::plays::{Close, Gather, TakeMaker};
 use crate::rule::EndRule;
@@ -13,7 +13,7 @@ impl<T: History<E, K>, E, K> TurnLock<T, E, K> {
     pub fn last_turn<R: Wait>(
         &self,
         rt: &R,
-        pass: Pass<T, E, K>,
+        pass: LockPass<T, E, K>,
         maker: Maker<T, E, K>,
     ) -> Closing<T, E, K>
         requires ours { IsPassOf self.now pass }
@@ -35,15 +35,15 @@ impl<T: History<E, K>, E, K> TurnLock<T, E, K> {
     }
 
     /// Takes a pass in, which ends.
-    pub fn absorb(&self, closing: &mut Closing<T, E, K>, pass: Pass<T, E, K>)
+    pub fn absorb(&self, closing: &mut Closing<T, E, K>, pass: LockPass<T, E, K>)
         requires closing { IsClosingOf self.now closing.old }
         requires ours { IsPassOf self.now pass }
         ensures closing { IsClosingOf self.now closing.new }
         ensures made { made_before closing.new ≡ made_before closing.old }
         ensures taken { Took closing.new pass }
-        ensures kept { (other : Pass T E K) → Took closing.old other → Took closing.new other }
+        ensures kept { (other : LockPass T E K) → Took closing.old other → Took closing.new other }
     {
-        let Pass { seat, number: _ } = pass;
+        let LockPass { seat, number: _ } = pass;
         self.table
             .shared
             .join_seat::<Gather>(&mut closing.seat, seat);

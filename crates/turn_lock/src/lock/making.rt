@@ -2,7 +2,7 @@
 ghost use Rattle.std.specs.Prelude.{◌≡◌, ◌+◌, ◌^◌, ◌<◌, [], IfOk, IfErr};
 ghost use Rattle.turn_lock.specs.Passes.{front, number_of, made_of, name_of, IsPassOf, IsMakerOf};
 
-use super::{Locked, Maker, Pass, TurnLock};
+use super::{LockPass, Locked, Maker, TurnLock};
 use crate::history::History;
 use crate::plays::{DrawNumber, Heir};
 use atomic_table::{Refused, Table};
@@ -26,7 +26,7 @@ impl<T: History<E, K>, E, K: Drop> TurnLock<T, E, K> {
             slots.destroy_empty();
             return Err(value);
         }
-        match Table::new(alloc, &[0, 0, 0, 0], slots, &name) {
+        match Table::new(alloc, &[0, 0, 0, 0, 0], slots, &name) {
             Ok((table, seat)) => {
                 let asleep = AtomicU64::new(0);
                 Ok((
@@ -53,7 +53,7 @@ impl<T: History<E, K>, E, K: Drop> TurnLock<T, E, K> {
 
 impl<T: History<E, K>, E, K> TurnLock<T, E, K> {
     /// A pass with the next number. The first has 0.
-    pub fn another(&self, maker: &mut Maker<T, E, K>) -> Pass<T, E, K>
+    pub fn another(&self, maker: &mut Maker<T, E, K>) -> LockPass<T, E, K>
         requires ours { IsMakerOf self.now maker.old }
         requires room { made_of maker.old + 1 < 2 ^ 64 }
         ensures pass { IsPassOf self.now result }
@@ -68,7 +68,7 @@ impl<T: History<E, K>, E, K> TurnLock<T, E, K> {
         let heir = self.table.shared.split_seat::<Heir>(&mut maker.seat);
         let seat = mem::replace(&mut maker.seat, heir);
         maker.made = number + 1;
-        Pass { seat, number }
+        LockPass { seat, number }
     }
 }
 

@@ -1,19 +1,19 @@
-//! Passes and makers at rest, in types that do not name the value behind the lock.
+//! Passes, notes and makers at rest, in types that do not name the value behind the lock.
 ghost use Rattle.std.specs.Prelude.{◌≡◌};
-ghost use Rattle.turn_lock.specs.Passes.{front, number_of, made_of, IsPassOf, IsMakerOf};
-ghost use Rattle.turn_lock.specs.Resting.{resting_front, resting_number, resting_made, IsRestingPassOf, IsRestingMakerOf};
+ghost use Rattle.turn_lock.specs.Passes.{front, note_front, number_of, made_of, IsPassOf, IsNoteOf, IsMakerOf};
+ghost use Rattle.turn_lock.specs.Resting.{resting_front, resting_note_front, resting_number, resting_made, IsRestingPassOf, IsRestingNoteOf, IsRestingMakerOf};
 
-use super::{Maker, Pass, RestingMaker, RestingPass, TurnLock};
+use super::{LockPass, Maker, Note, RestingMaker, RestingNote, RestingPass, TurnLock};
 use crate::history::History;
 
 impl<T: History<E, K>, E, K> TurnLock<T, E, K> {
     /// The same pass, at rest.
-    pub fn rest(&self, pass: Pass<T, E, K>) -> RestingPass<E, K>
+    pub fn rest(&self, pass: LockPass<T, E, K>) -> RestingPass<E, K>
         requires ours { IsPassOf self.now pass }
         ensures ours { IsRestingPassOf self.now result }
         ensures same { (resting_number result ≡ number_of pass) × (resting_front result ≡ front pass) }
     {
-        let Pass { seat, number } = pass;
+        let LockPass { seat, number } = pass;
         RestingPass {
             badge: seat.into_badge(),
             number,
@@ -21,15 +21,39 @@ impl<T: History<E, K>, E, K> TurnLock<T, E, K> {
     }
 
     /// The same pass, for a turn.
-    pub fn wake(&self, pass: RestingPass<E, K>) -> Pass<T, E, K>
+    pub fn wake(&self, pass: RestingPass<E, K>) -> LockPass<T, E, K>
         requires ours { IsRestingPassOf self.now pass }
         ensures ours { IsPassOf self.now result }
         ensures same { (number_of result ≡ resting_number pass) × (front result ≡ resting_front pass) }
     {
         let RestingPass { badge, number } = pass;
-        Pass {
+        LockPass {
             seat: badge.into_seat(),
             number,
+        }
+    }
+
+    /// The same note, at rest.
+    pub fn rest_note(&self, note: Note<T, E, K>) -> RestingNote<E, K>
+        requires ours { IsNoteOf self.now note }
+        ensures ours { IsRestingNoteOf self.now result }
+        ensures same { resting_note_front result ≡ note_front note }
+    {
+        let Note { seat } = note;
+        RestingNote {
+            badge: seat.into_badge(),
+        }
+    }
+
+    /// The same note, for a meeting.
+    pub fn wake_note(&self, note: RestingNote<E, K>) -> Note<T, E, K>
+        requires ours { IsRestingNoteOf self.now note }
+        ensures ours { IsNoteOf self.now result }
+        ensures same { note_front result ≡ resting_note_front note }
+    {
+        let RestingNote { badge } = note;
+        Note {
+            seat: badge.into_seat(),
         }
     }
 

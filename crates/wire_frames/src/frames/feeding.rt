@@ -12,7 +12,7 @@ use crate::fault::FrameFault;
 use crate::held::PartialFrame;
 use crate::held::giving::read_more;
 use crate::outcome::FrameOutcome;
-use crate::request::Request;
+use rule_model::Request;
 use std::alloc::Global;
 
 impl Frames {

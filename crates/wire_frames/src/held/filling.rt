@@ -8,6 +8,7 @@ ghost use Rattle.wire_frames.specs.PartialFrames.{bytes_in};
 
 use super::PartialFrame;
 use crate::front::needed;
+use rule_model::ActKind;
 use std::alloc::Global;
 use tags::NoMemory;
 
@@ -18,7 +19,10 @@ const BEFORE_INPUT: usize = 17;
 fn has_input(number: u8) -> bool
     ensures { result ≡ apart.has_input number }
 {
-    6 <= number && number <= 8
+    match ActKind::of_number(number) {
+        Some(kind) => kind.row().enters,
+        None => false,
+    }
 }
 
 /// Whether what comes next lies apart.

@@ -13,10 +13,9 @@ use super::PartialFrame;
 use crate::fault::BodyFault;
 use crate::outcome::FrameOutcome;
 use crate::reading::{act_in, ended, optional_at};
-use crate::request::Request;
 use crate::texts::read_on;
 use byteorder::{BigEndian, ByteOrder};
-use rule_model::Act;
+use rule_model::{Act, ActKind, Request};
 use std::alloc::Global;
 use std::mem;
 use tags::{Bytes, NoMemory};
@@ -35,9 +34,9 @@ fn around(alloc: Global, number: u8, op: u64, behind: &[u8]) -> Result<Act, Body
     ensures { Says (λ x. x) result (apart.around number op behind.now) }
 {
     let input = Bytes::empty(alloc);
-    match number {
-        6 => ended(Act::EnterAad { op, input }, behind),
-        7 => ended(Act::EnterUpdate { op, input }, behind),
+    match ActKind::of_number(number) {
+        Some(ActKind::UpdateAad) => ended(Act::EnterAad { op, input }, behind),
+        Some(ActKind::Update) => ended(Act::EnterUpdate { op, input }, behind),
         _ => {
             let (signature, rest) = optional_at(alloc, behind)?;
             let act = Act::EnterFinish {

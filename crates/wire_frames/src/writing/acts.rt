@@ -4,7 +4,8 @@ ghost use Rattle.std.specs.Prelude.{◌≡◌, ◌++◌, ◌∷◌, true, ℕ, �
 ghost use Rattle.byteorder.specs.Endian.{big_bytes};
 ghost use Rattle.wire_frames.specs.Spelling as spec;
 ghost use Rattle.tags.specs.declared.limits.TheConstants.{FRAME_BYTES};
-ghost use Rattle.wire_frames.specs.Spelling.{body_of, is_framed, is_on_key, is_token};
+ghost use Rattle.rule_model.specs.Acts.{is_framed};
+ghost use Rattle.wire_frames.specs.Spelling.{body_of, fields_of, is_on_key, is_token};
 
 use super::fields::{put_key, put_optional};
 use byte_strings::{put_bytes, put_counted_u32, put_flag, put_u8, put_u32, put_u64};
@@ -12,29 +13,19 @@ use rule_model::Act;
 use std::alloc::AllocError;
 use tags::{Bytes, Descriptor};
 
-/// A number and a user, or a uid.
-fn put_user(out: &mut Vec<u8>, number: u8, user: u32) -> Result<(), AllocError>
-    ensures { OnOk result (out.new.items ≡ out.old.items ++ number ∷ big_bytes 4 user) }
+/// An owner.
+fn put_owner(out: &mut Vec<u8>, domain: u32, nspace: u64) -> Result<(), AllocError>
+    ensures { OnOk result (out.new.items ≡ out.old.items ++ (big_bytes 4 domain ++ big_bytes 8 nspace)) }
 {
-    put_u8(out, number)?;
-    put_u32(out, user)
-}
-
-/// A number and an owner.
-fn put_owner(out: &mut Vec<u8>, number: u8, domain: u32, nspace: u64) -> Result<(), AllocError>
-    ensures { OnOk result (out.new.items ≡ out.old.items ++ number ∷ (big_bytes 4 domain ++ big_bytes 8 nspace)) }
-{
-    put_u8(out, number)?;
     put_u32(out, domain)?;
     put_u64(out, nspace)
 }
 
-/// A number, an operation and its input.
-fn put_input(out: &mut Vec<u8>, number: u8, op: u64, input: &Bytes) -> Result<(), AllocError>
+/// An operation and its input.
+fn put_input(out: &mut Vec<u8>, op: u64, input: &Bytes) -> Result<(), AllocError>
     requires { length (spec.counted input.now) < 2 ^ 32 }
-    ensures { OnOk result (out.new.items ≡ out.old.items ++ number ∷ (big_bytes 8 op ++ spec.counted input.now)) }
+    ensures { OnOk result (out.new.items ≡ out.old.items ++ (big_bytes 8 op ++ spec.counted input.now)) }
 {
-    put_u8(out, number)?;
     put_u64(out, op)?;
     put_counted_u32(out, input.as_slice())
 }
@@ -42,7 +33,7 @@ fn put_input(out: &mut Vec<u8>, number: u8, op: u64, input: &Bytes) -> Result<()
 /// The numbers of a token, and its mac.
 fn put_token(out: &mut Vec<u8>, act: &Act) -> Result<(), AllocError>
     requires token { is_token act.now ≡ true }
-    ensures { OnOk result (out.new.items ≡ out.old.items ++ body_of act.now) }
+    ensures { OnOk result (out.new.items ≡ out.old.items ++ fields_of act.now) }
 {
     let Act::AddAuthToken {
         challenge,
@@ -55,7 +46,6 @@ fn put_token(out: &mut Vec<u8>, act: &Act) -> Result<(), AllocError>
     else {
         unreachable!()
     };
-    put_u8(out, 16)?;
     put_u64(out, *challenge)?;
     put_u64(out, *user)?;
     put_u64(out, *authenticator)?;
@@ -64,24 +54,15 @@ fn put_token(out: &mut Vec<u8>, act: &Act) -> Result<(), AllocError>
     put_bytes(out, mac)
 }
 
-/// A number and a descriptor.
-fn put_named(out: &mut Vec<u8>, number: u8, key: &Descriptor) -> Result<(), AllocError>
-    requires { length (spec.key_of key.now) < 2 ^ 32 }
-    ensures { OnOk result (out.new.items ≡ out.old.items ++ number ∷ spec.key_of key.now) }
-{
-    put_u8(out, number)?;
-    put_key(out, key)
-}
-
-/// An act on a key that a descriptor names.
-fn put_key_act(out: &mut Vec<u8>, act: &Act) -> Result<(), AllocError>
+/// The fields of an act on a key that a descriptor names.
+fn put_key_fields(out: &mut Vec<u8>, act: &Act) -> Result<(), AllocError>
     requires named { is_on_key act.now ≡ true }
-    requires short { length (body_of act.now) ≤ FRAME_BYTES }
-    ensures written { OnOk result (out.new.items ≡ out.old.items ++ body_of act.now) }
+    requires short { length (fields_of act.now) < FRAME_BYTES }
+    ensures written { OnOk result (out.new.items ≡ out.old.items ++ fields_of act.now) }
 {
     match act {
         Act::GenerateKey { key, params } => {
-            put_named(out, 3, key)?;
+            put_key(out, key)?;
             put_counted_u32(out, params.as_slice())
         }
         Act::ImportKey {
@@ -90,7 +71,7 @@ fn put_key_act(out: &mut Vec<u8>, act: &Act) -> Result<(), AllocError>
             format,
             material,
         } => {
-            put_named(out, 4, key)?;
+            put_key(out, key)?;
             put_counted_u32(out, params.as_slice())?;
             put_u32(out, *format)?;
             put_counted_u32(out, material.as_slice())
@@ -100,22 +81,60 @@ fn put_key_act(out: &mut Vec<u8>, act: &Act) -> Result<(), AllocError>
             params,
             forced,
         } => {
-            put_named(out, 5, key)?;
+            put_key(out, key)?;
             put_counted_u32(out, params.as_slice())?;
             put_flag(out, *forced)
         }
-        Act::GetKeyEntry { key } => put_named(out, 10, key),
-        Act::DeleteKey { key } => put_named(out, 11, key),
+        Act::GetKeyEntry { key } => put_key(out, key),
+        Act::DeleteKey { key } => put_key(out, key),
         Act::Grant { key, uid, bits } => {
-            put_named(out, 12, key)?;
+            put_key(out, key)?;
             put_u32(out, *uid)?;
             put_u32(out, *bits)
         }
         Act::Ungrant { key, uid } => {
-            put_named(out, 13, key)?;
+            put_key(out, key)?;
             put_u32(out, *uid)
         }
         _ => unreachable!(),
+    }
+}
+
+/// The fields of an act that has a frame.
+fn put_fields(out: &mut Vec<u8>, act: &Act) -> Result<(), AllocError>
+    requires framed { is_framed act.now ≡ true }
+    requires short { length (fields_of act.now) < FRAME_BYTES }
+    ensures written { OnOk result (out.new.items ≡ out.old.items ++ fields_of act.now) }
+{
+    match act {
+        Act::Connect { uid } => put_u32(out, *uid),
+        Act::EnterAad { op, input } => put_input(out, *op, input),
+        Act::EnterUpdate { op, input } => put_input(out, *op, input),
+        Act::EnterFinish {
+            op,
+            input,
+            signature,
+        } => {
+            put_input(out, *op, input)?;
+            put_optional(out, signature)
+        }
+        Act::Abort { op } => put_u64(out, *op),
+        Act::GetNumberOfEntries { domain, nspace } => put_owner(out, *domain, *nspace),
+        Act::ListEntriesBatched {
+            domain,
+            nspace,
+            past,
+        } => {
+            put_owner(out, *domain, *nspace)?;
+            put_optional(out, past)
+        }
+        Act::AddAuthToken { .. } => put_token(out, act),
+        Act::DeviceLocked { user } => put_u32(out, *user),
+        Act::DeviceUnlocked { user } => put_u32(out, *user),
+        Act::EarlyBootEnded => Ok(()),
+        Act::ClearNamespace { domain, nspace } => put_owner(out, *domain, *nspace),
+        Act::UserRemoved { user } => put_u32(out, *user),
+        _ => put_key_fields(out, act),
     }
 }
 
@@ -125,37 +144,6 @@ pub(super) fn put_body(out: &mut Vec<u8>, act: &Act) -> Result<(), AllocError>
     requires short { length (body_of act.now) ≤ FRAME_BYTES }
     ensures written { OnOk result (out.new.items ≡ out.old.items ++ body_of act.now) }
 {
-    match act {
-        Act::Connect { uid } => put_user(out, 1, *uid),
-        Act::EnterAad { op, input } => put_input(out, 6, *op, input),
-        Act::EnterUpdate { op, input } => put_input(out, 7, *op, input),
-        Act::EnterFinish {
-            op,
-            input,
-            signature,
-        } => {
-            put_input(out, 8, *op, input)?;
-            put_optional(out, signature)
-        }
-        Act::Abort { op } => {
-            put_u8(out, 9)?;
-            put_u64(out, *op)
-        }
-        Act::GetNumberOfEntries { domain, nspace } => put_owner(out, 14, *domain, *nspace),
-        Act::ListEntriesBatched {
-            domain,
-            nspace,
-            past,
-        } => {
-            put_owner(out, 15, *domain, *nspace)?;
-            put_optional(out, past)
-        }
-        Act::AddAuthToken { .. } => put_token(out, act),
-        Act::DeviceLocked { user } => put_user(out, 17, *user),
-        Act::DeviceUnlocked { user } => put_user(out, 18, *user),
-        Act::EarlyBootEnded => put_u8(out, 19),
-        Act::ClearNamespace { domain, nspace } => put_owner(out, 20, *domain, *nspace),
-        Act::UserRemoved { user } => put_user(out, 21, *user),
-        _ => put_key_act(out, act),
-    }
+    put_u8(out, act.row().number)?;
+    put_fields(out, act)
 }

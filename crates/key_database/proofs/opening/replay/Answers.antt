@@ -3,7 +3,7 @@ use Rattle.std.proofs.lemmas.Iterator.Adapters.{YieldsList-from_vec}
 use Rattle.std.proofs.lemmas.Iterator.Consumers.{YieldsList-turn, YieldsList-end, YieldsList-so_far}
 use Rattle.journal_records.specs.Effects.{after, lasting_of}
 use Rattle.use_journal.specs.Journal.{past_of}
-use Rattle.key_database.specs.TableView.{lasting_in}
+use Rattle.lasting_table.specs.TableView.{lasting_in}
 use Rattle.key_database.proofs.Opened.{next_splits, same_items, replays_on}
 use Rattle.key_database.proofs.opening.replay.Goals as goal
 

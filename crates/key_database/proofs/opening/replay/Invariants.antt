@@ -1,7 +1,7 @@
 use Rattle.std.proofs.Common.{◌≡◌, Some}
 use Rattle.journal_records.specs.Effects.{lasting_of}
 use Rattle.use_journal.specs.Journal.{past_of}
-use Rattle.key_database.specs.TableView.{lasting_in}
+use Rattle.lasting_table.specs.TableView.{lasting_in}
 use Rattle.key_database.proofs.opening.replay.Given as goal
 
 -- the changes so far leave what the table holds

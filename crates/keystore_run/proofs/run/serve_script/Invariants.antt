@@ -11,7 +11,7 @@ use Rattle.tags.specs.declared.limits.TheConstants.{SCRIPT_BYTES}
 abbrev pub invariant-lines : goal.invariant-lines
 invariant-lines g l = record {
   going : (setup : Setup) (begin : g.row.D.Denot) → StandsFor g.D.Disk setup l.fn.session l.fn.disk [] → IsUnwritten g.D.Disk begin l.fn.disk
-      → Going g.S.Source g.K.Sink g.D.Disk g.N.Entropy g.met.D.Disk.only_now setup (outside l.fn.source l.fn.sink begin l.fn.entropy) (outside l.source l.sink l.disk l.entropy) l.session l.reader.bytes l.reader.taken l.served false;
+      → Going g.S.Source g.K.Sink g.D.Disk g.N.Entropy g.met.D.Disk.only_now l.fn.written setup (outside l.fn.source l.fn.sink begin l.fn.entropy) (outside l.source l.sink l.disk l.entropy) l.session l.reader.bytes l.reader.taken l.served false;
   entries : entries_in l.session ≤ l.served + l.served + l.served;
   bytes : l.served + length l.reader.bytes ≤ l.reader.taken;
   taken : l.reader.taken ≤ SCRIPT_BYTES;

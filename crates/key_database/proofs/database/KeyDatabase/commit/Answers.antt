@@ -1,7 +1,7 @@
 use Rattle.std.proofs.Common.{Some, ◌+◌, ◌-◌, length, Err, refl, sym, ap, ◌∙◌, subst}
 use Rattle.std.specs.Prelude.{unwrap_or}
 use Rattle.journal_records.specs.Spelling.{closed_of}
-use Rattle.key_database.specs.TableView.{CanMake}
+use Rattle.lasting_table.specs.TableView.{CanMake}
 use Rattle.key_database.specs.Stands.{lasting}
 use Rattle.key_database.proofs.Applied.{commits_done, commits_none, commits_torn}
 use Rattle.key_database.proofs.Sizes.{small_record}

@@ -2,7 +2,7 @@ use Rattle.std.proofs.Common.{◌≡◌, Bool, Some, subst, sym, ◌∙◌}
 use Rattle.ks_outside.specs.Images.{Reads}
 use Rattle.journal_records.specs.Effects.{lasting_of}
 use Rattle.use_journal.specs.Journal.{IsJournal, past_of}
-use Rattle.key_database.specs.TableView.{lasting_in}
+use Rattle.lasting_table.specs.TableView.{lasting_in}
 use Rattle.key_database.proofs.Opened.{bad_needs, bad_journal, told_image, no_fault_found, replay_read}
 use Rattle.key_database.proofs.database.KeyDatabase.open.Goals as goal
 

@@ -1,13 +1,9 @@
 use Rattle.std.proofs.Common.{refl}
 use Rattle.rule_model.specs.declared.event.Act.TheVariants as acts
-use Rattle.keystore_core.proofs.Standing.{at_begin, at_few, begin_at}
+use Rattle.keystore_core.proofs.Standing.{at_begin, at_few}
 use Rattle.keystore_core.proofs.Storing.{leaves_after, leaves_at}
 use Rattle.keystore_core.proofs.Written.{leaves_goes}
 use Rattle.keystore_core.proofs.tables.Tables.serve.Goals as goal
-
-pub returns-in-CreateOperation-clause-serves : goal.returns-in-CreateOperation-clause-serves
-returns-in-CreateOperation-clause-serves g c =
-    rw c.in-CreateOperation.is (begin_at c.args.self.now _ c.args.caller _ _ _ _ c.args.step c.args.done.now c.begin.ensures.serves)
 
 pub connect-requires : goal.connect-requires
 connect-requires g c = at_few c.args.self.now c.args.step _ _ c.requires.few c.requires.at
@@ -68,6 +64,3 @@ returns-in-DeviceUnlocked-clause-store g c = rw c.in-DeviceUnlocked.is (leaves_g
 
 pub returns-in-EarlyBootEnded-clause-store : goal.returns-in-EarlyBootEnded-clause-store
 returns-in-EarlyBootEnded-clause-store g c = rw c.in-EarlyBootEnded.is (leaves_goes g.D.Disk c.args.disk.now c.args.self.now c.early_boot_ended.new.self c.args.caller acts.EarlyBootEnded c.early_boot_ended.result c.early_boot_ended.ensures.store refl)
-
-pub returns-in-Leave-clause-store : goal.returns-in-Leave-clause-store
-returns-in-Leave-clause-store g c = rw c.in-Leave.is (leaves_goes g.D.Disk c.args.disk.now c.args.self.now c.leave.new.self c.args.caller (acts.Leave c.in-Leave.ticket) c.leave.result c.leave.ensures.store refl)

@@ -1,4 +1,4 @@
 use Rattle.rule_model.proofs.event.Act.settles.Goals as goal
 
 pub returns : goal.returns
-returns c = rw (c.row.ensures, c.kind.ensures)
+returns c = rw c.row.ensures.row

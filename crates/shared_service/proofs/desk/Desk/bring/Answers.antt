@@ -26,12 +26,12 @@ step-requires-clause-may g c =
       back_is = m.back_is;
       enough = r.enough;
     } in
-    subst (λ (e : Event). MayMake old.name log c.args.pass e c.args.room (Some c.args.back)) (sym c.leave_at-event.ensures) it)
+    subst (λ (e : Event). MayMake old.name log c.args.pass e c.args.room (Some c.args.back)) (sym c.leave_at.ensures) it)
 
 pub returns-clause-left : goal.returns-clause-left
 returns-clause-left g c =
     let old = c.args.self.now in
     let new = c.step.new.self in
     four old.stands new.stands c.requires.may c.step.ensures.made (λ t u m made.
-    left_made old.name t.setup c.args.pass c.args.client c.args.reading c.args.ticket c.leave_at-event.result (desk_book old) (desk_book new) c.step.result.reply c.step.result.job c.args.back c.args.room t.is_setup
-    (t.facts t.setup t.is_setup) (u.stands t.setup (subst (λ n. IsSetupOf n t.setup) (sym c.step.ensures.name) t.is_setup)).legal c.leave_at-event.ensures m made)
+    left_made old.name t.setup c.args.pass c.args.client c.args.reading c.args.ticket c.leave_at.result (desk_book old) (desk_book new) c.step.result.reply c.step.result.job c.args.back c.args.room t.is_setup
+    (t.facts t.setup t.is_setup) (u.stands t.setup (subst (λ n. IsSetupOf n t.setup) (sym c.step.ensures.name) t.is_setup)).legal c.leave_at.ensures m made)

@@ -8,7 +8,7 @@ use Rattle.shared_service.proofs.desk.Desk.go.Goals as goal
 pub returns-clause-requested : goal.returns-clause-requested
 returns-clause-requested g c =
     let old = c.args.self.now in
-    let new = c.step-made.new.self in
-    three old.stands new.stands c.step-made.ensures.made (λ t u m.
-    requested_made old.name t.setup old.engine c.args.pass c.args.event (desk_book old) (desk_book new) (desk_places old) c.step-made.result.reply c.step-made.result.job c.args.rooms t.stands t.is_setup
-    (λ z of. (u.stands z (subst (λ n. IsSetupOf n z) (sym c.step-made.ensures.name) of)).legal) c.requires.may c.requires.rooms m)
+    let new = c.step-step.new.self in
+    three old.stands new.stands c.step-step.ensures.made (λ t u m.
+    requested_made old.name t.setup old.engine c.args.pass c.args.prepared.event (desk_book old) (desk_book new) (desk_places old) c.step-step.result.reply c.step-step.result.job c.args.leave t.stands t.is_setup
+    (λ z of. (u.stands z (subst (λ n. IsSetupOf n z) (sym c.step-step.ensures.name) of)).legal) c.requires.may c.requires.leave m)

@@ -11,7 +11,7 @@ use Rattle.shared_service.proofs.shared.Shared.call.Goals as goal
 pub bring_back-requires-clause-back : goal.bring_back-requires-clause-back
 bring_back-requires-clause-back g c =
     let away = c.in-Out.away in
-    ∥∥₁_map c.in-Out.ensures.asks.1 (back_ran (service_name c.args.self.now) (resting_front away.pass) away.ticket c.in-Out.job c.run-back.result c.run-back.ensures.comes c.run-back.ensures.codes)
+    ∥∥₁_map c.in-Out.ensures.asks.1 (back_ran (service_name c.args.self.now) (resting_front away.seat) away.ticket c.in-Out.job c.run-back.result c.run-back.ensures.comes c.run-back.ensures.codes)
 
 pub returns-in-Answered-clause-legal : goal.returns-in-Answered-clause-legal
 returns-in-Answered-clause-legal g c setup of =

@@ -37,12 +37,12 @@ unreachable-requires g c =
 pub unreachable-requires-in_default-maker : goal.unreachable-requires-in_default-maker
 unreachable-requires-in_default-maker g c =
     let self = c.args.self in
-    let x = c.swap_remove-pass.result in
+    let x = c.swap_remove-seat.result in
     let some = c.requires.some in
     let from = c.from.ensures in
     let at = position-Some (λ (p : Pass). number_of p == c.from.result) c.args.passes.items c.in-Some.place x (sym (ap (position (λ (p : Pass). number_of p == c.from.result)) c.deref.ensures.value) ∙ (sym c.place_of.ensures ∙ c.in-Some.is)) in
-    let ours : IsOurs self x = subst (IsOurs self) (sym c.swap_remove-pass.ensures.value) (c.requires.ours c.in-Some.place x at.0) in
-    let number : number_of x ≡ c.from.result = ap number_of c.swap_remove-pass.ensures.value ∙ eqb-true (number_of (get_or c.args.passes.items c.in-Some.place x)) c.from.result at.1 in
+    let ours : IsOurs self x = subst (IsOurs self) (sym c.swap_remove-seat.ensures.value) (c.requires.ours c.in-Some.place x at.0) in
+    let number : number_of x ≡ c.from.result = ap number_of c.swap_remove-seat.ensures.value ∙ eqb-true (number_of (get_or c.args.passes.items c.in-Some.place x)) c.from.result at.1 in
     let less : number_of x + 1 < passes_of self = subst (HoldsMaker (service_lock self) (service_name self) (passes_of self) (number_of x)) c.in_default-maker.is ours.maker_is in
     omega arith
 
@@ -112,11 +112,11 @@ returns-clause-fronts g c k d lt =
     let book : c.into_parts.result.3 ≡ desk_book desk = c.into_parts.ensures.book in
     let parts = c.into_parts.ensures.parts in
     let closing = c.take_in-closing.result in
-    let x = c.swap_remove-pass.result in
+    let x = c.swap_remove-seat.result in
     let items : List Pass = c.args.passes.items in
-    let rest : List Pass = c.swap_remove-pass.new.self.items in
+    let rest : List Pass = c.swap_remove-seat.new.self.items in
     let at = position-Some (λ (p : Pass). number_of p == c.from.result) items c.in-Some.place x (sym (ap (position (λ (p : Pass). number_of p == c.from.result)) c.deref.ensures.value) ∙ (sym c.place_of.ensures ∙ c.in-Some.is)) in
-    let perm = subst (λ (r : List Pass). IsPermutation items (x ∷ r)) (sym c.swap_remove-pass.ensures.items) (IsPermutation-swap_remove items c.in-Some.place x at.0 c.swap_remove-pass.ensures.value) in
+    let perm = subst (λ (r : List Pass). IsPermutation items (x ∷ r)) (sym c.swap_remove-seat.ensures.items) (IsPermutation-swap_remove items c.in-Some.place x at.0 c.swap_remove-seat.ensures.value) in
     let took : All (λ (p : Pass). TookFront closing (number_of p) (front_of p)) items = All-permutation (λ (p : Pass). TookFront closing (number_of p) (front_of p)) (x ∷ rest) items (IsPermutation-sym items (x ∷ rest) perm)
     (all_first (λ (p : Pass). TookFront closing (number_of p) (front_of p)) x rest
     (c.take_in-closing.ensures.kept (number_of x) (front_of x) (record { pass = c.wake.result; took = c.last_turn-last.ensures.taken; number_is = c.wake.ensures.same.0; front_is = c.wake.ensures.same.1 }))
@@ -135,11 +135,11 @@ returns-clause-own g c k d lt =
     let book : c.into_parts.result.3 ≡ desk_book desk = c.into_parts.ensures.book in
     let parts = c.into_parts.ensures.parts in
     let closing = c.take_in-closing.result in
-    let x = c.swap_remove-pass.result in
+    let x = c.swap_remove-seat.result in
     let items : List Pass = c.args.passes.items in
-    let rest : List Pass = c.swap_remove-pass.new.self.items in
+    let rest : List Pass = c.swap_remove-seat.new.self.items in
     let at = position-Some (λ (p : Pass). number_of p == c.from.result) items c.in-Some.place x (sym (ap (position (λ (p : Pass). number_of p == c.from.result)) c.deref.ensures.value) ∙ (sym c.place_of.ensures ∙ c.in-Some.is)) in
-    let perm = subst (λ (r : List Pass). IsPermutation items (x ∷ r)) (sym c.swap_remove-pass.ensures.items) (IsPermutation-swap_remove items c.in-Some.place x at.0 c.swap_remove-pass.ensures.value) in
+    let perm = subst (λ (r : List Pass). IsPermutation items (x ∷ r)) (sym c.swap_remove-seat.ensures.items) (IsPermutation-swap_remove items c.in-Some.place x at.0 c.swap_remove-seat.ensures.value) in
     let took : All (λ (p : Pass). TookFront closing (number_of p) (front_of p)) items = All-permutation (λ (p : Pass). TookFront closing (number_of p) (front_of p)) (x ∷ rest) items (IsPermutation-sym items (x ∷ rest) perm)
     (all_first (λ (p : Pass). TookFront closing (number_of p) (front_of p)) x rest
     (c.take_in-closing.ensures.kept (number_of x) (front_of x) (record { pass = c.wake.result; took = c.last_turn-last.ensures.taken; number_is = c.wake.ensures.same.0; front_is = c.wake.ensures.same.1 }))

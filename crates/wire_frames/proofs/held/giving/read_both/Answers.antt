@@ -1,5 +1,5 @@
 use Rattle.std.proofs.Common.{rules, ◌≡◌, ◌+◌, ◌∷◌, length, drop, None, Some, true, false, refl, ap, ◌∙◌, arith}
-use Rattle.wire_frames.specs.Spelling.{is_asked}
+use Rattle.rule_model.specs.Acts.{is_asked}
 use Rattle.wire_frames.specs.Streams.{whole_in}
 use Rattle.wire_frames.specs.Reading.{act_in}
 use Rattle.wire_frames.specs.PartialFrames.{bytes_in, kept_act}

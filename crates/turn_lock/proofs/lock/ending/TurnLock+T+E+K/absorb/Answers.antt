@@ -9,7 +9,7 @@ use Rattle.turn_lock.proofs.Parting.{gathers}
 use Rattle.turn_lock.proofs.lock.ending.TurnLock+T+E+K.absorb.Goals as goal
 
 pub join_seat-requires : goal.join_seat-requires
-join_seat-requires g c = (search rules, search rules, ap (λ s. s.me.1) c.args.pass.rests, search rules, gathers g.T.History.entries g.T.History.maker g.T.History.fits _ _ _ _ _ (ap (λ s. s.me.0.stage) c.args.pass.rests))
+join_seat-requires g c = (search rules, search rules, ap (λ s. s.me.1) c.args.pass.rests, search rules, gathers g.T.History.entries g.T.History.maker g.T.History.fits g.T.History.level _ _ _ _ _ (ap (λ s. s.me.0.stage) c.args.pass.rests))
 
 pub returns-clause-taken : goal.returns-clause-taken
 returns-clause-taken g c =

@@ -17,7 +17,7 @@ load-requires g c =
     let u = turn.seat.me.0 in
     let name = c.args.self.now.name in
     let now = c.put_back-seat.ensures.full in
-    (search rules, search rules, closes g.T.History.entries g.T.History.maker g.T.History.fits _ _ _ _ (turn_in u.stage) (log_in u.stage) name (Some turn.number) (front_in u.hands) value (search rules) now (sym e.value) e.fits)
+    (search rules, search rules, closes g.T.History.entries g.T.History.maker g.T.History.fits g.T.History.level _ _ _ _ (turn_in u.stage) (log_in u.stage) name (Some turn.number) (front_in u.hands) value (search rules) now (sym e.value) e.fits)
 
 pub join_seat-requires : goal.join_seat-requires
 join_seat-requires g c =
@@ -27,7 +27,7 @@ join_seat-requires g c =
       search rules,
       ap (λ s. s.me.1) c.args.maker.makes,
       search rules,
-      completes g.T.History.entries g.T.History.maker g.T.History.fits _ _ _ _ _ _ c.args.maker.made (ap (λ m. m.0.stage) end) (ap (λ s. s.me.0.stage) c.args.maker.makes),
+      completes g.T.History.entries g.T.History.maker g.T.History.fits g.T.History.level _ _ _ _ _ _ c.args.maker.made (ap (λ m. m.0.stage) end) (ap (λ s. s.me.0.stage) c.args.maker.makes),
     )
 
 pub returns-clause-closing : goal.returns-clause-closing

@@ -11,11 +11,11 @@ fetch_add-number-requires g c =
     let m = c.args.maker.now in
     let name = c.args.self.now.name in
     let was = open_maker _ name m.made m.makes m.single c.requires.ours.named in
-    (search rules, search rules, draws_number g.T.History.entries g.T.History.maker g.T.History.fits _ _ _ _ m.made name [] (ap (λ m. m.0) was) c.requires.room)
+    (search rules, search rules, draws_number g.T.History.entries g.T.History.maker g.T.History.fits g.T.History.level _ _ _ _ m.made name [] (ap (λ m. m.0) was) c.requires.room)
 
 pub split_seat-heir-requires : goal.split_seat-heir-requires
 split_seat-heir-requires g c =
-    (search rules, search rules, heirs g.T.History.entries g.T.History.maker g.T.History.fits _ _ _ (c.fetch_add-number.result + 1) (ap (λ m. m.0.stage) c.fetch_add-number.ensures.2.1))
+    (search rules, search rules, heirs g.T.History.entries g.T.History.maker g.T.History.fits g.T.History.level _ _ _ (c.fetch_add-number.result + 1) (ap (λ m. m.0.stage) c.fetch_add-number.ensures.2.1))
 
 pub invariant_of-maker : goal.invariant_of-maker
 invariant_of-maker g c =

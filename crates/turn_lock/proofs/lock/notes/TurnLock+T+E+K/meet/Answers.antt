@@ -7,7 +7,7 @@ use Rattle.turn_lock.proofs.Parting.{gathers, compares}
 use Rattle.turn_lock.proofs.lock.notes.TurnLock+T+E+K.meet.Goals as goal
 
 pub join_seat-requires : goal.join_seat-requires
-join_seat-requires g c = (search rules, search rules, ap (λ s. s.me.1) c.args.note.rests, search rules, gathers g.T.History.entries g.T.History.maker g.T.History.fits _ _ _ _ _ (ap (λ s. s.me.0.stage) c.args.note.rests))
+join_seat-requires g c = (search rules, search rules, ap (λ s. s.me.1) c.args.note.rests, search rules, gathers g.T.History.entries g.T.History.maker g.T.History.fits g.T.History.level _ _ _ _ _ (ap (λ s. s.me.0.stage) c.args.note.rests))
 
 pub load-requires : goal.load-requires
 load-requires g c =
@@ -18,7 +18,7 @@ load-requires g c =
     let other = open_note _ name n.rests n.single c.requires.note.named in (
       search rules,
       search rules,
-      compares g.T.History.entries g.T.History.maker g.T.History.fits _ _ _ _ name name p.number (front_in p.seat.me.0.hands) (front_in n.seat.me.0.hands)
+      compares g.T.History.entries g.T.History.maker g.T.History.fits g.T.History.level _ _ _ _ name name p.number (front_in p.seat.me.0.hands) (front_in n.seat.me.0.hands)
           (ap (λ m. m.0) c.join_seat.ensures.2 ∙ (λ i. view (was i).0.stage ((was i).0.hands ++ (other i).0.hands))),
     )
 

@@ -6,7 +6,7 @@ use Rattle.turn_lock.proofs.Parting.{notes}
 use Rattle.turn_lock.proofs.lock.notes.TurnLock+T+E+K.note.Goals as goal
 
 pub split_seat-requires : goal.split_seat-requires
-split_seat-requires g c = (search rules, search rules, notes g.T.History.entries g.T.History.maker g.T.History.fits _ _ _)
+split_seat-requires g c = (search rules, search rules, notes g.T.History.entries g.T.History.maker g.T.History.fits g.T.History.level _ _ _)
 
 pub invariant_of-pass : goal.invariant_of-pass
 invariant_of-pass g c =

@@ -12,7 +12,7 @@ fetch_add-requires g c =
     let name = c.args.self.now.name in
     let n = c.args.turn.number in
     let now = c.put_back-seat.ensures.full in
-    (search rules, search rules, passes_turn_seeing g.T.History.entries g.T.History.maker g.T.History.fits _ _ _ _ (turn_in u.stage) n (log_in u.stage) (front_in u.hands) name c.args.value (search rules) now c.requires.same c.requires.fits)
+    (search rules, search rules, passes_turn_seeing g.T.History.entries g.T.History.maker g.T.History.fits g.T.History.level _ _ _ _ (turn_in u.stage) n (log_in u.stage) (front_in u.hands) name c.args.value (search rules) now c.requires.same c.requires.fits)
 
 pub invariant_of-result : goal.invariant_of-result
 invariant_of-result g c =

@@ -1,0 +1,3 @@
+pub mod BeginKeys
+pub mod FoundKeys
+pub mod Listings

@@ -1,0 +1,113 @@
+-- A new key.
+use Rattle.std.specs.Prelude.{◌≡◌, ℕ, ◌≤◌, ◌==◌, Bool, true, false, List, length, take, drop, Option, Some, None, Result, Ok, Err, ⊤, if◌then◌else◌}
+use Rattle.std.specs.Option.{option_map}
+use Rattle.tags.specs.declared.descriptor.Descriptor.{Descriptor}
+use Rattle.tags.specs.declared.policy.PolicyRow.{PolicyRow}
+use Rattle.tags.specs.declared.secrets.DeviceSecrets.{DeviceSecrets}
+use Rattle.journal_records.specs.declared.change.Change.{Change}
+use Rattle.journal_records.specs.declared.change.Change.TheVariants.{Create}
+use Rattle.journal_records.specs.LastingPart.{Lasting}
+use Rattle.key_domains.specs.Domains.{domain_blob}
+use Rattle.key_blobs.specs.Blobs.{blob_of}
+use Rattle.key_rules.specs.declared.facts.ImportFacts.{ImportFacts}
+use Rattle.key_rules.specs.declared.facts.NewFacts.{NewFacts}
+use Rattle.key_rules.specs.declared.plan.KeyPlan.{KeyPlan}
+use Rattle.key_rules.specs.Creation.{IsFit}
+use Rattle.keymint_ops.specs.declared.creation.NewKey.{NewKey}
+use Rattle.keymint_ops.specs.Creation.{planned, sealed_as}
+use Rattle.lasting_table.specs.TableView.{CanMake, TableView, lasting_in}
+use Rattle.rule_model.specs.declared.event.Act.{Act}
+use Rattle.rule_model.specs.declared.event.Act.TheVariants.{GenerateKey, ImportKey}
+use Rattle.rule_model.specs.declared.facts.Caller.{Caller}
+use Rattle.rule_model.specs.declared.reply.Fields.{Fields}
+use Rattle.rule_model.specs.Access.{owner_of}
+use Rattle.rule_model.specs.Changes.{alias_of, owner_for}
+use Rattle.rule_model.specs.NewFacts.{new_facts}
+use Rattle.rule_model.specs.Places.{has_key_place}
+use Rattle.rule_model.specs.Replies.{no_fields}
+use Rattle.call_answers.specs.declared.new_keys.AdmittedKey.{AdmittedKey}
+use Rattle.call_answers.specs.declared.new_keys.AskedKey.{AskedKey}
+use Rattle.call_answers.specs.declared.new_keys.Import.{Import}
+use Rattle.call_answers.specs.declared.new_keys.KeyFault.{KeyFault}
+use Rattle.call_answers.specs.declared.new_keys.KeyFault.TheVariants.{Broken, Full, Memory}
+use Rattle.call_answers.specs.declared.new_keys.SealedKey.{SealedKey}
+
+abbrev pub facts_of_import : Import → ImportFacts
+facts_of_import import = record { format = import.format; length = length import.material }
+
+-- the act that makes a key
+abbrev pub making : Descriptor → List ℕ → Option Import → Act
+making key params None = GenerateKey key params
+making key params (Some import) = ImportKey key params import.format import.material
+
+-- the imported material, or else the drawn bytes
+abbrev pub material_of : Option Import → List ℕ → List ℕ
+material_of None drawn = drawn
+material_of (Some import) drawn = import.material
+
+-- ---- whether it may be made
+
+-- what the rules read of a caller's key
+abbrev pub facts_of : List PolicyRow → Caller → AskedKey → Bool → NewFacts
+facts_of policy caller asked early_ended =
+    new_facts policy caller asked.key asked.params (option_map facts_of_import asked.import) early_ended
+
+-- what no rule denies, as it was planned, where there is a place
+pub record IsAdmitted (policy : List PolicyRow) (part : Lasting) (caller : Caller) (asked : AskedKey) (early_ended : Bool) (admitted : AdmittedKey) : Type 0 where
+  pub planned_is : planned (facts_of policy caller asked early_ended) ≡ Ok admitted.new
+  pub fit : IsFit (facts_of policy caller asked early_ended) admitted.new.plan
+  pub listed : length admitted.new.list ≤ 4132
+  pub place : has_key_place part (owner_of caller) asked.key ≡ true
+  pub uid_is : admitted.uid ≡ owner_of caller
+  pub key_is : admitted.key ≡ asked.key
+  pub import_is : admitted.import ≡ asked.import
+
+-- no rule denies it, and there is no place
+pub record IsFull (policy : List PolicyRow) (part : Lasting) (caller : Caller) (asked : AskedKey) (early_ended : Bool) : Type 0 where
+  pub new : NewKey
+  pub planned_is : planned (facts_of policy caller asked early_ended) ≡ Ok new
+  pub no_place : has_key_place part (owner_of caller) asked.key ≡ false
+
+-- what may be made, or what stands against it, unless memory ran out
+abbrev pub GivesAdmitted : List PolicyRow → Lasting → Caller → AskedKey → Bool → Result AdmittedKey KeyFault → Type 0
+GivesAdmitted policy part caller asked early_ended (Ok admitted) = IsAdmitted policy part caller asked early_ended admitted
+GivesAdmitted policy part caller asked early_ended (Err (Broken rule code)) = planned (facts_of policy caller asked early_ended) ≡ Err (rule, code)
+GivesAdmitted policy part caller asked early_ended (Err Full) = IsFull policy part caller asked early_ended
+GivesAdmitted policy part caller asked early_ended (Err Memory) = ⊤
+
+-- ---- what it is made into
+
+-- a key that was sealed: with its material under the device's key and this nonce
+pub record IsSealed (device : DeviceSecrets) (admitted : AdmittedKey) (generated nonce : List ℕ) (sealed : SealedKey) : Type 0 where
+  pub uid_is : sealed.uid ≡ admitted.uid
+  pub key_is : sealed.key ≡ admitted.key
+  pub blob_is : sealed.blob ≡ blob_of device.seal nonce (sealed_as device.root admitted.new.plan (material_of admitted.import generated))
+  pub list_is : sealed.list ≡ admitted.new.list
+  pub limit_is : sealed.limit ≡ admitted.new.plan.limit
+
+-- a key that was made: sealed with the imported material or the first drawn bytes, and with the others as its nonce
+abbrev pub IsMade : DeviceSecrets → AdmittedKey → List ℕ → SealedKey → Type 0
+IsMade device admitted drawn sealed =
+    IsSealed device admitted (take admitted.new.plan.size drawn) (drop admitted.new.plan.size drawn) sealed
+
+-- a key of a uid that is stored in its blob, with its list and limit
+abbrev pub creates : ℕ → ℕ → Descriptor → List ℕ → List ℕ → ℕ → Change
+creates number uid key blob list limit =
+    Create number (owner_for uid key.domain key.nspace).0 (owner_for uid key.domain key.nspace).1 (alias_of key) blob list limit
+
+-- the change of a new key: none where it is made in BLOB
+abbrev pub keeping : Lasting → ℕ → Descriptor → List ℕ → List ℕ → ℕ → Option Change
+keeping part uid key blob list limit = if key.domain == domain_blob then None else Some (creates part.next_key uid key blob list limit)
+
+-- its reply: the number of the key that is stored, or the blob that is handed out
+abbrev pub kept_fields : Lasting → Descriptor → List ℕ → Fields
+kept_fields part key blob = if key.domain == domain_blob then record no_fields { blob = Some blob } else record no_fields { key = Some part.next_key }
+
+-- the blob of a planned key, by the bytes that were drawn for it
+abbrev pub blob_made : DeviceSecrets → KeyPlan → Option Import → List ℕ → List ℕ
+blob_made device plan import drawn =
+    blob_of device.seal (drop plan.size drawn) (sealed_as device.root plan (material_of import (take plan.size drawn)))
+
+-- a key that is stored may be
+abbrev pub CanKeep : TableView → ℕ → Descriptor → List ℕ → List ℕ → ℕ → Type 0
+CanKeep held uid key blob list limit = (key.domain == domain_blob) ≡ false → CanMake held (creates (lasting_in held).next_key uid key blob list limit)

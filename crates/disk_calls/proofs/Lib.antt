@@ -1,0 +1,5 @@
+-- Lemmas of the crate.
+pub mod Filling
+pub mod Pairs
+pub mod PlaceLemmas
+pub mod Underway

@@ -1,5 +1,0 @@
-use Rattle.keystore_core.proofs.RowTable.{numbered_more}
-use Rattle.keystore_core.proofs.operations.Operations.open.Goals as goal
-
-pub invariant_of-self : goal.invariant_of-self
-invariant_of-self c = record { order = rw c.in-Ok.ensures.items (numbered_more c.args.self.now.rows.items c.args.operation _ c.requires.number c.args.self.now.order) }

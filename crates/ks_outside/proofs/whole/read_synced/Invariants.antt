@@ -1,9 +1,0 @@
-use Rattle.std.proofs.Common.{◌-◌, vec_len}
-use Rattle.ks_outside.specs.WholeReads.{IsReading}
-use Rattle.ks_outside.proofs.whole.read_synced.Given as goal
-
-abbrev pub invariant-pieces : goal.invariant-pieces
-invariant-pieces g l = IsReading g.D.Disk l.fn.disk l.disk l.length l.bytes.items
-
-abbrev pub decreases-pieces : goal.decreases-pieces
-decreases-pieces g l = l.length - vec_len l.bytes

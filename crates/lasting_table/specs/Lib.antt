@@ -1,0 +1,7 @@
+pub mod First
+pub mod TableView
+pub mod Maps
+pub mod Names
+pub mod Parts
+pub mod Rows
+pub mod Table

@@ -1,0 +1,3 @@
+pub mod RowTable
+pub mod Alike
+pub mod Users

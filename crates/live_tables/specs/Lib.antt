@@ -1,0 +1,9 @@
+pub mod Clients
+pub mod Device
+pub mod Tokens
+pub mod Begins
+pub mod Boot
+pub mod Alike
+pub mod Numbered
+pub mod Operations
+pub mod Tickets

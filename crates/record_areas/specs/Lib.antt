@@ -1,0 +1,4 @@
+pub mod BodyLengths
+pub mod Frames
+pub mod Holding
+pub mod Windows

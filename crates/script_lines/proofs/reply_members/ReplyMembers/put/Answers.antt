@@ -1,5 +1,0 @@
-use Rattle.script_lines.proofs.NoFloats.{put_keeps}
-use Rattle.script_lines.proofs.reply_members.ReplyMembers.put.Goals as goal
-
-pub invariant_of-self : goal.invariant_of-self
-invariant_of-self c = record { no_float = put_keeps c.put.result _ _ _ _ c.put.ensures.ok c.put.ensures.err c.requires c.args.self.now.no_float }

@@ -1,5 +1,0 @@
-use Rattle.script_lines.proofs.NoFloats.{entries_have_none}
-use Rattle.script_lines.proofs.reply_members.ReplyMembers.put_entries.Goals as goal
-
-pub put-requires : goal.put-requires
-put-requires c = rw c.from.ensures (entries_have_none _ _ c.in_ok-values-in-Some.ensures)

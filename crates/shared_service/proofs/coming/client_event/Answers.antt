@@ -1,4 +1,0 @@
-use Rattle.shared_service.proofs.coming.client_event.Goals as goal
-
-pub returns : goal.returns
-returns c = rw c.client_by.ensures

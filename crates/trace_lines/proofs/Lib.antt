@@ -1,0 +1,4 @@
+pub mod Numbered
+pub mod Depths
+pub mod ReplyBack
+pub mod FreeTexts
