@@ -41,7 +41,7 @@ def extra(form, word, near=None):
 
 
 # Words that are no form, and what is said of them.
-SLOTS, LINES = ("N", 1, 64), ("N", 1, 100000)
+SLOTS, LINES = ("N", 1, 1024), ("N", 1, 100000)
 PORT, CONNECTIONS, WORKERS = ("PORT", 0, 65535), ("CONNECTIONS", 1, 65536), ("WORKERS", 1, 64)
 USAGES = [
     ("", "no form is given"),
@@ -65,7 +65,7 @@ USAGES = [
     ("run --fresh script.jsonl", extra(RUN, "script.jsonl")),
     ("run --slots", lacks(RUN, *SLOTS)),
     ("run --slots 0", number(RUN, *SLOTS, "0")),
-    ("run --slots 65", number(RUN, *SLOTS, "65")),
+    ("run --slots 1025", number(RUN, *SLOTS, "1025")),
     ("run --slots +4", number(RUN, *SLOTS, "+4")),
     ("run --slots -1", number(RUN, *SLOTS, "-1")),
     ("run --slots 1e1", number(RUN, *SLOTS, "1e1")),

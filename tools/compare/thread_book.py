@@ -21,7 +21,7 @@ from model.trace_lines import compact, entry_of
 
 CRATE = "crates/keystore_threads"
 PROGRAM = TOP / CRATE / "out/keystore_threads"
-SLOTS = 64
+SLOTS = 1024
 LIMIT = 5
 SECONDS = 60
 ALL_USE = b"us"

@@ -6,7 +6,7 @@ use std::alloc::{AllocError, Global};
 const FORMS: &str = "Forms:
   keystore2 init
   keystore2 run [--fresh] [--slots N] [--trace]
-                                       N from 1 to 64, and 16 where it is not said
+                                       N from 1 to 1024, and 16 where it is not said
   keystore2 soak SEED N                SEED from 0 to 18446744073709551615, N from 1 to 100000
   keystore2 serve PORT CONNECTIONS WORKERS [--trace]
                                        PORT from 0 to 65535, CONNECTIONS from 1 to 65536, WORKERS from 1 to 64

@@ -145,7 +145,7 @@ fn other_form(first: &String, rest: &[String]) -> Option<Form>
     }
 }
 
-/// The form of the words: `init`; or `run`, optionally `--fresh`, then optionally `--slots N`, where N is a number from 1 to 64, and
+/// The form of the words: `init`; or `run`, optionally `--fresh`, then optionally `--slots N`, where N is a number from 1 to 1,024, and
 /// then optionally `--trace`; or `soak SEED N`, where N is a number from 1 to 100,000.
 pub fn form_of(words: &[String]) -> Option<Form>
     ensures form { result ≡ spec.form_of words.now }

@@ -155,10 +155,10 @@ fn a_line_has_at_most_262144_bytes(rt: HostRuntime) {
 /// Words with the status of a connect under them, and its text: those that are no form do nothing.
 static WORDS: [(&str, Status, &str); 25] = [
     ("run --fresh --slots 1", Status::Ok, CONNECTED),
-    ("run --fresh --slots 64", Status::Ok, CONNECTED),
+    ("run --fresh --slots 1024", Status::Ok, CONNECTED),
     ("run --fresh --slots 007", Status::Ok, CONNECTED),
     (
-        "run --fresh --slots 00000000000000000064",
+        "run --fresh --slots 00000000000000001024",
         Status::Ok,
         CONNECTED,
     ),
@@ -172,12 +172,12 @@ static WORDS: [(&str, Status, &str); 25] = [
     ("init init", Status::Usage, ""),
     ("init --fresh", Status::Usage, ""),
     ("run --slots", Status::Usage, ""),
-    ("run --slots 65", Status::Usage, ""),
+    ("run --slots 1025", Status::Usage, ""),
     ("--fresh run", Status::Usage, ""),
     ("run --fresh x", Status::Usage, ""),
     ("run --fresh --slots", Status::Usage, ""),
     ("run --fresh --slots 0", Status::Usage, ""),
-    ("run --fresh --slots 65", Status::Usage, ""),
+    ("run --fresh --slots 1025", Status::Usage, ""),
     ("run --fresh --slots +1", Status::Usage, ""),
     ("run --fresh --slots 1a", Status::Usage, ""),
     (

@@ -1,6 +1,10 @@
 //! The answers of the service: the fields of an admitted call, or the rule or the code that stopped it.
 
-ghost use Rattle.std.specs.Prelude.{◌≡◌};
+ghost use Rattle.std.specs.Prelude.{◌≡◌, ◌==◌, bytes_eq};
+ghost use Rattle.std.specs.Ordering.{on, eq_of_both};
+ghost use Rattle.std.specs.Cmp.Lexicographic.{pointwise};
+ghost use Rattle.std.specs.Cmp.Rules.{comparing};
+ghost use Rattle.std.proofs.Common.{rules};
 ghost use Rattle.rule_model.specs.Entries.{is_done};
 
 use std::alloc::Global;
@@ -37,8 +41,23 @@ impl Entries {
     }
 }
 
+/// Entries are equal where they are the same keys in the same order.
+impl PartialEq for Entries {
+    ghost eq = { pointwise (eq_of_both (on (λ e. e.0) bytes_eq) (on (λ e. e.1) ◌==◌)) };
+
+    ghost laws = { Prim.search (comparing, rules) };
+
+    fn eq(&self, other: &Entries) -> bool {
+        self.as_slice() == other.as_slice()
+    }
+}
+
+impl Eq for Entries {
+    ghost laws = { Prim.search (comparing, rules) };
+}
+
 /// What an admitted call answers; which fields stand in which reply is said at each act.
-#[derive(Debug, Drop)]
+#[derive(Debug, Drop, PartialEq, Eq)]
 pub struct Fields {
     /// the client's number, of a connect
     pub client: Option<u64>,
@@ -96,7 +115,7 @@ pub const NO_FIELDS: Fields = Fields {
 };
 
 /// The answer to an event.
-#[derive(Debug, Drop)]
+#[derive(Debug, Drop, PartialEq, Eq)]
 pub enum Reply {
     /// Each rule holds.
     Done(Fields),

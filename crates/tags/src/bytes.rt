@@ -1,6 +1,8 @@
 //! Bytes that are owned, and want of memory.
 
-ghost use Rattle.std.specs.Prelude.{◌≡◌, List, ℕ, length};
+ghost use Rattle.std.specs.Cmp.{partial_equiv_from_equiv};
+ghost use Rattle.std.specs.Cmp.Lexicographic.{nat_list_eq_equiv};
+ghost use Rattle.std.specs.Prelude.{◌≡◌, List, ℕ, length, bytes_eq};
 
 use std::alloc::{AllocError, AllocFailed, Global};
 use std::marker::Model;
@@ -89,4 +91,19 @@ impl Bytes {
     {
         self.bytes.is_empty()
     }
+}
+
+/// Bytes are equal where they are the same bytes in the same order.
+impl PartialEq for Bytes {
+    ghost eq = { λ a b. bytes_eq a b };
+
+    ghost laws = { partial_equiv_from_equiv nat_list_eq_equiv };
+
+    fn eq(&self, other: &Bytes) -> bool {
+        self.as_slice() == other.as_slice()
+    }
+}
+
+impl Eq for Bytes {
+    ghost laws = { nat_list_eq_equiv };
 }

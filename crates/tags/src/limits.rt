@@ -1,7 +1,7 @@
 //! The limits of the service, each once, with its unit. Contracts cite them by name.
 
 /// The most operations that are open at once, in slots.
-pub const MOST_SLOTS: usize = 64;
+pub const MOST_SLOTS: usize = 1_024;
 
 /// The most bytes of a line of a script, without its LF.
 pub const LINE_BYTES: usize = 262_144;
