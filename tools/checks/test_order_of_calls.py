@@ -23,8 +23,8 @@ from keystore_client import Client, Key, ServiceError, parameters
 
 OPENING = ["opening", "length", "lock"]
 SYNC = ["look at the path", "sync"]
-# What an adapter reads at once.
-PIECE = 512
+# What an opening reads at once.
+PIECE = 65_536
 EMPTY = len(HEADER) + 1
 MAC = {"PURPOSE": [2, 3], "ALGORITHM": 128, "DIGEST": [4], "MIN_MAC_LENGTH": 64, "NO_AUTH_REQUIRED": True}
 SIGNING = parameters(PURPOSE=[2], MAC_LENGTH=256)
@@ -45,8 +45,12 @@ def write(place, count):
 
 
 def reading(size):
-    """The calls by which a whole store of a size is read."""
-    return [*SYNC, "length", *(str(Note("r", place, PIECE)) for place in range(0, size, PIECE))]
+    """The calls by which a store of a size is read, where its records are less than a piece: the header, and the piece
+    behind it, whose end two reads that give nothing show, one for what of the piece is not there and one for what
+    might follow the last gate."""
+    records = len(HEADER)
+    reads = [(0, records), (records, PIECE), (size, PIECE - (size - records)), (size, PIECE)]
+    return [*SYNC, *(str(Note("r", *it)) for it in reads)]
 
 
 def change(gate, end):

@@ -18,6 +18,7 @@ CHECKS = [
     "long_inputs",
     "every_cut",
     "full_store",
+    "full_slots",
     "refused_stores",
     "device",
     "served_device",

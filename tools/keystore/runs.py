@@ -81,10 +81,10 @@ def ended(program: Word, words: Sequence[Word], folder: Word, script: bytes = b"
     return done.returncode, done.stdout, without_notices(done.stderr).splitlines()
 
 
-def check_replies(program: Word, asked: Sequence[str], wanted: Sequence[str]) -> None:
-    """A run over these lines, on a store of its own, answers these, and ends with status 0; the first line that is
-    answered otherwise is told."""
-    words: list[Word] = [program, "run", "--fresh"]
+def check_replies(program: Word, asked: Sequence[str], wanted: Sequence[str], *further: str) -> None:
+    """A run over these lines, on a store of its own and with these further words, answers these, and ends with status
+    0; the first line that is answered otherwise is told."""
+    words: list[Word] = [program, "run", "--fresh", *further]
     with scratch_folder() as folder:
         script = "\n".join(asked)
         done = subprocess.run(

@@ -1,5 +1,5 @@
 """The journal of a store, by docs/FORMATS.md ("Journal"), beside the program and without its code: the records of
-its bytes, where they end or are broken off, and what lasts behind them."""
+its bytes, where they end or are broken off, and what lasts behind them. It reads an area of records too."""
 from __future__ import annotations
 
 from collections.abc import Callable
@@ -10,34 +10,36 @@ from keystore.spelling import Reader, Short, counted, number
 HEADER = b"KSJRNL01"
 END = 268_435_456
 GATE = 0x4B
+MOST_KEYS = MOST_GRANTS = 65_536
+# Numbers of keys and grants stay below it.
+NUMBERS_END = 2**63
 
 # The fields of each kind: numbers by their width in bytes, and counted bytes.
 COUNTED = 0
-KINDS: dict[int, tuple[str, list[tuple[str, int]]]] = {
-    1: (
-        "Create",
-        [
-            ("id", 8),
-            ("domain", 1),
-            ("nspace", 8),
-            ("alias", COUNTED),
-            ("blob", COUNTED),
-            ("list", COUNTED),
-            ("limit", 4),
-        ],
-    ),
+Fields = list[tuple[str, int]]
+NAMED: Fields = [("id", 8), ("domain", 1), ("nspace", 8), ("alias", COUNTED), ("blob", COUNTED), ("list", COUNTED)]
+GRANTED: Fields = [("grant", 8), ("key", 8), ("uid", 4), ("bits", 4)]
+# The kinds of changes, which alone stand in a journal, and those of the rows of a snapshot.
+KINDS: dict[int, tuple[str, Fields]] = {
+    1: ("Create", [*NAMED, ("limit", 4)]),
     2: ("Delete", [("id", 8)]),
     3: ("Use", [("id", 8)]),
-    4: ("Grant", [("grant", 8), ("key", 8), ("uid", 4), ("bits", 4)]),
+    4: ("Grant", GRANTED),
     5: ("Ungrant", [("grant", 8)]),
     6: ("Clear", [("domain", 1), ("nspace", 8)]),
     7: ("Removed", [("user", 4)]),
 }
+ROWS: dict[int, tuple[str, Fields]] = {
+    8: ("Next", [("key", 8), ("grant", 8)]),
+    9: ("Held", [*NAMED, ("limit", 4), ("left", 4)]),
+    10: ("HeldGrant", GRANTED),
+}
+AREA_KINDS = {**KINDS, **ROWS}
 
 
 def spelled_body(kind: int, values: list[Any]) -> bytes:
     out = bytes([kind])
-    for (_, form), value in zip(KINDS[kind][1], values):
+    for (_, form), value in zip(AREA_KINDS[kind][1], values):
         out += counted(value) if form == COUNTED else number(value, form)
     return out
 
@@ -46,30 +48,35 @@ def framed(kind: int, values: list[Any]) -> bytes:
     return bytes([GATE]) + counted(spelled_body(kind, values))
 
 
-def read_body(body: bytes) -> tuple[int, list[Any]] | None:
-    """The kind and the values of a body, or None where it is none."""
+def read_body(body: bytes, kinds: dict[int, tuple[str, Fields]]) -> tuple[int, list[Any]] | None:
+    """The kind and the values of a body of one of these kinds, or None where it is none."""
     reader = Reader(body)
     try:
         kind = reader.number(1)
-        if kind not in KINDS:
+        if kind not in kinds:
             return None
-        values = [reader.counted() if form == COUNTED else reader.number(form) for _, form in KINDS[kind][1]]
+        values = [reader.counted() if form == COUNTED else reader.number(form) for _, form in kinds[kind][1]]
     except Short:
         return None
     return None if reader.data else (kind, values)
 
 
-def read_journal(store: bytes) -> tuple[list[tuple[int, int, list[Any]]], int | None, int | None]:
-    """The records with the places of their gates, and where they end; or the place where they are broken off."""
-    store = store[:END]
-    if store[:8] != HEADER:
-        return [], None, 0
-    at = 8
-    records: list[tuple[int, int, list[Any]]] = []
+# A record: the place of its gate, its kind and its values.
+Record = tuple[int, int, list[Any]]
+
+
+def read_records(
+    store: bytes, start: int, limit: int, kinds: dict[int, tuple[str, Fields]]
+) -> tuple[list[Record], int | None, int | None]:
+    """The records of these kinds from a place on, with the places of their gates, and where they end before a limit; or
+    the place where they are broken off."""
+    store = store[:limit]
+    at = start
+    records: list[Record] = []
     while at < len(store) and store[at] == GATE:
         length = int.from_bytes(store[at + 1 : at + 5], "big")
         body = store[at + 5 : at + 5 + length]
-        record = read_body(body) if at + 5 + length <= len(store) else None
+        record = read_body(body, kinds) if at + 5 + length <= len(store) else None
         if record is None:
             return records, None, at
         records.append((at, *record))
@@ -79,17 +86,40 @@ def read_journal(store: bytes) -> tuple[list[tuple[int, int, list[Any]]], int | 
     return records, at, None
 
 
+def read_journal(store: bytes) -> tuple[list[Record], int | None, int | None]:
+    """The same of a journal."""
+    if store[: len(HEADER)] != HEADER:
+        return [], None, 0
+    return read_records(store, len(HEADER), END, KINDS)
+
+
 # A key or a grant, its fields by name.
 Row = dict[str, Any]
 
 
+def is_same(key: Row, other: Row) -> bool:
+    """Whether two keys have one owner and one alias."""
+    return all(key[name] == other[name] for name in ("domain", "nspace", "alias"))
+
+
+def may_be_key(key: Row) -> bool:
+    """Whether a key's owner, alias, blob and list are such as a new key has."""
+    try:
+        key["alias"].decode("utf-8")
+    except UnicodeDecodeError:
+        return False
+    owner: bool = key["domain"] == 2 or (key["domain"] == 0 and key["nspace"] < 2**32)
+    return owner and 1 <= len(key["alias"]) <= 256 and len(key["blob"]) <= 6327 and len(key["list"]) <= 4140
+
+
 class Lasting:
-    """The keys, the grants and the next numbers."""
+    """The keys, the grants and the next numbers, and which records there were: none, rows alone, or a change."""
 
     def __init__(self) -> None:
         self.keys: list[Row] = []
         self.grants: list[Row] = []
         self.next_key, self.next_grant = 1, 1
+        self.rows, self.changed = 0, False
 
     def drop_keys(self, ends: Callable[[Row], object]) -> None:
         ended = {key["id"] for key in self.keys if ends(key)}
@@ -100,26 +130,47 @@ class Lasting:
         return next((key for key in self.keys if key["id"] == number), None)
 
     def apply(self, kind: int, values: list[Any]) -> bool:
-        """Makes the change, and tells whether its need was met."""
-        fields = dict(zip((name for name, _ in KINDS[kind][1]), values))
-        is_met: bool = getattr(self, KINDS[kind][0].lower())(**fields)
+        """Takes a record, and tells whether its need was met."""
+        name, forms = AREA_KINDS[kind]
+        fields = dict(zip((name for name, _ in forms), values))
+        is_row = kind in ROWS
+        is_met: bool = not (is_row and self.changed) and getattr(self, name.lower())(**fields)
+        if is_met:
+            self.rows, self.changed = self.rows + is_row, self.changed or not is_row
         return is_met
 
-    def create(self, id: int, domain: int, nspace: int, alias: bytes, blob: bytes, list: bytes, limit: int) -> bool:
-        def same(key: Row) -> object:
-            return (key["domain"], key["nspace"], key["alias"]) == (domain, nspace, alias)
+    def next(self, key: int, grant: int) -> bool:
+        if self.rows or not all(1 <= number <= NUMBERS_END for number in (key, grant)):
+            return False
+        self.next_key, self.next_grant = key, grant
+        return True
 
-        try:
-            alias.decode("utf-8")
-        except UnicodeDecodeError:
-            return False
-        owner = domain == 2 or (domain == 0 and nspace < 2**32)
-        sizes = 1 <= len(alias) <= 256 and len(blob) <= 6327 and len(list) <= 4140
-        place = sum(not same(key) for key in self.keys) < 65536
-        if not (id == self.next_key and id < 2**63 and owner and sizes and place):
-            return False
-        self.drop_keys(same)
+    def held(
+        self, id: int, domain: int, nspace: int, alias: bytes, blob: bytes, list: bytes, limit: int, left: int
+    ) -> bool:
         key = {"id": id, "domain": domain, "nspace": nspace, "alias": alias, "blob": blob, "list": list}
+        behind = all(held["id"] < id for held in self.keys) and not any(is_same(held, key) for held in self.keys)
+        uses = left <= limit and (limit == 0 or left >= 1)
+        if not (1 <= id < self.next_key and behind and uses and may_be_key(key) and len(self.keys) < MOST_KEYS):
+            return False
+        self.keys.append({**key, "limit": limit, "left": left})
+        return True
+
+    def heldgrant(self, grant: int, key: int, uid: int, bits: int) -> bool:
+        behind = all(held["grant"] < grant for held in self.grants)
+        other = not any((held["key"], held["uid"]) == (key, uid) for held in self.grants)
+        place = len(self.grants) < MOST_GRANTS and self.key(key) is not None
+        if not (1 <= grant < self.next_grant and behind and other and place):
+            return False
+        self.grants.append({"grant": grant, "key": key, "uid": uid, "bits": bits})
+        return True
+
+    def create(self, id: int, domain: int, nspace: int, alias: bytes, blob: bytes, list: bytes, limit: int) -> bool:
+        key = {"id": id, "domain": domain, "nspace": nspace, "alias": alias, "blob": blob, "list": list}
+        place = sum(not is_same(held, key) for held in self.keys) < MOST_KEYS
+        if not (id == self.next_key and id < NUMBERS_END and may_be_key(key) and place):
+            return False
+        self.drop_keys(lambda held: is_same(held, key))
         self.keys.append({**key, "limit": limit, "left": limit})
         self.next_key += 1
         return True
@@ -148,7 +199,7 @@ class Lasting:
                 return False
             held["bits"] = bits
             return True
-        if grant != self.next_grant or grant >= 2**63 or len(self.grants) >= 65536:
+        if grant != self.next_grant or grant >= NUMBERS_END or len(self.grants) >= MOST_GRANTS:
             return False
         self.grants.append({"grant": grant, "key": key, "uid": uid, "bits": bits})
         self.next_grant += 1

@@ -19,6 +19,7 @@ from model.values import (
     GRANT,
     KEY_ID,
     MOST_OPERATION_BYTES,
+    MOST_SLOTS,
     MOST_STEP_BYTES,
     SELINUX,
     Denied,
@@ -115,7 +116,7 @@ class Maker(ListMaker):
 
     def __init__(self, seed, store=None):
         super().__init__(seed)
-        self.slots = self.random.choice([1, 2, 3, 5, 16, 16])
+        self.slots = self.random.choice([1, 2, 3, 5, 16, 16, self.random.randint(17, MOST_SLOTS)])
         self.service = Service(slots=self.slots, store=store)
         self.outputs = []
         self.told = Told()

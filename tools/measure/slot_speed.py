@@ -1,31 +1,27 @@
 """Measures steps by how many operations are open.
 
-    tools/ks measure slot_speed [ROUNDS] [--program PATH] [--wide]
+    tools/ks measure slot_speed [ROUNDS] [--program PATH]
 
-A begin that prunes where 4 of 4 slots are taken, each by another uid, beside 64 of 64; an update of the operation that
-began last with 1 open beside 64. The time is that of the program's own processor, without that of a run that only makes
+Each kind of step with 16 operations open beside 1,024, each of another uid: a begin that prunes where all slots are
+taken, an update of the operation that began last, an abort of the one that began first with a begin in its place, and
+a client that comes and goes. The time is that of the program's own processor, without that of a run that only makes
 what is open. It prints microseconds a line for both and their ratio, of the least of all rounds, which are taken by
 turns. Then the same of a look at the oldest idle operation of one of two uids, with 2 slots taken beside 64: its
 program (tools/measure/slot_speed/main.rt.in) is proved and built in a folder for the time of the run, over copies of
-the crates with what earlier checks kept of them.
-
-With --wide it clones what is committed to a temporary folder, sets MOST_SLOTS to 1,024 in that copy, builds it with
-all its proofs, which takes as long as a gate, says so, and measures 64 beside 1,024 uids, and 16 beside 1,024 open
-operations, and no look."""
+the crates with what earlier checks kept of them."""
 import os
-import subprocess
 import sys
 import tempfile
 from pathlib import Path
 
-from keystore.harness import PROGRAM, TOP, add_program, parser_of, processor_seconds
+from keystore.harness import add_program, parser_of, processor_seconds
 from measure.own_program import run_over
 from keystore.scratch import scratch_folder
 
 STEPS = 100_000
 MAC = '[["PURPOSE",2],["ALGORITHM",128],["DIGEST",4],["MIN_MAC_LENGTH",64],["NO_AUTH_REQUIRED",true]]'
 KEY = '"key":{"domain":0,"alias":"k"}'
-LIMIT, WIDE = "pub const MOST_SLOTS: usize = {};", 1_024
+FEW, MOST = 16, 1_024
 USED = ["tags", "slot_chain", "operation_slots"]
 INVARIANTS = {"proofs/round/Invariants.antt": "Invariants.antt.in"}
 FILES = {"src/main.rt": "main.rt.in", "specs/Lib.antt": None, "proofs/Lib.antt": None, **INVARIANTS}
@@ -49,10 +45,27 @@ def start(clients, count):
     return lines + [begin(client + 1) for client in range(count)]
 
 
+def turns(count):
+    """The operation that began first ends, and its client begins another."""
+    for step in range(STEPS // 2):
+        client = step % count + 1
+        yield call(client, "abort", f'"op":{step + 1}')
+        yield begin(client)
+
+
+def visits():
+    """A client comes and goes, behind as many as there are slots."""
+    for client in range(MOST + 1, MOST + 1 + STEPS // 2):
+        yield '{"t":[0,1000],"do":"connect","uid":10001}'
+        yield f'{{"t":[0,1000],"c":{client},"do":"disconnect"}}'
+
+
 # Of so many open operations the lines of the steps.
 KINDS = {
     "createOperation that prunes": lambda count: [begin(i % count + 1) for i in range(STEPS)],
     "update of the last": lambda count: [call(count, "update", f'"op":{count},"input":"4869"')] * STEPS,
+    "abort of the first, and begin": lambda count: list(turns(count)),
+    "connect, and disconnect": lambda count: list(visits()),
 }
 
 
@@ -63,20 +76,6 @@ def taken(program, slots, script, folder):
     if other:
         sys.exit(f"slot_speed.py: a step has another reply than it should: {other[0][:100]}")
     return seconds
-
-
-def widened(folder):
-    """The program of a copy in which as many slots may be as are measured."""
-    copy = os.path.join(folder, "copy")
-    subprocess.run(["git", "clone", "--quiet", str(TOP), copy], check=True)
-    limits = Path(copy, "crates/tags/src/limits.rt")
-    text = limits.read_text(encoding="utf-8")
-    if LIMIT.format(64) not in text:
-        sys.exit("slot_speed.py: tags has another limit of slots than 64")
-    limits.write_text(text.replace(LIMIT.format(64), LIMIT.format(f"{WIDE:_}")), encoding="utf-8")
-    print(f"slot_speed.py: builds a copy with {WIDE:,} slots, and all its proofs", file=sys.stderr)
-    subprocess.run([sys.executable, "tools/build.py"], cwd=copy, check=True)
-    return os.path.join(copy, PROGRAM.relative_to(TOP))
 
 
 def look_times(folder):
@@ -93,38 +92,33 @@ def tell(kind, pair, few, many):
     print(f"{kind:<30} {pair[0]:6} {few:8.3f} {pair[1]:6} {many:8.3f} {many / few:6.2f}")
 
 
-def measured(program, most, sizes, rounds):
+def measured(program, rounds):
     """Prints a line a kind of step, of its two sizes."""
     with scratch_folder("slot-speed-") as place:
         runs = {}
-        for (kind, steps), pair in zip(KINDS.items(), sizes):
-            for count in pair:
-                lines = start(most, count)
+        for kind, steps in KINDS.items():
+            for count in (FEW, MOST):
+                lines = start(MOST, count)
                 for part in (False, True):
                     path = os.path.join(place, f"{len(runs)}")
                     Path(path).write_text("\n".join(lines + (steps(count) if part else [])), encoding="ascii")
-                    runs[kind, count, part] = path, count if kind.startswith("create") else most, []
+                    runs[kind, count, part] = path, count if kind.startswith("create") else MOST, []
         for _ in range(rounds):
             for path, slots, times in runs.values():
                 times.append(taken(program, slots, path, place))
-    for kind, pair in zip(KINDS, sizes):
-        tell(
-            kind,
-            pair,
-            *((min(runs[kind, count, True][2]) - min(runs[kind, count, False][2])) / STEPS * 1e6 for count in pair),
+    for kind in KINDS:
+        few, many = (
+            (min(runs[kind, count, True][2]) - min(runs[kind, count, False][2])) / STEPS * 1e6 for count in (FEW, MOST)
         )
+        tell(kind, (FEW, MOST), few, many)
 
 
 def main():
     ask = parser_of(__doc__)
     ask.add_argument("rounds", nargs="?", type=int, default=5)
-    ask.add_argument("--wide", action="store_true")
     add_program(ask)
     ask = ask.parse_args()
     print(f"{'step':<30} {'open':>6} {'us':>8} {'open':>6} {'us':>8} {'ratio':>6}")
+    measured(ask.program, ask.rounds)
     with tempfile.TemporaryDirectory(prefix="slot-speed-") as place:
-        if ask.wide:
-            measured(widened(place), WIDE, ((64, WIDE), (16, WIDE)), ask.rounds)
-        else:
-            measured(ask.program, 64, ((4, 64), (1, 64)), ask.rounds)
-            tell("look at the oldest", (2, 64), *look_times(place))
+        tell("look at the oldest", (2, 64), *look_times(place))

@@ -33,6 +33,7 @@ MOST_UID = 4294967295
 MOST_USER = MOST_UID // UIDS_OF_A_USER
 MOST_KEYS = MOST_GRANTS = 65536
 MOST_LISTED = 256
+MOST_SLOTS = 1024
 # The last tokens that are kept, of as many triples of a user, an authenticator and a kind; and the bytes of a
 # challenge.
 MOST_TRIPLES = 256

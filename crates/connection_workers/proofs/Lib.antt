@@ -1,3 +1,4 @@
 pub mod Intaking
 pub mod Rounds
+pub mod Turning
 pub mod Visiting

@@ -1,12 +1,14 @@
 //! All connections of a listener.
 
-ghost use Rattle.std.specs.Prelude.{◌≡◌, ◌<◌, ◌^◌, ◌+◌, ℕ, true, Some, List, length, slice_index_or};
-ghost use Rattle.turn_lock.specs.Passes.{made_of, IsClosingOf, IsMakerOf, IsPassOf, name_of};
+ghost use Rattle.std.specs.Prelude.{◌≡◌, ◌<◌, ◌^◌, ◌+◌, ℕ, true, Some, List, length};
+ghost use Rattle.turn_lock.specs.Passes.{made_before, made_of, IsClosingOf, IsMakerOf, Took, name_of};
+ghost use Rattle.connection_workers.specs.Arrivals.{arrived};
 ghost use Rattle.connection_workers.specs.Intakes.{IsIntake, is_shut};
-ghost use Rattle.connection_workers.specs.Workers.{AllFree, AllLetIn, AllServed, HadMemory, HasServed, IntakePass, IsAttended, IsFree, IsLetIn, SameAnswerers};
+ghost use Rattle.connection_workers.specs.Workers.{AllFree, AllLetIn, AllOurs, AllTookIn, AllTurned, AreKept, AreServed, HadMemory, HasFinished, HasTurned, IntakePass, IsAttended, IsFree, IsLetIn, SameAnswerers};
+ghost use Rattle.connection_workers.specs.declared.intake.Start.{Start};
 ghost use Rattle.connection_workers.specs.declared.serving.Attendance.TheVariants.{Memory};
 
-use crate::intake::{Intake, IntakeLock, Start};
+use crate::intake::{Arrival, Arrivals, Intake, IntakeLock, Start};
 use crate::worker::Worker;
 use connections::Answerer;
 use outside_net::HangsUp;
@@ -28,15 +30,15 @@ pub enum Attendance {
     Memory,
 }
 
-type IntakeMaker<B> = Maker<Intake<B>, (), Start<B>>;
+type IntakeMaker<B, L> = Maker<Intake<B, L>, Arrival<L>, Start<B>>;
 
-type IntakeClosing<B> = Closing<Intake<B>, (), Start<B>>;
+type IntakeClosing<B, L> = Closing<Intake<B, L>, Arrival<L>, Start<B>>;
 
-/// Gives each worker a pass.
+/// Gives each worker a pass, whose number is the worker's place.
 fn let_all_in<B: HangsUp, A: Answerer + Drop>(
-    lock: &IntakeLock<B>,
-    maker: &mut IntakeMaker<B>,
-    workers: &mut [Worker<B, A>],
+    lock: &IntakeLock<B, B::L>,
+    maker: &mut IntakeMaker<B, B::L>,
+    workers: &mut [Worker<B, B::L, A>],
 )
     requires ours { IsMakerOf lock.now maker.old }
     requires first { made_of maker.old ≡ 0 }
@@ -55,8 +57,8 @@ fn let_all_in<B: HangsUp, A: Answerer + Drop>(
 fn serve_together<R: Threads + Wait + Sync, B: HangsUp + Send, A: Answerer + Send + Drop>(
     rt: &R,
     alloc: Global,
-    lock: &IntakeLock<B>,
-    workers: &mut [Worker<B, A>],
+    lock: &IntakeLock<B, B::L>,
+    workers: &mut [Worker<B, B::L, A>],
 )
 where
     B::L: Send,
@@ -64,24 +66,48 @@ where
     requires passes { AllLetIn lock.now workers.old }
     requires free { AllFree A.connected workers.old }
     ensures count { length workers.new ≡ length workers.old }
-    ensures served { AllServed B.L.Link A.answers A.connected workers.old workers.new }
+    ensures turned { AllTurned lock.now B.L.Link A.answers B.leaves A.connected workers.old workers.new }
 {
     let count = workers.len();
     thread::for_each_mut(
         rt,
         workers,
         count,
-        &|_place: usize, worker: &mut Worker<B, A>|
-            requires { IsLetIn lock.now worker.now × IsFree A.connected worker.now }
-            ensures { HasServed B.L.Link A.answers A.connected worker.entry.now worker.exit.now }
+        &|place: usize, worker: &mut Worker<B, B::L, A>|
+            requires { IsLetIn lock.now place worker.now × IsFree A.connected worker.now }
+            ensures { HasTurned lock.entry.now B.L.Link A.answers B.leaves A.connected place worker.entry.now worker.exit.now }
         { worker.work(rt, alloc, lock) },
     );
 }
 
+/// Has the last turn take in the passes of all workers.
+fn let_all_out<B: HangsUp, A: Answerer + Drop>(
+    lock: &IntakeLock<B, B::L>,
+    closing: &mut IntakeClosing<B, B::L>,
+    workers: &mut [Worker<B, B::L, A>],
+)
+    requires ours { IsClosingOf lock.now closing.old }
+    requires passes { AllOurs lock.now workers.old }
+    ensures ours { IsClosingOf lock.now closing.new }
+    ensures made { made_before closing.new ≡ made_before closing.old }
+    ensures took { AllTookIn closing.new workers.old }
+    ensures kept { (pass : IntakePass B B.L) → Took closing.old pass → Took closing.new pass }
+    ensures same { SameAnswerers workers.old workers.new }
+{
+    'passes: for place in 0..workers.len() {
+        let pass = workers[place].let_out();
+        lock.absorb(closing, pass);
+    }
+}
+
 /// The intake of a lock that ends.
-fn intake_of<B: HangsUp + Drop>(lock: IntakeLock<B>, closing: IntakeClosing<B>) -> Intake<B>
+fn intake_of<B: HangsUp + Drop>(
+    lock: IntakeLock<B, B::L>,
+    closing: IntakeClosing<B, B::L>,
+) -> Intake<B, B::L>
     requires ours { IsClosingOf lock closing }
     ensures fits { IsIntake B.Listener (name_of lock) result }
+    ensures kept { AreKept closing (arrived result) }
 {
     let (slot, _made) = lock.end(closing);
     let Some(intake) = slot else { unreachable!() };
@@ -92,30 +118,27 @@ fn intake_of<B: HangsUp + Drop>(lock: IntakeLock<B>, closing: IntakeClosing<B>) 
 fn finish<R: Wait, B: HangsUp, A: Answerer + Drop>(
     rt: &R,
     alloc: Global,
-    intake: &mut Intake<B>,
-    workers: &mut [Worker<B, A>],
+    intake: &mut Intake<B, B::L>,
+    workers: &mut [Worker<B, B::L, A>],
 )
     requires some { 0 < length workers.old }
     requires free { AllFree A.connected workers.old }
-    ensures served { AllServed B.L.Link A.answers A.connected workers.old workers.new }
+    ensures finished { HasFinished B.L.Link A.answers B.leaves A.connected (arrived intake.old) (arrived intake.new) workers.old workers.new }
     ensures goes_on { (start : Start B) → IsIntake B.Listener start intake.old → IsIntake B.Listener start intake.new }
     ensures shut { is_shut intake.new ≡ true }
 {
-    workers[0].finish(rt, alloc, intake);
+    workers[0].finish(rt, alloc, intake, 0);
 }
 
 /// The listener of an intake that is shut, and how it ended.
-fn ended<B: HangsUp>(intake: Intake<B>) -> (B, Attendance)
+fn ended<B: HangsUp>(intake: Intake<B, B::L>) -> (B, Attendance)
     requires shut { is_shut intake ≡ true }
     ensures attended { (start : Start B) → IsIntake B.Listener start intake
-        → IsAttended B.Listener start.connections start.begin.value result.0 result.1 }
+        → IsAttended B.Listener start.connections (length (arrived intake)) start.begin.value result.0 result.1 }
     ensures memory { HadMemory result.1 }
 {
-    let Intake {
-        listener,
-        failed,
-        ..
-    } = intake;
+    let failed = intake.failed;
+    let listener = intake.into_listener();
     if failed {
         (listener, Attendance::ListenFault)
     } else {
@@ -123,22 +146,21 @@ fn ended<B: HangsUp>(intake: Intake<B>) -> (B, Attendance)
     }
 }
 
-/// Serves so many connections of a listener, or as many as come, by workers to whose answerers no client has come. Where no thread can be
-/// made they work one after another; what they leave the first of them serves in the end. It takes memory for a lock alone, and where
-/// that is wanting the workers stay as they are.
+/// Serves so many connections of a listener, or as many as come, by workers to whose answerers no client has come. Each is served once, by
+/// the worker that took it. Where no thread can be made they work one after another; what they leave the first of them serves in the end.
+/// It takes memory for a lock alone, and where that is wanting the workers stay as they are.
 pub fn serve_all<R: Threads + Wait + Sync, B: HangsUp + Send + Drop, A: Answerer + Send + Drop>(
     rt: &R,
     alloc: Global,
     listener: B,
     connections: u64,
-    workers: &mut [Worker<B, A>],
+    workers: &mut [Worker<B, B::L, A>],
 ) -> (B, Attendance)
 where
     B::L: Send,
     requires some { 0 < length workers.old }
     requires free { AllFree A.connected workers.old }
-    ensures attended { IsAttended B.Listener connections listener result.0 result.1 }
-    ensures served { AllServed B.L.Link A.answers A.connected workers.old workers.new }
+    ensures served { AreServed B.Listener B.L.Link A.answers B.leaves A.connected connections listener result.0 result.1 workers.old workers.new }
     ensures unserved { result.1 ≡ Memory → workers.new ≡ workers.old }
 {
     let start = Start {
@@ -150,15 +172,17 @@ where
         left: connections,
         failed: false,
         over: false,
+        arrivals: Arrivals::Nothing,
     };
     let (lock, mut maker) = match TurnLock::open(alloc, intake, start) {
         Ok(opened) => opened,
-        Err(intake) => return (intake.listener, Attendance::Memory),
+        Err(intake) => return (intake.into_listener(), Attendance::Memory),
     };
     let_all_in(&lock, &mut maker, workers);
     serve_together(rt, alloc, &lock, workers);
     let own = lock.another(&mut maker);
-    let closing = lock.last_turn(rt, own, maker);
+    let mut closing = lock.last_turn(rt, own, maker);
+    let_all_out(&lock, &mut closing, workers);
     let mut intake = intake_of(lock, closing);
     finish(rt, alloc, &mut intake, workers);
     ended(intake)

@@ -1,3 +1,4 @@
 pub mod Device
+pub mod Files
 pub mod Reads
 pub mod Policy

@@ -1,7 +1,10 @@
-//! The edge: the two files of the current folder. What a real file holds no clause says.
+//! The two files of a device, and the edge: the bytes of a file. What a real file holds no clause says.
+
+ghost use Rattle.device_files.specs.Files.{ReadsDevice, ReadsPolicy};
 
 use crate::policy::{PolicyFault, policy_fault};
 use crate::{FileFault, device_in, policy_in};
+use std::alloc::Global;
 use std::fmt::{Display, Formatter};
 use std::io::{Error, ErrorKind, Read};
 use std::rt::Files;
@@ -9,10 +12,10 @@ use std::{fmt, fs, io};
 use tags::{DeviceSecrets, Policy};
 
 /// The most bytes of a device file.
-const DEVICE_BYTES: u64 = 96;
+pub const DEVICE_BYTES: u64 = 96;
 
 /// The most bytes of a policy file: 256 rows take some eleven thousand, and the rest is for blanks.
-const POLICY_BYTES: u64 = 1 << 20;
+pub const POLICY_BYTES: u64 = 1 << 20;
 
 /// Why a file that is there was not taken.
 #[derive(Debug, Drop)]
@@ -54,7 +57,7 @@ impl Display for FileTrouble {
 }
 
 /// The bytes of a file, of which it may have `most`; `None` where it is not there. No more than one byte beyond the most is read.
-fn bytes_of<R: Files + AllocGlobal>(
+pub fn read_file<R: Files + AllocGlobal>(
     rt: &R,
     path: &str,
     most: u64,
@@ -72,16 +75,12 @@ fn bytes_of<R: Files + AllocGlobal>(
     Ok(Some(bytes))
 }
 
-/// The device of a file; `None` where the file is not there.
-pub fn read_device<R: Files + AllocGlobal>(
-    rt: &R,
-    path: &str,
-) -> Result<Option<DeviceSecrets>, FileTrouble> {
-    let Some(bytes) = bytes_of(rt, path, DEVICE_BYTES)? else {
-        return Ok(None);
-    };
-    match device_in(&bytes) {
-        Some(device) => Ok(Some(device)),
+/// The device of the bytes of its file.
+pub fn device_of(bytes: &[u8]) -> Result<DeviceSecrets, FileTrouble>
+    ensures { ReadsDevice bytes.now result }
+{
+    match device_in(bytes) {
+        Some(device) => Ok(device),
         None => Err(FileTrouble::Short {
             bytes: bytes.len() as u64,
             wanted: DEVICE_BYTES,
@@ -89,17 +88,13 @@ pub fn read_device<R: Files + AllocGlobal>(
     }
 }
 
-/// The policy of a file; `None` where the file is not there.
-pub fn read_policy<R: Files + AllocGlobal>(
-    rt: &R,
-    path: &str,
-) -> Result<Option<Policy>, FileTrouble> {
-    let Some(bytes) = bytes_of(rt, path, POLICY_BYTES)? else {
-        return Ok(None);
-    };
-    match policy_in(rt.alloc(), &bytes) {
-        Ok(policy) => Ok(Some(policy)),
+/// The policy of the bytes of its file.
+pub fn policy_of(alloc: Global, bytes: &[u8]) -> Result<Policy, FileTrouble>
+    ensures { ReadsPolicy bytes.now result }
+{
+    match policy_in(alloc, bytes) {
+        Ok(policy) => Ok(policy),
         Err(FileFault::Memory) => Err(FileTrouble::Memory),
-        Err(FileFault::Malformed) => Err(FileTrouble::Policy(policy_fault(rt.alloc(), &bytes))),
+        Err(FileFault::Malformed) => Err(FileTrouble::Policy(policy_fault(alloc, bytes))),
     }
 }

@@ -1,61 +1,106 @@
 -- Bytes stand for one lasting part at most, and have their first fault at one place.
-use Rattle.std.proofs.Common.{◌≡◌, ℕ, false, List, [], ◌∷◌, ◌++◌, length, Some, None, refl, sym, ap, ◌∙◌}
-use Rattle.std.specs.Option.{option_and_then}
+use Rattle.std.proofs.Common.{◌≡◌, ℕ, ◌+◌, false, List, [], ◌∷◌, ◌++◌, length, Some, None, refl, sym, ap, ◌∙◌, subst}
+use Rattle.std.specs.Option.{option_and_then, option_map}
 use Rattle.std.proofs.lemmas.Option.{none-some, same_Some}
-use Rattle.journal_records.specs.declared.change.Change.{Change}
+use Rattle.journal_records.specs.declared.record.Record.{Record}
 use Rattle.journal_records.specs.LastingPart.{Lasting}
-use Rattle.journal_records.specs.Needs.{is_met}
-use Rattle.journal_records.specs.Effects.{lasting_of, changed}
-use Rattle.use_journal.specs.Journal.{written, IsJournal, IsCorrupted, AreChanges}
-use Rattle.key_database.specs.Store.{StandsFor, IsBadStore, NoJournal, UnmetNeed}
+use Rattle.journal_records.specs.Spelling.{spelled}
+use Rattle.journal_records.specs.States.{ReadState, met_in, state_of, stepped}
+use Rattle.record_areas.specs.Frames.{AreRecords, Frame, HasRecords, IsBrokenAt, IsStore}
+use Rattle.key_database.specs.Frames.{IsStoreFrame, has_frame, no_frame_place, one_frame}
+use Rattle.key_database.specs.Store.{StandsFor, BrokenOff, HasUnmet, IsBadStore, IsBrokenOff, IsUnmetIn, NoFrame, UnmetNeed, part_of}
 
--- what the law of journals tells
+-- what the law of areas tells
 abbrev pub OneList : Type 0
-OneList = (past later : List Change) (image : List ℕ) → AreChanges past → AreChanges later → IsJournal past image → IsJournal later image → past ≡ later
+OneList = (start limit kinds : ℕ) (past later : List Record) (image : List ℕ) → AreRecords kinds past → AreRecords kinds later
+    → HasRecords start limit past image → HasRecords start limit later image → past ≡ later
 
 abbrev pub NotBroken : Type 0
-NotBroken = (past : List Change) (offset : ℕ) (image : List ℕ) → AreChanges past → IsJournal past image → IsCorrupted image offset → ⊥
+NotBroken = (start limit kinds : ℕ) (past : List Record) (offset : ℕ) (image : List ℕ) → AreRecords kinds past
+    → HasRecords start limit past image → IsBrokenAt start limit kinds image offset → ⊥
 
 abbrev pub OnePlace : Type 0
-OnePlace = (offset other : ℕ) (image : List ℕ) → IsCorrupted image offset → IsCorrupted image other → offset ≡ other
+OnePlace = (start limit kinds : ℕ) (offset other : ℕ) (image : List ℕ) → IsBrokenAt start limit kinds image offset
+    → IsBrokenAt start limit kinds image other → offset ≡ other
 
 -- where a need is not met nothing is left, and nothing behind it
-unmet_leaves : (before : List Change) (change : Change) (part : Lasting) → lasting_of before ≡ Some part → is_met part change ≡ false → lasting_of (change ∷ before) ≡ None
-unmet_leaves before change part left unmet = rw (left, unmet) refl
+unmet_leaves : (before : List Record) (it : Record) (state : ReadState) → state_of before ≡ Some state → met_in state it ≡ false → state_of (it ∷ before) ≡ None
+unmet_leaves before it state left unmet = rw (left, unmet) refl
 
-nothing_left : (later past : List Change) → lasting_of past ≡ None → lasting_of (later ++ past) ≡ None
+nothing_left : (later past : List Record) → state_of past ≡ None → state_of (later ++ past) ≡ None
 nothing_left [] past none = none
-nothing_left (change ∷ later) past none = ap (option_and_then (λ part. changed part change)) (nothing_left later past none)
+nothing_left (it ∷ later) past none = ap (option_and_then (λ state. stepped state it)) (nothing_left later past none)
 
-unmet_list : (later before : List Change) (change : Change) (part : Lasting) → lasting_of before ≡ Some part → is_met part change ≡ false → lasting_of (later ++ change ∷ before) ≡ None
-unmet_list later before change part left unmet = nothing_left later (change ∷ before) (unmet_leaves before change part left unmet)
+unmet_list : (later before : List Record) (it : Record) (state : ReadState) → state_of before ≡ Some state → met_in state it ≡ false → state_of (later ++ it ∷ before) ≡ None
+unmet_list later before it state left unmet = nothing_left later (it ∷ before) (unmet_leaves before it state left unmet)
 
-tails : (x y : Change) (xs ys : List Change) → x ∷ xs ≡ y ∷ ys → xs ≡ ys
+tails : (x y : Record) (xs ys : List Record) → x ∷ xs ≡ y ∷ ys → xs ≡ ys
 tails x y xs ys e = cc
 
 -- the first need that is not met is one
-one_unmet : (later other before rest : List Change) (change third : Change) (part last : Lasting) → lasting_of before ≡ Some part → is_met part change ≡ false → lasting_of rest ≡ Some last → is_met last third ≡ false → later ++ change ∷ before ≡ other ++ third ∷ rest → before ≡ rest
-one_unmet [] [] before rest change third part last left unmet left' unmet' e = tails change third before rest e
-one_unmet [] (y ∷ other) before rest change third part last left unmet left' unmet' e =
-    absurd (none-some part (sym (ap lasting_of (tails change y before (other ++ third ∷ rest) e) ∙ unmet_list other rest third last left' unmet') ∙ left))
-one_unmet (x ∷ later) [] before rest change third part last left unmet left' unmet' e =
-    absurd (none-some last (sym (ap lasting_of (sym (tails x third (later ++ change ∷ before) rest e)) ∙ unmet_list later before change part left unmet) ∙ left'))
-one_unmet (x ∷ later) (y ∷ other) before rest change third part last left unmet left' unmet' e =
-    one_unmet later other before rest change third part last left unmet left' unmet' (tails x y (later ++ change ∷ before) (other ++ third ∷ rest) e)
+one_unmet : (later other before rest : List Record) (it third : Record) (state last : ReadState) → state_of before ≡ Some state → met_in state it ≡ false → state_of rest ≡ Some last → met_in last third ≡ false
+    → later ++ it ∷ before ≡ other ++ third ∷ rest → before ≡ rest
+one_unmet [] [] before rest it third state last left unmet left' unmet' e = tails it third before rest e
+one_unmet [] (y ∷ other) before rest it third state last left unmet left' unmet' e =
+    absurd (none-some state (sym (ap state_of (tails it y before (other ++ third ∷ rest) e) ∙ unmet_list other rest third last left' unmet') ∙ left))
+one_unmet (x ∷ later) [] before rest it third state last left unmet left' unmet' e =
+    absurd (none-some last (sym (ap state_of (sym (tails x third (later ++ it ∷ before) rest e)) ∙ unmet_list later before it state left unmet) ∙ left'))
+one_unmet (x ∷ later) (y ∷ other) before rest it third state last left unmet left' unmet' e =
+    one_unmet later other before rest it third state last left unmet left' unmet' (tails x y (later ++ it ∷ before) (other ++ third ∷ rest) e)
+
+-- a part is left, or a need is not met
+left_met : (past : List Record) (offset start : ℕ) (part : Lasting) → option_map part_of (state_of past) ≡ Some part → IsUnmetIn start past offset → ⊥
+left_met past offset start part left u =
+    none-some part (sym (ap (option_map part_of) (ap state_of u.is ∙ unmet_list u.later u.before u.it u.state u.left u.unmet)) ∙ left)
+
+one_place : (past : List Record) (start offset other : ℕ) → IsUnmetIn start past offset → IsUnmetIn start past other → offset ≡ other
+one_place past start offset other u v =
+    u.place ∙ ap (λ (before : List Record). start + length (spelled before)) (one_unmet u.later v.later u.before v.before u.it v.it u.state v.state u.left u.unmet v.left v.unmet (sym u.is ∙ v.is)) ∙ sym v.place
+
+-- stores of one image have the same records
+pub same_past : OneList → (frame other : Frame) (past later : List Record) (image : List ℕ) → IsStoreFrame frame → IsStoreFrame other → AreRecords frame.kinds past → AreRecords other.kinds later
+    → IsStore frame past image → IsStore other later image → past ≡ later
+same_past one frame other past later image is is' records records' store store' =
+    let same = one_frame other frame is' is in
+    one frame.start frame.limit frame.kinds past later image records (subst (λ (f : Frame). AreRecords f.kinds later) same records') store.records
+    (subst (λ (f : Frame). HasRecords f.start f.limit later image) same store'.records)
 
 pub one_part : OneList → (part other : Lasting) (image : List ℕ) → StandsFor part image → StandsFor other image → part ≡ other
 one_part one part other image s t =
-    same_Some part other (sym s.lasting ∙ ap lasting_of (one s.past t.past image s.changes t.changes s.journal t.journal) ∙ t.lasting)
+    let same = same_past one s.frame t.frame s.past t.past image s.is_frame t.is_frame s.records t.records s.store t.store in
+    same_Some part other (sym s.lasting ∙ ap (λ (past : List Record). option_map part_of (state_of past)) same ∙ t.lasting)
+
+whole_store : NotBroken → (frame : Frame) (past : List Record) (offset : ℕ) (image : List ℕ) → IsStoreFrame frame → AreRecords frame.kinds past → IsStore frame past image → IsBrokenOff image offset → ⊥
+whole_store whole frame past offset image is records store b =
+    let same = one_frame b.frame frame b.is_frame is in
+    whole frame.start frame.limit frame.kinds past offset image records store.records (subst (λ (f : Frame). IsBrokenAt f.start f.limit f.kinds image offset) same b.broken)
 
 pub not_bad : OneList → NotBroken → (part : Lasting) (offset : ℕ) (image : List ℕ) → StandsFor part image → IsBadStore image offset → ⊥
-not_bad one whole part offset image s (NoJournal broken) = whole s.past offset image s.changes s.journal broken
+not_bad one whole part offset image s (NoFrame none) = has_frame s.frame image offset s.is_frame s.store.marked none
+not_bad one whole part offset image s (BrokenOff b) = whole_store whole s.frame s.past offset image s.is_frame s.records s.store b
 not_bad one whole part offset image s (UnmetNeed u) =
-    none-some part (sym (ap lasting_of (one s.past u.past image s.changes u.changes s.journal u.journal ∙ u.is) ∙ unmet_list u.later u.before u.change u.part u.lasting u.unmet) ∙ s.lasting)
+    let same = same_past one s.frame u.frame s.past u.past image s.is_frame u.is_frame s.records u.records s.store u.store in
+    left_met u.past offset u.frame.start part (subst (λ (past : List Record). option_map part_of (state_of past) ≡ Some part) same s.lasting) u.first
+
+-- what is wrong first, of two
+one_unmet_need : OneList → (offset other : ℕ) (image : List ℕ) → HasUnmet image offset → HasUnmet image other → offset ≡ other
+one_unmet_need one offset other image u v =
+    let past = same_past one v.frame u.frame v.past u.past image v.is_frame u.is_frame v.records u.records v.store u.store in
+    let frame = one_frame v.frame u.frame v.is_frame u.is_frame in
+    one_place u.past u.frame.start offset other u.first (subst (λ (p : List Record). IsUnmetIn u.frame.start p other) past (subst (λ (f : Frame). IsUnmetIn f.start v.past other) frame v.first))
+
+one_break : OnePlace → (offset other : ℕ) (image : List ℕ) → IsBrokenOff image offset → IsBrokenOff image other → offset ≡ other
+one_break place offset other image a b =
+    place a.frame.start a.frame.limit a.frame.kinds offset other image a.broken
+    (subst (λ (f : Frame). IsBrokenAt f.start f.limit f.kinds image other) (one_frame b.frame a.frame b.is_frame a.is_frame) b.broken)
 
 pub one_offset : OneList → NotBroken → OnePlace → (offset other : ℕ) (image : List ℕ) → IsBadStore image offset → IsBadStore image other → offset ≡ other
-one_offset one whole place offset other image (NoJournal a) (NoJournal b) = place offset other image a b
-one_offset one whole place offset other image (NoJournal a) (UnmetNeed u) = absurd (whole u.past offset image u.changes u.journal a)
-one_offset one whole place offset other image (UnmetNeed u) (NoJournal b) = absurd (whole u.past other image u.changes u.journal b)
-one_offset one whole place offset other image (UnmetNeed u) (UnmetNeed v) =
-    u.place ∙ ap (λ before. length (written before)) (one_unmet u.later v.later u.before v.before u.change v.change u.part v.part u.lasting u.unmet v.lasting v.unmet
-    (sym u.is ∙ one u.past v.past image u.changes v.changes u.journal v.journal ∙ v.is)) ∙ sym v.place
+one_offset one whole place offset other image (NoFrame a) (NoFrame b) = no_frame_place image offset other a b
+one_offset one whole place offset other image (NoFrame a) (BrokenOff b) = absurd (has_frame b.frame image offset b.is_frame b.marked a)
+one_offset one whole place offset other image (NoFrame a) (UnmetNeed b) = absurd (has_frame b.frame image offset b.is_frame b.store.marked a)
+one_offset one whole place offset other image (BrokenOff a) (NoFrame b) = absurd (has_frame a.frame image other a.is_frame a.marked b)
+one_offset one whole place offset other image (BrokenOff a) (BrokenOff b) = one_break place offset other image a b
+one_offset one whole place offset other image (BrokenOff a) (UnmetNeed b) = absurd (whole_store whole b.frame b.past offset image b.is_frame b.records b.store a)
+one_offset one whole place offset other image (UnmetNeed a) (NoFrame b) = absurd (has_frame a.frame image other a.is_frame a.store.marked b)
+one_offset one whole place offset other image (UnmetNeed a) (BrokenOff b) = absurd (whole_store whole a.frame a.past other image a.is_frame a.records a.store b)
+one_offset one whole place offset other image (UnmetNeed a) (UnmetNeed b) = one_unmet_need one offset other image a b

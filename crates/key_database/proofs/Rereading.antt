@@ -1,32 +1,34 @@
 -- What is held while nothing changes: with other room, and after the store is read again.
-use Rattle.std.proofs.Common.{◌≡◌, ℕ, List, false, Err, length, refl, sym, ap, ◌∙◌, subst}
+use Rattle.std.proofs.Common.{◌≡◌, ℕ, List, false, Err, length, ◌+◌, refl, sym, ap, ◌∙◌, subst}
 use Rattle.ks_outside.specs.declared.disk.Disk.{Ghosts}
 use Rattle.ks_outside.specs.Images.{AllImages, Passes}
 use Rattle.ks_outside.proofs.Joins.{passes_as}
-use Rattle.journal_records.specs.declared.change.Change.{Change}
+use Rattle.journal_records.specs.declared.record.Record.TheVariants as records
+use Rattle.journal_records.specs.Spelling.{spelled}
 use Rattle.journal_records.specs.declared.fault.StoreFault.{StoreFault}
 use Rattle.journal_records.specs.declared.fault.StoreFault.TheVariants as faults
 use Rattle.journal_records.specs.LastingPart.{Lasting}
 use Rattle.journal_records.specs.Holding.{Holding, Sure, Unsure}
-use Rattle.use_journal.specs.Holding.{IsSettledOn, IsUnsettledOn, end_of, is_waiting}
-use Rattle.use_journal.specs.Journal.{written, IsJournal, AreChanges}
+use Rattle.record_areas.specs.Holding.{IsUnsettledOn}
+use Rattle.use_journal.specs.Holding.{area_of, end_of, is_waiting}
+use Rattle.key_database.specs.Frames.{one_frame}
 use Rattle.key_database.specs.Store.{StandsFor, MayBe}
-use Rattle.key_database.specs.Stands.{FindsStore, Holds, IsReadAgain, SameStore, is_unsettled, lasting, store_bytes}
+use Rattle.key_database.specs.Stands.{FindsStore, Holds, IsReadAgain, KeepsPart, SameStore, is_unsettled, kept_stands, lasting, store_bytes}
 use Rattle.key_database.specs.declared.database.KeyDatabase.{KeyDatabase}
-use Rattle.key_database.proofs.Applied.{before_stands}
+use Rattle.key_database.proofs.OneStore.{OneList, same_past}
 
 -- the same store holds the same
 pub same_holds : {D : Type 0} (g : Ghosts D) (old new : KeyDatabase) (disk : D) (held : Holding) → SameStore old new → Holds g old disk held → Holds g new disk held
 same_holds g old new disk (Sure part) same s = record {
-  past = s.past;
-  settled = subst (λ j. IsSettledOn g j disk s.past) (sym same.journal_is) s.settled;
-  left = s.left;
+  kept = subst (λ j. KeepsPart g j disk part) (sym same.journal_is) s.kept;
   held = same.lasting_is ∙ s.held;
 }
 same_holds g old new disk (Unsure part later) same s = record {
+  frame = s.frame;
+  is_frame = s.is_frame;
   past = s.past;
   change = s.change;
-  unsettled = subst (λ j. IsUnsettledOn g j disk s.past s.change) (sym same.journal_is) s.unsettled;
+  unsettled = subst (λ j. IsUnsettledOn g (area_of j) disk s.frame s.past (records.Change s.change)) (sym same.journal_is) s.unsettled;
   left = s.left;
   held = same.lasting_is ∙ s.held;
   met = s.met;
@@ -38,15 +40,33 @@ module _ {D : Type 0} (g : Ghosts D) (old : KeyDatabase) (disk disk' : D) (fewer
   -- no image came
   pub fewer_holds : (held : Holding) → Holds g old disk held → Holds g old disk' held
   fewer_holds (Sure part) s = record {
-    past = s.past;
-    settled = record { idle = s.settled.idle; place = s.settled.place; changes = s.settled.changes; images = λ c image. s.settled.images c (fewer c image) };
-    left = s.left;
+    kept = record {
+      frame = s.kept.frame;
+      is_frame = s.kept.is_frame;
+      past = s.kept.past;
+      settled = record {
+        idle = s.kept.settled.idle;
+        of = s.kept.settled.of;
+        place = s.kept.settled.place;
+        records = s.kept.settled.records;
+        images = λ c image. s.kept.settled.images c (fewer c image);
+      };
+      left = s.kept.left;
+    };
     held = s.held;
   }
   fewer_holds (Unsure part later) s = record {
+    frame = s.frame;
+    is_frame = s.is_frame;
     past = s.past;
     change = s.change;
-    unsettled = record { waits = s.unsettled.waits; place = s.unsettled.place; changes = s.unsettled.changes; images = λ c image. s.unsettled.images c (fewer c image) };
+    unsettled = record {
+      waits = s.unsettled.waits;
+      of = s.unsettled.of;
+      place = s.unsettled.place;
+      records = s.unsettled.records;
+      images = λ c image. s.unsettled.images c (fewer c image);
+    };
     left = s.left;
     held = s.held;
     met = s.met;
@@ -56,19 +76,19 @@ module _ {D : Type 0} (g : Ghosts D) (old : KeyDatabase) (disk disk' : D) (fewer
 
   -- each image stands for what is held
   pub sure_stands : (part : Lasting) → Holds g old disk (Sure part) → AllImages g disk (StandsFor part)
-  sure_stands part s c image = before_stands s.past part c s.settled.changes s.left (s.settled.images c image)
+  sure_stands part s = kept_stands g old.journal disk part s.kept
 
   pub passes_fewer : (idle : is_unsettled old ≡ false) (held : Holding) → Holds g old disk held → Passes g disk disk' (g.images disk) → Passes g disk disk' (MayBe held)
   passes_fewer idle (Sure part) s passes = passes_as g disk disk' (g.images disk) (MayBe (Sure part)) passes (sure_stands part s)
   passes_fewer idle (Unsure part later) s passes = absurd (cc (s.unsettled.waits, idle))
 
   -- what was read has as many bytes, on a disk that tells them
-  pub same_end : (image : List ℕ) → g.images disk' image
-      → ((past later : List Change) (c : List ℕ) → AreChanges past → AreChanges later → IsJournal past c → IsJournal later c → past ≡ later)
-      → (part other : Lasting) (new : KeyDatabase) → Holds g old disk (Sure part) → Holds g new disk' (Sure other) → store_bytes new ≡ store_bytes old
+  pub same_end : (image : List ℕ) → g.images disk' image → OneList → (part other : Lasting) (new : KeyDatabase) → Holds g old disk (Sure part) → Holds g new disk' (Sure other) → store_bytes new ≡ store_bytes old
   same_end image is one part other new s read =
-      let same = one read.past s.past image read.settled.changes s.settled.changes (read.settled.images image is) (s.settled.images image (fewer image is)) in
-      read.settled.place ∙ ap (λ past. length (written past)) same ∙ sym s.settled.place
+      let same = same_past one read.kept.frame s.kept.frame read.kept.past s.kept.past image read.kept.is_frame s.kept.is_frame read.kept.settled.records s.kept.settled.records
+      (read.kept.settled.images image is) (s.kept.settled.images image (fewer image is)) in
+      let frame = one_frame read.kept.frame s.kept.frame read.kept.is_frame s.kept.is_frame in
+      read.kept.settled.place ∙ (λ i. (frame i).start + length (spelled (same i))) ∙ sym s.kept.settled.place
 
   -- what was read is what was held
   pub same_found : (idle : is_unsettled old ≡ false) (held : Holding) → Holds g old disk held → (new : KeyDatabase) → ((part : Lasting) → AllImages g disk (StandsFor part) → lasting new ≡ part)
@@ -76,8 +96,7 @@ module _ {D : Type 0} (g : Ghosts D) (old : KeyDatabase) (disk disk' : D) (fewer
   same_found idle (Sure part) s new found = s.held ∙ sym (found part (sure_stands part s))
   same_found idle (Unsure part later) s new found = absurd (cc (s.unsettled.waits, idle))
 
-  pub same_read : (idle : is_unsettled old ≡ false) (held : Holding) → Holds g old disk held → (image : List ℕ) → g.images disk' image
-      → ((past later : List Change) (c : List ℕ) → AreChanges past → AreChanges later → IsJournal past c → IsJournal later c → past ≡ later)
+  pub same_read : (idle : is_unsettled old ≡ false) (held : Holding) → Holds g old disk held → (image : List ℕ) → g.images disk' image → OneList
       → (new : KeyDatabase) → Holds g new disk' (Sure (lasting new)) → store_bytes old ≡ store_bytes new
   same_read idle (Sure part) s image is one new read = sym (same_end image is one part (lasting new) new s read)
   same_read idle (Unsure part later) s image is one new read = absurd (cc (s.unsettled.waits, idle))

@@ -2,10 +2,14 @@
 
 ghost use Rattle.std.specs.Prelude.{◌≡◌, ◌<◌, ◌≤◌, ◌+◌, ℕ, List, length, false, IsErrOf, ◌↔◌};
 ghost use Rattle.ks_outside.specs.Images.{Goes};
-ghost use Rattle.journal_records.specs.declared.change.Change.{Change};
 ghost use Rattle.journal_records.specs.Commits.{append_failed, append_state};
-ghost use Rattle.journal_records.specs.Spelling.{closed_of, IsShort, IsChange};
-ghost use Rattle.use_journal.specs.Holding.{is_waiting, end_after, end_of, end_with, pending_after, IsSettledOn, Appends};
+ghost use Rattle.journal_records.specs.Spelling.{closed_of, IsShort};
+ghost use Rattle.journal_records.specs.declared.record.Record.{Record};
+ghost use Rattle.journal_records.specs.declared.record.Record.TheVariants as records;
+ghost use Rattle.record_areas.specs.Frames.{Frame};
+ghost use Rattle.record_areas.specs.Holding.{Appends, IsSettledOn, end_after, pending_after};
+ghost use Rattle.use_journal.specs.Holding.{area_of, is_waiting, end_of, end_with};
+ghost use Rattle.key_database.specs.Frames.{IsStoreFrame};
 ghost use Rattle.tags.specs.declared.limits.TheConstants.{JOURNAL_BYTES};
 
 use journal_records::{AppendFault, Change, frame_into};
@@ -22,8 +26,8 @@ pub(crate) fn append_change<D: Disk>(
     requires settled { is_waiting journal.old ≡ false }
     requires short { IsShort change.now }
     requires small { length (closed_of change.now) ≤ RECORD_BYTES }
-    ensures appends { (past : List Change) → IsSettledOn D.Disk journal.old disk.old past
-        → Appends D.Disk journal.new disk.old disk.new past change.now (append_state result) }
+    ensures appends { (frame : Frame) (past : List Record) → IsStoreFrame frame → IsSettledOn D.Disk (area_of journal.old) disk.old frame past
+        → Appends D.Disk (area_of journal.new) disk.old disk.new frame past (records.Change change.now) (append_state result) }
     ensures waiting { is_waiting journal.new ≡ append_failed result }
     ensures end { end_of journal.new ≡ end_after (length (closed_of change.now)) (append_state result) (end_of journal.old) }
     ensures pending { end_with journal.new ≡ pending_after (length (closed_of change.now)) (append_state result) (end_of journal.old) }

@@ -16,13 +16,14 @@ ghost use Rattle.tags.specs.declared.limits.TheConstants.{JOURNAL_BYTES};
 
 use crate::appending::append_change;
 use crate::law::one_store;
-use crate::opening::replay;
+use crate::opening::read_store;
 use journal_records::{AppendFault, ApplyFault, Change, StoreFault};
 use ks_outside::{Disk, Failed};
 use lasting_table::LastingTable;
+use record_areas::one_reading;
 use std::alloc::Global;
 use tags::{NoMemory, Settled};
-use use_journal::{Journal, one_reading};
+use use_journal::Journal;
 
 /// The keys and grants that last, and the journal that they lie in. While a change whose writing failed waits to be
 /// settled, also that change, with the room for it.
@@ -38,7 +39,7 @@ pub struct KeyDatabase {
 impl KeyDatabase {
     ghost use Rattle.key_database.specs.Stands.{lasting, part_after, table_of, is_unsettled, pending_of, waiting_after, Commits, SettledBy, store_bytes, change_bytes, bytes_after, Holds, IsReadAgain, Rereads, SameStore, ReadsStore, FindsStore};
 
-    /// Syncs, reads the store that the disk holds, and tests the need of each change. Corrupted has the place of what
+    /// Syncs, reads the store that the disk holds, record by record, and tests the need of each change. Corrupted has the place of what
     /// is wrong first: of what is no journal, and where it is one of the first change whose need is not met.
     pub fn open<D: Disk>(alloc: Global, disk: &mut D) -> Result<KeyDatabase, StoreFault>
         ensures holds { IfOk result (λ database. Holds D.Disk database disk.new (Sure (lasting database))) }
@@ -49,15 +50,12 @@ impl KeyDatabase {
         ensures goes { Reads D.Disk disk.old disk.new (open_failed result) }
     {
         one_store();
-        match Journal::open(alloc, disk) {
-            Ok((journal, changes)) => match replay(alloc, changes) {
-                Ok(table) => Ok(KeyDatabase {
-                    journal,
-                    table,
-                    pending: None,
-                }),
-                Err(fault) => Err(fault),
-            },
+        match read_store(alloc, disk) {
+            Ok((journal, table)) => Ok(KeyDatabase {
+                journal,
+                table,
+                pending: None,
+            }),
             Err(fault) => Err(fault),
         }
     }

@@ -4,7 +4,7 @@ ghost use Rattle.std.specs.Prelude.{◌≡◌, ℕ, List};
 ghost use Rattle.journal_records.specs.LastingPart.{Lasting};
 ghost use Rattle.key_database.specs.Store.{StandsFor, IsBadStore};
 
-use use_journal::one_reading;
+use record_areas::one_reading;
 
 /// An image stands for one lasting part at most; one that stands for a lasting part has nothing wrong; and what is wrong
 /// first is so at one place.

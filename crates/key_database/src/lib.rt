@@ -1,10 +1,11 @@
 //! The keys, grants and next numbers that last, over a journal.
 //!
 //! Its contract: `KeyDatabase` is a table of what lasts (`table`, and `lasting` of `specs/Stands.antt`) and the journal that
-//! it lies in. `open` reads the one that the bytes stand for, or tells the place of the first thing wrong; at each moment of
-//! `apply` each image stands for the lasting part before the change or with it; and `settle` makes of an unsettled database
-//! what the disk has. What is known of the disk goes on by `after_commit` and `after_settle`
-//! (`journal_records/specs/Holding.antt`). An image stands for one lasting part at most (`one_store`).
+//! it lies in. `open` reads the one that the bytes stand for, record by record, or tells the place of the first thing
+//! wrong; which frames a store may have is in `specs/Frames.antt`. At each moment of `apply` each image stands for the
+//! lasting part before the change or with it; and `settle` makes of an unsettled database what the disk has. What is known
+//! of the disk goes on by `after_commit` and `after_settle` (`journal_records/specs/Holding.antt`). An image stands for one
+//! lasting part at most (`one_store`).
 //!
 //! ```rust
 //! use key_database::KeyDatabase;

@@ -2,7 +2,11 @@
 use Rattle.std.proofs.Common.{◌≡◌, ℕ, ◌+◌, ◌<◌, ◌≤◌, ◌==◌, ◌||◌, Bool, true, false, not, if◌then◌else◌, List, [], ◌∷◌, length, find, Option, Some, None, Result, Ok, Err, is_some, unwrap_or, refl, sym, ap, ◌∙◌, subst, arith, inl, inr, IsTrue}
 use Rattle.std.specs.Prelude.{IfNone, IfSome, IsSome}
 use Rattle.std.specs.Prelude.{take, drop}
-use Rattle.std.proofs.lemmas.Bool.{cases_Bool, eqb-true}
+use Rattle.std.proofs.Math.Bridge.{le_prop}
+use Rattle.std.proofs.lemmas.Bool.{cases_Bool, eqb-true, ltb-true}
+use Rattle.std.specs.Coded.{coded_bool}
+use denote.Struct.Props.{≡_prop}
+use mathlib.Core.Logic.{∥∥₁_elim}
 use Rattle.std.proofs.lemmas.List.{length-drop}
 use Rattle.byteorder.specs.Endian.{big_number}
 use Rattle.tags.specs.declared.code.Code.{Code}
@@ -13,6 +17,7 @@ use Rattle.use_rules.specs.declared.facts.BeginFacts.{BeginFacts}
 use Rattle.use_rules.specs.Plans.{challenge_wanted, is_per_operation, nonce_given}
 use Rattle.use_rules.specs.Table as begin_table
 use Rattle.use_rules.specs.Table.{asked_of, key_of}
+use Rattle.cipher_ops.specs.declared.job.Done.{Done as JobDone}
 use Rattle.cipher_ops.specs.declared.state.CipherState.{CipherState}
 use Rattle.keymint_ops.specs.declared.begin.Begin.{Begin}
 use Rattle.keymint_ops.specs.declared.begin.BeginFault.{BeginFault}
@@ -24,6 +29,7 @@ use Rattle.journal_records.specs.LastingPart.{Lasting}
 use Rattle.tags.specs.declared.secrets.DeviceSecrets.{DeviceSecrets}
 use Rattle.key_domains.specs.declared.access.Access.{Access}
 use Rattle.tags.specs.declared.policy.PolicyRow.{PolicyRow}
+use Rattle.rule_model.specs.declared.event.Act.{Act}
 use Rattle.rule_model.specs.declared.event.Act.TheVariants.{CreateOperation}
 use Rattle.rule_model.specs.declared.event.Event.{Event}
 use Rattle.rule_model.specs.declared.facts.Caller.{Caller}
@@ -44,12 +50,14 @@ use Rattle.rule_model.specs.Entries.{History, count_of}
 use Rattle.rule_model.specs.Access.{access_by, id_of, key_in, owner_of}
 use Rattle.rule_model.specs.Kept.{access_at, begin_key_at, facts_of_begin, kept, key_found, open_of, operation_at, operation_change}
 use Rattle.rule_model.specs.Legal.{MayFollow, is_ready, Answered, WithoutMemory, WithoutEntropy}
-use Rattle.rule_model.specs.Operations.{Open, Opens, SameOperations, as_begun, challenge_of, has_number, is_busy, nonce_of, nonce_size, operation_on, opens, step_of, without_pruned}
+use Rattle.rule_model.specs.declared.operation.Open.{Open}
+use Rattle.rule_model.specs.declared.entry_change.OperationChange.TheVariants.{Opens, SameOperations}
+use Rattle.rule_model.specs.Operations.{as_begun, challenge_of, has_number, is_busy, nonce_of, nonce_size, operation_on, opens, step_of, without_pruned}
 use Rattle.rule_model.proofs.Kept.{quiet_stored}
 use Rattle.rule_model.specs.Setup.{Setup}
 use Rattle.rule_model.specs.Slots.{begin_facts, conditions_on, facts_of_open, has_free, has_room, pruned_for}
 use Rattle.rule_model.specs.Jobs.{Stays}
-use Rattle.live_tables.specs.declared.operations.Operation.{Operation}
+use Rattle.live_tables.specs.declared.operations.OperationRow.{OperationRow}
 use Rattle.keystore_core.specs.declared.tables.Tables.{Tables}
 use Rattle.operation_slots.specs.declared.operation.SlotOperation.{SlotOperation as Slot}
 use Rattle.operation_slots.specs.Table as table
@@ -57,7 +65,7 @@ use Rattle.operation_slots.specs.Table.{IsLater, SlotTable, capacity_of, held, i
 use Rattle.pruning.specs.Facts as seen
 use Rattle.pruning.specs.Victim.{OpenFacts, victim}
 use Rattle.rule_model.specs.Answer.{begun_with}
-use Rattle.live_tables.specs.Alike.{Alike}
+use Rattle.live_tables.specs.Alike.{Alike, BothFound}
 use Rattle.live_tables.specs.Begins.{begins_in}
 use Rattle.live_tables.specs.Boot.{SameBoot, conditions_in}
 use Rattle.live_tables.specs.Device.{early_in, unlocked_in}
@@ -69,16 +77,16 @@ use Rattle.call_answers.specs.declared.begins.BeginKey.{BeginKey as OwnKey}
 use Rattle.keystore_core.specs.Beginning.{GivesAdmitted, IsAdmitted, IsNewRow, MakesWay, OpensOne}
 use Rattle.key_database.specs.Stands.{lasting}
 use Rattle.keystore_core.specs.Keys.{SameKeys}
-use Rattle.live_tables.specs.Operations.{IsRow, has_row, operations_given, rows_in}
+use Rattle.live_tables.specs.Operations.{HasRoomForOperation, IsRow, has_row, most_operations, operations_given, rows_in}
 use Rattle.keystore_core.specs.Slots.{IsKept, IsSlot}
-use Rattle.keystore_core.specs.Tables.{AnswersAfter, IsCaller, SameTables, TablesStand, event_by}
+use Rattle.keystore_core.specs.Tables.{AnswersAfter, IsAt, IsCaller, SameTables, TablesStand, event_by, row_at}
 use Rattle.live_tables.proofs.Alike.{alike_filter, alike_images, alike_length, alike_more}
 use Rattle.keystore_core.proofs.Booted.{begun_early, begun_tokens, begun_users, boot_after, boot_still, conditions_are, same_boot_twice}
 use Rattle.keystore_core.proofs.KeyTable.{keys_stay, same_keys, same_keys_twice}
 use Rattle.keystore_core.proofs.Ready.{ready_settled}
 use Rattle.keystore_core.proofs.Opened.{found_more, is_other, stays_by, stays_same, without_keeps}
 use Rattle.keystore_core.proofs.Standing.{called, clients_stay, denied_tables, rows_after, same_tables, slots_after, still, tickets_stay}
-use Rattle.keystore_core.proofs.Stepped.{idle_there, row_named, slot_found, slot_named}
+use Rattle.keystore_core.proofs.Stepped.{idle_there, row_found, row_named, slot_found, slot_named}
 
 -- where an operation gave way, the keys and grants are as they were
 pub way_keys : (pruned : Option ℕ) (old new : Tables) → MakesWay pruned old new → SameKeys old new
@@ -162,6 +170,35 @@ idle_pruned slots None idle op e = cc
 idle_pruned slots (Some own) idle op e =
     let same : own ≡ op = cc in
     subst (λ n. IsSome (idle_value (held slots n))) same idle
+
+-- where a slot is free there is room for a row
+pub row_room : (tables : Tables) (step : ℕ) (act : Act) (back : Option JobDone) → ∥ IsAt tables step act back ∥₁ → (pruned : Option ℕ) → IfNone pruned (table.has_room tables.slots ≡ true)
+    → IfNone pruned (HasRoomForOperation tables.operations)
+row_room tables step act back at None free = ∥∥₁_elim at le_prop (λ t.
+    let stands = t.stands.tables_stand in
+    omega (
+      arith,
+      ltb-true (length (operations_of tables.slots)) (capacity_of tables.slots) free,
+      stands.slots.capacity_is,
+      stands.operations.most,
+      alike_length IsRow (rows_in tables.operations) (open_of t.setup t.past) stands.operations.rows,
+      alike_length IsSlot (operations_of tables.slots) (open_of t.setup t.past) stands.slots.slots_are,
+    ))
+row_room tables step act back at (Some op) free = tt
+
+-- the operation that gives way has its row
+row_there : (row : Option OperationRow) (o : Option Open) (slot : Option (Slot CipherState)) → BothFound IsRow row o → BothFound IsSlot slot o → IsSome (idle_value slot) → IsSome row
+row_there (Some row) o slot rows slots idle = refl
+row_there None (Some o) slot rows slots idle = absurd rows
+row_there None None (Some slot) rows slots idle = absurd slots
+row_there None None None rows slots idle = cc
+
+pub way_row : (tables : Tables) (step : ℕ) (act : Act) (back : Option JobDone) → ∥ IsAt tables step act back ∥₁ → (pruned : Option ℕ) → IfSome pruned (λ op. IsSome (idle_value (held tables.slots op)))
+    → IfSome pruned (λ op. IsSome (row_at tables op))
+way_row tables step act back at None idle = tt
+way_row tables step act back at (Some op) idle = ∥∥₁_elim at (≡_prop coded_bool _ _) (λ t.
+    let stands = t.stands.tables_stand in
+    row_there (row_at tables op) (operation_at t.setup t.past op) (held tables.slots op) (row_found t.setup t.past tables op stands) (slot_found t.setup t.past tables op stands) idle)
 
 module _ (setup : Setup) (past : History) (tables : Tables) (caller : Caller) (key : Descriptor) (params : List ℕ) (forced : Bool) (stands : TablesStand setup tables past) (is_caller : IsCaller tables caller) where
   abbrev Beginning : Event
@@ -296,6 +333,7 @@ module _ (setup : Setup) (past : History) (tables : Tables) (caller : Caller) (k
     pub keys : SameKeys tables middle
     pub rows : Alike IsRow (rows_in middle.operations) (without_pruned pruned (open_of setup past))
     pub given : operations_given middle.operations ≡ operations_given tables.operations
+    pub most : most_operations middle.operations ≡ most_operations tables.operations
     pub slots : Alike IsSlot (operations_of middle.slots) (without_pruned pruned (open_of setup past))
     pub capacity : capacity_of middle.slots ≡ capacity_of tables.slots
     pub fresh : (number : ℕ) → held tables.slots number ≡ None → held middle.slots number ≡ None
@@ -310,6 +348,7 @@ module _ (setup : Setup) (past : History) (tables : Tables) (caller : Caller) (k
     keys = rw way still.keys;
     rows = rw (way, still.operations.rows) stands.operations.rows;
     given = rw way still.operations.given;
+    most = rw way still.operations.most;
     slots = rw (way, still.slots) stands.slots.slots_are;
     capacity = rw (way, still.slots) refl;
     fresh = λ number none. rw (way, still.slots) none;
@@ -325,6 +364,7 @@ module _ (setup : Setup) (past : History) (tables : Tables) (caller : Caller) (k
         keys = same_keys_twice tables start middle still.keys way.keys;
         rows = rw way.rows.rows (alike_filter IsRow (λ row. not (has_row op row)) (λ o. not (has_number op o)) (λ row o r. ap not (row_named op row o r)) (rows_in start.operations) (open_of setup past) now.operations.rows);
         given = way.rows.given ∙ still.operations.given;
+        most = way.rows.most ∙ still.operations.most;
         slots = rw way.slots.operations (alike_filter IsSlot (λ slot. not (table.has_number op slot)) (λ o. not (has_number op o)) (λ slot o r. ap not (slot_named op slot o r)) (operations_of start.slots) (open_of setup past) now.slots.slots_are);
         capacity = way.slots.capacity ∙ ap capacity_of still.slots;
         fresh = λ number none. way.fresh number (rw still.slots none);
@@ -335,7 +375,7 @@ module _ (setup : Setup) (past : History) (tables : Tables) (caller : Caller) (k
             (is_other op n (open_of setup past) x (idle_there (held tables.slots op) (operation_at setup past op) (slot_found setup past tables op stands) (idle op refl)) found busy) found;
       }
 
-  pub begins : (start new : Tables) (admitted : Admitted) (row : Operation) (state : CipherState) (drawn : List ℕ) (number step : ℕ) (challenge : Option ℕ) (nonce : Option (List ℕ)) (pruned : Option ℕ)
+  pub begins : (start new : Tables) (admitted : Admitted) (row : OperationRow) (state : CipherState) (drawn : List ℕ) (number step : ℕ) (challenge : Option ℕ) (nonce : Option (List ℕ)) (pruned : Option ℕ)
       → IsAdmitted admitted Key Facts → SameTables tables start → length drawn ≡ admitted.begin.wanted + admitted.challenge
       → number ≡ operations_given start.operations + 1 → challenge ≡ (if length (drop admitted.begin.wanted drawn) == 8 then Some (big_number 8 (drop admitted.begin.wanted drawn)) else None)
       → nonce ≡ (if admitted.begin.wanted == 0 then None else Some (take admitted.begin.wanted drawn)) → pruned ≡ pruned_for setup past (owner_of caller) forced
@@ -347,7 +387,7 @@ module _ (setup : Setup) (past : History) (tables : Tables) (caller : Caller) (k
       let begin : Begin = admitted.begin in
       let may : MayBegin begin Facts = is.may in
       let long : length drawn ≡ Size begin = omega (arith, whole, is.challenge_is) in
-      let o : Rattle.rule_model.specs.Operations.Operation = operation_on Key (facts_of_begin setup past caller key params) caller number drawn in
+      let o : Rattle.rule_model.specs.declared.operation.Operation.Operation = operation_on Key (facts_of_begin setup past caller key params) caller number drawn in
       let reply : Reply = begun_with number challenge nonce pruned in
       let way : Way pruned one.middle = makes_way start pruned one.middle still_same idle one.way in
       let first : number ≡ count_of is_begin past + 1 = next ∙ ap (λ n. n + 1) (still_same.operations.given ∙ stands.operations.given) in
@@ -379,7 +419,7 @@ module _ (setup : Setup) (past : History) (tables : Tables) (caller : Caller) (k
                 shown_is = row_is.shown_is;
                 list_is = row_is.list_is ∙ is.list_is;
               })))
-              (one.rows.given ∙ ap (λ n. n + 1) (way.given ∙ stands.operations.given));
+              (one.rows.given ∙ ap (λ n. n + 1) (way.given ∙ stands.operations.given)) (one.rows.most ∙ way.most ∙ stands.operations.most);
           slots = slots_after setup past Beginning drawn reply (Opens pruned o) tables.slots new.slots stands.slots change
               (rw one.slots.operations (alike_more IsSlot (operations_of one.middle.slots) (without_pruned pruned (open_of setup past)) (idle_operation row.number (owner_of caller) row.client step state) (as_begun (step_of past) o) way.slots (record {
                 number = row_is.number_is;

@@ -11,7 +11,9 @@ use Rattle.rule_model.specs.declared.facts.Caller.{Caller}
 use Rattle.rule_model.specs.declared.reply.Reply.{Reply}
 use Rattle.rule_model.specs.BeginFacts.{BeginKey}
 use Rattle.rule_model.specs.Blobs.{list_read}
-use Rattle.rule_model.specs.Boot.{BootChange, SameBoot as NoBoot, begins_after, begins_of, boot_change, early_after, has_early_ended, is_unlocked, last_tokens, begins_on, tokens_after, unlocked_after}
+use Rattle.rule_model.specs.declared.entry_change.BootChange.{BootChange}
+use Rattle.rule_model.specs.declared.entry_change.BootChange.TheVariants.{SameBoot as NoBoot}
+use Rattle.rule_model.specs.Boot.{begins_after, begins_of, boot_change, early_after, has_early_ended, is_unlocked, last_tokens, begins_on, tokens_after, unlocked_after}
 use Rattle.rule_model.specs.Entries.{History}
 use Rattle.rule_model.specs.Setup.{Setup}
 use Rattle.rule_model.specs.Slots.{conditions_on}

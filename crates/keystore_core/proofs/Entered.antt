@@ -40,17 +40,21 @@ use Rattle.rule_model.specs.Entries.{History, admits, count_of, is_done}
 use Rattle.rule_model.specs.Jobs.{IsJobOn, IsJobOut, Stays}
 use Rattle.rule_model.specs.Kept.{is_live, open_of, operation_at, operation_change}
 use Rattle.rule_model.specs.Legal.{MayFollow}
-use Rattle.rule_model.specs.Operations.{Closes, Enters as EntersOne, Open, SameOperations, as_entered, has_number, is_busy, limited_key, open_after, step_of}
+use Rattle.rule_model.specs.declared.entry_change.OperationChange.TheVariants.{Closes, Enters as EntersOne, SameOperations}
+use Rattle.rule_model.specs.declared.operation.Open.{Open}
+use Rattle.rule_model.specs.Operations.{as_entered, has_number, is_busy, limited_key, open_after, step_of}
 use Rattle.rule_model.specs.Replies.{broken_or, no_fields}
 use Rattle.rule_model.specs.Settling.{is_disk_fault, is_unsettled as waits}
 use Rattle.rule_model.specs.Setup.{Setup}
 use Rattle.rule_model.specs.StepFacts.{brought_by, facts_of, has_ended, input_of, step_facts}
 use Rattle.rule_model.specs.Stored.{change_by, stored_bytes, where_stored}
-use Rattle.rule_model.specs.Tickets.{Entered, GoesOut, SameTickets as NoTickets, next_ticket, ticket_after, ticket_at, ticket_change}
+use Rattle.rule_model.specs.declared.operation.Entered.{Entered}
+use Rattle.rule_model.specs.declared.entry_change.TicketChange.TheVariants.{GoesOut, SameTickets as NoTickets}
+use Rattle.rule_model.specs.Tickets.{next_ticket, ticket_after, ticket_at, ticket_change}
 use Rattle.rule_model.proofs.Kept.{same_stored}
 use Rattle.rule_model.proofs.UsesMet.{uses_met}
 use Rattle.keystore_core.specs.declared.answered.Answered.{Answered as Answer}
-use Rattle.live_tables.specs.declared.operations.Operation.{Operation as Row}
+use Rattle.live_tables.specs.declared.operations.OperationRow.{OperationRow as Row}
 use Rattle.live_tables.specs.declared.operations.RowChange.TheVariants.{Enters as RowEnters}
 use Rattle.keystore_core.specs.declared.tables.Tables.{Tables}
 use Rattle.live_tables.specs.declared.tickets.Out.{Out}
@@ -267,7 +271,7 @@ module _ (setup : Setup) (past : History) (start : Tables) (keys : KeyDatabase) 
               (rw sent.rows.rows (alike_change IsRow (has_row op) (has_number op) (changed RowEnters) (as_entered (step_of past) ticket) (row_named op)
               (λ row x r named. record { number = r.number; client = r.client; key = r.key; plan = r.plan; limited = r.limited; aad_is = r.aad_is; text_is = r.text_is; busy_is = refl; challenge_is = r.challenge_is; shown_is = r.shown_is; list_is = r.list_is })
               (rows_in start.operations) (open_of setup past) now.operations.rows))
-              (sent.rows.given ∙ now.operations.given ∙ sym (uncounted is_begin past Entering [] reply no_begin));
+              (sent.rows.given ∙ now.operations.given ∙ sym (uncounted is_begin past Entering [] reply no_begin)) (sent.rows.most ∙ now.operations.most);
           slots = slots_after setup past Entering [] reply (EntersOne op ticket) start.slots new.slots now.slots is
               (rw sent.slots.operations (alike_change IsSlot (table.has_number op) (has_number op) made_busy (as_entered (step_of past) ticket) (slot_named op)
               (λ slot x r named. record { number = r.number; uid = r.uid; client = r.client; state = tt })

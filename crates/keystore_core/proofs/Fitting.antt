@@ -37,7 +37,7 @@ use Rattle.journal_records.specs.LastingPart.{Lasting, has_id}
 use Rattle.journal_records.specs.Lookups.{alias_cmp, is_listed, least, lesser, next_key}
 use Rattle.rule_model.specs.declared.entry.Entry.TheVariants.{Settling}
 use Rattle.rule_model.specs.declared.event.Act.{Act}
-use Rattle.rule_model.specs.declared.event.Act.TheVariants.{Connect, GenerateKey, ImportKey, CreateOperation, EnterAad, EnterUpdate, EnterFinish, Abort, Disconnect, GetKeyEntry, DeleteKey, Grant, Ungrant, GetNumberOfEntries, ListEntriesBatched, ClearNamespace, UserRemoved, AddAuthToken, DeviceLocked, DeviceUnlocked, EarlyBootEnded, Leave, Restart}
+use Rattle.rule_model.specs.declared.event.Act.TheVariants.{GenerateKey, ImportKey, CreateOperation, EnterAad, EnterUpdate, EnterFinish, Abort, Disconnect, GetKeyEntry, DeleteKey, Grant, Ungrant, GetNumberOfEntries, ListEntriesBatched, ClearNamespace, UserRemoved, AddAuthToken, DeviceLocked, DeviceUnlocked, EarlyBootEnded, Leave}
 use Rattle.rule_model.specs.declared.event.Event.{Event}
 use Rattle.rule_model.specs.declared.facts.Caller.{Caller}
 use Rattle.rule_model.specs.declared.field_sizes.FieldSizes.{FieldSizes}
@@ -65,7 +65,8 @@ use Rattle.rule_model.specs.Setup.{Setup}
 use Rattle.rule_model.specs.Slots.{begin_facts, pruned_for}
 use Rattle.rule_model.specs.StepFacts.{brought_by, brought_by_abort, step_facts}
 use Rattle.rule_model.specs.Stored.{has_record_room, stored_bytes, where_stored}
-use Rattle.rule_model.specs.Tickets.{Entered, next_ticket, ticket_at}
+use Rattle.rule_model.specs.declared.operation.Entered.{Entered}
+use Rattle.rule_model.specs.Tickets.{next_ticket, ticket_at}
 use Rattle.rule_model.specs.Tokens.{token_of}
 use Rattle.rule_model.specs.Uses.{IsStored}
 use Rattle.rule_model.proofs.Bounds.{Each, each_found, each_left}

@@ -27,21 +27,28 @@ use Rattle.rule_model.specs.Answer.{answer_by_rules, given_or, leaving}
 use Rattle.rule_model.specs.Replies.{broken_or, no_fields}
 use Rattle.call_rules.specs.Table.{disconnect_rules}
 use Rattle.rule_model.specs.Calls.{disconnect_ruling}
-use Rattle.rule_model.specs.Clients.{SameClients as NoClients, caller_of, client_change}
+use Rattle.rule_model.specs.declared.entry_change.ClientChange.TheVariants.{SameClients as NoClients}
+use Rattle.rule_model.specs.Clients.{caller_of, client_change}
 use Rattle.std.specs.Prelude.{IfErr}
 use Rattle.cipher_ops.specs.Jobs.{is_refusal}
 use Rattle.rule_model.specs.Drawn.{is_entropy_fault}
 use Rattle.rule_model.specs.Entries.{History, admits}
-use Rattle.rule_model.specs.Boot.{SameBoot as NoBoot, boot_change}
+use Rattle.rule_model.specs.declared.entry_change.BootChange.TheVariants.{SameBoot as NoBoot}
+use Rattle.rule_model.specs.Boot.{boot_change}
 use Rattle.rule_model.specs.Jobs.{HasJob, IsDoneOn, IsDoneOut, Stays}
 use Rattle.rule_model.specs.Legal.{Answered}
-use Rattle.rule_model.specs.Operations.{Closes, ClosesOf, Open, OperationChange, Returns, SameOperations, as_returned, has_number, is_busy, is_of, open_after, output_of, returns, step_of}
+use Rattle.rule_model.specs.declared.entry_change.OperationChange.TheVariants.{Closes, ClosesOf, Returns, SameOperations}
+use Rattle.rule_model.specs.declared.operation.Open.{Open}
+use Rattle.rule_model.specs.declared.entry_change.OperationChange.{OperationChange}
+use Rattle.rule_model.specs.Operations.{as_returned, has_number, is_busy, is_of, open_after, output_of, returns, step_of}
 use Rattle.rule_model.specs.Setup.{Setup}
 use Rattle.rule_model.specs.StepFacts.{brought_by}
-use Rattle.rule_model.specs.Tickets.{ComesBack, Entered, ticket_after, ticket_at, ticket_change}
+use Rattle.rule_model.specs.declared.entry_change.TicketChange.TheVariants.{ComesBack}
+use Rattle.rule_model.specs.declared.operation.Entered.{Entered}
+use Rattle.rule_model.specs.Tickets.{ticket_after, ticket_at, ticket_change}
 use Rattle.rule_model.specs.Settling.{is_disk_fault, is_system_error}
 use Rattle.rule_model.proofs.Kept.{quiet_stored}
-use Rattle.live_tables.specs.declared.operations.Operation.{Operation as Row}
+use Rattle.live_tables.specs.declared.operations.OperationRow.{OperationRow as Row}
 use Rattle.live_tables.specs.declared.operations.RowChange.TheVariants.{Returns as RowReturns}
 use Rattle.keystore_core.specs.declared.tables.Tables.{Tables}
 use Rattle.live_tables.specs.declared.tickets.Out.{Out}
@@ -209,6 +216,7 @@ module _ (setup : Setup) (past : History) (old : Tables) (caller : Caller) (tick
       pub change_same : returns (Some entered) ≡ change
       pub rows : Alike IsRow (rows_in new.operations) (open_after (step_of past) change (open_of setup past))
       pub given : Rattle.live_tables.specs.Operations.operations_given new.operations ≡ Rattle.live_tables.specs.Operations.operations_given old.operations
+      pub most : Rattle.live_tables.specs.Operations.most_operations new.operations ≡ Rattle.live_tables.specs.Operations.most_operations old.operations
       pub slots : Alike IsSlot (operations_of new.slots) (open_after (step_of past) change (open_of setup past))
       pub capacity : table.capacity_of new.slots ≡ table.capacity_of old.slots
       pub fresh : (number : ℕ) → held old.slots number ≡ None → held new.slots number ≡ None
@@ -233,7 +241,7 @@ module _ (setup : Setup) (past : History) (old : Tables) (caller : Caller) (tick
           stands = record {
             clients = clients_stay setup past event [] Reply_of old.clients new.clients stands.clients taken.clients (leave_client caller ticket entered.work back.result) no_connect;
             keys = keys_stay setup past (Left Reply_of) old new stands.keys taken.keys (quiet_stored setup past event [] Reply_of refl (no_disk_fault entered.work back.result done_is.refuses));
-            operations = rows_after setup past event [] Reply_of change new.operations is moved.rows (moved.given ∙ stands.operations.given ∙ sym (uncounted is_begin past event [] Reply_of no_begin));
+            operations = rows_after setup past event [] Reply_of change new.operations is moved.rows (moved.given ∙ stands.operations.given ∙ sym (uncounted is_begin past event [] Reply_of no_begin)) (moved.most ∙ stands.operations.most);
             slots = slots_after setup past event [] Reply_of change old.slots new.slots stands.slots is moved.slots moved.capacity
                 (λ number l. moved.fresh number (stands.slots.fresh number (let grows = count_grows is_begin past event [] Reply_of in omega (arith, l, grows))))
                 (λ next l. moved.later next (stands.slots.later next (omega (arith, l))) l);
@@ -271,6 +279,7 @@ module _ (setup : Setup) (past : History) (old : Tables) (caller : Caller) (tick
               (λ row x u v. let same_x : Some o ≡ Some x = sym is_open ∙ v in let equal : o ≡ x = cc in
               row_back step aad text row x (found_row row x u v) (subst (λ (y : Open). length y.aad + length y.text + (length aad + length text) ≤ OPERATION_BYTES) equal within)));
           given = parts.0.given;
+          most = parts.0.most;
           slots = rw (slots_are, op_is, ← is_step)
               (alike_at IsSlot (λ slot. slot.number) number_in (λ slot x r. r.number) entered.op (given_back step state) (as_returned step aad text)
               (operations_of old.slots) (open_of setup past) stands.slots.slots_are differ
@@ -297,6 +306,7 @@ module _ (setup : Setup) (past : History) (old : Tables) (caller : Caller) (tick
           change_same = same;
           rows = rw (parts.0.rows, op_is) (alike_filter IsRow (λ row. not (has_row entered.op row)) (λ x. not (has_number entered.op x)) (λ row x r. ap not (row_named entered.op row x r)) (rows_in old.operations) (open_of setup past) stands.operations.rows);
           given = parts.0.given;
+          most = parts.0.most;
           slots = rw (parts.1.operations, op_is) (alike_filter IsSlot (λ slot. not (table.has_number entered.op slot)) (λ x. not (has_number entered.op x)) (λ slot x r. ap not (slot_named entered.op slot x r)) (operations_of old.slots) (open_of setup past) stands.slots.slots_are);
           capacity = parts.1.capacity;
           fresh = parts.2;
@@ -428,13 +438,13 @@ module _ (setup : Setup) (past : History) (old : Tables) (caller : Caller) (stan
         follows = λ ready. Answered (record { ready = ready; drew = refl; is_answer = sym (ap (λ found. broken_or found (Done no_fields)) e) ∙ ap (λ c. answer_by_rules Disconnect setup past c []) same_caller });
         stands = record {
           clients = record {
-            uids = λ client. ended.goes client ∙ ap (λ u. Rattle.rule_model.specs.Clients.uid_after (Rattle.rule_model.specs.Clients.Goes caller.client) client u) (stands.clients.uids client);
+            uids = λ client. ended.goes client ∙ ap (λ u. Rattle.rule_model.specs.Clients.uid_after (Rattle.rule_model.specs.declared.entry_change.ClientChange.TheVariants.Goes caller.client) client u) (stands.clients.uids client);
             given = ended.given ∙ stands.clients.given;
           };
           keys = keys_stay setup past (Acted event [] reply ∷ past) old new stands.keys ended.keys (quiet_stored setup past event [] reply refl refl);
           operations = rows_after setup past event [] reply (ClosesOf caller.client) new.operations refl
               (rw ended.rows.rows (alike_filter IsRow (λ row. not (is_row_of caller.client row)) (λ o. not (is_of caller.client o)) (λ row o r. ap (λ c. not (c == caller.client)) r.client) (rows_in old.operations) (open_of setup past) stands.operations.rows))
-              (ended.rows.given ∙ stands.operations.given);
+              (ended.rows.given ∙ stands.operations.given) (ended.rows.most ∙ stands.operations.most);
           slots = slots_after setup past event [] reply (ClosesOf caller.client) old.slots new.slots stands.slots refl
               (rw ended.slots.operations (alike_filter IsSlot (λ slot. not (table.is_client caller.client slot)) (λ o. not (is_of caller.client o)) (λ slot o r. ap (λ c. not (c == caller.client)) r.client) (operations_of old.slots) (open_of setup past) stands.slots.slots_are))
               ended.slots.capacity (λ number l. ended.fresh number (stands.slots.fresh number l)) (λ next l. ended.later next (stands.slots.later next (omega (arith, l))));

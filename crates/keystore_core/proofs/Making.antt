@@ -48,13 +48,14 @@ use Rattle.rule_model.specs.Jobs.{HasJob}
 use Rattle.rule_model.specs.Kept.{kept, open_of, operation_change}
 use Rattle.rule_model.specs.Legal.{MayFollow, is_ready, Answered, WithoutEntropy, WithoutMemory}
 use Rattle.rule_model.specs.NewFacts.{new_facts}
-use Rattle.rule_model.specs.Operations.{SameOperations}
+use Rattle.rule_model.specs.declared.entry_change.OperationChange.TheVariants.{SameOperations}
 use Rattle.rule_model.specs.Places.{has_key_place}
 use Rattle.rule_model.specs.Settling.{is_disk_fault, is_unsettled}
 use Rattle.rule_model.specs.Stored.{change_by, stored_bytes, where_stored}
 use Rattle.rule_model.proofs.Kept.{denied_stands, no_fault_unfaulted}
 use Rattle.rule_model.specs.Setup.{Setup}
-use Rattle.rule_model.specs.Tickets.{SameTickets as NoTickets, ticket_change}
+use Rattle.rule_model.specs.declared.entry_change.TicketChange.TheVariants.{SameTickets as NoTickets}
+use Rattle.rule_model.specs.Tickets.{ticket_change}
 use Rattle.rule_model.proofs.Boot.{moves_boot, same_boot as same_boot_after}
 use Rattle.rule_model.proofs.Clients.{moves_clients, same_clients}
 use Rattle.rule_model.proofs.Operations.{moves_operations, same_operations}

@@ -11,9 +11,13 @@ use Rattle.rule_model.specs.declared.event.Event.{Event}
 use Rattle.rule_model.specs.declared.reply.Reply.{Reply}
 use Rattle.rule_model.specs.Entries.{History}
 use Rattle.rule_model.specs.Jobs.{Stays, but_shown}
-use Rattle.rule_model.specs.Operations.{Open, OperationChange, SameOperations, Shows, as_shown, has_number, is_busy, is_for, is_of, open_after, step_of, with_change, without}
+use Rattle.rule_model.specs.declared.operation.Open.{Open}
+use Rattle.rule_model.specs.declared.entry_change.OperationChange.{OperationChange}
+use Rattle.rule_model.specs.declared.entry_change.OperationChange.TheVariants.{SameOperations, Shows}
+use Rattle.rule_model.specs.Operations.{as_shown, has_number, is_busy, is_for, is_of, open_after, step_of, with_change, without}
 use Rattle.rule_model.specs.Setup.{Setup}
-use Rattle.rule_model.specs.Tickets.{Entered, ticket_at}
+use Rattle.rule_model.specs.declared.operation.Entered.{Entered}
+use Rattle.rule_model.specs.Tickets.{ticket_at}
 use Rattle.live_tables.specs.Tickets.{BusyWith}
 
 -- what was found and passes a test is found among those that pass

@@ -27,12 +27,14 @@ use Rattle.rule_model.specs.Clients.{caller_of}
 use Rattle.rule_model.specs.Entries.{History, after_settling, after_step, is_done}
 use Rattle.rule_model.specs.Kept.{is_live, open_of, operation_at}
 use Rattle.rule_model.specs.Legal.{IsAnswered, MayFollow, MayStep}
-use Rattle.rule_model.specs.Operations.{Open, as_entered, enters, has_number, open_after, output_of, step_of}
+use Rattle.rule_model.specs.declared.operation.Open.{Open}
+use Rattle.rule_model.specs.Operations.{as_entered, enters, has_number, open_after, output_of, step_of}
 use Rattle.rule_model.specs.Setup.{Setup}
 use Rattle.rule_model.specs.StepFacts.{brought_by, facts_of}
-use Rattle.rule_model.specs.Tickets.{Entered, goes_out, ticket_after, ticket_at}
+use Rattle.rule_model.specs.declared.operation.Entered.{Entered}
+use Rattle.rule_model.specs.Tickets.{goes_out, ticket_after, ticket_at}
 use Rattle.rule_model.proofs.Admitted.{admitted_by_rules, answered_done, broken_done}
-use Rattle.live_tables.specs.declared.operations.Operation.{Operation as Row}
+use Rattle.live_tables.specs.declared.operations.OperationRow.{OperationRow as Row}
 use Rattle.keystore_core.specs.declared.tables.Tables.{Tables}
 use Rattle.live_tables.specs.Alike.{BothFound}
 use Rattle.live_tables.specs.Operations.{IsRow}

@@ -22,7 +22,7 @@ use Rattle.rule_model.specs.Entries.{History}
 use Rattle.rule_model.specs.Legal.{Answered, NotRestarted}
 use Rattle.rule_model.specs.Replies.{no_fields}
 use Rattle.rule_model.specs.Blobs.{root_given}
-use Rattle.rule_model.specs.Boot.{StartsAgain}
+use Rattle.rule_model.specs.declared.entry_change.BootChange.TheVariants.{StartsAgain}
 use Rattle.rule_model.specs.Settling.{is_disk_fault, is_system_error, is_unsettled as waits}
 use Rattle.rule_model.specs.Setup.{Setup}
 use Rattle.rule_model.specs.Stored.{after_reply}
@@ -57,7 +57,7 @@ module _ (setup : Setup) (past : History) (old : Tables) (caller : Caller) (root
         settled_is = ap is_unsettled forgets.keys_are ∙ stands.keys.settled_is;
         waiting = none_waits (Acted Restarting [] (Done no_fields) ∷ past) idle;
       };
-      operations = record { rows = rw forgets.rows tt; given = forgets.operations_are ∙ stands.operations.given };
+      operations = record { rows = rw forgets.rows tt; given = forgets.operations_are ∙ stands.operations.given; most = forgets.most_are ∙ stands.operations.most };
       slots = record {
         slots_are = rw forgets.empty.operations tt;
         capacity_is = forgets.empty.slot_count ∙ stands.slots.capacity_is;

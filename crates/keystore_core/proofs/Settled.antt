@@ -39,7 +39,7 @@ pub settled_tables : (setup : Setup) (past : History) (old : Tables) (keys : Key
 settled_tables setup past old keys settled change stands waits by idle = record {
   clients = record { uids = stands.clients.uids; given = stands.clients.given };
   keys = settled_keys setup past old keys settled change stands.keys waits by idle;
-  operations = record { rows = stands.operations.rows; given = stands.operations.given };
+  operations = record { rows = stands.operations.rows; given = stands.operations.given; most = stands.operations.most };
   slots = record {
     slots_are = stands.slots.slots_are;
     capacity_is = stands.slots.capacity_is;

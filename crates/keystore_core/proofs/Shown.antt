@@ -18,23 +18,26 @@ use Rattle.rule_model.specs.declared.facts.Caller.{Caller}
 use Rattle.rule_model.specs.declared.reply.Reply.{Reply}
 use Rattle.rule_model.specs.declared.reply.Reply.TheVariants.{Done, Broken, Stopped}
 use Rattle.rule_model.specs.Answer.{answer_by_rules}
-use Rattle.rule_model.specs.Boot.{Accepts, last_tokens, other_triples}
+use Rattle.rule_model.specs.declared.entry_change.BootChange.TheVariants.{Accepts}
+use Rattle.rule_model.specs.Boot.{last_tokens, other_triples}
 use Rattle.rule_model.specs.Calls.{accepted_in, add_auth_token_ruling, has_right_mac, system_facts}
 use Rattle.rule_model.specs.Clients.{caller_of}
 use Rattle.rule_model.specs.Entries.{History}
 use Rattle.rule_model.specs.Jobs.{Stays}
 use Rattle.rule_model.specs.Legal.{Answered}
-use Rattle.rule_model.specs.Operations.{Open, SameOperations, Shows, as_shown, is_for}
+use Rattle.rule_model.specs.declared.operation.Open.{Open}
+use Rattle.rule_model.specs.declared.entry_change.OperationChange.TheVariants.{SameOperations, Shows}
+use Rattle.rule_model.specs.Operations.{as_shown, is_for}
 use Rattle.rule_model.specs.Replies.{broken_or, no_fields}
 use Rattle.rule_model.specs.Setup.{Setup}
 use Rattle.rule_model.proofs.Kept.{quiet_stored}
-use Rattle.live_tables.specs.declared.operations.Operation.{Operation}
+use Rattle.live_tables.specs.declared.operations.OperationRow.{OperationRow}
 use Rattle.keystore_core.specs.declared.tables.Tables.{Tables}
 use Rattle.live_tables.specs.Alike.{Alike}
 use Rattle.live_tables.specs.Begins.{begins_in}
 use Rattle.live_tables.specs.Clients.{clients_given, uid_in}
 use Rattle.live_tables.specs.Device.{early_in, unlocked_in}
-use Rattle.live_tables.specs.Operations.{IsRow, is_for_row, operations_given, rows_in, shown}
+use Rattle.live_tables.specs.Operations.{IsRow, is_for_row, most_operations, operations_given, rows_in, shown}
 use Rattle.keystore_core.specs.Slots.{IsKept, IsSlot}
 use Rattle.keystore_core.specs.Tables.{AnswersAfter, IsCaller, SameTables, TablesStand, event_by}
 use Rattle.live_tables.specs.Tickets.{out_in, tickets_given}
@@ -48,10 +51,10 @@ use Rattle.keystore_core.proofs.Standing.{called, clients_stay, denied_tables, r
 use Rattle.tags.specs.declared.limits.TheConstants.{MOST_TRIPLES}
 
 -- a token is for a row where it is for its operation
-for_same : (token : AuthToken) (row : Operation) (o : Open) → IsRow row o → is_for_row token row ≡ is_for token o
+for_same : (token : AuthToken) (row : OperationRow) (o : Open) → IsRow row o → is_for_row token row ≡ is_for token o
 for_same token row o r = rw (r.challenge_is, r.list_is) refl
 
-row_shown : (row : Operation) (o : Open) → IsRow row o → IsRow (shown row) (as_shown o)
+row_shown : (row : OperationRow) (o : Open) → IsRow row o → IsRow (shown row) (as_shown o)
 row_shown row o r = record {
   number = r.number;
   client = r.client;
@@ -124,7 +127,7 @@ module _ (setup : Setup) (past : History) (tables : Tables) (caller : Caller) (t
   refused_same new is = record {
     clients = record { uids = λ client. ap (λ c. uid_in c client) is.clients; given = ap clients_given is.clients };
     keys = same_keys_as tables new is.secrets is.policy is.keys;
-    operations = record { rows = ap rows_in is.operations; given = ap operations_given is.operations };
+    operations = record { rows = ap rows_in is.operations; given = ap operations_given is.operations; most = ap most_operations is.operations };
     slots = is.slots;
     tickets = record { outs = λ ticket. ap (λ t. out_in t ticket) is.tickets; given = ap tickets_given is.tickets };
     boot = record { device = is.device; tokens = is.tokens; begins = λ key. ap (λ b. begins_in b key) is.begins };
@@ -152,7 +155,7 @@ module _ (setup : Setup) (past : History) (tables : Tables) (caller : Caller) (t
           keys = keys_stay setup past (Acted Adding [] reply ∷ past) tables new stands.keys (same_keys_as tables new takes.secrets takes.policy takes.keys) (quiet_stored setup past Adding [] reply refl refl);
           operations = rows_after setup past Adding [] reply (Shows token) new.operations refl
               (rw takes.rows.rows (alike_change IsRow (is_for_row token) (is_for token) shown as_shown (for_same token) (λ row o r b. row_shown row o r) (rows_in tables.operations) (open_of setup past) stands.operations.rows))
-              (takes.rows.given ∙ stands.operations.given);
+              (takes.rows.given ∙ stands.operations.given) (takes.rows.most ∙ stands.operations.most);
           slots = slots_after setup past Adding [] reply (Shows token) tables.slots new.slots stands.slots refl
               (rw takes.slots (slots_shown token (operations_of tables.slots) (open_of setup past) stands.slots.slots_are))
               (ap capacity_of takes.slots)

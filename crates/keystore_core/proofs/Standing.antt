@@ -20,14 +20,21 @@ use Rattle.rule_model.specs.declared.facts.Caller.{Caller}
 use Rattle.rule_model.specs.declared.reply.Reply.{Reply}
 use Rattle.rule_model.specs.declared.reply.Reply.TheVariants.{Done, Broken, Stopped}
 use Rattle.rule_model.specs.Acts.{fixed_for, is_begin, is_connect, is_enter, is_leave, is_restart, left_by}
-use Rattle.rule_model.specs.Boot.{SameBoot as NoBoot, boot_change}
-use Rattle.rule_model.specs.Clients.{SameClients as NoClients, caller_of, client_change, uid_after, uid_of}
+use Rattle.rule_model.specs.declared.entry_change.BootChange.TheVariants.{SameBoot as NoBoot}
+use Rattle.rule_model.specs.Boot.{boot_change}
+use Rattle.rule_model.specs.declared.entry_change.ClientChange.TheVariants.{SameClients as NoClients}
+use Rattle.rule_model.specs.Clients.{caller_of, client_change, uid_after, uid_of}
 use Rattle.rule_model.specs.Entries.{History, admits, count_of, is_done}
 use Rattle.rule_model.specs.Jobs.{HasDone, Stays, but_shown}
-use Rattle.rule_model.specs.Operations.{Open, OperationChange, SameOperations, open_after, step_of, stopped_operation}
+use Rattle.rule_model.specs.declared.operation.Open.{Open}
+use Rattle.rule_model.specs.declared.entry_change.OperationChange.{OperationChange}
+use Rattle.rule_model.specs.declared.entry_change.OperationChange.TheVariants.{SameOperations}
+use Rattle.rule_model.specs.Operations.{open_after, step_of, stopped_operation}
 use Rattle.rule_model.specs.Settling.{is_faulted, is_unsettled}
 use Rattle.rule_model.specs.Setup.{Setup}
-use Rattle.rule_model.specs.Tickets.{Entered, SameTickets as NoTickets, stopped_ticket, ticket_after, ticket_at, ticket_change}
+use Rattle.rule_model.specs.declared.operation.Entered.{Entered}
+use Rattle.rule_model.specs.declared.entry_change.TicketChange.TheVariants.{SameTickets as NoTickets}
+use Rattle.rule_model.specs.Tickets.{stopped_ticket, ticket_after, ticket_at, ticket_change}
 use Rattle.rule_model.proofs.Boot.{begins_few}
 use Rattle.rule_model.proofs.Counting.{count_few}
 use Rattle.rule_model.proofs.Kept.{same_stored, unfaulted_stored}
@@ -42,7 +49,7 @@ use Rattle.live_tables.specs.declared.tickets.Tickets.{Tickets}
 use Rattle.live_tables.specs.Alike.{Alike}
 use Rattle.live_tables.specs.Begins.{SameBegins, begins_in}
 use Rattle.live_tables.specs.Clients.{ClientsStand, SameClients, clients_given}
-use Rattle.live_tables.specs.Operations.{IsRow, OperationsStand, SameRows, operations_given, rows_in}
+use Rattle.live_tables.specs.Operations.{IsRow, OperationsStand, SameRows, most_operations, operations_given, rows_in}
 use Rattle.keystore_core.specs.Slots.{IsSlot, SlotsStand}
 use Rattle.keystore_core.specs.Tables.{IsAt, IsCaller, IsTables, SameTables, ServesAfter, ServesAt, StandsAt, TablesStand, event_by}
 use Rattle.live_tables.specs.Tickets.{BusyWith, SameOut, SameTickets, TicketsStand, out_in, tickets_given}
@@ -54,7 +61,7 @@ pub same_tables : (tables : Tables) → SameTables tables tables
 same_tables tables = record {
   clients = record { uids = λ client. refl; given = refl };
   keys = same_keys tables;
-  operations = record { rows = refl; given = refl };
+  operations = record { rows = refl; given = refl; most = refl };
   slots = refl;
   tickets = record { outs = λ ticket. refl; given = refl };
   boot = same_boot tables.boot;
@@ -99,17 +106,18 @@ module _ (setup : Setup) (past : History) (event : Event) (drawn : List ℕ) (re
 
   -- the rows after a change of the operations
   pub rows_after : (change : OperationChange) (new : Operations) → operation_change setup past event drawn reply ≡ change
-      → Alike IsRow (rows_in new) (open_after (step_of past) change (open_of setup past)) → operations_given new ≡ count_of is_begin (Acted event drawn reply ∷ past)
+      → Alike IsRow (rows_in new) (open_after (step_of past) change (open_of setup past)) → operations_given new ≡ count_of is_begin (Acted event drawn reply ∷ past) → most_operations new ≡ setup.slots
       → OperationsStand setup new (Acted event drawn reply ∷ past)
-  rows_after change new is alike given = record {
+  rows_after change new is alike given most = record {
     rows = subst (λ c. Alike IsRow (rows_in new) (open_after (step_of past) c (open_of setup past))) (sym is) alike;
     given = given;
+    most = most;
   }
 
   pub operations_stay : (old new : Operations) → OperationsStand setup old past → SameRows old new → operation_change setup past event drawn reply ≡ SameOperations
       → admits is_begin (Acted event drawn reply) ≡ false → OperationsStand setup new (Acted event drawn reply ∷ past)
   operations_stay old new stands same none uncounts =
-      rows_after SameOperations new none (rw same.rows stands.rows) (same.given ∙ stands.given ∙ sym (uncounted is_begin past event drawn reply uncounts))
+      rows_after SameOperations new none (rw same.rows stands.rows) (same.given ∙ stands.given ∙ sym (uncounted is_begin past event drawn reply uncounts)) (same.most ∙ stands.most)
 
   -- the slots after a change of the operations
   pub slots_after : (change : OperationChange) (old new : SlotTable CipherState) → SlotsStand setup old past → operation_change setup past event drawn reply ≡ change
@@ -185,7 +193,7 @@ still setup past old new stands same = record {
     given = same.clients.given ∙ stands.clients.given;
   };
   keys = keys_stay setup past past old new stands.keys same.keys (same_stored setup past);
-  operations = record { rows = rw same.operations.rows stands.operations.rows; given = same.operations.given ∙ stands.operations.given };
+  operations = record { rows = rw same.operations.rows stands.operations.rows; given = same.operations.given ∙ stands.operations.given; most = same.operations.most ∙ stands.operations.most };
   slots = rw same.slots stands.slots;
   tickets = record {
     outs = λ ticket. subst (λ out. SameOut out (ticket_at past ticket)) (sym (same.tickets.outs ticket)) (stands.tickets.outs ticket);
@@ -240,19 +248,18 @@ pub same_but_keys : (tables : Tables) (new : KeyDatabase) → SameStore tables.k
 same_but_keys tables new same = record {
   clients = record { uids = λ client. refl; given = refl };
   keys = record { device_is = refl; policy_is = refl; store_is = same };
-  operations = record { rows = refl; given = refl };
+  operations = record { rows = refl; given = refl; most = refl };
   slots = refl;
   tickets = record { outs = λ ticket. refl; given = refl };
   boot = same_boot tables.boot;
 }
 
--- the tables with room for one operation more, and for a begin more on a key
-pub same_but_begun : (tables : Tables) (rows : Operations) (begins : Begins) → SameRows tables.operations rows → SameBegins tables.boot.begins begins
-    → SameTables tables (record tables { operations = rows; boot = record tables.boot { begins = begins } })
-same_but_begun tables rows begins same_rows same_begins = record {
+-- the tables with room for a begin more on a key
+pub same_but_begun : (tables : Tables) (begins : Begins) → SameBegins tables.boot.begins begins → SameTables tables (record tables { boot = record tables.boot { begins = begins } })
+same_but_begun tables begins same_begins = record {
   clients = record { uids = λ client. refl; given = refl };
-  keys = same_keys_as tables (record tables { operations = rows; boot = record tables.boot { begins = begins } }) refl refl refl;
-  operations = same_rows;
+  keys = same_keys_as tables (record tables { boot = record tables.boot { begins = begins } }) refl refl refl;
+  operations = record { rows = refl; given = refl; most = refl };
   slots = refl;
   tickets = record { outs = λ ticket. refl; given = refl };
   boot = record { device = refl; tokens = record { tokens = refl; key = refl }; begins = same_begins };
@@ -262,7 +269,7 @@ pub same_but_tickets : (tables : Tables) (tickets : Tickets) → SameTickets tab
 same_but_tickets tables tickets same = record {
   clients = record { uids = λ client. refl; given = refl };
   keys = same_keys_as tables (record tables { tickets = tickets }) refl refl refl;
-  operations = record { rows = refl; given = refl };
+  operations = record { rows = refl; given = refl; most = refl };
   slots = refl;
   tickets = same;
   boot = same_boot tables.boot;

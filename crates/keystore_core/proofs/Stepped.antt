@@ -34,19 +34,24 @@ use Rattle.rule_model.specs.declared.reply.Reply.TheVariants.{Done, Broken}
 use Rattle.rule_model.specs.Acts.{is_begin, is_connect, is_enter}
 use Rattle.rule_model.specs.Answer.{answer_by_rules}
 use Rattle.rule_model.specs.Replies.{broken_or, no_fields}
-use Rattle.rule_model.specs.Clients.{SameClients as NoClients, caller_of, client_change}
+use Rattle.rule_model.specs.declared.entry_change.ClientChange.TheVariants.{SameClients as NoClients}
+use Rattle.rule_model.specs.Clients.{caller_of, client_change}
 use Rattle.rule_model.specs.Entries.{History, admits, is_done}
 use Rattle.rule_model.specs.Jobs.{IsJobOn, Stays}
 use Rattle.rule_model.specs.Kept.{is_live, open_of, operation_at, operation_change}
-use Rattle.rule_model.specs.Boot.{SameBoot as NoBoot, boot_change}
+use Rattle.rule_model.specs.declared.entry_change.BootChange.TheVariants.{SameBoot as NoBoot}
+use Rattle.rule_model.specs.Boot.{boot_change}
 use Rattle.rule_model.specs.Legal.{MayFollow, Answered, is_ready}
-use Rattle.rule_model.specs.Operations.{Closes, Enters as EntersOne, Open, SameOperations, closes, has_number, is_busy, operation_of, used_key}
+use Rattle.rule_model.specs.declared.entry_change.OperationChange.TheVariants.{Closes, Enters as EntersOne, SameOperations}
+use Rattle.rule_model.specs.declared.operation.Open.{Open}
+use Rattle.rule_model.specs.Operations.{closes, has_number, is_busy, operation_of, used_key}
 use Rattle.rule_model.specs.Setup.{Setup}
 use Rattle.rule_model.specs.StepFacts.{brought_by, brought_by_abort, facts_of, has_ended, step_facts}
-use Rattle.rule_model.specs.Tickets.{GoesOut, SameTickets as NoTickets, next_ticket, ticket_change}
+use Rattle.rule_model.specs.declared.entry_change.TicketChange.TheVariants.{GoesOut, SameTickets as NoTickets}
+use Rattle.rule_model.specs.Tickets.{next_ticket, ticket_change}
 use Rattle.rule_model.specs.Stored.{stored_bytes, where_stored}
 use Rattle.rule_model.proofs.Kept.{denied_stands, denied_stored, quiet_stored}
-use Rattle.live_tables.specs.declared.operations.Operation.{Operation as Row}
+use Rattle.live_tables.specs.declared.operations.OperationRow.{OperationRow as Row}
 use Rattle.keystore_core.specs.declared.tables.Tables.{Tables}
 use Rattle.live_tables.specs.Alike.{BothFound}
 use Rattle.keystore_core.specs.Keys.{KeysStand}
@@ -292,7 +297,7 @@ module _ (setup : Setup) (past : History) (event : Event) (drawn : List ℕ) (re
           keys = keys_after;
           operations = rows_after setup past event drawn reply (Closes op) new.operations is
               (rw closed.rows.rows (alike_filter IsRow (λ row. not (has_row op row)) (λ o. not (has_number op o)) (λ row o r. ap not (row_named op row o r)) (rows_in old.operations) (open_of setup past) stands.operations.rows))
-              (closed.rows.given ∙ stands.operations.given ∙ sym (uncounted is_begin past event drawn reply no_begin));
+              (closed.rows.given ∙ stands.operations.given ∙ sym (uncounted is_begin past event drawn reply no_begin)) (closed.rows.most ∙ stands.operations.most);
           slots = slots_after setup past event drawn reply (Closes op) old.slots new.slots stands.slots is
               (rw closed.slots.operations (alike_filter IsSlot (λ slot. not (table.has_number op slot)) (λ o. not (has_number op o)) (λ slot o r. ap not (slot_named op slot o r)) (operations_of old.slots) (open_of setup past) stands.slots.slots_are))
               closed.slots.capacity

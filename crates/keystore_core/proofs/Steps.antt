@@ -23,7 +23,8 @@ use Rattle.rule_model.specs.Legal.{Legal, LegalBefore, MaySettleFirst, MayStep, 
 use Rattle.rule_model.specs.Setup.{Setup}
 use Rattle.rule_model.specs.Stored.{holding_of}
 use Rattle.rule_model.specs.Operations.{step_of}
-use Rattle.rule_model.specs.Tickets.{Entered, ticket_at}
+use Rattle.rule_model.specs.declared.operation.Entered.{Entered}
+use Rattle.rule_model.specs.Tickets.{ticket_at}
 use Rattle.rule_model.proofs.Kept.{same_holding, settled_holding_is, waiting_stored}
 use Rattle.rule_model.proofs.Legal.{goes_on, legal_step}
 use Rattle.keystore_core.specs.declared.answered.Answered.{Answered}

@@ -1,5 +1,5 @@
 -- The beginning of an operation.
-use Rattle.std.specs.Prelude.{◌≡◌, ℕ, Bool, false, List, [], Option, Some, None, Result, Ok, Err, ⊤}
+use Rattle.std.specs.Prelude.{◌≡◌, ℕ, Bool, false, List, Option, Some, None, Result, Ok, Err, ⊤}
 use Rattle.tags.specs.declared.descriptor.Descriptor.{Descriptor}
 use Rattle.use_rules.specs.declared.facts.BeginFacts.{BeginFacts}
 use Rattle.use_rules.specs.Plans.{challenge_wanted}
@@ -17,7 +17,7 @@ use Rattle.rule_model.specs.Kept.{begin_key_at}
 use Rattle.rule_model.specs.Setup.{Setup}
 use Rattle.rule_model.specs.Slots.{begin_facts, has_room}
 use Rattle.call_answers.specs.declared.begins.AdmittedBegin.{AdmittedBegin}
-use Rattle.live_tables.specs.declared.operations.Operation.{Operation}
+use Rattle.live_tables.specs.declared.operations.OperationRow.{OperationRow}
 use Rattle.keystore_core.specs.declared.tables.Tables.{Tables}
 use Rattle.cipher_ops.specs.declared.state.CipherState.{CipherState}
 use Rattle.operation_slots.specs.Table.{Begins, FindsNew, KeepsLaterThan, idle_operation}
@@ -57,7 +57,7 @@ Admits tables caller key params forced room result =
     → GivesAdmitted result (begin_key_at setup past caller key params) (begin_facts setup past caller key params forced)
 
 -- a row is an operation of what may begin, without text and additional data, to which no token was shown
-pub record IsNewRow (row : Operation) (number client : ℕ) (admitted : AdmittedBegin) (challenge : Option ℕ) : Type 0 where
+pub record IsNewRow (row : OperationRow) (number client : ℕ) (admitted : AdmittedBegin) (challenge : Option ℕ) : Type 0 where
   pub number_is : row.number ≡ number
   pub client_is : row.client ≡ client
   pub key_is : row.key ≡ admitted.id
@@ -76,7 +76,7 @@ MakesWay None old new = new ≡ old
 MakesWay (Some op) old new = ClosesOne op old new
 
 -- an operation on a key opens in the place of one that gives way, and counts for the key where that is stored
-pub record OpensOne (pruned : Option ℕ) (step uid : ℕ) (key : Option ℕ) (row : Operation) (state : CipherState) (old new : Tables) : Type 0 where
+pub record OpensOne (pruned : Option ℕ) (step uid : ℕ) (key : Option ℕ) (row : OperationRow) (state : CipherState) (old new : Tables) : Type 0 where
   pub middle : Tables
   pub way : MakesWay pruned old middle
   pub clients : SameClients middle.clients new.clients

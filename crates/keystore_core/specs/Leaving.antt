@@ -1,7 +1,7 @@
 -- What leaves the tables: a client with its operations, and an operation.
 use Rattle.std.specs.Prelude.{◌≡◌, ℕ}
 use Rattle.operation_slots.specs.Table.{FindsNoMore, KeepsLater, TakesOut, TakesOutOf}
-use Rattle.rule_model.specs.Clients.{Goes}
+use Rattle.rule_model.specs.declared.entry_change.ClientChange.TheVariants.{Goes}
 use Rattle.keystore_core.specs.declared.tables.Tables.{Tables}
 use Rattle.live_tables.specs.Boot.{SameBoot}
 use Rattle.live_tables.specs.Clients.{ChangesClients, SameClients, clients_given}

@@ -1,28 +1,22 @@
 -- What a store that was opened holds, and what is fixed in a run over it.
-use Rattle.std.proofs.Common.{◌≡◌, ℕ, List, [], length, true, false, Some, refl, ◌∙◌}
+use Rattle.std.proofs.Common.{◌≡◌, ℕ, List, [], true, false, refl, ◌∙◌}
 use Rattle.ks_outside.specs.Images.{AllImages, Passes, Reads, tells}
 use Rattle.ks_outside.specs.declared.disk.Disk.{Ghosts as DiskGhosts}
 use Rattle.tags.specs.declared.policy.PolicyRow.{PolicyRow}
 use Rattle.tags.specs.declared.secrets.DeviceSecrets.{DeviceSecrets}
-use Rattle.journal_records.specs.declared.change.Change.{Change}
-use Rattle.journal_records.specs.Effects.{lasting_of as lasting_after}
 use Rattle.journal_records.specs.Holding.{Sure}
 use Rattle.journal_records.specs.LastingPart.{Lasting}
-use Rattle.use_journal.specs.Journal.{AreChanges, IsJournal, written}
 use Rattle.key_database.specs.declared.database.KeyDatabase.{KeyDatabase}
 use Rattle.key_database.specs.Stands.{Holds, store_bytes}
-use Rattle.key_database.specs.Store.{StandsFor}
+use Rattle.key_database.specs.Store.{StandsFor, stored_length}
 use Rattle.rule_model.specs.Setup.{Setup}
 use Rattle.keystore_core.specs.declared.engine.Engine.{Engine}
 use Rattle.keystore_core.specs.Engine.{IsOpened, StoreStands, bytes_of, lasting_of}
 
--- the image is a journal whose changes leave the lasting part at the start, in so many bytes
+-- the image stands for the lasting part at the start, in so many bytes
 pub record IsStart (setup : Setup) (image : List ℕ) : Type 0 where
-  pub past : List Change
-  pub changes : AreChanges past
-  pub journal : IsJournal past image
-  pub lasting : lasting_after past ≡ Some setup.start
-  pub bytes : setup.bytes ≡ length (written past)
+  pub stands : StandsFor setup.start image
+  pub bytes : setup.bytes ≡ stored_length setup.start image stands
 
 -- no image came but those that were there, no call failed, and the disk tells as much as before
 pub record IsUnwritten {D : Type 0} (d : DiskGhosts D) (old new : D) : Type 0 where
@@ -57,11 +51,15 @@ is_opened device policy slots engine = record { start = refl; bytes = refl; devi
 
 start_images : {D : Type 0} (d : DiskGhosts D) (setup : Setup) (keys : KeyDatabase) (disk : D) → Holds d keys disk (Sure setup.start) → setup.bytes ≡ store_bytes keys → AllImages d disk (IsStart setup)
 start_images d setup keys disk is bytes c image = record {
-  past = is.past;
-  changes = is.settled.changes;
-  journal = is.settled.images c image;
-  lasting = is.left;
-  bytes = bytes ∙ is.settled.place;
+  stands = record {
+    frame = is.kept.frame;
+    is_frame = is.kept.is_frame;
+    past = is.kept.past;
+    records = is.kept.settled.records;
+    store = is.kept.settled.images c image;
+    lasting = is.kept.left;
+  };
+  bytes = bytes ∙ is.kept.settled.place;
 }
 
 -- the images after an opening are the store of the start

@@ -9,10 +9,12 @@ use Rattle.rule_model.specs.declared.event.Act.{Act}
 use Rattle.rule_model.specs.declared.event.Act.TheVariants.{EnterFinish, EnterUpdate, Leave}
 use Rattle.rule_model.specs.Entries.{History}
 use Rattle.rule_model.specs.Kept.{operation_at}
-use Rattle.rule_model.specs.Operations.{Open, output_of}
+use Rattle.rule_model.specs.declared.operation.Open.{Open}
+use Rattle.rule_model.specs.Operations.{output_of}
 use Rattle.rule_model.specs.Setup.{Setup}
-use Rattle.rule_model.specs.Tickets.{Entered, ticket_at}
-use Rattle.live_tables.specs.declared.operations.Operation.{Operation}
+use Rattle.rule_model.specs.declared.operation.Entered.{Entered}
+use Rattle.rule_model.specs.Tickets.{ticket_at}
+use Rattle.live_tables.specs.declared.operations.OperationRow.{OperationRow}
 use Rattle.keystore_core.specs.declared.output.TextStep.{TextStep}
 use Rattle.keystore_core.specs.declared.tables.Tables.{Tables}
 use Rattle.keystore_core.specs.Tables.{row_at}
@@ -58,7 +60,7 @@ abbrev pub most_for : Setup → History → Act → ℕ
 most_for setup past act = step_most setup past (text_step act)
 
 -- the same by a row
-abbrev pub row_most : Option Operation → ℕ → Bool → ℕ
+abbrev pub row_most : Option OperationRow → ℕ → Bool → ℕ
 row_most None size last = 0
 row_most (Some row) size last = text_most row.plan row.limited row.text size last
 
@@ -67,15 +69,15 @@ told_most tables None = 0
 told_most tables (Some step) = row_most (row_at tables step.op) step.size step.last
 
 -- so many bytes are enough for what an update gives on the operation of a row, and a finish
-abbrev pub UpdateGives : Operation → ℕ → ℕ → Type 0
+abbrev pub UpdateGives : OperationRow → ℕ → ℕ → Type 0
 UpdateGives row size most = row.text + size ≤ OPERATION_BYTES → (key nonce before after : List ℕ) → length after ≡ length before + size
     → length (update_output row.plan row.limited key nonce before after) ≤ most
 
-abbrev pub FinishGives : Operation → ℕ → ℕ → Type 0
+abbrev pub FinishGives : OperationRow → ℕ → ℕ → Type 0
 FinishGives row size most = row.text + size ≤ OPERATION_BYTES → (key nonce aad before after : List ℕ) (signature : Option (List ℕ)) → length before ≡ row.text
     → length after ≡ row.text + size → IfOk (finish_output row.plan row.limited key nonce aad before after signature) (λ out. length out ≤ most)
 
-abbrev pub RowGives : Option Operation → ℕ → Bool → ℕ → Type 0
+abbrev pub RowGives : Option OperationRow → ℕ → Bool → ℕ → Type 0
 RowGives None size last most = ⊤
 RowGives (Some row) size false most = UpdateGives row size most
 RowGives (Some row) size true most = FinishGives row size most

@@ -9,14 +9,14 @@ use Rattle.key_database.specs.Store.{StandsFor}
 use Rattle.operation_slots.specs.Table.{IsEmpty, IsLater, capacity_of}
 use Rattle.rule_model.specs.declared.reply.Reply.{Reply}
 use Rattle.rule_model.specs.declared.reply.Reply.TheVariants.{Done, Broken, Stopped}
-use Rattle.rule_model.specs.Clients.{AllGo}
+use Rattle.rule_model.specs.declared.entry_change.ClientChange.TheVariants.{AllGo}
 use Rattle.rule_model.specs.Entries.{is_done}
 use Rattle.rule_model.specs.Blobs.{root_given}
 use Rattle.rule_model.specs.declared.event.Act.TheVariants.{Restart}
 use Rattle.keystore_core.specs.declared.tables.Tables.{Tables}
 use Rattle.live_tables.specs.Boot.{Restarts}
 use Rattle.live_tables.specs.Clients.{ChangesClients, clients_given}
-use Rattle.live_tables.specs.Operations.{operations_given, rows_in}
+use Rattle.live_tables.specs.Operations.{most_operations, operations_given, rows_in}
 use Rattle.live_tables.specs.Tickets.{out_in, tickets_given}
 
 -- clients, operations, tickets and what lasts until a restart are gone, and the root of trust is the given one where one is given
@@ -28,6 +28,7 @@ pub record Forgets (root : Option (List ℕ)) (old new : Tables) : Type 0 where
   pub clients_are : clients_given new.clients ≡ clients_given old.clients
   pub rows : rows_in new.operations ≡ []
   pub operations_are : operations_given new.operations ≡ operations_given old.operations
+  pub most_are : most_operations new.operations ≡ most_operations old.operations
   pub empty : IsEmpty new.slots (capacity_of old.slots)
   pub later : (next : ℕ) → IsLater new.slots next
   pub outs : (ticket : ℕ) → out_in new.tickets ticket ≡ None

@@ -7,7 +7,7 @@ use Rattle.operation_slots.specs.Table.{IsLater, SlotTable, capacity_of, client_
 use Rattle.rule_model.specs.Kept.{open_of}
 use Rattle.rule_model.specs.Acts.{is_begin}
 use Rattle.rule_model.specs.Entries.{History, count_of}
-use Rattle.rule_model.specs.Operations.{Open}
+use Rattle.rule_model.specs.declared.operation.Open.{Open}
 use Rattle.rule_model.specs.Setup.{Setup}
 use Rattle.live_tables.specs.Alike.{Alike}
 

@@ -29,7 +29,7 @@ use Rattle.rule_model.specs.declared.reply.Reply.{Reply}
 use Rattle.rule_model.specs.declared.reply.Reply.TheVariants.{Done as done, Stopped}
 use Rattle.rule_model.specs.Replies.{no_fields}
 use Rattle.live_tables.specs.declared.operations.Added.{Added}
-use Rattle.live_tables.specs.declared.operations.Operation.{Operation}
+use Rattle.live_tables.specs.declared.operations.OperationRow.{OperationRow}
 use Rattle.live_tables.specs.declared.operations.RowChange.TheVariants.{Enters, Returns}
 use Rattle.keystore_core.specs.declared.tables.Tables.{Tables}
 use Rattle.live_tables.specs.declared.tickets.Out.{Out}
@@ -55,7 +55,7 @@ abbrev pub added_by : Brought → Added
 added_by brought = added_for brought.kind brought.input
 
 -- the stored key that a finish on an operation uses once
-abbrev pub used_for : StepKind → Option Operation → Option ℕ
+abbrev pub used_for : StepKind → Option OperationRow → Option ℕ
 used_for kinds.Last row = used_of row
 used_for _ row = None
 
@@ -77,12 +77,12 @@ reply_of kinds.Aad (Ok out) = done no_fields
 reply_of _ (Ok out) = done (record no_fields { out = Some out })
 
 -- the operation is there, and its text has room for the work's
-abbrev pub MayGrow : Option Operation → Work → Type 0
+abbrev pub MayGrow : Option OperationRow → Work → Type 0
 MayGrow None work = ⊥
 MayGrow (Some row) work = row.text + own_text work ≤ OPERATION_BYTES
 
 -- the operation is there, and the room is that of the work on it
-abbrev pub IsRoomAt : Option Operation → Work → JobRoom → Type 0
+abbrev pub IsRoomAt : Option OperationRow → Work → JobRoom → Type 0
 IsRoomAt None work room = ⊥
 IsRoomAt (Some row) work room = IsRoom room row.plan row.limited row.text work
 

@@ -15,7 +15,7 @@ use Rattle.rule_model.specs.Operations.{step_of}
 use Rattle.rule_model.specs.Setup.{Setup}
 use Rattle.rule_model.specs.Uses.{IsStored}
 use Rattle.keystore_core.specs.declared.answered.Answered.{Answered}
-use Rattle.live_tables.specs.declared.operations.Operation.{Operation}
+use Rattle.live_tables.specs.declared.operations.OperationRow.{OperationRow}
 use Rattle.keystore_core.specs.declared.tables.Tables.{Tables}
 use Rattle.live_tables.specs.Boot.{BootStands, SameBoot}
 use Rattle.live_tables.specs.Clients.{ClientsStand, SameClients, uid_in}
@@ -43,7 +43,7 @@ pub record SameTables (old new : Tables) : Type 0 where
   pub boot : SameBoot old.boot new.boot
 
 -- the row of an operation, and its state where it is idle
-abbrev pub row_at : Tables → ℕ → Option Operation
+abbrev pub row_at : Tables → ℕ → Option OperationRow
 row_at tables op = operation_in tables.operations op
 
 abbrev pub state_at : Tables → ℕ → Option CipherState

@@ -3,7 +3,7 @@ use Rattle.std.specs.Prelude.{◌≡◌}
 use Rattle.auth_tokens.specs.declared.token.AuthToken.{AuthToken}
 use Rattle.rule_model.specs.declared.event.Act.{Act}
 use Rattle.rule_model.specs.declared.event.Act.TheVariants.{AddAuthToken}
-use Rattle.rule_model.specs.Boot.{Accepts}
+use Rattle.rule_model.specs.declared.entry_change.BootChange.TheVariants.{Accepts}
 use Rattle.keystore_core.specs.declared.tables.Tables.{Tables}
 use Rattle.live_tables.specs.Operations.{ShowsRows}
 use Rattle.live_tables.specs.Tokens.{ChangesTokens, SameTokens}

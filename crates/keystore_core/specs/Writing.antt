@@ -25,7 +25,7 @@ use Rattle.rule_model.specs.Settling.{is_disk_fault}
 use Rattle.rule_model.specs.Stored.{after_reply, has_record_room, record_bytes}
 use Rattle.keystore_core.specs.declared.answered.Answered.{Answered}
 use Rattle.keystore_core.specs.declared.tables.Tables.{Tables}
-use Rattle.live_tables.specs.declared.operations.Operation.{Operation}
+use Rattle.live_tables.specs.declared.operations.OperationRow.{OperationRow}
 use Rattle.live_tables.specs.Clients.{uid_in}
 use Rattle.live_tables.specs.Operations.{operation_in}
 use Rattle.keystore_core.specs.Keys.{SameKeys}
@@ -69,7 +69,7 @@ pub record LeavesStore (old new : Tables) (answered : Answered) : Type 0 where
   pub no_fault : is_disk_fault answered.reply ≡ false
 
 -- the stored key with a use limit that a finish on an operation uses once
-abbrev pub used_of : Option Operation → Option ℕ
+abbrev pub used_of : Option OperationRow → Option ℕ
 used_of None = None
 used_of (Some row) = if row.limited then row.key else None
 

@@ -9,9 +9,9 @@ ghost use Rattle.keymint_ops.specs.Begin.{nonce_used};
 ghost use Rattle.rule_model.specs.declared.event.Act.TheVariants as acts;
 ghost use Rattle.keystore_core.specs.Beginning as spec;
 ghost use Rattle.keystore_core.specs.Drawn.{DrewForResult, pieces_in};
-ghost use Rattle.live_tables.specs.Operations.{HasRoomForOperation, SameRows, operations_given};
+ghost use Rattle.live_tables.specs.Operations.{HasRoomForOperation, operations_given};
 ghost use Rattle.keystore_core.specs.Room.{room_in};
-ghost use Rattle.keystore_core.specs.Tables.{IsAt, IsCaller, ServesAt, event_by, state_at};
+ghost use Rattle.keystore_core.specs.Tables.{IsAt, IsCaller, ServesAt, event_by, row_at, state_at};
 ghost use Rattle.keystore_core.specs.Writing.{LeavesStore};
 ghost use Rattle.operation_slots.specs.Table.{IsLater, has_room as is_free, held};
 ghost use Rattle.token_store.specs.Fitting.{opens};
@@ -30,7 +30,7 @@ use call_answers::{AdmittedBegin, BeginKey, owner_of, user_of};
 use cipher_ops::CipherState;
 use keymint_ops::BeginFault;
 use ks_outside::Entropy;
-use live_tables::{Begins, Boot, Operation, Operations, Tokens};
+use live_tables::{Begins, Boot, OperationRow, Tokens};
 use rule_model::{Caller, Conditions, Fields, NO_FIELDS, Pieces, Reply};
 use std::alloc::Global;
 use tag_lists::AuthList;
@@ -75,10 +75,10 @@ fn new_operation(
     client: u64,
     admitted: AdmittedBegin,
     challenge: Option<u64>,
-) -> Operation
+) -> OperationRow
     ensures { spec.IsNewRow result number client admitted challenge }
 {
-    Operation {
+    OperationRow {
         number,
         client,
         key: admitted.id,
@@ -139,23 +139,19 @@ fn count_begin(begins: &mut Begins, id: Option<u64>)
 /// Takes the room of a begin, in the tables too.
 fn make_ready(
     alloc: Global,
-    operations: &mut Operations,
     begins: &mut Begins,
     admitted: &AdmittedBegin,
 ) -> Result<DrawnRooms, NoMemory>
     requires { admitted.now.begin.wanted + admitted.now.challenge < 2 ^ 62 }
     ensures nonce { IfOk result (λ rooms. room_in rooms.copy ≡ admitted.now.begin.wanted) }
     ensures draws { IfOk result (λ rooms. pieces_in rooms.draws ≡ admitted.now.begin.wanted + admitted.now.challenge) }
-    ensures row { OnOk result (HasRoomForOperation operations.new) }
     ensures counted { OnOk result (spec.HasRoomOn begins.new admitted.now.id) }
-    ensures rows { SameRows operations.old operations.new }
     ensures begins { SameBegins begins.old begins.new }
 {
     let pieces = Pieces {
         first: admitted.begin.wanted,
         second: admitted.challenge,
     };
-    operations.reserve()?;
     reserve_begin(begins, admitted.id)?;
     DrawnRooms::of(alloc, pieces)
 }
@@ -165,11 +161,13 @@ impl Tables {
     fn make_way(&mut self, pruned: Option<u64>)
         requires idle { IfSome pruned (λ op. IsSome (state_at self.old op)) }
         requires free { IfNone pruned (is_free self.old.slots ≡ true) }
+        requires row { IfSome pruned (λ op. IsSome (row_at self.old op)) }
+        requires room { IfNone pruned (HasRoomForOperation self.old.operations) }
         ensures way { spec.MakesWay pruned self.old self.new }
         ensures boot { self.new.boot ≡ self.old.boot }
         ensures free { is_free self.new.slots ≡ true }
         ensures given { operations_given self.new.operations ≡ operations_given self.old.operations }
-        ensures room { HasRoomForOperation self.old.operations → HasRoomForOperation self.new.operations }
+        ensures room { HasRoomForOperation self.new.operations }
     {
         if let Some(op) = pruned {
             self.close(op);
@@ -184,14 +182,15 @@ impl Tables {
         step: u64,
         uid: u32,
         key: Option<u64>,
-        row: Operation,
+        row: OperationRow,
         state: CipherState,
     )
         requires idle { IfSome pruned (λ op. IsSome (state_at self.old op)) }
         requires free { IfNone pruned (is_free self.old.slots ≡ true) }
         requires fresh { is_some (held self.old.slots row.number) ≡ false }
         requires later { IsLater self.old.slots step }
-        requires room { HasRoomForOperation self.old.operations }
+        requires row { IfSome pruned (λ op. IsSome (row_at self.old op)) }
+        requires room { IfNone pruned (HasRoomForOperation self.old.operations) }
         requires few { operations_given self.old.operations < 2 ^ 63 }
         requires number { row.number ≡ operations_given self.old.operations + 1 }
         requires counted { spec.HasRoomOn self.old.boot.begins key }
@@ -263,12 +262,7 @@ impl Tables {
             Err(BeginFault::Memory) => return Err(NoMemory),
         };
         let op = self.operations.next();
-        let ready = make_ready(
-            alloc,
-            &mut self.operations,
-            &mut self.boot.begins,
-            &admitted,
-        )?;
+        let ready = make_ready(alloc, &mut self.boot.begins, &admitted)?;
         let DrawnRooms { draws, copy: nonce } = ready;
         let drawn = match draws.draw(entropy) {
             Ok(drawn) => drawn,
@@ -287,15 +281,14 @@ impl Tables {
         let id = admitted.id;
         let row = new_operation(op, caller.client, admitted, challenge);
         self.open(pruned, step, uid, id, row, state);
-        let fields = Fields {
-            op: Some(op),
-            challenge,
-            nonce,
-            pruned,
-            ..NO_FIELDS
-        };
         Ok(Answered {
-            reply: Reply::Done(fields),
+            reply: Reply::Done(Fields {
+                op: Some(op),
+                challenge,
+                nonce,
+                pruned,
+                ..NO_FIELDS
+            }),
             job: None,
             drawn,
         })

@@ -6,7 +6,7 @@ ghost use Rattle.keystore_core.specs.Outputs.{RowGives, StepGives};
 
 use crate::tables::Tables;
 use cipher_ops::{most_of_finish, most_of_update};
-use live_tables::Operation;
+use live_tables::OperationRow;
 use rule_model::Act;
 use tags::OPERATION_BYTES;
 
@@ -40,14 +40,14 @@ fn text_step(act: &Act) -> Option<TextStep>
 }
 
 /// Whether an operation takes so many bytes more, as far as its text goes.
-fn is_within(row: &Operation, size: u64) -> bool
+fn is_within(row: &OperationRow, size: u64) -> bool
     ensures { result ≡ nat_le (row.now.text + size) OPERATION_BYTES }
 {
     row.text as u128 + size as u128 <= OPERATION_BYTES as u128
 }
 
 /// How many bytes a text gives at most on the operation of a row. One that is too long is not let through.
-fn most_of(row: &Operation, size: u64, last: bool) -> u64
+fn most_of(row: &OperationRow, size: u64, last: bool) -> u64
     ensures most { result ≤ 1048656 }
     ensures small { result ≤ spec.row_most (Some row.now) size last }
     ensures out { RowGives (Some row.now) size last result }

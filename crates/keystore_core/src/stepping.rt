@@ -28,7 +28,7 @@ use cipher_ops::{Job, JobRoom, Work};
 use journal_records::Change;
 use key_database::KeyDatabase;
 use ks_outside::Disk;
-use live_tables::{Operation, Out, RowChange};
+use live_tables::{OperationRow, Out, RowChange};
 use operation_slots::Taken;
 use rule_model::{Brought, Caller, Fields, NO_FIELDS, Reply};
 use std::alloc::Global;
@@ -68,7 +68,7 @@ fn brought_by(work: &Work) -> Brought
 }
 
 /// Whether an operation waits for a token.
-fn is_waiting(operation: &Operation) -> bool
+fn is_waiting(operation: &OperationRow) -> bool
     ensures { result ≡ (is_some operation.now.challenge && not operation.now.shown) }
 {
     operation.challenge.is_some() && !operation.shown
@@ -156,7 +156,7 @@ impl Tables {
         ensures closes { ClosesOne op self.old self.new }
         ensures boot { self.new.boot ≡ self.old.boot }
         ensures free { is_free self.new.slots ≡ true }
-        ensures room { HasRoomForOperation self.old.operations → HasRoomForOperation self.new.operations }
+        ensures room { IsSome (row_at self.old op) → HasRoomForOperation self.new.operations }
     {
         self.operations.close(op);
         let _ = self.slots.close(op);

@@ -60,6 +60,7 @@ impl Tables {
         ensures stands { IfOk result (λ tables. (setup : Setup) → IsOver setup device.now policy slots keys → TablesStand setup tables []) }
         ensures keys { IfOk result (λ tables. tables.keys ≡ keys) }
     {
+        let operations = Operations::with_room(alloc, slots)?;
         let slots = Slots::with_capacity(alloc, slots)?;
         let boot = Boot::new(alloc, device.token)?;
         Ok(Tables {
@@ -67,7 +68,7 @@ impl Tables {
             policy,
             clients: Clients::new(alloc),
             keys,
-            operations: Operations::new(alloc),
+            operations,
             slots,
             tickets: Tickets::new(alloc),
             boot,

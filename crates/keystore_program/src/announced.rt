@@ -13,21 +13,40 @@ use outside_net::HangsUp;
 pub struct Announced<'a, B> {
     listener: B,
     rt: &'a HostRuntime,
-    port: u16,
+    asked: u16,
+    found: Option<u16>,
     is_demo: bool,
     is_said: bool,
 }
 
 impl<'a, B> Announced<'a, B> {
-    /// Takes the listener with its port, and whether the device is the demo device. Nothing is said yet.
-    pub fn new(listener: B, rt: &'a HostRuntime, port: u16, is_demo: bool) -> Announced<'a, B> {
+    /// Takes the listener with the number of its port as it was asked for and as it was found, and whether the device is the demo device.
+    /// Nothing is said yet.
+    pub fn new(
+        listener: B,
+        rt: &'a HostRuntime,
+        asked: u16,
+        found: Option<u16>,
+        is_demo: bool,
+    ) -> Announced<'a, B> {
         Announced {
             listener,
             rt,
-            port,
+            asked,
+            found,
             is_demo,
             is_said: false,
         }
+    }
+
+    /// The number of the port as it was asked for.
+    pub fn asked(&self) -> u16 {
+        self.asked
+    }
+
+    /// Whether the port could be had.
+    pub fn is_open(&self) -> bool {
+        self.found.is_some()
     }
 
     /// The listener.
@@ -39,7 +58,9 @@ impl<'a, B> Announced<'a, B> {
 
     fn say(&self) {
         tell_device(self.rt, self.is_demo);
-        let _ = eprintln!(self.rt; "keystore2: listening on 127.0.0.1:{}", self.port);
+        if let Some(port) = self.found {
+            let _ = eprintln!(self.rt; "keystore2: listening on 127.0.0.1:{port}");
+        }
     }
 }
 
@@ -74,7 +95,11 @@ impl<B: Listener> Listener for Announced<'_, B> {
 }
 
 impl<B: HangsUp> HangsUp for Announced<'_, B> {
-    fn hang_up(link: B::L) -> Option<B::L> {
+    ghost leaves = { λ link left. B.leaves link left };
+
+    fn hang_up(link: B::L) -> Option<B::L>
+        ensures leaves { B.leaves link result }
+    {
         B::hang_up(link)
     }
 }

@@ -4,20 +4,12 @@ use crate::misuse::misuse_of;
 use crate::tally::{ReplyCounts, Told};
 use device_files::FileTrouble;
 use file_disk::{FileDisk, StoreFile};
+use keystore_process::{DEVICE, STORE};
 use keystore_run::Status;
 use outside_net::PortListener;
 use std::fs;
 use std::os::unix::fs::PermissionsExt;
 use std::rt::Files;
-
-/// The store, in the current folder.
-pub const STORE: &str = "store.ks";
-
-/// The device's secrets, in the current folder.
-pub const DEVICE: &str = "device.key";
-
-/// The policy, in the current folder.
-pub const POLICY: &str = "policy.json";
 
 /// The permissions of a file for others than its owner.
 const FOR_OTHERS: u32 = 0o077;

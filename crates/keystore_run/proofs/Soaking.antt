@@ -1,5 +1,5 @@
 -- The lines of a load, served one after another over an empty store.
-use Rattle.std.proofs.Common.{◌≡◌, ℕ, ℤ, zero, suc, ◌+◌, ◌≤◌, ◌<◌, inl, inr, Bool, true, false, ◌||◌, List, [], ◌∷◌, ◌++◌, length, max, take, replicate, Option, Some, None, Ok, is_some, refl, sym, ap, ◌∙◌, subst, arith, append_assoc, append-nil, length-append, length-take}
+use Rattle.std.proofs.Common.{◌≡◌, ℕ, ℤ, zero, suc, ◌+◌, ◌≤◌, ◌<◌, inl, inr, Bool, true, false, ◌||◌, List, [], ◌∷◌, ◌++◌, length, drop, max, take, replicate, Option, Some, None, Ok, is_some, refl, sym, ap, ◌∙◌, subst, arith, append_assoc, append-nil, length-append, length-drop, length-take}
 use Rattle.ks_outside.specs.Draws.{Draws}
 use Rattle.ks_outside.specs.Images.{AllImages, Passes, TornFrom, tells}
 use Rattle.ks_outside.specs.Seeded.{bytes_from}
@@ -14,11 +14,10 @@ use Rattle.tags.specs.declared.code.Code.{Code}
 use Rattle.tags.specs.declared.policy.PolicyRow.{PolicyRow}
 use Rattle.tags.specs.declared.secrets.DeviceSecrets.{DeviceSecrets}
 use Rattle.tags.specs.declared.settled.Settled.{Settled}
-use Rattle.journal_records.specs.declared.change.Change.{Change}
 use Rattle.journal_records.specs.LastingPart.{empty_lasting}
-use Rattle.journal_records.specs.Spelling.{framed}
+use Rattle.journal_records.specs.Spelling.{spelled}
+use Rattle.key_database.specs.Frames.{start_is}
 use Rattle.key_database.specs.Store.{StandsFor as IsStoreOf}
-use Rattle.use_journal.specs.Journal.{header, written}
 use Rattle.rule_model.specs.declared.reply.Reply.{Reply}
 use Rattle.rule_model.specs.Drawn.{drawn_of}
 use Rattle.rule_model.specs.Entries.{History}
@@ -151,16 +150,12 @@ told : (content : Option (List ℕ)) → is_some content ≡ true → (image : L
 told (Some image) e = (image, refl)
 told None e = absurd (let no = e in cc)
 
-header_first : (past : List Change) → 8 ≤ length (written past)
-header_first [] = let eight : length header ≡ 8 = refl in omega (arith, eight)
-header_first (change ∷ past) = omega (arith, header_first past, length-append (written past) (framed change))
-
 -- what a torn write of nine bytes at the front of nothing leaves
 nine_at_most : (before after : List ℕ) → before ≡ [] → length after ≤ max (length before) 9 → length after ≤ 9
 nine_at_most before after nothing most = subst (λ (bytes : List ℕ). length after ≤ max (length bytes) 9) nothing most
 
-area_within : (records image : List ℕ) (gate : ℕ) → take (length (records ++ gate ∷ [])) image ≡ records ++ gate ∷ [] → length records < length image
-area_within records image gate is = omega (arith, ap length is, length-take (length (records ++ gate ∷ [])) image, length-append records (gate ∷ []))
+area_within : (start : ℕ) (records image : List ℕ) (gate : ℕ) → take (length (records ++ gate ∷ [])) (drop start image) ≡ records ++ gate ∷ [] → start + length records < length image
+area_within start records image gate is = omega (arith, ap length is, length-take (length (records ++ gate ∷ [])) (drop start image), length-drop start image, length-append records (gate ∷ []))
 
 pub demo_is : (device : DeviceSecrets) → device.seal ≡ replicate 32 1 → device.token ≡ replicate 32 2 → device.root ≡ replicate 32 3 → device ≡ demo_device
 demo_is device seal token root =
@@ -182,7 +177,14 @@ module _ {D : Type 0} (d : DiskGhosts D) (content_is_image : (disk : D) (c : Lis
         | inl was ↦ (let none : length image ≡ 0 = ap length (empty.moments (d.moment formatted) image was) in omega (arith, none))
         | inr torn ↦ nine_at_most torn.0 image (empty.images torn.0 torn.1) torn.2.no_longer
       ] in
-      omega (arith, small, start.bytes, header_first start.past, area_within (written start.past) image start.journal.area.gate start.journal.area.is)
+      let stands = start.stands in
+      omega (
+        arith,
+        small,
+        start.bytes,
+        start_is stands.frame stands.is_frame,
+        area_within stands.frame.start (spelled stands.past) image stands.store.records.area.gate stands.store.records.area.is,
+      )
 
   -- the session over it
   pub load_session : (fresh formatted opened : D) (device : DeviceSecrets) (policy : List PolicyRow) (engine : Engine) (session : Session)

@@ -22,10 +22,12 @@ use Rattle.rule_model.specs.Entries.{History, after_settling, after_step, is_don
 use Rattle.rule_model.specs.Jobs.{GoesWith, HasDone, HasJob, IsDoneOn, IsDoneOut, IsJobOn, IsJobOut, Stays, but_shown}
 use Rattle.rule_model.specs.Legal.{MayFollow, MayStep, Answered, WithoutMemory, WithoutEntropy, Faulted, NotSettled, NotRestarted}
 use Rattle.rule_model.specs.Kept.{operation_at}
-use Rattle.rule_model.specs.Operations.{Open}
+use Rattle.rule_model.specs.declared.operation.Open.{Open}
 use Rattle.rule_model.specs.Setup.{Setup}
 use Rattle.rule_model.specs.Stored.{change_by}
-use Rattle.rule_model.specs.Tickets.{AllGone, ComesBack, Entered, SameTickets, admitted_ticket, goes_out, stopped_ticket, ticket_after, ticket_at, ticket_change}
+use Rattle.rule_model.specs.declared.entry_change.TicketChange.TheVariants.{AllGone, ComesBack, SameTickets}
+use Rattle.rule_model.specs.declared.operation.Entered.{Entered}
+use Rattle.rule_model.specs.Tickets.{admitted_ticket, goes_out, stopped_ticket, ticket_after, ticket_at, ticket_change}
 use Rattle.keystore_core.specs.declared.engine.Engine.{Engine}
 use Rattle.keystore_core.specs.Engine.{MayTake, Stands as EngineStands, StandsForSome, StoreStands, entries_made}
 use Rattle.ks_outside.specs.declared.disk.Disk.{Ghosts as DiskGhosts}

@@ -2,6 +2,7 @@
 -- disk, between two moments of all that a run is handed. What was served is one legal history with the text of its replies; what was
 -- written is that text, or the trace of the history.
 use Rattle.std.specs.Prelude.{◌≡◌, ℕ, ◌+◌, ◌<◌, ◌≤◌, ◌⊎◌, Bool, true, false, List, [], ◌∷◌, ◌++◌, length, Option, IfSome}
+use Rattle.std.specs.Borrow.{MutBor}
 use Rattle.std.specs.Io.KnownBytes.{IsAtEnd}
 use Rattle.ks_outside.specs.Shown.{Outside, Put, Took}
 use Rattle.ks_outside.specs.declared.disk.Disk.{Ghosts as DiskGhosts}
@@ -11,6 +12,7 @@ use Rattle.ks_outside.specs.declared.source.Source.{Ghosts as SourceGhosts}
 use Rattle.rule_model.specs.Entries.{History}
 use Rattle.rule_model.specs.Legal.{Legal}
 use Rattle.rule_model.specs.Setup.{Setup}
+use Rattle.keystore_run.specs.declared.handed.Handed.{Handed}
 use Rattle.keystore_run.specs.declared.written.Written.{Written}
 use Rattle.keystore_run.specs.declared.status.Status.{Status}
 use Rattle.keystore_run.specs.declared.status.Status.TheVariants as statuses
@@ -25,6 +27,13 @@ use Rattle.tags.specs.declared.limits.TheConstants.{LINE_BYTES, SCRIPT_BYTES}
 -- all that a run is handed, at one moment
 abbrev pub outside : {S K D N : Type 0} → S → K → D → N → Outside S K D N
 outside source sink disk entropy = record { source = source; sink = sink; disk = disk; entropy = entropy }
+
+-- the same of what was lent to a run, as it was handed in, and as the run left it
+abbrev pub lent : {S K D N : Type 0} → Handed S K D N → Outside S K D N
+lent handed = outside handed.source.now handed.sink.now handed.disk.now handed.entropy.now
+
+abbrev pub given_back : {S K D N : Type 0} → MutBor S × (MutBor K × (MutBor D × (MutBor N × Unit {0}))) → Outside S K D N
+given_back handed = outside handed.0.now handed.1.0.now handed.1.1.0.now handed.1.1.1.0.now
 
 -- the statuses that tell a fault of the source, and of the sink
 abbrev pub is_read_fault : Status → Bool

@@ -11,7 +11,8 @@ use Rattle.cipher_ops.specs.Jobs.{ComesTo, JobFor, is_refusal}
 use Rattle.rule_model.specs.Entries.{History}
 use Rattle.rule_model.specs.Jobs.{IsJobOut}
 use Rattle.rule_model.specs.Setup.{Setup}
-use Rattle.rule_model.specs.Tickets.{Entered, ticket_at}
+use Rattle.rule_model.specs.declared.operation.Entered.{Entered}
+use Rattle.rule_model.specs.Tickets.{ticket_at}
 use Rattle.keystore_run.specs.declared.jobs.Jobs.{Jobs}
 
 -- the place of a ticket: a place without a job is room for one

@@ -6,6 +6,7 @@
 #![tactic(auto)]
 
 mod answer;
+mod handed;
 mod jobs;
 mod reader;
 mod run;

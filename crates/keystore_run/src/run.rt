@@ -5,13 +5,14 @@ ghost use Rattle.ks_outside.specs.Faults.{CountsFaults};
 ghost use Rattle.journal_records.specs.LastingPart.{Lasting};
 ghost use Rattle.rule_model.specs.Setup.{Setup};
 ghost use Rattle.keystore_run.specs.Complete.{AreFaultless, Completes, IsReady};
-ghost use Rattle.keystore_run.specs.Ends.{Ends, is_read_fault, is_write_fault, outside};
+ghost use Rattle.keystore_run.specs.Ends.{Ends, given_back, is_read_fault, is_write_fault, lent, outside};
 ghost use Rattle.keystore_core.specs.Opening.{IsUnwritten};
 ghost use Rattle.keystore_run.specs.Runs.{Does, Formats, IsCause, Runs, RunsFresh, disk_told, formatted_as, given, refusal_of};
 ghost use Rattle.keystore_run.specs.Session.{StandsFor, entries_in};
 ghost use Rattle.keystore_run.specs.Words.{form_of as form_said};
 ghost use Rattle.tags.specs.declared.limits.TheConstants.{MOST_SLOTS};
 
+use crate::handed::Handed;
 use crate::reader::{Found, LineReader};
 use crate::serve::serve_line;
 use crate::session::Session;
@@ -30,19 +31,22 @@ fn serve_script<S: Source, K: Sink, D: Disk, N: Entropy>(
     written: Written,
     session: &mut Session,
     reader: &mut LineReader,
-    source: &mut S,
-    sink: &mut K,
-    disk: &mut D,
-    entropy: &mut N,
+    handed: Handed<'_, S, K, D, N>,
 ) -> Status
     requires nothing { reader.old.bytes ≡ [] }
     requires untaken { reader.old.taken ≡ 0 }
     requires fresh { entries_in session.old ≡ 0 }
-    ensures ends { (setup : Setup) (begin : D) → StandsFor D.Disk setup session.old disk.old [] → IsUnwritten D.Disk begin disk.old →
-        Ends S.Source K.Sink D.Disk N.Entropy written setup (outside source.old sink.old begin entropy.old) (outside source.new sink.new disk.new entropy.new) result }
-    ensures source_faults { CountsFaults (S.fault_count source.old) (S.fault_count source.new) (is_read_fault result) }
-    ensures sink_faults { CountsFaults (K.fault_count sink.old) (K.fault_count sink.new) (is_write_fault result) }
+    ensures ends { (setup : Setup) (begin : D) → StandsFor D.Disk setup session.old handed.entry.disk.now [] → IsUnwritten D.Disk begin handed.entry.disk.now →
+        Ends S.Source K.Sink D.Disk N.Entropy written setup (outside handed.entry.source.now handed.entry.sink.now begin handed.entry.entropy.now) (given_back handed.exit) result }
+    ensures source_faults { CountsFaults (S.fault_count handed.entry.source.now) (S.fault_count handed.exit.0.now) (is_read_fault result) }
+    ensures sink_faults { CountsFaults (K.fault_count handed.entry.sink.now) (K.fault_count handed.exit.1.0.now) (is_write_fault result) }
 {
+    let Handed {
+        source,
+        sink,
+        disk,
+        entropy,
+    } = handed;
     let mut served = 0u64;
     'lines: loop {
         match reader.fill(source) {
@@ -59,10 +63,10 @@ fn serve_script<S: Source, K: Sink, D: Disk, N: Entropy>(
                 if line.is_empty() {
                     return Status::Ok;
                 }
-                return match serve_line(alloc, written, session, sink, disk, entropy, line) {
-                    Ok(()) => Status::Ok,
-                    Err(halt) => halt.status(),
-                };
+                if let Err(halt) = serve_line(alloc, written, session, sink, disk, entropy, line) {
+                    return halt.status();
+                }
+                return Status::Ok;
             }
             Found::TooLong => return Status::LineTooLong { line: served + 1 },
             Found::ScriptTooLong => return Status::ScriptTooLong,
@@ -89,38 +93,26 @@ fn serve_store<S: Source, K: Sink, D: Disk, N: Entropy>(
     policy: &Policy,
     slots: usize,
     written: Written,
-    source: &mut S,
-    sink: &mut K,
-    disk: &mut D,
-    entropy: &mut N,
+    handed: Handed<'_, S, K, D, N>,
 ) -> Status
     requires some { 0 < slots }
     requires few { slots ≤ MOST_SLOTS }
-    ensures since_call { Runs S.Source K.Sink D.Disk N.Entropy (given device.now policy.now slots written) (λ opened. disk.old)
-        (outside source.old sink.old disk.old entropy.old) (outside source.new sink.new disk.new entropy.new) result }
+    ensures since_call { Runs S.Source K.Sink D.Disk N.Entropy (given device.now policy.now slots written) (λ opened. handed.entry.disk.now)
+        (lent handed.entry) (given_back handed.exit) result }
     ensures since_opened { Runs S.Source K.Sink D.Disk N.Entropy (given device.now policy.now slots written) (λ opened. opened)
-        (outside source.old sink.old disk.old entropy.old) (outside source.new sink.new disk.new entropy.new) result }
-    ensures source_faults { CountsFaults (S.fault_count source.old) (S.fault_count source.new) (is_read_fault result) }
-    ensures sink_faults { CountsFaults (K.fault_count sink.old) (K.fault_count sink.new) (is_write_fault result) }
+        (lent handed.entry) (given_back handed.exit) result }
+    ensures source_faults { CountsFaults (S.fault_count handed.entry.source.now) (S.fault_count handed.exit.0.now) (is_read_fault result) }
+    ensures sink_faults { CountsFaults (K.fault_count handed.entry.sink.now) (K.fault_count handed.exit.1.0.now) (is_write_fault result) }
 {
     let Ok(mut reader) = LineReader::new(alloc) else {
         return Status::Memory;
     };
-    let engine = match Engine::open(alloc, device, policy, slots, disk) {
+    let engine = match Engine::open(alloc, device, policy, slots, handed.disk) {
         Ok(engine) => engine,
         Err(fault) => return refusal(fault),
     };
     let mut session = Session::new(alloc, engine);
-    let status = serve_script(
-        alloc,
-        written,
-        &mut session,
-        &mut reader,
-        source,
-        sink,
-        disk,
-        entropy,
-    );
+    let status = serve_script(alloc, written, &mut session, &mut reader, handed);
     drop(session);
     status
 }
@@ -142,24 +134,19 @@ fn serve_fresh<S: Source, K: Sink, D: Disk, N: Entropy>(
     policy: &Policy,
     slots: usize,
     written: Written,
-    source: &mut S,
-    sink: &mut K,
-    disk: &mut D,
-    entropy: &mut N,
+    handed: Handed<'_, S, K, D, N>,
 ) -> Status
     requires some { 0 < slots }
     requires few { slots ≤ MOST_SLOTS }
     ensures runs { RunsFresh S.Source K.Sink D.Disk N.Entropy (given device.now policy.now slots written)
-        (outside source.old sink.old disk.old entropy.old) (outside source.new sink.new disk.new entropy.new) result }
-    ensures source_faults { CountsFaults (S.fault_count source.old) (S.fault_count source.new) (is_read_fault result) }
-    ensures sink_faults { CountsFaults (K.fault_count sink.old) (K.fault_count sink.new) (is_write_fault result) }
+        (lent handed.entry) (given_back handed.exit) result }
+    ensures source_faults { CountsFaults (S.fault_count handed.entry.source.now) (S.fault_count handed.exit.0.now) (is_read_fault result) }
+    ensures sink_faults { CountsFaults (K.fault_count handed.entry.sink.now) (K.fault_count handed.exit.1.0.now) (is_write_fault result) }
 {
-    let Ok(()) = Engine::format(disk) else {
+    let Ok(()) = Engine::format(handed.disk) else {
         return Status::DiskFault;
     };
-    serve_store(
-        alloc, device, policy, slots, written, source, sink, disk, entropy,
-    )
+    serve_store(alloc, device, policy, slots, written, handed)
 }
 
 /// Serves the words of the command line. `init` writes an empty store to the disk. `run` opens the store of the disk and serves
@@ -207,22 +194,23 @@ pub fn run_words<S: Source, K: Sink, D: Disk, N: Entropy>(
         Some(Form::Init) => format(disk),
         Some(
             Form::Run {
-                fresh: false,
+                fresh,
                 slots,
                 written,
             },
-        ) => serve_store(
-            alloc, device, policy, slots, written, source, sink, disk, entropy,
-        ),
-        Some(
-            Form::Run {
-                fresh: true,
-                slots,
-                written,
-            },
-        ) => serve_fresh(
-            alloc, device, policy, slots, written, source, sink, disk, entropy,
-        ),
+        ) => {
+            let handed = Handed {
+                source,
+                sink,
+                disk,
+                entropy,
+            };
+            if fresh {
+                serve_fresh(alloc, device, policy, slots, written, handed)
+            } else {
+                serve_store(alloc, device, policy, slots, written, handed)
+            }
+        }
         Some(Form::Soak { seed, lines }) => soak(alloc, seed, lines, sink),
     }
 }

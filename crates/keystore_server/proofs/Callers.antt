@@ -5,7 +5,7 @@ use Rattle.std.specs.Coded.{Coded-set, Unit-prop, ×_prop}
 use Rattle.ks_outside.specs.declared.disk.Disk.{Ghosts as DiskGhosts}
 use Rattle.ks_outside.specs.declared.entropy.Entropy.{Ghosts as EntropyGhosts}
 use Rattle.rule_model.specs.declared.event.Act.{Act}
-use Rattle.rule_model.specs.declared.event.Act.TheVariants.{Connect, Disconnect, GenerateKey, ImportKey, CreateOperation, EnterAad, EnterUpdate, EnterFinish, Abort, GetKeyEntry, DeleteKey, Grant, Ungrant, GetNumberOfEntries, ListEntriesBatched, AddAuthToken, DeviceLocked, DeviceUnlocked, EarlyBootEnded, ClearNamespace, UserRemoved, Leave, Restart}
+use Rattle.rule_model.specs.declared.event.Act.TheVariants.{Disconnect}
 use Rattle.rule_model.specs.declared.reply.Reply.{Reply}
 use Rattle.rule_model.specs.declared.reply.Reply.TheVariants.{Done, Broken, Stopped}
 use Rattle.rule_model.specs.Acts.{is_connect, is_disconnect}
@@ -66,12 +66,12 @@ named_prop : {E K : Type 0} → IsEqualInOneWay K → (name : K) (hands : List (
 named_prop set name [] = Unit-prop
 named_prop set name (h ∷ hs) = ×_prop (set h.name name) (named_prop set name hs)
 
-rests_prop : IsEqualInOneWay ServiceId → (lock : TableId) (name : ServiceId) (pass : Pass) → IsProp (RestsAt lock name pass)
-rests_prop set lock name pass = hlevel (props, Coded-set table_id_coded, named_prop {E = BookEntry} {K = ServiceId} set)
+rests_prop : {N : Type 0} {n : EntropyGhosts N} → IsEqualInOneWay (ServiceId N) → (lock : TableId) (name : ServiceId N) (pass : Pass N n) → IsProp (RestsAt lock name pass)
+rests_prop {N} set lock name pass = hlevel (props, Coded-set table_id_coded, named_prop {E = BookEntry} {K = ServiceId N} set)
 
-holds_prop : IsEqualInOneWay ServiceId → (lock : TableId) (name : ServiceId) (count number : ℕ) (maker : Option (RestingMaker BookEntry ServiceId)) → IsProp (HoldsMaker lock name count number maker)
+holds_prop : {N : Type 0} → IsEqualInOneWay (ServiceId N) → (lock : TableId) (name : ServiceId N) (count number : ℕ) (maker : Option (RestingMaker BookEntry (ServiceId N))) → IsProp (HoldsMaker lock name count number maker)
 holds_prop set lock name count number None = hlevel props
-holds_prop set lock name count number (Some maker) = hlevel (props, Coded-set table_id_coded, named_prop {E = BookEntry} {K = ServiceId} set)
+holds_prop {N} set lock name count number (Some maker) = hlevel (props, Coded-set table_id_coded, named_prop {E = BookEntry} {K = ServiceId N} set)
 
-pub ours_prop : {D N : Type 0} {d : DiskGhosts D} {n : EntropyGhosts N} → IsEqualInOneWay ServiceId → (shared : Shared D N d n) (pass : Pass) → IsProp (IsOurs shared pass)
-ours_prop set shared pass = hlevel (rests_prop set, holds_prop set)
+pub ours_prop : {D N : Type 0} {d : DiskGhosts D} {n : EntropyGhosts N} → IsEqualInOneWay (ServiceId N) → (shared : Shared D N d n) (pass : Pass N n) → IsProp (IsOurs shared pass)
+ours_prop {n = n} set shared pass = hlevel (rests_prop {n = n} set, holds_prop set)

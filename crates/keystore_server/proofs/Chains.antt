@@ -1,5 +1,6 @@
 -- What was done by one who answers, seen as what its pass did.
-use Rattle.std.proofs.Common.{◌≡◌, ℕ, Bool, true, false, List, [], ◌∷◌, refl, sym, ap, subst, ◌∙◌}
+use Rattle.std.proofs.Common.{◌≡◌, ℕ, Bool, true, false, List, [], ◌∷◌, Option, refl, sym, ap, subst, ◌∙◌}
+use Rattle.ks_outside.specs.declared.clock.Reading.{Reading}
 use Rattle.ks_outside.specs.declared.disk.Disk.{Ghosts as DiskGhosts}
 use Rattle.ks_outside.specs.declared.entropy.Entropy.{Ghosts as EntropyGhosts}
 use Rattle.ks_outside.specs.declared.link.Link.{Ghosts as LinkGhosts}
@@ -10,7 +11,7 @@ use Rattle.connections.specs.Talks.{Exchange, Talks, Closes}
 use Rattle.connections.specs.Ends.{AnsweredOf, EndsWhole, Serves}
 use Rattle.connections.specs.declared.end.End.{End}
 use Rattle.connections.specs.declared.end.End.TheVariants.{EndOfInput, Truncated, BadFrame, LinkFault, RunFull, Memory}
-use Rattle.connection_workers.specs.Workers.{ByVisits, Visit, Visits}
+use Rattle.connection_workers.specs.Workers.{ByLinks, Completes, IsVisit, Visit, Visits}
 use Rattle.shared_service.specs.declared.pass.Pass.{Pass}
 use Rattle.shared_service.specs.declared.shared.Shared.{Shared}
 use Rattle.shared_service.specs.Passes.{IsOurs, number_of}
@@ -59,18 +60,6 @@ module _ {A P : Type 0} (seen : A → P) (R : A → Act → Reply → A → Type
         closes.1,
       )
 
-  visits_seen : {L : Type 0} (g : LinkGhosts L) (a b : A) (visits : List (Visit L)) → keeps a → Visits g R a visits b → Visits g S (seen a) visits (seen b) × keeps b
-  visits_seen g a b [] start same = (ap seen same, subst keeps (sym same) start)
-  visits_seen g a b (v ∷ visits) start then =
-      let one = serves_seen g v.link v.after a then.0 v.end start then.1 in
-      let rest = visits_seen g then.0 b visits one.1 then.2 in
-      ((seen then.0, one.0, rest.0), rest.1)
-
-  pub visited_seen : {L : Type 0} (g : LinkGhosts L) (a b : A) → keeps a → ByVisits g R a b → ByVisits g S (seen a) (seen b) × keeps b
-  visited_seen g a b start visited =
-      let all = visits_seen g a b visited.0 start visited.1 in
-      ((visited.0, all.0), all.1)
-
   answered_seen : (a : A) (acts more : List Act) → keeps a → AnsweredOf R a acts more → AnsweredOf S (seen a) acts more
   answered_seen a acts more start of = record { talk = of.talk; last = seen of.last; talks = (talks_seen a of.last of.talk start of.talks).0; acts_are = of.acts_are }
 
@@ -83,39 +72,65 @@ module _ {A P : Type 0} (seen : A → P) (R : A → Act → Reply → A → Type
   ends_seen a acts Truncated start ends = absurd ends
   ends_seen a acts LinkFault start ends = absurd ends
 
-module _ {A D N : Type 0} {d : DiskGhosts D} {n : EntropyGhosts N} (shared_of : A → Shared D N d n) (pass_of : A → Pass) where
+  completes_seen : {L : Type 0} (g : LinkGhosts L) (link after : L) (a : A) (end : End) → keeps a → Completes g R link after a end → Completes g S link after (seen a) end
+  completes_seen g link after a end start complete = λ acts each told below same. ends_seen a acts end start (complete acts each told below same)
+
+  visits_seen : {L : Type 0} (g : LinkGhosts L) (leaves : L → Option L → Type 0) (a b : A) (visits : List (Visit L)) → keeps a → Visits g R leaves a visits b → Visits g S leaves (seen a) visits (seen b) × keeps b
+  visits_seen g leaves a b [] start same = (ap seen same, subst keeps (sym same) start)
+  visits_seen g leaves a b (v ∷ visits) start then =
+      let first = then.1 in
+      let one = serves_seen g v.link v.after a then.0 v.end start first.serves in
+      let rest = visits_seen g leaves then.0 b visits one.1 then.2 in
+      let visit : IsVisit g S leaves (seen a) v (seen then.0) = record { serves = one.0; complete = completes_seen g v.link v.after a v.end start first.complete; hung_up = first.hung_up } in
+      ((seen then.0, visit, rest.0), rest.1)
+
+  pub visited_seen : {L : Type 0} (g : LinkGhosts L) (leaves : L → Option L → Type 0) (a b : A) (links : List L) → keeps a → ByLinks g R leaves a links b → ByLinks g S leaves (seen a) links (seen b) × keeps b
+  visited_seen g leaves a b links start visited =
+      let all = visits_seen g leaves a b visited.0 start visited.1 in
+      ((visited.0, all.0, visited.2), all.1)
+
+module _ {A C D N : Type 0} {d : DiskGhosts D} {n : EntropyGhosts N} (shared_of : A → Shared D N d n) (clock_of : A → C) (pass_of : A → Pass N n) (shows : C → Reading → Type 0) where
   -- what a caller tells of a call
   abbrev pub Asks : A → Act → Reply → A → Type 0
-  Asks old act reply new = (shared_of new ≡ shared_of old) × IsAnswered (shared_of old) (pass_of old) act reply (pass_of new)
+  Asks old act reply new = (shared_of new ≡ shared_of old) × (clock_of new ≡ clock_of old) × IsAnswered (shared_of old) (shows (clock_of old)) (pass_of old) act reply (pass_of new)
 
-  -- it is a caller of this service by a pass of this number
-  pub record IsCallerOf (shared : Shared D N d n) (number : ℕ) (caller : A) : Type 0 where
+  -- it is a caller of this service, with this clock, by a pass of this number
+  pub record IsCallerOf (shared : Shared D N d n) (clock : C) (number : ℕ) (caller : A) : Type 0 where
     pub shared_is : shared_of caller ≡ shared
+    pub clock_is : clock_of caller ≡ clock
     pub ours : IsOurs shared (pass_of caller)
     pub number_is : number_of (pass_of caller) ≡ number
 
-  asks_once : (shared : Shared D N d n) (number : ℕ) (a : A) (act : Act) (reply : Reply) (b : A) → IsCallerOf shared number a → Asks a act reply b
-      → IsAnswered shared (pass_of a) act reply (pass_of b) × IsCallerOf shared number b
-  asks_once shared number a act reply b is asks =
-      let answered : IsAnswered shared (pass_of a) act reply (pass_of b) = subst (λ (s : Shared D N d n). IsAnswered s (pass_of a) act reply (pass_of b)) is.shared_is asks.1 in (
+  asks_once : (shared : Shared D N d n) (clock : C) (number : ℕ) (a : A) (act : Act) (reply : Reply) (b : A) → IsCallerOf shared clock number a → Asks a act reply b
+      → IsAnswered shared (shows clock) (pass_of a) act reply (pass_of b) × IsCallerOf shared clock number b
+  asks_once shared clock number a act reply b is asks =
+      let answered : IsAnswered shared (shows clock) (pass_of a) act reply (pass_of b) =
+      subst (λ (p : Shared D N d n × C). IsAnswered p.0 (shows p.1) (pass_of a) act reply (pass_of b)) (λ i. (is.shared_is i, is.clock_is i)) asks.2 in (
         answered,
-        record { shared_is = asks.0 ∙ is.shared_is; ours = answered.ours; number_is = answered.number ∙ is.number_is },
+        record { shared_is = asks.0 ∙ is.shared_is; clock_is = asks.1 ∙ is.clock_is; ours = answered.ours; number_is = answered.number ∙ is.number_is },
       )
 
-  caller_of : (shared : Shared D N d n) (a : A) → shared_of a ≡ shared → IsOurs shared (pass_of a) → IsCallerOf shared (number_of (pass_of a)) a
-  caller_of shared a same ours = record { shared_is = same; ours = ours; number_is = refl }
+  caller_of : (shared : Shared D N d n) (clock : C) (a : A) → shared_of a ≡ shared → clock_of a ≡ clock → IsOurs shared (pass_of a) → IsCallerOf shared clock (number_of (pass_of a)) a
+  caller_of shared clock a same timed ours = record { shared_is = same; clock_is = timed; ours = ours; number_is = refl }
 
-module _ {A D N : Type 0} {d : DiskGhosts D} {n : EntropyGhosts N} (a b : A) (shared_of : A → Shared D N d n) (pass_of : A → Pass) (shared : Shared D N d n) where
-  pub serves_by : {L : Type 0} (g : LinkGhosts L) (link after : L) (end : End) → shared_of a ≡ shared → IsOurs shared (pass_of a)
-      → Serves g (Asks shared_of pass_of) link after a b end → Serves g (IsAnswered shared) link after (pass_of a) (pass_of b) end × IsCallerOf shared_of pass_of shared (number_of (pass_of a)) b
-  serves_by g link after end same ours served =
-      serves_seen pass_of (Asks shared_of pass_of) (IsAnswered shared) (IsCallerOf shared_of pass_of shared (number_of (pass_of a))) (asks_once shared_of pass_of shared (number_of (pass_of a))) g link after a b end (caller_of shared_of pass_of shared a same ours) served
+module _ {A C D N : Type 0} {d : DiskGhosts D} {n : EntropyGhosts N} (a b : A) (shared_of : A → Shared D N d n) (clock_of : A → C) (pass_of : A → Pass N n) (shows : C → Reading → Type 0) (shared : Shared D N d n) (clock : C) (same : shared_of a ≡ shared) (timed : clock_of a ≡ clock) (ours : IsOurs shared (pass_of a)) where
+  abbrev Asked : A → Act → Reply → A → Type 0
+  Asked = Asks shared_of clock_of pass_of shows
 
-  pub visited_by : {L : Type 0} (g : LinkGhosts L) → shared_of a ≡ shared → IsOurs shared (pass_of a) → ByVisits g (Asks shared_of pass_of) a b
-      → ByVisits g (IsAnswered shared) (pass_of a) (pass_of b) × IsCallerOf shared_of pass_of shared (number_of (pass_of a)) b
-  visited_by g same ours visited =
-      visited_seen pass_of (Asks shared_of pass_of) (IsAnswered shared) (IsCallerOf shared_of pass_of shared (number_of (pass_of a))) (asks_once shared_of pass_of shared (number_of (pass_of a))) g a b (caller_of shared_of pass_of shared a same ours) visited
+  abbrev Answered : Pass N n → Act → Reply → Pass N n → Type 0
+  Answered = IsAnswered shared (shows clock)
 
-  pub ends_by : (acts : List Act) (end : End) → shared_of a ≡ shared → IsOurs shared (pass_of a) → EndsWhole (Asks shared_of pass_of) a acts end → EndsWhole (IsAnswered shared) (pass_of a) acts end
-  ends_by acts end same ours ends =
-      ends_seen pass_of (Asks shared_of pass_of) (IsAnswered shared) (IsCallerOf shared_of pass_of shared (number_of (pass_of a))) (asks_once shared_of pass_of shared (number_of (pass_of a))) a acts end (caller_of shared_of pass_of shared a same ours) ends
+  abbrev pub IsStill : A → Type 0
+  IsStill = IsCallerOf shared_of clock_of pass_of shows shared clock (number_of (pass_of a))
+
+  pub serves_by : {L : Type 0} (g : LinkGhosts L) (link after : L) (end : End) → Serves g Asked link after a b end → Serves g Answered link after (pass_of a) (pass_of b) end × IsStill b
+  serves_by g link after end served =
+      serves_seen pass_of Asked Answered IsStill (asks_once shared_of clock_of pass_of shows shared clock (number_of (pass_of a))) g link after a b end (caller_of shared_of clock_of pass_of shows shared clock a same timed ours) served
+
+  pub visited_by : {L : Type 0} (g : LinkGhosts L) (leaves : L → Option L → Type 0) (links : List L) → ByLinks g Asked leaves a links b → ByLinks g Answered leaves (pass_of a) links (pass_of b) × IsStill b
+  visited_by g leaves links visited =
+      visited_seen pass_of Asked Answered IsStill (asks_once shared_of clock_of pass_of shows shared clock (number_of (pass_of a))) g leaves a b links (caller_of shared_of clock_of pass_of shows shared clock a same timed ours) visited
+
+  pub completes_by : {L : Type 0} (g : LinkGhosts L) (link after : L) (end : End) → Completes g Asked link after a end → Completes g Answered link after (pass_of a) end
+  completes_by g link after end complete =
+      completes_seen pass_of Asked Answered IsStill (asks_once shared_of clock_of pass_of shows shared clock (number_of (pass_of a))) g link after a end (caller_of shared_of clock_of pass_of shows shared clock a same timed ours) complete

@@ -37,22 +37,22 @@ found test (x ∷ xs) any = elim (cases_Bool (test x)) [
 ]
 
 module _ {D N : Type 0} {d : DiskGhosts D} {n : EntropyGhosts N} (shared : Shared D N d n) (book : List BookEntry) where
-  pass_parted : (pass : Pass) → IsOurs shared pass → IsIdle pass → own by (number_of pass) book ≡ own by (number_of pass) (front_of pass) → is_connected (number_of pass) (log_of book) ≡ false
+  pass_parted : (pass : Pass N n) → IsOurs shared pass → IsIdle pass → own by (number_of pass) book ≡ own by (number_of pass) (front_of pass) → is_connected (number_of pass) (log_of book) ≡ false
   pass_parted pass ours idle same = ∥∥₁_elim (pass.seen (service_lock shared) (service_name shared) ours.resting) (Bool-set _ _)
       (λ seen. same_connected (number_of pass) book (front_of pass) same ∙ (sym seen.connected_is ∙ idle))
 
   -- where each pass has no client, the book has none that is connected
-  pub none_connected : (count : ℕ) (passes : List Pass) → HasAll count passes → All (IsOurs shared) passes → All IsIdle passes
-      → All (λ (p : Pass). own by (number_of p) book ≡ own by (number_of p) (front_of p)) passes → ((number : ℕ) → count ≤ number → own by number book ≡ [])
+  pub none_connected : (count : ℕ) (passes : List (Pass N n)) → HasAll count passes → All (IsOurs shared) passes → All IsIdle passes
+      → All (λ (p : Pass N n). own by (number_of p) book ≡ own by (number_of p) (front_of p)) passes → ((number : ℕ) → count ≤ number → own by number book ≡ [])
       → (number : ℕ) → is_connected number (log_of book) ≡ false
   none_connected count passes all ours idle owned none number = elim (cases_lt number count) [
     | inl less ↦
-        let at = found (λ (p : Pass). number_of p == number) passes (all number less) in
+        let at = found (λ (p : Pass N n). number_of p == number) passes (all number less) in
         let here : get_or passes at.place at.item ≡ at.item = at.is at.item in
-        let mine : IsOurs shared at.item = subst (λ (p : Pass). IsOurs shared p) here (ours at.place at.item at.within) in
-        let gone : IsIdle at.item = subst (λ (p : Pass). IsIdle p) here (idle at.place at.item at.within) in
+        let mine : IsOurs shared at.item = subst (λ (p : Pass N n). IsOurs shared p) here (ours at.place at.item at.within) in
+        let gone : IsIdle at.item = subst (λ (p : Pass N n). IsIdle p) here (idle at.place at.item at.within) in
         let same : own by (number_of at.item) book ≡ own by (number_of at.item) (front_of at.item) =
-        subst (λ (p : Pass). own by (number_of p) book ≡ own by (number_of p) (front_of p)) here (owned at.place at.item at.within) in
+        subst (λ (p : Pass N n). own by (number_of p) book ≡ own by (number_of p) (front_of p)) here (owned at.place at.item at.within) in
         subst (λ (m : ℕ). is_connected m (log_of book) ≡ false) (eqb-true (number_of at.item) number at.passes) (pass_parted at.item mine gone same)
     | inr more ↦ same_connected number book [] (none number more)
   ]

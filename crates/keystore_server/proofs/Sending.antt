@@ -15,4 +15,4 @@ module _ (D N C G : RattleType) (d : DiskGhosts D.Denot) (n : EntropyGhosts N.De
       let seen : IsSync (shared_type.the_field D N d n).row = shared_sync D N d n disk entropy in
       let shown : IsSync (shared_type.the_row D N d n) = shared_shown D N d n disk entropy in
       recorded_send _ _ _ (caller_type.the_type l D N C G d n).to_one (struct_send (shape (caller_type.the_type l D N C G d n))
-      (search (shown, seen, sendable) depth 20, (pass_send, (search (clock, sendable) depth 20, (search (gate, sendable) depth 20, tt)))))
+      (search (shown, seen, sendable) depth 20, (pass_send N n, (search (clock, sendable) depth 20, (search (gate, sendable) depth 20, tt)))))

@@ -13,12 +13,15 @@ use Rattle.shared_service.specs.declared.served.Served.{Served}
 use Rattle.shared_service.specs.declared.shared.Shared.{Shared}
 use Rattle.shared_service.specs.Answers.{AreAnswers}
 use Rattle.shared_service.specs.Calls.{IsCall}
-use Rattle.shared_service.specs.Passes.{IsOurs, IsSetupOf, front_of, number_of, start_of}
+use Rattle.shared_service.specs.Drawn.{DrewFirst}
+use Rattle.shared_service.specs.Passes.{IsOurs, IsSetupOf, entropy_of, front_of, number_of, start_of}
 
--- One pass of the service became the other by a call for this act, at some reading, that was answered with this reply: the call added
--- these entries to its own, and what it has seen by then is legal and caused, and answered by the rules where no device failed.
-pub record IsAnswered {D N : Type 0} {d : DiskGhosts D} {n : EntropyGhosts N} (shared : Shared D N d n) (old : Pass) (act : Act) (reply : Reply) (new : Pass) : Type 0 where
+-- One pass of the service became the other by a call for this act, at a reading that the clock shows, that was answered with this reply:
+-- the call added these entries to its own, and what it has seen by then is legal and caused, was drawn from the entropy of the service, and
+-- answered by the rules where no device failed.
+pub record IsAnswered {D N : Type 0} {d : DiskGhosts D} {n : EntropyGhosts N} (shared : Shared D N d n) (shows : Reading → Type 0) (old : Pass N n) (act : Act) (reply : Reply) (new : Pass N n) : Type 0 where
   pub reading : Reading
+  pub shown : shows reading
   pub served : Served
   pub reply_is : served.reply ≡ reply
   pub call : ∥ IsCall (number_of old) reading act (front_of old) (front_of new) served ∥₁
@@ -26,4 +29,5 @@ pub record IsAnswered {D N : Type 0} {d : DiskGhosts D} {n : EntropyGhosts N} (s
   pub ours : IsOurs shared new
   pub legal : (setup : Setup) → IsSetupOf shared setup → ∥ Legal setup (history_of (log_of (front_of new))) ∥₁
   pub caused : ∥ IsCaused (start_of shared) (front_of new) ∥₁
+  pub drew : ∥ DrewFirst n (entropy_of shared) (front_of new) ∥₁
   pub complete : (setup : Setup) → IsSetupOf shared setup → ∥ AreAnswers setup (log_of (front_of new)) ∥₁

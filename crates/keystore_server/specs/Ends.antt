@@ -1,5 +1,5 @@
 -- How a service over a listener ends: what was opened, what was served, what its book says, and what is on the disk.
-use Rattle.std.specs.Prelude.{◌≡◌, ◌<◌, ℕ, All, Bool, true, false, List, [], Some, None, Err}
+use Rattle.std.specs.Prelude.{◌≡◌, ◌<◌, ℕ, All, Bool, true, false, List, [], length, ◌≤◌, Option, Some, None, Err}
 use Rattle.ks_outside.specs.Images.{AllImages, Reads, tells}
 use Rattle.ks_outside.specs.declared.clock.Reading.{Reading}
 use Rattle.ks_outside.specs.declared.disk.Disk.{Ghosts as DiskGhosts}
@@ -24,10 +24,13 @@ use Rattle.service_book.specs.declared.entry.BookEntry.{BookEntry}
 use Rattle.service_book.specs.Book.{AreLater, Counts, IsCaused, counts_after, history_of, log_of}
 use Rattle.connection_workers.specs.declared.serving.Attendance.{Attendance}
 use Rattle.connection_workers.specs.declared.serving.Attendance.TheVariants as attendances
-use Rattle.connection_workers.specs.Workers.{ByVisits, IsAttended}
+use Rattle.connection_workers.specs.Arrivals.{links_of, taken_by}
+use Rattle.connection_workers.specs.Workers.{ByLinks, IsAttended}
+use Rattle.connection_workers.specs.declared.intake.Arrival.{Arrival}
 use Rattle.turn_lock.specs.Fronts.{IsFrontOf}
 use Rattle.shared_service.specs.declared.served.Served.{Served}
 use Rattle.shared_service.specs.Calls.{IsCall}
+use Rattle.shared_service.specs.Drawn.{DrewAll}
 use Rattle.shared_service.specs.Owning.{by, is_connected}
 use Rattle.keystore_server.specs.declared.end.ServeEnd.{ServeEnd}
 use Rattle.keystore_server.specs.declared.end.ServeStatus.{ServeStatus}
@@ -70,16 +73,17 @@ module _ {D : Type 0} (d : DiskGhosts D) where
 
 -- ---- a worker
 
--- The pass of this number had seen the one front of the book; it made a call for an act, at some reading, that was answered with this
--- reply, and has seen the other by then.
-abbrev pub IsCalled : ℕ → List BookEntry → Act → Reply → List BookEntry → Type 0
-IsCalled pass before act reply now = (reading : Reading) × (served : Served) × (served.reply ≡ reply) × ∥ IsCall pass reading act before now served ∥₁
+-- The pass of this number had seen the one front of the book; it made a call for an act, at a reading that the clock shows, that was
+-- answered with this reply, and has seen the other by then.
+abbrev pub IsCalled : (Reading → Type 0) → ℕ → List BookEntry → Act → Reply → List BookEntry → Type 0
+IsCalled shows pass before act reply now =
+    (reading : Reading) × (served : Served) × shows reading × (served.reply ≡ reply) × ∥ IsCall pass reading act before now served ∥₁
 
--- What a pass made in the book is what connections had it do, one behind another, from when it had seen nothing: each of their requests
--- when it was due, and the disconnect of each client that had come.
-pub record HasWorked {L : Type 0} (g : LinkGhosts L) (pass : ℕ) (book : List BookEntry) : Type 0 where
+-- What a pass made in the book is what the connections of these links had it do, one behind another, from when it had seen nothing: each
+-- of their requests when it was due, and the disconnect of each client that had come.
+pub record HasWorked {L : Type 0} (g : LinkGhosts L) (shows : Reading → Type 0) (leaves : L → Option L → Type 0) (pass : ℕ) (links : List L) (book : List BookEntry) : Type 0 where
   pub front : List BookEntry
-  pub visits : ByVisits g (IsCalled pass) [] front
+  pub visits : ByLinks g (IsCalled shows pass) leaves [] links front
   pub begins : IsFrontOf by pass front book
 
 -- ---- a service
@@ -92,9 +96,11 @@ counts_of d n disk entropy = record { disk = d.fault_count disk; entropy = n.fau
 abbrev pub without_memory : {B D N : Type 0} → B → D → N → ServeEnd B D N
 without_memory listener disk entropy = record { status = statuses.Memory; listener = listener; disk = disk; entropy = entropy; book = None }
 
-module _ {B L D N : Type 0} (b : ListenerGhosts B L) (l : LinkGhosts L) (d : DiskGhosts D) (n : EntropyGhosts N) where
-  -- Connections were attended by one service, which was closed. Its book is legal over the lasting part at the start, and caused since
-  -- the counts of the devices that it began with; the last counts in it are no greater than those of the devices at the end. Each entry
+module _ {B L D N : Type 0} (b : ListenerGhosts B L) (l : LinkGhosts L) (d : DiskGhosts D) (n : EntropyGhosts N) (shows : Reading → Type 0) (leaves : L → Option L → Type 0) where
+  -- Connections were attended by one service, which was closed: each link that the listener gave, in the order in which it gave them, was
+  -- served once, by the worker that took it, and nothing else was. Its book is legal over the lasting part at the start, and caused since
+  -- the counts of the devices that it began with; the last counts in it are no greater than those of the devices at the end. The bytes
+  -- that were drawn for its entries are, in their order, all that the entropy gave from the one that was handed in on. Each entry
   -- is of one of the workers that were asked for, each of which made what its connections had it do, and nothing else; where memory for
   -- them was wanting there is none. No pass left a client connected. Each image of the disk stands for what may be kept after it.
   pub record IsServed (setup : Setup) (form : ServeForm) (listener : B) (disk : D) (entropy : N) (end : ServeEnd B D N) : Type 0 where
@@ -102,12 +108,15 @@ module _ {B L D N : Type 0} (b : ListenerGhosts B L) (l : LinkGhosts L) (d : Dis
     pub book_is : end.book ≡ Some book
     pub attendance : Attendance
     pub status_is : end.status ≡ status_of attendance
-    pub attended : IsAttended b form.connections listener end.listener attendance
+    pub arrivals : List (Arrival L)
+    pub attended : IsAttended b form.connections (length arrivals) listener end.listener attendance
     pub legal : ∥ Legal setup (history_of (log_of book)) ∥₁
     pub caused : ∥ IsCaused (counts_of d n disk entropy) book ∥₁
     pub counts : AreLater (counts_after (counts_of d n disk entropy) (log_of book)) (counts_of d n end.disk end.entropy)
+    pub drew : ∥ DrewAll n entropy end.entropy book ∥₁
     pub few : All (λ (e : BookEntry). by e < form.workers) book
-    pub worked : (pass : ℕ) → pass < form.workers → HasWorked l pass book
+    pub worked : (pass : ℕ) → pass < form.workers → HasWorked l shows leaves pass (links_of (taken_by pass arrivals)) book
+    pub others : (pass : ℕ) → form.workers ≤ pass → taken_by pass arrivals ≡ []
     pub unserved : attendance ≡ attendances.Memory → book ≡ []
     pub parted : (pass : ℕ) → is_connected pass (log_of book) ≡ false
     pub holds : ∥ AllImages d end.disk (MayHold setup (history_of (log_of book))) ∥₁

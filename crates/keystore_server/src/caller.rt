@@ -14,7 +14,7 @@ use std::sync::Wait;
 #[derive(Drop)]
 pub struct ServicePass<'a, D: Disk, N: Entropy, C, G> {
     pub(crate) shared: &'a Shared<D, N>,
-    pub(crate) pass: Pass,
+    pub(crate) pass: Pass<N>,
     pub(crate) clock: &'a C,
     pub(crate) gate: &'a G,
     ghost ours: { ∥ IsOurs shared.now pass ∥₁ },
@@ -24,13 +24,14 @@ impl<'a, D: Disk, N: Entropy, C, G> ServicePass<'a, D, N, C, G> {
     /// A caller by a pass of the service.
     pub(crate) fn new(
         shared: &'a Shared<D, N>,
-        pass: Pass,
+        pass: Pass<N>,
         clock: &'a C,
         gate: &'a G,
     ) -> ServicePass<'a, D, N, C, G>
         requires ours { IsOurs shared.now pass }
         ensures shared { result.shared.now ≡ shared.now }
         ensures pass { result.pass ≡ pass }
+        ensures clock { result.clock.now ≡ clock.now }
     {
         ServicePass {
             shared,
@@ -41,7 +42,7 @@ impl<'a, D: Disk, N: Entropy, C, G> ServicePass<'a, D, N, C, G> {
     }
 
     /// Its pass.
-    pub(crate) fn into_pass(self) -> Pass
+    pub(crate) fn into_pass(self) -> Pass<N>
         ensures { result ≡ self.entry.pass }
     {
         let ServicePass { pass, .. } = self;
@@ -60,12 +61,12 @@ impl<'a, D: Disk, N: Entropy, C: Clock, G: Gate> Answerer for ServicePass<'a, D,
     ghost use Rattle.shared_service.specs.Passes.{connected_of};
     ghost use Rattle.keystore_server.specs.Calling.{IsAnswered};
 
-    ghost answers = { λ old act reply new. (new.shared.now ≡ old.shared.now) × IsAnswered old.shared.now old.pass act reply new.pass };
+    ghost answers = { λ old act reply new. (new.shared.now ≡ old.shared.now) × (new.clock.now ≡ old.clock.now) × IsAnswered old.shared.now (C.shows old.clock.now) old.pass act reply new.pass };
 
     ghost connected = { λ caller. connected_of caller.pass };
 
     fn answer<R: Wait>(self, rt: &R, request: Request) -> (Self, Reply) {
-        equal_in_one_way::<ServiceId>();
+        equal_in_one_way::<ServiceId<N>>();
         let ServicePass {
             shared,
             pass,

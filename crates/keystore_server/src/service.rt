@@ -88,7 +88,7 @@ where
     requires within { IsWithin form }
     requires first { StandsAtFirst engine }
     requires store { (setup : Setup) → Stands setup engine [] → StoreStands D.Disk setup engine disk [] }
-    ensures serves { (setup : Setup) → Stands setup engine [] → ServesOn B.Listener B.L.Link D.Disk N.Entropy setup form listener disk entropy result }
+    ensures serves { (setup : Setup) → Stands setup engine [] → ServesOn B.Listener B.L.Link D.Disk N.Entropy (C.shows clock.now) B.leaves setup form listener disk entropy result }
 {
     match Shared::new(alloc, engine, disk, entropy, form.workers) {
         Ok((shared, passes)) => {
@@ -147,7 +147,7 @@ where
     ensures untouched { result.status ≡ statuses.Usage → (result.listener ≡ listener) × (result.disk ≡ disk) × (result.entropy ≡ entropy) × (result.book ≡ None) }
 
     // What the form came to, over the lasting part that the store stood for.
-    ensures serves { (form : ServeForm) → form_of words.now ≡ Some form → Serves B.Listener B.L.Link D.Disk N.Entropy device.now policy.now form listener disk entropy result }
+    ensures serves { (form : ServeForm) → form_of words.now ≡ Some form → Serves B.Listener B.L.Link D.Disk N.Entropy (C.shows clock.now) B.leaves device.now policy.now form listener disk entropy result }
 
     // A call of the listener failed exactly where the status says so; where it says that the disk failed it did.
     ensures listen_faults { CountsFaults (B.Listener.fault_count listener) (B.Listener.fault_count result.listener) (is_listen_fault result.status) }

@@ -1,11 +1,8 @@
 //! One connection.
 
-ghost use Rattle.std.specs.Prelude.{◌≡◌, ◌-◌, ◌^◌, ◌<◌, false, List, [], Some};
-ghost use Rattle.std.specs.List.{AllByRecursion};
-ghost use Rattle.rule_model.specs.declared.event.Act.{Act};
-ghost use Rattle.wire_frames.specs.Spelling.{IsRequest};
-ghost use Rattle.wire_frames.specs.Streams.{stream_of};
-ghost use Rattle.connections.specs.Ends.{EndsWhole, Serves};
+ghost use Rattle.std.specs.Prelude.{◌≡◌, false};
+ghost use Rattle.connections.specs.Ends.{Serves};
+ghost use Rattle.connection_workers.specs.Workers.{Completes};
 ghost use Rattle.shared_service.specs.Passes.{IsOurs, connected_of, number_of};
 ghost use Rattle.keystore_server.specs.Calling.{IsAnswered};
 
@@ -24,16 +21,15 @@ pub fn serve_connection<R: Wait, L: Link, D: Disk, N: Entropy, C: Clock, G: Gate
     rt: &R,
     alloc: Global,
     shared: &Shared<D, N>,
-    pass: Pass,
+    pass: Pass<N>,
     link: &mut L,
     clock: &C,
     gate: &G,
-) -> (Pass, End)
+) -> (Pass<N>, End)
     requires ours { IsOurs shared.now pass }
     requires free { connected_of pass ≡ false }
-    ensures serves { Serves L.Link (IsAnswered shared.now) link.old link.new pass result.0 result.1 }
-    ensures complete { (acts : List Act) → AllByRecursion IsRequest acts → L.incoming link.old ≡ Some (stream_of acts []) → L.fault_count link.old < 2 ^ 64 - 1
-        → L.fault_count link.new ≡ L.fault_count link.old → EndsWhole (IsAnswered shared.now) pass acts result.1 }
+    ensures serves { Serves L.Link (IsAnswered shared.now (C.shows clock.now)) link.old link.new pass result.0 result.1 }
+    ensures complete { Completes L.Link (IsAnswered shared.now (C.shows clock.now)) link.old link.new pass result.1 }
     ensures ours { IsOurs shared.now result.0 }
     ensures number { number_of result.0 ≡ number_of pass }
     ensures free { connected_of result.0 ≡ false }

@@ -23,17 +23,17 @@ fn add<T: Drop>(items: &mut Vec<T>, item: T)
 }
 
 /// Adds a worker for each pass, in their order, where there were none and are places for them.
-pub(crate) fn add_workers<'a, B: Drop, D: Disk + Drop, N: Entropy + Drop, C, G>(
+pub(crate) fn add_workers<'a, B: Drop, L, D: Disk + Drop, N: Entropy + Drop, C, G>(
     shared: &'a Shared<D, N>,
-    passes: Vec<Pass>,
+    passes: Vec<Pass<N>>,
     clock: &'a C,
     gate: &'a G,
-    workers: &mut Vec<Worker<B, ServicePass<'a, D, N, C, G>>>,
+    workers: &mut Vec<Worker<B, L, ServicePass<'a, D, N, C, G>>>,
 )
     requires none { length workers.old.items ≡ 0 }
     requires places { length passes.items ≤ vec_capacity workers.old }
     requires ours { All (IsOurs shared.now) passes.items }
-    ensures paired { ArePaired passes.items workers.new.items (λ pass caller. (caller.shared.now ≡ shared.now) × (caller.pass ≡ pass)) }
+    ensures paired { ArePaired passes.items workers.new.items (λ pass caller. (caller.shared.now ≡ shared.now) × (caller.clock.now ≡ clock.now) × (caller.pass ≡ pass)) }
 {
     let mut left = passes.into_iter();
     'passes: while let Some(pass) = left.next() {
@@ -43,7 +43,7 @@ pub(crate) fn add_workers<'a, B: Drop, D: Disk + Drop, N: Entropy + Drop, C, G>(
 }
 
 /// Who answers for a worker.
-fn answerer_in<B, A>(worker: Worker<B, A>) -> A
+fn answerer_in<B, L, A>(worker: Worker<B, L, A>) -> A
     requires { (answerer : A) × (answerer_of worker ≡ Some answerer) }
     ensures { answerer_of worker ≡ Some result }
 {
@@ -54,9 +54,9 @@ fn answerer_in<B, A>(worker: Worker<B, A>) -> A
 }
 
 /// Takes the passes of the workers back, in their order, where there were none and are places for them.
-pub(crate) fn take_passes<'a, B: Drop, D: Disk + Drop, N: Entropy + Drop, C, G>(
-    workers: Vec<Worker<B, ServicePass<'a, D, N, C, G>>>,
-    passes: &mut Vec<Pass>,
+pub(crate) fn take_passes<'a, B: Drop, L, D: Disk + Drop, N: Entropy + Drop, C, G>(
+    workers: Vec<Worker<B, L, ServicePass<'a, D, N, C, G>>>,
+    passes: &mut Vec<Pass<N>>,
 )
     requires none { length passes.old.items ≡ 0 }
     requires places { length workers.items ≤ vec_capacity passes.old }

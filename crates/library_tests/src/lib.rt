@@ -23,6 +23,8 @@ mod files;
 #[cfg(test)]
 mod foreign_blobs;
 #[cfg(test)]
+mod full_slots;
+#[cfg(test)]
 mod hashes;
 #[cfg(test)]
 mod kept_tokens;

@@ -5,6 +5,7 @@ ghost use Rattle.operation_slots.specs.Table.{IsLater};
 use operation_slots::{OpId, Slots, Steps, Taken};
 use pruning::victim;
 use std::alloc::Global;
+use std::marker::Brand;
 use std::sync::ledger::{Blank, Ledger};
 use tags::{MOST_SLOTS, NoMemory};
 
@@ -41,6 +42,11 @@ impl Desk {
         self.slots.open_of(uid)
     }
 
+    /// The uid at a place among those that have an idle operation.
+    pub(crate) fn idle_owner(&self, place: usize) -> Option<u32> {
+        self.slots.idle_owner(place)
+    }
+
     /// Takes out all operations of a client.
     pub(crate) fn leave(&mut self, client: u64) {
         self.slots.close_of(client);
@@ -50,6 +56,7 @@ impl Desk {
     pub(crate) fn clear(&mut self) {
         self.slots.clear();
     }
+
     /// Lets time pass.
     pub(crate) fn wait_until(&mut self, time: u64) {
         if self.next < time {
@@ -137,12 +144,17 @@ pub(crate) fn pruned<L: Ledger>(
     counted(desk, uid, forced, &mut steps)
 }
 
-/// The oldest idle operation of a uid, by a counter of its own.
-pub(crate) fn oldest<L: Ledger>(desk: &Desk, uid: u32, blank: Blank) -> Option<(OpId, u64)>
+/// The oldest idle operation of a uid, by a counter that is given.
+fn oldest<L: Ledger>(desk: &Desk, uid: u32, blank: Blank) -> Option<(OpId, u64)>
     requires name { blank.name ≡ L.name }
     requires parts { blank.parts ≡ L.parts }
     requires some { 0 < L.parts }
 {
     let mut steps = Steps::<L>::new(blank);
     desk.slots.oldest_idle(uid, &mut steps)
+}
+
+/// The oldest idle operation of a uid, by a counter of its own.
+pub(crate) fn oldest_of(desk: &Desk, uid: u32) -> Option<(OpId, u64)> {
+    oldest::<Brand>(desk, uid, Blank::new(1))
 }

@@ -1,7 +1,7 @@
 //! Random slot lists against the definition computed by filters over a whole list.
 
 use crate::draws::Draws;
-use crate::slot_desk::{Desk, oldest, pruned};
+use crate::slot_desk::{Desk, oldest_of, pruned};
 use operation_slots::OpId;
 use std::alloc::Global;
 use std::marker::Brand;
@@ -195,7 +195,7 @@ fn agree(desk: &Desk, rows: &[Row], uid: u32) -> bool {
 fn go_in_order(desk: &mut Desk, rows: &mut [Row], uid: u32) -> bool {
     let mut same = true;
     for _ in 0..=rows.len() {
-        let answer = oldest::<Brand>(desk, uid, Blank::new(1));
+        let answer = oldest_of(desk, uid);
         same &= answer == least(rows, uid);
         let Some((op, _)) = answer else {
             return same;

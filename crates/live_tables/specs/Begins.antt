@@ -2,7 +2,8 @@
 use Rattle.std.specs.Prelude.{◌≡◌, ℕ, true, is_some, unwrap_or}
 use Rattle.std.specs.BTreeMap.{get}
 use Rattle.std.specs.Ordering.{nat_cmp}
-use Rattle.rule_model.specs.Boot.{BootChange, begins_after, begins_of}
+use Rattle.rule_model.specs.declared.entry_change.BootChange.{BootChange}
+use Rattle.rule_model.specs.Boot.{begins_after, begins_of}
 use Rattle.rule_model.specs.Entries.{History}
 use Rattle.rule_model.specs.Setup.{Setup}
 use Rattle.live_tables.specs.declared.begins.Begins.{Begins}

@@ -10,7 +10,7 @@ use Rattle.rule_model.specs.Access.{user_of}
 use Rattle.rule_model.specs.Entries.{History}
 use Rattle.rule_model.specs.Setup.{Setup}
 use Rattle.live_tables.specs.declared.boot.Boot.{Boot}
-use Rattle.rule_model.specs.Boot.{StartsAgain}
+use Rattle.rule_model.specs.declared.entry_change.BootChange.TheVariants.{StartsAgain}
 use Rattle.live_tables.specs.Begins.{BeginsStand, ChangesBegins, SameBegins, begins_in}
 use Rattle.live_tables.specs.Device.{ChangesDevice, DeviceStands, IsStart, early_in, unlocked_in}
 use Rattle.live_tables.specs.Tokens.{ChangesTokens, SameTokens, TokensStand, token_key_in, tokens_in}

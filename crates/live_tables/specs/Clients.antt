@@ -3,7 +3,8 @@ use Rattle.std.specs.Prelude.{◌≡◌, ℕ, Option}
 use Rattle.std.specs.Ordering.{nat_cmp}
 use Rattle.std.specs.BTreeMap.{get}
 use Rattle.rule_model.specs.Acts.{is_connect}
-use Rattle.rule_model.specs.Clients.{ClientChange, uid_after, uid_of}
+use Rattle.rule_model.specs.declared.entry_change.ClientChange.{ClientChange}
+use Rattle.rule_model.specs.Clients.{uid_after, uid_of}
 use Rattle.rule_model.specs.Entries.{History, count_of}
 use Rattle.live_tables.specs.declared.clients.Clients.{Clients}
 

@@ -1,6 +1,7 @@
 -- The state of the device: what a look-up finds in it, and what a change of it is.
 use Rattle.std.specs.Prelude.{◌≡◌, ℕ, Bool, false, get_or}
-use Rattle.rule_model.specs.Boot.{BootChange, early_after, has_early_ended, is_unlocked, unlocked_after}
+use Rattle.rule_model.specs.declared.entry_change.BootChange.{BootChange}
+use Rattle.rule_model.specs.Boot.{early_after, has_early_ended, is_unlocked, unlocked_after}
 use Rattle.rule_model.specs.Entries.{History}
 use Rattle.rule_model.specs.Setup.{Setup}
 use Rattle.live_tables.specs.declared.device.DeviceState.{DeviceState}

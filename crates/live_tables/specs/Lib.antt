@@ -5,5 +5,6 @@ pub mod Begins
 pub mod Boot
 pub mod Alike
 pub mod Numbered
+pub mod Places
 pub mod Operations
 pub mod Tickets

@@ -8,10 +8,11 @@ use Rattle.cipher_ops.specs.declared.room.Work.{Work}
 use Rattle.rule_model.specs.Kept.{operation_at}
 use Rattle.rule_model.specs.Acts.{is_enter}
 use Rattle.rule_model.specs.Entries.{History, count_of}
-use Rattle.rule_model.specs.Operations.{Open}
+use Rattle.rule_model.specs.declared.operation.Open.{Open}
 use Rattle.rule_model.specs.Setup.{Setup}
 use Rattle.rule_model.specs.StepFacts.{brought_by, input_of}
-use Rattle.rule_model.specs.Tickets.{Entered, ticket_at}
+use Rattle.rule_model.specs.declared.operation.Entered.{Entered}
+use Rattle.rule_model.specs.Tickets.{ticket_at}
 use Rattle.live_tables.specs.declared.tickets.Out.{Out}
 use Rattle.live_tables.specs.declared.tickets.Tickets.{Tickets}
 

@@ -1,7 +1,8 @@
 -- The table of the last tokens: what is in it, and what a change of it is.
 use Rattle.std.specs.Prelude.{◌≡◌, ℕ, List}
 use Rattle.auth_tokens.specs.declared.token.AuthToken.{AuthToken}
-use Rattle.rule_model.specs.Boot.{BootChange, last_tokens, tokens_after}
+use Rattle.rule_model.specs.declared.entry_change.BootChange.{BootChange}
+use Rattle.rule_model.specs.Boot.{last_tokens, tokens_after}
 use Rattle.rule_model.specs.Entries.{History}
 use Rattle.rule_model.specs.Setup.{Setup}
 use Rattle.live_tables.specs.declared.tokens.Tokens.{Tokens}

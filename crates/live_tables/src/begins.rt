@@ -1,7 +1,7 @@
 //! How many operations began on each key since the last restart.
 
 ghost use Rattle.std.specs.Prelude.{◌≡◌, ◌^◌, ◌<◌, ℕ, OnOk};
-ghost use Rattle.rule_model.specs.Boot.{BeginsOn, StartsAgain};
+ghost use Rattle.rule_model.specs.declared.entry_change.BootChange.TheVariants.{BeginsOn, StartsAgain};
 ghost use Rattle.live_tables.specs.Begins.{ChangesBegins, HasRoomForBegin, SameBegins, begins_in};
 
 use std::alloc::Global;

@@ -1,7 +1,7 @@
 //! The connected clients.
 
 ghost use Rattle.std.specs.Prelude.{◌≡◌, ◌+◌, ◌^◌, ◌<◌, IfOk, OnErr, None, ℕ};
-ghost use Rattle.rule_model.specs.Clients.{AllGo, Comes, Goes};
+ghost use Rattle.rule_model.specs.declared.entry_change.ClientChange.TheVariants.{AllGo, Comes, Goes};
 ghost use Rattle.live_tables.specs.Clients.{ChangesClients, SameClients, clients_given, uid_in};
 
 use std::alloc::Global;

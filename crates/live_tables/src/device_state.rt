@@ -1,7 +1,7 @@
 //! The state of the device: which users are unlocked, and whether early boot has ended.
 
 ghost use Rattle.std.specs.Prelude.{◌≡◌, ◌≤◌, IfOk, replicate, false, if◌then◌else◌};
-ghost use Rattle.rule_model.specs.Boot.{EndsEarlyBoot, Locks, StartsAgain, Unlocks};
+ghost use Rattle.rule_model.specs.declared.entry_change.BootChange.TheVariants.{EndsEarlyBoot, Locks, StartsAgain, Unlocks};
 ghost use Rattle.live_tables.specs.Device.{ChangesDevice, IsStart, early_in, unlocked_in};
 ghost use Rattle.tags.specs.declared.limits.TheConstants.{MOST_USER};
 

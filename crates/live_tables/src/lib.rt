@@ -11,7 +11,9 @@ mod clients;
 mod device;
 mod device_state;
 mod operations;
-mod rows;
+mod placed;
+mod placed_rows;
+mod placing;
 mod tickets;
 mod tokens;
 
@@ -19,6 +21,6 @@ pub use begins::Begins;
 pub use boot::Boot;
 pub use clients::Clients;
 pub use device::DeviceState;
-pub use operations::{Added, Operation, Operations, RowChange};
+pub use operations::{Added, OperationRow, Operations, RowChange};
 pub use tickets::{Out, Tickets};
 pub use tokens::Tokens;

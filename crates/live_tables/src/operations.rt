@@ -3,7 +3,7 @@
 ghost use Rattle.std.specs.Prelude.{◌+◌};
 ghost use Rattle.live_tables.specs.Numbered.{AreNumbered, AreNumbered-prop};
 
-use crate::rows::{change_row, drop_row, drop_rows_of, row_at, show_rows};
+use crate::placed::PlacedRows;
 use auth_tokens::AuthToken;
 use std::alloc::Global;
 use tag_lists::AuthList;
@@ -11,7 +11,7 @@ use tags::{NoMemory, Plan};
 
 /// What the rules read of an open operation. Lengths are in bytes.
 #[derive(Debug, Drop)]
-pub struct Operation {
+pub struct OperationRow {
     pub number: u64,
     pub client: u64,
     /// the key's number, where the key is stored
@@ -49,46 +49,47 @@ pub enum RowChange {
     Returns(Added),
 }
 
-/// The open operations, in the order of their begins: as many as there are slots at the most. Their numbers rise, so that one is
-/// found by halving.
+/// The open operations, in the order of their begins: as many as there are slots at the most. What a call does is found by
+/// halving, by the number, the client, or the challenge.
 #[derive(Drop)]
 pub struct Operations {
-    rows: Vec<Operation>,
+    rows: PlacedRows,
     given: u64,
-    ghost order: { AreNumbered rows.items (given + 1) } by { AreNumbered-prop rows.items (given + 1) },
+    ghost order: { AreNumbered rows.rows (given + 1) } by { AreNumbered-prop rows.rows (given + 1) },
 }
 
 impl Operations {
-    ghost use Rattle.std.specs.Prelude.{◌≡◌, ◌^◌, ◌<◌, [], OnOk};
+    ghost use Rattle.std.specs.Prelude.{◌≡◌, ◌≤◌, ◌^◌, ◌<◌, [], IfOk, IsSome, length};
     ghost use Rattle.std.specs.Option.{option_copied};
-    ghost use Rattle.live_tables.specs.Operations.{AddsRow, ChangesRow, DropsRow, DropsRowsOf, HasRoomForOperation, SameRows, ShowsRows, has_busy_row, operation_in, operations_given, rows_in};
+    ghost use Rattle.live_tables.specs.Operations.{AddsRow, ChangesRow, DropsRow, DropsRowsOf, HasRoomForOperation, ShowsRows, has_busy_row, most_operations, operation_in, operations_given, rows_in};
+    ghost use Rattle.tags.specs.declared.limits.TheConstants.{MOST_SLOTS};
 
-    /// No operations, of which none was begun.
-    pub fn new(alloc: Global) -> Operations
-        ensures rows { rows_in result ≡ [] }
-        ensures given { operations_given result ≡ 0 }
+    /// No operations, of which none was begun, with the memory of as many as there are slots. It is the one call that takes
+    /// memory.
+    pub fn with_room(alloc: Global, slots: usize) -> Result<Operations, NoMemory>
+        requires { slots ≤ MOST_SLOTS }
+        ensures rows { IfOk result (λ operations. rows_in operations ≡ []) }
+        ensures most { IfOk result (λ operations. most_operations operations ≡ slots) }
+        ensures given { IfOk result (λ operations. operations_given operations ≡ 0) }
     {
-        Operations {
-            rows: Vec::new(alloc),
+        Ok(Operations {
+            rows: PlacedRows::with_places(alloc, slots)?,
             given: 0,
-        }
+        })
     }
 
     /// The open operation of a number.
-    pub fn get(&self, number: u64) -> Option<&Operation>
+    pub fn get(&self, number: u64) -> Option<&OperationRow>
         ensures { option_copied result ≡ operation_in self.now number }
     {
-        match row_at(&self.rows, number) {
-            Ok(at) => Some(&self.rows[at]),
-            Err(_at) => None,
-        }
+        self.rows.get(number)
     }
 
     /// Whether a work on an operation of a client is out.
     pub fn has_busy(&self, client: u64) -> bool
         ensures { result ≡ has_busy_row self.now client }
     {
-        self.rows.iter().any(|row| row.client == client && row.busy)
+        self.rows.has_busy(client)
     }
 
     /// The number that the next operation takes.
@@ -99,25 +100,14 @@ impl Operations {
         self.given + 1
     }
 
-    /// Takes room for one operation more.
-    pub fn reserve(&mut self) -> Result<(), NoMemory>
-        ensures room { OnOk result (HasRoomForOperation self.new) }
-        ensures same { SameRows self.old self.new }
-    {
-        self.rows.reserve(1)?;
-        Ok(())
-    }
-
-    /// Opens an operation under the next number, in the place of one that gives way.
-    pub fn open(&mut self, operation: Operation)
+    /// Opens an operation under the next number, which takes no memory.
+    pub fn open(&mut self, operation: OperationRow)
         requires room { HasRoomForOperation self.old }
         requires few { operations_given self.old < 2 ^ 63 }
         requires number { operation.number ≡ operations_given self.old + 1 }
         ensures { AddsRow operation self.old self.new }
     {
-        let Ok(()) = self.rows.push(operation) else {
-            unreachable!()
-        };
+        self.rows.open(operation);
         self.given += 1;
     }
 
@@ -125,34 +115,38 @@ impl Operations {
     pub fn change(&mut self, number: u64, change: RowChange)
         ensures { ChangesRow number change self.old self.new }
     {
-        change_row(&mut self.rows, number, change);
+        self.rows.change(number, change);
     }
 
     /// Shows a token to each open operation that it is for, a busy one too.
     pub fn show(&mut self, token: &AuthToken)
         ensures { ShowsRows token.now self.old self.new }
     {
-        show_rows(&mut self.rows, token);
+        self.rows.show(token);
     }
 
     /// Closes an operation, where it is open.
     pub fn close(&mut self, number: u64)
         ensures closes { DropsRow number self.old self.new }
-        ensures room { HasRoomForOperation self.old → HasRoomForOperation self.new }
+        ensures room { IsSome (operation_in self.old number) → HasRoomForOperation self.new }
+        ensures fewer { IsSome (operation_in self.old number) → length (rows_in self.new) < length (rows_in self.old) }
     {
-        drop_row(&mut self.rows, number);
+        self.rows.close(number);
     }
 
-    /// Closes the operations of a client.
+    /// Closes the operations of a client. It takes as many steps as the client has operations.
     pub fn close_of(&mut self, client: u64)
         ensures { DropsRowsOf client self.old self.new }
     {
-        drop_rows_of(&mut self.rows, client);
+        'operations: while let Some(number) = self.rows.first_of(client) {
+            self.close(number);
+        }
     }
 
     /// Closes all operations.
     pub fn clear(&mut self)
         ensures rows { rows_in self.new ≡ [] }
+        ensures most { most_operations self.new ≡ most_operations self.old }
         ensures given { operations_given self.new ≡ operations_given self.old }
     {
         self.rows.clear();

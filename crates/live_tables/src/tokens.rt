@@ -3,7 +3,8 @@
 ghost use Rattle.std.specs.Prelude.{◌≡◌, ◌==◌, [], length, is_err, IfOk, OnErr, OnOk};
 ghost use Rattle.std.specs.List.{list_any};
 ghost use Rattle.token_store.specs.Fitting.{opens};
-ghost use Rattle.rule_model.specs.Boot.{Accepts, StartsAgain, other_triples};
+ghost use Rattle.rule_model.specs.declared.entry_change.BootChange.TheVariants.{Accepts, StartsAgain};
+ghost use Rattle.rule_model.specs.Boot.{other_triples};
 ghost use Rattle.rule_model.specs.Calls.{has_right_mac as has_right_mac_in};
 ghost use Rattle.live_tables.specs.Tokens.{ChangesTokens, SameTokens, token_key_in, tokens_in};
 ghost use Rattle.tags.specs.declared.limits.TheConstants.{MOST_TRIPLES};

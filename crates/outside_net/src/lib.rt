@@ -1,7 +1,7 @@
 //! The edge to the network: a listener on a port of this machine, whose connections are links.
 //!
-//! Its contract is that of a listener of `ks_outside`: what it answers, with its three counts. What the system does with a connection
-//! no clause says; its tests over loopback show it.
+//! Its contract is that of a listener of `ks_outside`: what it answers, with its three counts; and what is left of a connection that was
+//! ended (`leaves`). What the system does with a connection no clause says; its tests over loopback show it.
 #![tactic(auto)]
 
 mod closing;

@@ -1,4 +1,5 @@
 pub mod BodyLengths
 pub mod Frames
 pub mod Holding
+pub mod Readings
 pub mod Windows

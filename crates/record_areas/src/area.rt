@@ -8,7 +8,7 @@ ghost use Rattle.journal_records.specs.declared.record.Record.{Record};
 ghost use Rattle.journal_records.specs.Commits.{append_failed, append_state, open_failed};
 ghost use Rattle.journal_records.specs.Spelling.{record_closed, IsRecord};
 
-use crate::opening::read_area;
+use crate::reading::read_area;
 use crate::records::Records;
 use gated_records::{is_published, publish};
 use journal_records::{AppendFault, StoreFault};
@@ -55,8 +55,7 @@ impl Area {
         ensures still { IsStill D.Disk disk.new }
         ensures goes { Reads D.Disk disk.old disk.new (open_failed result) }
     {
-        let opened = read_area(alloc, disk, start, limit, kinds);
-        opened
+        read_area(alloc, disk, start, limit, kinds)
     }
 
     /// A settled area whose records end at a place.

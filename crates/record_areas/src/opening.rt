@@ -1,4 +1,4 @@
-//! Reading an area.
+//! Reading the next record of an area.
 
 ghost use Rattle.std.specs.Prelude.{◌≡◌, ◌<◌, ◌≤◌, ◌+◌, ◌++◌, ℕ, List, length, take, drop, true, is_some, IfOk, IfErr, IfSome, IsErrOf, OnOk, OnErr, Some, None};
 ghost use Rattle.ks_outside.specs.Images.{AllImages, Reads};
@@ -8,14 +8,11 @@ ghost use Rattle.journal_records.specs.declared.record.Record.{Record};
 ghost use Rattle.journal_records.specs.Commits.{open_failed};
 ghost use Rattle.journal_records.specs.Reading.{record_at};
 ghost use Rattle.journal_records.specs.Spelling.{IsRecord, record_framed, record_tail};
-ghost use Rattle.record_areas.specs.Holding.{IsRead, ReadsArea};
 ghost use Rattle.record_areas.specs.declared.opening.Head.TheVariants.{Opened};
 ghost use Rattle.record_areas.specs.Windows as spec;
 ghost use Rattle.record_areas.specs.Windows.{HasSeen, IsSeen, IsWindow, ReadsNext, Refuses, ahead_of, held_by, limit_of, next_length, place_of};
 
-use crate::area::Area;
 use crate::body_length::may_begin;
-use crate::records::Records;
 use crate::window::Window;
 use byte_strings::u32_at;
 use disk_calls::PIECE;
@@ -156,7 +153,7 @@ fn read_sized<D: Disk>(
 }
 
 /// Reads the next record, and goes on behind it. None comes where a gate that is shut stands there, and Corrupted where neither does.
-fn next_record<D: Disk>(
+pub(crate) fn next_record<D: Disk>(
     alloc: Global,
     disk: &mut D,
     window: &mut Window,
@@ -183,31 +180,4 @@ fn next_record<D: Disk>(
         Head::Shut => Ok(None),
         Head::Opened { size } => read_sized(alloc, disk, window, kinds, size),
     }
-}
-
-/// The records of a still disk from `start` on, up to the gate that is shut, with the area that they are.
-pub(crate) fn read_area<D: Disk>(
-    alloc: Global,
-    disk: &mut D,
-    start: u64,
-    limit: u64,
-    kinds: u8,
-) -> Result<(Area, Records), StoreFault>
-    requires still { IsStill D.Disk disk.old }
-    requires order { start ≤ limit }
-    ensures still { IsStill D.Disk disk.new }
-    ensures read { IfOk result (λ opened. IsRead start limit kinds opened.0 opened.1) }
-    ensures reads { AllImages D.Disk disk.new (λ image. ReadsArea start limit kinds image result) }
-    ensures goes { Reads D.Disk disk.old disk.new (open_failed result) }
-{
-    let mut window = Window::at(alloc, start, limit);
-    let mut all = Records::empty(alloc);
-    let mut at = start;
-    'records: while let Some(it) = next_record(alloc, disk, &mut window, kinds)? {
-        let Ok(()) = all.push(at, it) else {
-            return Err(StoreFault::Memory);
-        };
-        at = window.place();
-    }
-    Ok((Area::at(start, limit, at), all))
 }

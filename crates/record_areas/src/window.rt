@@ -78,6 +78,13 @@ impl Window {
         self.place
     }
 
+    /// Before which place they end.
+    pub(crate) fn limit(&self) -> u64
+        ensures { result ≡ limit_of self.now }
+    {
+        self.limit
+    }
+
     /// How many bytes there may be up to the limit.
     pub(crate) fn most(&self) -> u64
         requires { IsWindow self.now }

@@ -23,7 +23,8 @@ use Rattle.rule_model.specs.Clients.{caller_of}
 use Rattle.rule_model.specs.Entries.{History, is_done}
 use Rattle.rule_model.specs.Kept.{is_live, operation_at}
 use Rattle.rule_model.specs.Legal.{IsAnswered, MayFollow, Answered, WithoutMemory, WithoutEntropy, Faulted, NotSettled, NotRestarted}
-use Rattle.rule_model.specs.Operations.{Open, operation_of}
+use Rattle.rule_model.specs.declared.operation.Open.{Open}
+use Rattle.rule_model.specs.Operations.{operation_of}
 use Rattle.rule_model.specs.Replies.{broken_or}
 use Rattle.rule_model.specs.Setup.{Setup}
 use Rattle.rule_model.specs.StepFacts.{brought_by, facts_of, has_ended}

@@ -22,12 +22,17 @@ use Rattle.rule_model.specs.BeginFacts.{is_limited, limited_by}
 use Rattle.rule_model.specs.Entries.{History, gives, is_done}
 use Rattle.rule_model.specs.Clients.{caller_of}
 use Rattle.rule_model.specs.Kept.{access_at, kept, open_of}
-use Rattle.rule_model.specs.Operations.{Open, Operation, OperationChange, SameOperations, Opens, Enters, Returns, Shows, Closes, ClosesOf, ClosesAll, admitted_operation, as_entered, as_returned, as_shown, closes, enters, has_number, is_for, is_of, limited_key, open_after, operation_of, returns, step_of, stopped_operation, without_pruned}
+use Rattle.rule_model.specs.declared.operation.Open.{Open}
+use Rattle.rule_model.specs.declared.operation.Operation.{Operation}
+use Rattle.rule_model.specs.declared.entry_change.OperationChange.{OperationChange}
+use Rattle.rule_model.specs.declared.entry_change.OperationChange.TheVariants.{SameOperations, Opens, Enters, Returns, Shows, Closes, ClosesOf, ClosesAll}
+use Rattle.rule_model.specs.Operations.{admitted_operation, as_entered, as_returned, as_shown, closes, enters, has_number, is_for, is_of, limited_key, open_after, operation_of, returns, step_of, stopped_operation, without_pruned}
 use Rattle.rule_model.specs.Settling.{is_faulted, is_unsettled}
 use Rattle.cipher_ops.specs.declared.room.Work.{Work}
 use Rattle.cipher_ops.specs.declared.room.Work.TheVariants.{Aad, Text, Last}
 use Rattle.rule_model.specs.Setup.{Setup}
-use Rattle.rule_model.specs.Tickets.{ticket_at, Entered}
+use Rattle.rule_model.specs.declared.operation.Entered.{Entered}
+use Rattle.rule_model.specs.Tickets.{ticket_at}
 use Rattle.rule_model.specs.Tokens.{token_of}
 use Rattle.rule_model.specs.Uses.{HasLimit, Stood, finished_by, one_if, output_key, outputs_made}
 use Rattle.rule_model.proofs.Bounds.{Each, each_changed, each_in, each_left, each_more, each_found}

@@ -7,7 +7,9 @@ use Rattle.rule_model.specs.declared.event.Event.{Event}
 use Rattle.rule_model.specs.declared.facts.Caller.{Caller}
 use Rattle.rule_model.specs.declared.reply.Reply.{Reply}
 use Rattle.rule_model.specs.declared.reply.Reply.TheVariants.{Done, Broken, Stopped}
-use Rattle.rule_model.specs.Boot.{BootChange, SameBoot, Locks, Unlocks, EndsEarlyBoot, Accepts, BeginsOn, StartsAgain, admitted_boot, begins_after, begins_of, boot_change}
+use Rattle.rule_model.specs.declared.entry_change.BootChange.{BootChange}
+use Rattle.rule_model.specs.declared.entry_change.BootChange.TheVariants.{SameBoot, Locks, Unlocks, EndsEarlyBoot, Accepts, BeginsOn, StartsAgain}
+use Rattle.rule_model.specs.Boot.{admitted_boot, begins_after, begins_of, boot_change}
 use Rattle.rule_model.specs.Clients.{caller_of}
 use Rattle.rule_model.specs.Entries.{History}
 use Rattle.rule_model.specs.Setup.{Setup}

@@ -7,7 +7,8 @@ use Rattle.rule_model.specs.declared.reply.Fields.{Fields}
 use Rattle.rule_model.specs.declared.reply.Reply.{Reply}
 use Rattle.rule_model.specs.declared.reply.Reply.TheVariants.{Done, Broken, Stopped}
 use Rattle.rule_model.specs.Acts.{is_connect}
-use Rattle.rule_model.specs.Clients.{SameClients, admitted_client, client_change}
+use Rattle.rule_model.specs.declared.entry_change.ClientChange.TheVariants.{SameClients}
+use Rattle.rule_model.specs.Clients.{admitted_client, client_change}
 
 -- the acts that change the clients where they are admitted
 abbrev pub moves_clients : Act → Bool

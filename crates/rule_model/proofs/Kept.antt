@@ -24,7 +24,7 @@ use Rattle.rule_model.specs.Changes.{after_change, change_of}
 use Rattle.rule_model.specs.Clients.{caller_of}
 use Rattle.rule_model.specs.Entries.{History, is_done}
 use Rattle.rule_model.specs.Kept.{kept, kept_settled, open_of}
-use Rattle.rule_model.specs.Operations.{Open}
+use Rattle.rule_model.specs.declared.operation.Open.{Open}
 use Rattle.rule_model.specs.Settling.{is_disk_fault, is_faulted, is_system_error, is_unsettled}
 use Rattle.rule_model.specs.Setup.{Setup}
 use Rattle.rule_model.specs.Stored.{May, MayWhere, after_reply, bytes_if, bytes_settled, bytes_with, change_by, holding_of, made_by, record_bytes, stored_bytes, torn_by, where_stored}

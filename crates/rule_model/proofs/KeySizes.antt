@@ -40,7 +40,8 @@ use Rattle.rule_model.specs.Entries.{History, is_done}
 use Rattle.rule_model.specs.Kept.{kept, kept_settled, open_of}
 use Rattle.rule_model.specs.Legal.{LegalBefore, MayFollow, Answered, WithoutMemory, WithoutEntropy, Faulted, NotSettled, NotRestarted}
 use Rattle.rule_model.specs.NewFacts.{import_of, new_facts}
-use Rattle.rule_model.specs.Operations.{Open, used_key}
+use Rattle.rule_model.specs.declared.operation.Open.{Open}
+use Rattle.rule_model.specs.Operations.{used_key}
 use Rattle.rule_model.specs.Replies.{broken_or}
 use Rattle.rule_model.specs.Settling.{is_faulted, is_kept, is_unsettled}
 use Rattle.rule_model.specs.Setup.{Setup}

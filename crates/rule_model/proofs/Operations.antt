@@ -11,7 +11,9 @@ use Rattle.rule_model.specs.declared.reply.Reply.TheVariants.{Done, Broken, Stop
 use Rattle.rule_model.specs.Acts.{is_begin}
 use Rattle.rule_model.specs.Entries.{History}
 use Rattle.rule_model.specs.Kept.{kept, operation_change}
-use Rattle.rule_model.specs.Operations.{OperationChange, SameOperations, admitted_operation, closes, operation_of, stopped_operation}
+use Rattle.rule_model.specs.declared.entry_change.OperationChange.{OperationChange}
+use Rattle.rule_model.specs.declared.entry_change.OperationChange.TheVariants.{SameOperations}
+use Rattle.rule_model.specs.Operations.{admitted_operation, closes, operation_of, stopped_operation}
 use Rattle.rule_model.specs.Settling.{is_faulted, is_unsettled}
 use Rattle.rule_model.specs.Setup.{Setup}
 

@@ -4,7 +4,9 @@ use Rattle.std.proofs.lemmas.Bool.{eqb-true}
 use Rattle.std.specs.List.{list_any}
 use Rattle.std.specs.Option.{option_and_then}
 use Rattle.rule_model.specs.Entries.{gives}
-use Rattle.rule_model.specs.Operations.{Open, Operation, has_number, limited_key, used_key}
+use Rattle.rule_model.specs.declared.operation.Open.{Open}
+use Rattle.rule_model.specs.declared.operation.Operation.{Operation}
+use Rattle.rule_model.specs.Operations.{has_number, limited_key, used_key}
 use Rattle.rule_model.proofs.Bounds.{Each, each_changed, each_left, each_more}
 
 -- ---- operations of different numbers

@@ -19,12 +19,17 @@ use Rattle.rule_model.specs.Answer.{answer, answer_by_rules, answer_stored}
 use Rattle.rule_model.specs.Clients.{caller_of}
 use Rattle.rule_model.specs.Entries.{History, count_of, gives, is_done}
 use Rattle.rule_model.specs.Kept.{kept, open_of}
-use Rattle.rule_model.specs.Operations.{Open, Operation, OperationChange, SameOperations, Opens, Enters, Returns, Shows, Closes, ClosesOf, ClosesAll, admitted_operation, as_begun, as_entered, as_returned, as_shown, closes, enters, has_number, is_for, is_of, limited_key, open_after, operation_of, returns, step_of, stopped_operation, used_key, without_pruned}
+use Rattle.rule_model.specs.declared.operation.Open.{Open}
+use Rattle.rule_model.specs.declared.operation.Operation.{Operation}
+use Rattle.rule_model.specs.declared.entry_change.OperationChange.{OperationChange}
+use Rattle.rule_model.specs.declared.entry_change.OperationChange.TheVariants.{SameOperations, Opens, Enters, Returns, Shows, Closes, ClosesOf, ClosesAll}
+use Rattle.rule_model.specs.Operations.{admitted_operation, as_begun, as_entered, as_returned, as_shown, closes, enters, has_number, is_for, is_of, limited_key, open_after, operation_of, returns, step_of, stopped_operation, used_key, without_pruned}
 use Rattle.rule_model.specs.Legal.{LegalBefore, MayFollow}
 use Rattle.rule_model.specs.Settling.{is_faulted, is_unsettled}
 use Rattle.rule_model.specs.Setup.{Setup}
 use Rattle.rule_model.specs.Slots.{begin_facts}
-use Rattle.rule_model.specs.Tickets.{Entered, admitted_ticket, goes_out, stopped_ticket, ticket_after, ticket_at}
+use Rattle.rule_model.specs.declared.operation.Entered.{Entered}
+use Rattle.rule_model.specs.Tickets.{admitted_ticket, goes_out, stopped_ticket, ticket_after, ticket_at}
 use Rattle.rule_model.specs.Tokens.{token_of}
 use Rattle.rule_model.specs.Uses.{one_if, used_by, uses_made}
 use Rattle.rule_model.proofs.Admitted.{IsEntered, admitted_by_rules, answered_done, broken_fields, entered}

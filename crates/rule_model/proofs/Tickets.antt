@@ -7,7 +7,8 @@ use Rattle.rule_model.specs.declared.reply.Fields.{Fields}
 use Rattle.rule_model.specs.declared.reply.Reply.{Reply}
 use Rattle.rule_model.specs.declared.reply.Reply.TheVariants.{Done, Broken, Stopped}
 use Rattle.rule_model.specs.Acts.{is_enter}
-use Rattle.rule_model.specs.Tickets.{SameTickets, admitted_ticket, stopped_ticket, ticket_change}
+use Rattle.rule_model.specs.declared.entry_change.TicketChange.TheVariants.{SameTickets}
+use Rattle.rule_model.specs.Tickets.{admitted_ticket, stopped_ticket, ticket_change}
 
 -- the acts that change the tickets
 abbrev pub moves_tickets : Act → Bool

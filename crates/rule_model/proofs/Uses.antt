@@ -9,7 +9,8 @@ use Rattle.rule_model.specs.Clients.{caller_of}
 use Rattle.rule_model.specs.Entries.{History, is_done}
 use Rattle.rule_model.specs.Kept.{is_live, kept, operation_at}
 use Rattle.rule_model.specs.Legal.{Legal, LegalBefore}
-use Rattle.rule_model.specs.Operations.{Open, operation_of}
+use Rattle.rule_model.specs.declared.operation.Open.{Open}
+use Rattle.rule_model.specs.Operations.{operation_of}
 use Rattle.rule_model.specs.Setup.{Setup}
 use Rattle.rule_model.specs.StepFacts.{has_ended}
 use Rattle.rule_model.specs.Uses.{AreRuns, BeginsAfter, HasEnded, HasStood, Run, UsesLaw, outputs_in, uses_in, uses_made}

@@ -12,7 +12,8 @@ use Rattle.rule_model.specs.BeginFacts.{is_limited}
 use Rattle.rule_model.specs.Entries.{History}
 use Rattle.rule_model.specs.Kept.{kept, open_of}
 use Rattle.rule_model.specs.Legal.{LegalBefore}
-use Rattle.rule_model.specs.Operations.{Open, has_number, limited_key, used_key}
+use Rattle.rule_model.specs.declared.operation.Open.{Open}
+use Rattle.rule_model.specs.Operations.{has_number, limited_key, used_key}
 use Rattle.rule_model.specs.Setup.{Setup}
 use Rattle.rule_model.specs.Uses.{IsStored, Stood, uses_made}
 use Rattle.rule_model.proofs.Begun.{BeganOn, began_on}

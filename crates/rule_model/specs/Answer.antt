@@ -34,7 +34,8 @@ use Rattle.rule_model.specs.Setup.{Setup}
 use Rattle.rule_model.specs.Slots.{begin_facts, pruned_for}
 use Rattle.rule_model.specs.Stored.{stored_bytes, where_stored}
 use Rattle.rule_model.specs.StepFacts.{brought_by, brought_by_abort, step_facts}
-use Rattle.rule_model.specs.Tickets.{Entered, next_ticket, ticket_at}
+use Rattle.rule_model.specs.declared.operation.Entered.{Entered}
+use Rattle.rule_model.specs.Tickets.{next_ticket, ticket_at}
 use Rattle.rule_model.specs.Tokens.{token_of}
 
 -- the nonce that a begin drew

@@ -5,6 +5,8 @@ use Rattle.tags.specs.declared.param.Param.{Param}
 use Rattle.auth_tokens.specs.declared.token.AuthToken.{AuthToken}
 use Rattle.token_store.specs.Fitting.{opens}
 use Rattle.rule_model.specs.declared.entry.Entry.TheVariants.{Acted, Settling}
+use Rattle.rule_model.specs.declared.entry_change.BootChange.{BootChange}
+use Rattle.rule_model.specs.declared.entry_change.BootChange.TheVariants.{SameBoot, Locks, Unlocks, EndsEarlyBoot, Accepts, BeginsOn, StartsAgain}
 use Rattle.rule_model.specs.declared.event.Event.{Event}
 use Rattle.rule_model.specs.declared.event.Act.{Act}
 use Rattle.rule_model.specs.declared.event.Act.TheVariants.{CreateOperation, AddAuthToken, DeviceLocked, DeviceUnlocked, EarlyBootEnded, Restart}
@@ -17,17 +19,6 @@ use Rattle.rule_model.specs.Entries.{History}
 use Rattle.rule_model.specs.Kept.{key_found}
 use Rattle.rule_model.specs.Setup.{Setup}
 use Rattle.rule_model.specs.Tokens.{token_of}
-
--- What an entry makes of it: a user is locked or unlocked, early boot ends, a token is accepted, an operation begins on a key,
--- or the device starts again.
-pub data BootChange : Type 0 where
-  SameBoot : BootChange
-  Locks : ℕ → BootChange
-  Unlocks : ℕ → BootChange
-  EndsEarlyBoot : BootChange
-  Accepts : AuthToken → BootChange
-  BeginsOn : ℕ → BootChange
-  StartsAgain : BootChange
 
 -- a begin on a stored key counts for that key; one on a blob that was handed in counts for none
 abbrev pub begins_on : Option ℕ → BootChange

@@ -21,7 +21,8 @@ use Rattle.rule_model.specs.declared.facts.Caller.{Caller}
 use Rattle.rule_model.specs.Access.{id_by, owner_of}
 use Rattle.rule_model.specs.Blobs.{kept_as}
 use Rattle.rule_model.specs.NewFacts.{import_of, new_facts}
-use Rattle.rule_model.specs.Operations.{Open, used_key}
+use Rattle.rule_model.specs.declared.operation.Open.{Open}
+use Rattle.rule_model.specs.Operations.{used_key}
 
 -- the alias of a descriptor, empty where it has none
 abbrev pub alias_of : Descriptor → List ℕ

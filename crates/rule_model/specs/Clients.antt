@@ -1,6 +1,8 @@
 -- The connected clients.
 use Rattle.std.specs.Prelude.{ℕ, ◌==◌, [], ◌∷◌, Option, Some, None, if◌then◌else◌}
 use Rattle.rule_model.specs.declared.entry.Entry.TheVariants.{Acted, Settling}
+use Rattle.rule_model.specs.declared.entry_change.ClientChange.{ClientChange}
+use Rattle.rule_model.specs.declared.entry_change.ClientChange.TheVariants.{SameClients, Comes, Goes, AllGo}
 use Rattle.rule_model.specs.declared.event.Event.{Event}
 use Rattle.rule_model.specs.declared.event.Act.{Act}
 use Rattle.rule_model.specs.declared.event.Act.TheVariants.{Connect, Disconnect, Restart}
@@ -9,13 +11,6 @@ use Rattle.rule_model.specs.declared.reply.Fields.{Fields}
 use Rattle.rule_model.specs.declared.reply.Reply.{Reply}
 use Rattle.rule_model.specs.declared.reply.Reply.TheVariants.{Done, Broken, Stopped}
 use Rattle.rule_model.specs.Entries.{History}
-
--- what an entry makes of the clients: one comes by its number with its uid, one goes, or all are gone
-pub data ClientChange : Type 0 where
-  SameClients : ClientChange
-  Comes : ℕ → ℕ → ClientChange
-  Goes : ℕ → ClientChange
-  AllGo : ClientChange
 
 -- a client comes under the number that its reply gives
 abbrev pub comes : Option ℕ → ℕ → ClientChange

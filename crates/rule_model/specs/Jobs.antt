@@ -11,9 +11,10 @@ use Rattle.rule_model.specs.declared.reply.Reply.{Reply}
 use Rattle.rule_model.specs.declared.reply.Reply.TheVariants.{Done, Broken, Stopped}
 use Rattle.rule_model.specs.Entries.{History}
 use Rattle.rule_model.specs.Kept.{operation_at}
-use Rattle.rule_model.specs.Operations.{Open}
+use Rattle.rule_model.specs.declared.operation.Open.{Open}
 use Rattle.rule_model.specs.Setup.{Setup}
-use Rattle.rule_model.specs.Tickets.{Entered, ticket_at}
+use Rattle.rule_model.specs.declared.operation.Entered.{Entered}
+use Rattle.rule_model.specs.Tickets.{ticket_at}
 
 -- a job is a work on an open operation, by the plan, material and nonce of its begin and what it has taken
 abbrev pub IsJobOn : Option Open → Work → Job → Type 0

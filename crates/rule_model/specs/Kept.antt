@@ -20,7 +20,9 @@ use Rattle.rule_model.specs.Blobs.{device_at}
 use Rattle.rule_model.specs.Changes.{after_change, change_of}
 use Rattle.rule_model.specs.Clients.{caller_of}
 use Rattle.rule_model.specs.Entries.{History}
-use Rattle.rule_model.specs.Operations.{Open, OperationChange, begin_facts_in, begin_key_in, has_number, is_busy, is_of, open_after, operation_change_in, step_of}
+use Rattle.rule_model.specs.declared.operation.Open.{Open}
+use Rattle.rule_model.specs.declared.entry_change.OperationChange.{OperationChange}
+use Rattle.rule_model.specs.Operations.{begin_facts_in, begin_key_in, has_number, is_busy, is_of, open_after, operation_change_in, step_of}
 use Rattle.rule_model.specs.Settling.{counts, verdict_before}
 use Rattle.rule_model.specs.Setup.{Setup}
 

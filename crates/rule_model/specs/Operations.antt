@@ -4,8 +4,6 @@ use Rattle.std.specs.Option.{option_and_then}
 use Rattle.byteorder.specs.Endian.{big_number}
 use Rattle.tags.specs.declared.code.Code.{Code}
 use Rattle.tags.specs.declared.descriptor.Descriptor.{Descriptor}
-use Rattle.tags.specs.declared.param.Param.{Param}
-use Rattle.tags.specs.declared.plan.Plan.{Plan}
 use Rattle.tags.specs.declared.policy.PolicyRow.{PolicyRow}
 use Rattle.tags.specs.declared.secrets.DeviceSecrets.{DeviceSecrets}
 use Rattle.journal_records.specs.LastingPart.{Lasting}
@@ -22,6 +20,10 @@ use Rattle.cipher_ops.specs.Output.{update_output, finish_output}
 use Rattle.rule_model.specs.declared.event.Event.{Event}
 use Rattle.rule_model.specs.declared.event.Act.{Act}
 use Rattle.rule_model.specs.declared.event.Act.TheVariants.{AddAuthToken, Disconnect, CreateOperation, EnterAad, EnterUpdate, EnterFinish, Abort, Leave, Restart}
+use Rattle.rule_model.specs.declared.entry_change.OperationChange.{OperationChange}
+use Rattle.rule_model.specs.declared.entry_change.OperationChange.TheVariants.{SameOperations, Opens, Enters, Returns, Shows, Closes, ClosesOf, ClosesAll}
+use Rattle.rule_model.specs.declared.operation.Open.{Open}
+use Rattle.rule_model.specs.declared.operation.Operation.{Operation}
 use Rattle.rule_model.specs.declared.facts.Caller.{Caller}
 use Rattle.rule_model.specs.declared.facts.Conditions.{Conditions}
 use Rattle.rule_model.specs.declared.reply.Fields.{Fields}
@@ -34,23 +36,9 @@ use Rattle.rule_model.specs.Entries.{History, gives}
 use Rattle.rule_model.specs.Access.{access_by, key_in, owner_of}
 use Rattle.rule_model.specs.Settling.{is_faulted, is_unsettled}
 use Rattle.rule_model.specs.Setup.{Setup}
-use Rattle.rule_model.specs.Tickets.{Entered, ticket_at}
+use Rattle.rule_model.specs.declared.operation.Entered.{Entered}
+use Rattle.rule_model.specs.Tickets.{ticket_at}
 use Rattle.rule_model.specs.Tokens.{token_of}
-
--- An operation: its number, its client with the uid, the key's number where the key is stored, the key's material and list as its
--- begin read them, whether all output comes at the finish, what its work is, from which nonce, and the challenge that a token
--- for it has to name, where one has to be shown to it.
-pub record Operation : Type 0 where
-  pub number : ℕ
-  pub client : ℕ
-  pub uid : ℕ
-  pub key : Option ℕ
-  pub material : List ℕ
-  pub list : List Param
-  pub limited : Bool
-  pub plan : Plan
-  pub nonce : List ℕ
-  pub challenge : Option ℕ
 
 -- how many of a begin's drawn bytes are its nonce
 abbrev pub nonce_size : BeginFacts → ℕ
@@ -79,16 +67,6 @@ operation_on key facts caller number drawn = record {
   challenge = challenge_of facts drawn;
 }
 
--- An open operation: what began it, the joined additional data and text of the works that came back, the step that last
--- touched it, the ticket of the work that is out, and whether a token was shown to it.
-pub record Open : Type 0 where
-  pub operation : Operation
-  pub aad : List ℕ
-  pub text : List ℕ
-  pub touched : ℕ
-  pub ticket : Option ℕ
-  pub shown : Bool
-
 -- the operation of a number
 abbrev pub has_number : ℕ → Open → Bool
 has_number number o = o.operation.number == number
@@ -108,18 +86,6 @@ is_waiting o = is_some o.operation.challenge && not o.shown
 -- a token is for an operation where it names its challenge and fits the key by the list that the begin read
 abbrev pub is_for : AuthToken → Open → Bool
 is_for token o = gives o.operation.challenge token.challenge && fits o.operation.list token
-
--- What an entry makes of the operations: one opens, in the place of one that gives way; one is entered; one goes on with
--- what it took; a token is shown to those that it is for; one closes, all of a client close, or all close.
-pub data OperationChange : Type 0 where
-  SameOperations : OperationChange
-  Opens : Option ℕ → Operation → OperationChange
-  Enters : ℕ → ℕ → OperationChange
-  Returns : ℕ → List ℕ → List ℕ → OperationChange
-  Shows : AuthToken → OperationChange
-  Closes : ℕ → OperationChange
-  ClosesOf : ℕ → OperationChange
-  ClosesAll : OperationChange
 
 -- what a begin on a key reads of the key and of the call, whatever else it meets
 abbrev pub no_conditions : Conditions

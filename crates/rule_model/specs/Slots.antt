@@ -12,7 +12,8 @@ use Rattle.rule_model.specs.Boot.{begins_of, has_early_ended, is_timely, is_unlo
 use Rattle.rule_model.specs.Entries.{History}
 use Rattle.rule_model.specs.Access.{owner_of, user_of}
 use Rattle.rule_model.specs.Kept.{access_at, begin_key_at, open_of}
-use Rattle.rule_model.specs.Operations.{Open, is_busy, step_of}
+use Rattle.rule_model.specs.declared.operation.Open.{Open}
+use Rattle.rule_model.specs.Operations.{is_busy, step_of}
 use Rattle.rule_model.specs.Setup.{Setup}
 
 -- what the choice of the operation that gives way reads of an open one: an idle one is idle since the step that last touched it

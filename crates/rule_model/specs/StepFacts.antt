@@ -10,7 +10,8 @@ use Rattle.rule_model.specs.declared.facts.Brought.{Brought}
 use Rattle.rule_model.specs.declared.facts.Caller.{Caller}
 use Rattle.rule_model.specs.Entries.{History}
 use Rattle.rule_model.specs.Kept.{is_live, operation_at}
-use Rattle.rule_model.specs.Operations.{Open, is_busy, is_waiting}
+use Rattle.rule_model.specs.declared.operation.Open.{Open}
+use Rattle.rule_model.specs.Operations.{is_busy, is_waiting}
 use Rattle.rule_model.specs.Setup.{Setup}
 
 -- what a work brings: additional data, text, or the last text

@@ -6,23 +6,14 @@ use Rattle.rule_model.specs.declared.entry.Entry.TheVariants.{Acted, Settling}
 use Rattle.rule_model.specs.declared.event.Event.{Event}
 use Rattle.rule_model.specs.declared.event.Act.{Act}
 use Rattle.rule_model.specs.declared.event.Act.TheVariants.{EnterAad, EnterUpdate, EnterFinish, Leave, Restart}
+use Rattle.rule_model.specs.declared.entry_change.TicketChange.{TicketChange}
+use Rattle.rule_model.specs.declared.entry_change.TicketChange.TheVariants.{SameTickets, GoesOut, ComesBack, AllGone}
+use Rattle.rule_model.specs.declared.operation.Entered.{Entered}
 use Rattle.rule_model.specs.declared.reply.Fields.{Fields}
 use Rattle.rule_model.specs.declared.reply.Reply.{Reply}
 use Rattle.rule_model.specs.declared.reply.Reply.TheVariants.{Done, Broken, Stopped}
 use Rattle.rule_model.specs.Acts.{is_enter}
 use Rattle.rule_model.specs.Entries.{History, count_of}
-
--- a work that is out, and the number of the operation that it entered
-pub record Entered : Type 0 where
-  pub op : ℕ
-  pub work : Work
-
--- what an entry makes of the tickets: one goes out with its work, one comes back, or all are gone
-pub data TicketChange : Type 0 where
-  SameTickets : TicketChange
-  GoesOut : ℕ → Entered → TicketChange
-  ComesBack : ℕ → TicketChange
-  AllGone : TicketChange
 
 -- an admitted enter sends its work out under a ticket
 abbrev pub goes_out : Option ℕ → ℕ → Work → TicketChange

@@ -17,10 +17,12 @@ use Rattle.rule_model.specs.Answer.{answer}
 use Rattle.rule_model.specs.Entries.{History, gives, is_done}
 use Rattle.rule_model.specs.Kept.{is_live, kept, open_of, operation_at}
 use Rattle.rule_model.specs.Legal.{Legal}
-use Rattle.rule_model.specs.Operations.{Open, has_number, operation_of, used_key}
+use Rattle.rule_model.specs.declared.operation.Open.{Open}
+use Rattle.rule_model.specs.Operations.{has_number, operation_of, used_key}
 use Rattle.rule_model.specs.Setup.{Setup}
 use Rattle.rule_model.specs.Stored.{May}
-use Rattle.rule_model.specs.Tickets.{Entered, ticket_at}
+use Rattle.rule_model.specs.declared.operation.Entered.{Entered}
+use Rattle.rule_model.specs.Tickets.{ticket_at}
 
 -- ---- what is counted in a run
 

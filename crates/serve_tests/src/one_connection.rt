@@ -18,7 +18,7 @@ use tags::{DeviceSecrets, Policy};
 type Service = Shared<MemoryDisk<'static>, SteadyEntropy>;
 
 /// A service with one pass, where there is memory.
-fn opened(alloc: Global) -> Option<(Service, Pass)>
+fn opened(alloc: Global) -> Option<(Service, Pass<SteadyEntropy>)>
     ensures ours { IfSome result (λ r. IsOurs r.0 r.1) }
     ensures free { IfSome result (λ r. connected_of r.1 ≡ false) }
 {

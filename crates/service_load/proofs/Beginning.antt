@@ -10,7 +10,7 @@ use Rattle.keystore_core.specs.Opening.{setup_of}
 use Rattle.service_book.specs.declared.entry.BookEntry.{BookEntry}
 use Rattle.shared_service.specs.Passes.{start_of}
 use Rattle.service_load.specs.declared.service.Service.{Service}
-use Rattle.service_load.specs.Services.{BeganNew, IsBookBy, IsBookOf, IsNewEngine, count_of, demo_device, demo_policy}
+use Rattle.service_load.specs.Services.{BeganNew, DrewFrom, IsBookBy, IsBookOf, IsNewEngine, count_of, demo_device, demo_policy}
 use Rattle.tags.specs.declared.limits.TheConstants.{MOST_SLOTS}
 
 demo_is : (device : DeviceSecrets) → device.seal ≡ replicate 32 1 → device.token ≡ replicate 32 2 → device.root ≡ replicate 32 3 → device ≡ demo_device
@@ -33,10 +33,11 @@ first_stands engine new = record { setup = new.setup; stands = new.stands }
 
 pub book_by : (service : Service) (passes : ℕ) (book : List BookEntry) → BeganNew service → count_of service ≡ passes → IsBookOf service book → IsBookBy passes book
 book_by service passes book new count is = record {
-  setup = new.setup;
-  is_demo = new.is_demo;
+  setup = new.engine.setup;
+  is_demo = new.engine.is_demo;
   start = start_of service.shared;
-  legal = is.legal new.setup new.stands;
+  legal = is.legal new.engine.setup new.engine.stands;
   caused = is.caused;
+  drew = subst (λ (next : ℕ). ∥ DrewFrom next book ∥₁) new.entropy is.drew;
   others = λ number more. is.others number (omega (arith, more, count));
 }

@@ -5,17 +5,17 @@ use denote.Param.SendFields.{as_row_send, as_row_sync}
 use Rattle.std.proofs.Crossing.{crosses as owned}
 use Rattle.std.proofs.MapsCrossing.{crosses as maps}
 use Rattle.shared_service.proofs.Crossing.{shared_sync}
-use Rattle.ks_outside.specs.contracts.counting.MemoryEntropy as entropy_type
+use Rattle.ks_outside.specs.contracts.counting.SteadyEntropy as entropy_type
 use Rattle.disk_model.specs.contracts.memory.MemoryDisk as disk_type
 use Rattle.service_load.specs.contracts.board.Board as board_type
 use Rattle.service_load.specs.contracts.service.Service as service_type
 use Rattle.service_load.specs.contracts.running.Calls as calls_type
 
-pub entropy_send : (l : NamedLft) → IsSend (entropy_type.the_field l).row
-entropy_send l = search (owned, sendable) depth 60 fits 20000
+pub entropy_send : IsSend (entropy_type.the_field).row
+entropy_send = search (owned, sendable) depth 60 fits 20000
 
-pub entropy_item : (l : NamedLft) → IsSend (entropy_type.the_row l)
-entropy_item l = as_row_send (entropy_type.the_field l) (entropy_send l)
+pub entropy_item : IsSend entropy_type.the_row
+entropy_item = as_row_send entropy_type.the_field entropy_send
 
 pub disk_send : (l : NamedLft) → IsSend (disk_type.the_field l).row
 disk_send l = search (maps, owned, sendable) depth 60 fits 20000

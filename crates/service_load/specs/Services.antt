@@ -1,5 +1,8 @@
 -- The service, as threads call it: how it begins, which passes are its own, and the book that it ends with.
-use Rattle.std.specs.Prelude.{◌≡◌, ◌≤◌, ℕ, List, [], ◌∷◌, replicate}
+use Rattle.std.specs.Prelude.{◌≡◌, ◌≤◌, ℕ, List, [], ◌∷◌, Option, Some, replicate}
+use Rattle.ks_outside.specs.Draws.{Draws, counting_from}
+use Rattle.ks_outside.specs.declared.counting.SteadyEntropy.{SteadyEntropy}
+use Rattle.ks_outside.specs.contracts.counting.SteadyEntropyEntropy.TheImpl.{ghosts as entropy_ghosts}
 use Rattle.tags.specs.declared.policy.PolicyRow.{PolicyRow}
 use Rattle.tags.specs.declared.secrets.DeviceSecrets.{DeviceSecrets}
 use Rattle.journal_records.specs.LastingPart.{empty_lasting}
@@ -10,12 +13,16 @@ use Rattle.keystore_core.specs.Engine.{Stands}
 use Rattle.service_book.specs.declared.entry.BookEntry.{BookEntry}
 use Rattle.service_book.specs.Book.{Counts, IsCaused, history_of, log_of, own}
 use Rattle.shared_service.specs.declared.pass.Pass.{Pass}
-use Rattle.shared_service.specs.Passes.{IsOurs, IsSetupOf, engine_of, passes_of, start_of}
+use Rattle.shared_service.specs.Drawn.{drawn_in}
+use Rattle.shared_service.specs.Passes.{IsOurs, IsSetupOf, engine_of, entropy_of, passes_of, start_of}
 use Rattle.service_load.specs.declared.service.Service.{Service}
 use Rattle.tags.specs.declared.limits.TheConstants.{MOST_SLOTS}
 
+abbrev pub LoadPass : Type 0
+LoadPass = Pass SteadyEntropy entropy_ghosts
+
 -- a pass of this service
-abbrev pub IsPassOf : Service → Pass → Type 0
+abbrev pub IsPassOf : Service → LoadPass → Type 0
 IsPassOf service pass = IsOurs service.shared pass
 
 -- how many passes it has
@@ -44,16 +51,22 @@ pub record IsNewEngine (engine : Engine) : Type 0 where
   pub is_demo : IsDemoSetup setup
   pub stands : Stands setup engine []
 
--- the service began with such an engine
-abbrev pub BeganNew : Service → Type 0
-BeganNew service = IsNewEngine (engine_of service.shared)
+-- the service began with such an engine, and with an entropy that counts up from 00
+pub record BeganNew (service : Service) : Type 0 where
+  pub engine : IsNewEngine (engine_of service.shared)
+  pub entropy : (entropy_of service.shared).next ≡ 0
 
 -- ---- the book that it ends with
 
--- It is legal over what the service began with, and caused since then; and no other pass than those of the service made an entry of it.
+-- the bytes that were drawn for a book are the first of those that count up from this one
+abbrev pub DrewFrom : ℕ → List BookEntry → Type 0
+DrewFrom next book = (left : Option (ℕ → ℕ)) × Draws (Some (counting_from next)) left (drawn_in book)
+
+-- It is legal over what the service began with, caused since then, and drawn from its entropy; and no other pass than those of the service made an entry of it.
 pub record IsBookOf (service : Service) (book : List BookEntry) : Type 0 where
   pub legal : (setup : Setup) → IsSetupOf service.shared setup → ∥ Legal setup (history_of (log_of book)) ∥₁
   pub caused : ∥ IsCaused (start_of service.shared) book ∥₁
+  pub drew : ∥ DrewFrom (entropy_of service.shared).next book ∥₁
   pub others : (number : ℕ) → count_of service ≤ number → own number book ≡ []
 
 -- a book that so many passes made of a service over an empty store
@@ -63,4 +76,5 @@ pub record IsBookBy (passes : ℕ) (book : List BookEntry) : Type 0 where
   pub start : Counts
   pub legal : ∥ Legal setup (history_of (log_of book)) ∥₁
   pub caused : ∥ IsCaused start book ∥₁
+  pub drew : ∥ DrewFrom 0 book ∥₁
   pub others : (number : ℕ) → passes ≤ number → own number book ≡ []

@@ -9,16 +9,16 @@ use crate::board::Board;
 use crate::counts::{Counts, NO_CALLS};
 use crate::plan::LoadCall;
 use crate::requests::request_of;
-use crate::service::Service;
+use crate::service::{LoadPass, Service};
 use rule_model::Reply;
-use shared_service::{Pass, Served};
+use shared_service::Served;
 use std::alloc::Global;
 use std::sync::Wait;
 
 /// Who calls: a pass, the operation that it began last, and what its calls came to.
 #[derive(Drop)]
 pub struct LoadThread {
-    pass: Pass,
+    pass: LoadPass,
     op: u64,
     counts: Counts,
 }
@@ -97,7 +97,13 @@ fn make_rounds<R: Wait>(
 }
 
 /// Makes the calls of one thread, behind the first calls of the first one, and says what they came to.
-pub fn work<R: Wait>(rt: &R, alloc: Global, service: &Service, pass: Pass, board: &Board) -> Pass
+pub fn work<R: Wait>(
+    rt: &R,
+    alloc: Global,
+    service: &Service,
+    pass: LoadPass,
+    board: &Board,
+) -> LoadPass
     requires ours { IsPassOf service.now pass }
     ensures ours { IsPassOf service.now result }
     ensures number { number_of result ≡ number_of pass }

@@ -6,9 +6,8 @@ ghost use Rattle.service_load.specs.Services.{IsBookBy};
 
 use crate::board::Board;
 use crate::caller::work;
-use crate::service::Service;
+use crate::service::{LoadPass, Service};
 use service_book::Book;
-use shared_service::Pass;
 use std::alloc::{AllocError, Global};
 use std::sync::Wait;
 use std::thread;
@@ -16,13 +15,13 @@ use std::thread::Threads;
 
 /// What each thread does with its pass.
 trait Task {
-    ghost use Rattle.shared_service.specs.declared.pass.Pass.{Pass};
+    ghost use Rattle.service_load.specs.Services.{LoadPass};
 
     /// Whether it can be done with this pass.
-    ghost is_for: { Self → Pass → Type 0 };
+    ghost is_for: { Self → LoadPass → Type 0 };
 
     /// Does it with a pass, which comes back under its number.
-    fn perform<R: Wait>(&self, rt: &R, alloc: Global, pass: Pass) -> Pass
+    fn perform<R: Wait>(&self, rt: &R, alloc: Global, pass: LoadPass) -> LoadPass
         requires ours { is_for self.now pass }
         ensures ours { is_for self.now result }
         ensures number { number_of result ≡ number_of pass };
@@ -40,7 +39,7 @@ impl<'a> Task for Calls<'a> {
 
     ghost is_for = { λ calls pass. IsPassOf calls.service.now pass };
 
-    fn perform<R: Wait>(&self, rt: &R, alloc: Global, pass: Pass) -> Pass {
+    fn perform<R: Wait>(&self, rt: &R, alloc: Global, pass: LoadPass) -> LoadPass {
         work(rt, alloc, self.service, pass, self.board)
     }
 }
@@ -50,8 +49,8 @@ fn perform_all<R: Threads + Wait + Sync, T: Task + Sync>(
     rt: &R,
     alloc: Global,
     task: &T,
-    passes: Vec<Pass>,
-) -> Result<Vec<Pass>, AllocError>
+    passes: Vec<LoadPass>,
+) -> Result<Vec<LoadPass>, AllocError>
     requires ours { All (T.is_for task.now) passes.items }
     requires numbers { AreNumbered passes.items }
     ensures ours { IfOk result (λ v. All (T.is_for task.now) v.items) }
@@ -61,7 +60,7 @@ fn perform_all<R: Threads + Wait + Sync, T: Task + Sync>(
     thread::map_vec(
         rt,
         passes,
-        &|pass: Pass| -> Pass
+        &|pass: LoadPass| -> LoadPass
             requires { T.is_for task.now pass }
             ensures { T.is_for task.entry.now result × (number_of result ≡ number_of pass) }
         { task.perform(rt, alloc, pass) },

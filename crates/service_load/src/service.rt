@@ -12,7 +12,7 @@ ghost use Rattle.service_load.specs.Services.{BeganNew, IsBookOf, IsNewEngine, I
 use crate::board::Board;
 use disk_model::{DiskRoom, MemoryDisk};
 use keystore_core::Engine;
-use ks_outside::{Disk, MemoryEntropy, Reading};
+use ks_outside::{Disk, Reading, SteadyEntropy};
 use rule_model::Request;
 use service_book::Book;
 use shared_service::{Pass, Served, Shared};
@@ -23,8 +23,11 @@ use tags::{DeviceSecrets, MOST_SLOTS, Policy};
 /// The service, without the types of its devices: what goes to threads names no lifetime.
 #[derive(Drop)]
 pub struct Service {
-    shared: Shared<MemoryDisk<'static>, MemoryEntropy<'static>>,
+    shared: Shared<MemoryDisk<'static>, SteadyEntropy>,
 }
+
+/// A pass of the service.
+pub type LoadPass = Pass<SteadyEntropy>;
 
 /// The reading of each call.
 const NOW: Reading = Reading {
@@ -60,7 +63,7 @@ fn engine_over<D: Disk>(alloc: Global, disk: &mut D) -> Option<Engine>
 
 impl Service {
     /// A service with so many passes, where there is memory for it.
-    pub fn open(alloc: Global, passes: u32) -> Option<(Service, Vec<Pass>)>
+    pub fn open(alloc: Global, passes: u32) -> Option<(Service, Vec<LoadPass>)>
         requires some { 0 < passes }
         ensures ours { IfSome result (λ r. All (IsPassOf r.0) r.1.items) }
         ensures numbers { IfSome result (λ r. AreNumbered r.1.items) }
@@ -71,7 +74,7 @@ impl Service {
             return None;
         };
         let engine = engine_over(alloc, &mut disk)?;
-        match Shared::new(alloc, engine, disk, MemoryEntropy::counting(), passes) {
+        match Shared::new(alloc, engine, disk, SteadyEntropy::counting(), passes) {
             Ok((shared, made)) => Some((Service { shared }, made)),
             Err(back) => {
                 drop(back);
@@ -84,10 +87,10 @@ impl Service {
     pub fn call<R: Wait>(
         &self,
         rt: &R,
-        pass: Pass,
+        pass: LoadPass,
         request: Request,
         board: &Board,
-    ) -> (Pass, Served)
+    ) -> (LoadPass, Served)
         requires ours { IsPassOf self.now pass }
         requires short { length (body_of request) < 2 ^ 32 }
         ensures ours { IsPassOf self.now result.0 }
@@ -97,7 +100,7 @@ impl Service {
     }
 
     /// The book of a service that ends with all its passes, in their order. It has all that they made.
-    pub fn close<R: Wait>(self, rt: &R, passes: Vec<Pass>) -> Book
+    pub fn close<R: Wait>(self, rt: &R, passes: Vec<LoadPass>) -> Book
         requires some { 0 < count_of self }
         requires ours { All (IsPassOf self) passes.items }
         requires numbers { AreNumbered passes.items }

@@ -14,7 +14,7 @@ use Rattle.shared_service.specs.Owning.{by, event_for}
 use Rattle.shared_service.specs.Requests.{AreNumbers, IsRequested}
 
 -- a call of one step
-pub recorded_once : (name : ServiceId) (pass : ℕ) (reading : Reading) (act : Act) (front log book : List BookEntry) (served : Served) (job : Option Job) (room : Option FieldSizes)
+pub recorded_once : {N : Type 0} (name : ServiceId N) (pass : ℕ) (reading : Reading) (act : Act) (front log book : List BookEntry) (served : Served) (job : Option Job) (room : Option FieldSizes)
     → IsFrontOf by pass front log → ((more : List BookEntry) → book ≡ log ++ more → Extends by pass front book more)
     → IsRequested name pass (event_for reading act pass (log_of log)) log book served.reply job room → ticket_in served.reply ≡ None → AreNumbers log book served.first served.last → IsCall pass reading act front book served
 recorded_once name pass reading act front log book served job room begins extends asked none numbers =

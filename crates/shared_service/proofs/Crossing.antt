@@ -1,7 +1,7 @@
 -- What a service is made of may go from thread to thread, and the service may be shared by threads.
 use denote.Param.Send.{IsSend, IsSync, sendable, struct_sync}
 use denote.Struct.Declared.{shape}
-use denote.Param.SendFields.{as_row_sync}
+use denote.Param.SendFields.{as_row_send, as_row_sync}
 use denote.RattleType.{RattleType}
 use Rattle.ks_outside.specs.declared.disk.Disk.{Ghosts as DiskGhosts}
 use Rattle.ks_outside.specs.declared.entropy.Entropy.{Ghosts as EntropyGhosts}
@@ -44,10 +44,11 @@ use Rattle.lasting_table.specs.contracts.maps.KeyMaps as key_maps_type
 use Rattle.lasting_table.specs.contracts.keys.Keys as keys_type
 use Rattle.lasting_table.specs.contracts.part.Part as part_type
 use Rattle.lasting_table.specs.contracts.lasting.LastingTable as lasting_type
+use Rattle.record_areas.specs.contracts.area.Area as area_type
 use Rattle.use_journal.specs.contracts.journal.Journal as journal_type
 use Rattle.key_database.specs.contracts.database.KeyDatabase as database_type
 use Rattle.cipher_ops.specs.contracts.state.CipherState as cipher_type
-use Rattle.live_tables.specs.contracts.operations.Operation as operation_type
+use Rattle.live_tables.specs.contracts.operations.OperationRow as operation_type
 use Rattle.live_tables.specs.contracts.operations.Operations as operations_type
 use Rattle.live_tables.specs.contracts.tickets.Tickets as tickets_type
 use Rattle.live_tables.specs.contracts.begins.Begins as begins_type
@@ -118,8 +119,11 @@ part_send = search (keys_send, grants_send, owned, sendable) depth 60 fits 20000
 pub lasting_send : IsSend (lasting_type.the_field).row
 lasting_send = search (part_send, owned, sendable) depth 60 fits 20000
 
+pub area_send : IsSend (area_type.the_field).row
+area_send = search (owned, sendable) depth 60 fits 20000
+
 pub journal_send : IsSend (journal_type.the_field).row
-journal_send = search (owned, sendable) depth 60 fits 20000
+journal_send = search (area_send, owned, sendable) depth 60 fits 20000
 
 pub database_send : IsSend (database_type.the_field).row
 database_send = search (lasting_send, journal_send, change_send, owned, sendable) depth 60 fits 20000
@@ -201,20 +205,21 @@ tally_send = search (owned, sendable) depth 60 fits 20000
 pub service_record_send : IsSend (service_record_type.the_field).row
 service_record_send = search (book_entry_item, tally_send, owned, sendable) depth 60 fits 20000
 
-pub name_send : IsSend (name_type.the_field).row
-name_send = search (owned, sendable) depth 60 fits 20000
+module _ (N : RattleType) where
+  pub name_send : IsSend (name_type.the_field N).row
+  name_send = search (owned, sendable) depth 60 fits 20000
 
-pub name_sync : IsSync (name_type.the_field).row
-name_sync = search (owned, sendable) depth 60 fits 20000
+  pub name_sync : IsSync (name_type.the_field N).row
+  name_sync = search (owned, sendable) depth 60 fits 20000
 
-pub name_shown : IsSync name_type.the_row
-name_shown = search (owned, sendable) depth 60 fits 20000
+  pub name_shown : IsSync (name_type.the_row N)
+  name_shown = search (owned, sendable) depth 60 fits 20000
 
-pub kept_send : IsSend (kept_type.the_field).row
-kept_send = search (badges.the_send, owned, sendable) depth 60 fits 20000
+  pub kept_send : IsSend (kept_type.the_field N).row
+  kept_send = search (badges.the_send, owned, sendable) depth 60 fits 20000
 
-pub pass_send : IsSend (pass_type.the_field).row
-pass_send = search (kept_send, badges.the_send, owned, sendable) depth 60 fits 20000
+  pub pass_send : (n : EntropyGhosts N.Denot) → IsSend (pass_type.the_field N n).row
+  pass_send n = search (kept_send, badges.the_send, owned, sendable) depth 60 fits 20000
 
 -- at the heap, since `search` finds no allocator's ghost members in a row
 lease_sync : (T : RattleType) → IsSync (lease_type.the_row T heap_type.the_row heap_ghosts)
@@ -232,16 +237,16 @@ slot_send T sent = search (owned, sendable) depth 60 fits 20000
 
 module _ (D N : RattleType) (d : DiskGhosts D.Denot) (n : EntropyGhosts N.Denot) where
   pub desk_send : IsSend D → IsSend N → IsSend (desk_type.the_field D N d n).row
-  desk_send disk entropy = search (engine_send, service_record_send, name_send, owned, sendable) depth 60 fits 20000
+  desk_send disk entropy = search (engine_send, service_record_send, name_send N, owned, sendable) depth 60 fits 20000
 
   pub desk_item : IsSend D → IsSend N → IsSend (desk_type.the_row D N d n)
-  desk_item disk entropy = search (engine_send, service_record_send, name_send, owned, sendable) depth 60 fits 20000
+  desk_item disk entropy = as_row_send (desk_type.the_field D N d n) (desk_send disk entropy)
 
   pub shared_sync : IsSend D → IsSend N → IsSync (shared_type.the_field D N d n).row
   shared_sync disk entropy =
       let slot : IsSend (option_type.the_row (desk_type.the_row D N d n)) = slot_send (desk_type.the_row D N d n) (desk_item disk entropy) in
       struct_sync (shape (shared_type.the_type D N d n))
-      (search sendable depth 20, (lock_sync (option_type.the_row (desk_type.the_row D N d n)) (view_type.the_row book_entry_type.the_row name_type.the_row) name_type.the_row turns_type.the_row (record { holds = _; first = first_view {E = BookEntry} {K = ServiceId} }) slot name_shown, (search sendable, tt)))
+      (search sendable depth 20, (lock_sync (option_type.the_row (desk_type.the_row D N d n)) (view_type.the_row book_entry_type.the_row (name_type.the_row N)) (name_type.the_row N) turns_type.the_row (record { holds = _; first = first_view {E = BookEntry} {K = ServiceId N.Denot} }) slot (name_shown N), (search sendable, tt)))
 
   pub shared_shown : IsSend D → IsSend N → IsSync (shared_type.the_row D N d n)
   shared_shown disk entropy = as_row_sync (shared_type.the_field D N d n) (shared_sync disk entropy)

@@ -11,9 +11,14 @@ use Rattle.rule_model.specs.declared.reply.Fields.{Fields}
 use Rattle.rule_model.specs.declared.reply.Reply.{Reply}
 use Rattle.rule_model.specs.declared.reply.Reply.TheVariants.{Done, Broken, Stopped}
 use Rattle.rule_model.specs.Acts.{is_connect, is_disconnect, is_enter, is_leave, is_restart}
-use Rattle.rule_model.specs.Clients.{ClientChange, SameClients, Comes, Goes, admitted_client, client_change, comes, uid_after, uid_of}
+use Rattle.rule_model.specs.declared.entry_change.ClientChange.{ClientChange}
+use Rattle.rule_model.specs.declared.entry_change.ClientChange.TheVariants.{SameClients, Comes, Goes}
+use Rattle.rule_model.specs.Clients.{admitted_client, client_change, comes, uid_after, uid_of}
 use Rattle.rule_model.specs.Entries.{admits, count_of, gives, is_done}
-use Rattle.rule_model.specs.Tickets.{TicketChange, SameTickets, GoesOut, ComesBack, Entered, admitted_ticket, goes_out, stopped_ticket, ticket_after, ticket_at, ticket_change, next_ticket}
+use Rattle.rule_model.specs.declared.entry_change.TicketChange.{TicketChange}
+use Rattle.rule_model.specs.declared.entry_change.TicketChange.TheVariants.{SameTickets, GoesOut, ComesBack}
+use Rattle.rule_model.specs.declared.operation.Entered.{Entered}
+use Rattle.rule_model.specs.Tickets.{admitted_ticket, goes_out, stopped_ticket, ticket_after, ticket_at, ticket_change, next_ticket}
 use Rattle.rule_model.specs.Acts.{is_asked}
 use Rattle.service_book.specs.declared.entry.BookEntry.{BookEntry}
 use Rattle.service_book.specs.Book.{Counts, client_given, client_of, gives_ticket, history_of, later_client, pass_of_ticket, ticket_in}

@@ -61,7 +61,7 @@ pub call_poor : (pass : ℕ) (reading : Reading) (act : Act) (front book : List 
 call_poor pass reading act front book begins within stays = Poor (record { begins = begins; within = within; stays = stays; is_want = refl; none_first = refl; none_last = refl })
 
 -- what a refusal tells: nothing is added, and the call is refused so
-pub refused_so : (name : ServiceId) (pass : ℕ) (reading : Reading) (act : Act) (front old new : List BookEntry) (code : Code) → IsFrontOf by pass front old → Requests name pass (event_for reading act pass (log_of old)) old new (Err code)
+pub refused_so : {N : Type 0} (name : ServiceId N) (pass : ℕ) (reading : Reading) (act : Act) (front old new : List BookEntry) (code : Code) → IsFrontOf by pass front old → Requests name pass (event_for reading act pass (log_of old)) old new (Err code)
     → (new ≡ old) × (is_parting act pass (log_of old) ≡ false) × IsCall pass reading act front old (Refused code)
 refused_so name pass reading act front old new RunFull begins told = (told.0, told.2, call_full pass reading act front old begins told.1 told.2)
 refused_so name pass reading act front old new MemoryAllocationFailed begins told = (told.0, told.2, call_poor pass reading act front old begins told.1 told.2)
@@ -105,7 +105,7 @@ second_after _ (Stopped code) client connected = refl
 pub after_connected : (act : Act) (reply : Reply) (client : ℕ) (connected : Bool) (next : ℕ × Bool) → next ≡ client_after (kind_of act) reply (client, connected) → next.1 ≡ connected_after act reply connected
 after_connected act reply client connected next is = ap (λ (p : ℕ × Bool). p.1) is ∙ second_after act reply client connected
 
-by_reply : (reply : Reply) (before : ℕ × Bool) → client_after Rattle.shared_service.specs.declared.shared.turns.ClientChange.TheVariants.Other reply before ≡ before
+by_reply : (reply : Reply) (before : ℕ × Bool) → client_after Rattle.shared_service.specs.declared.shared.turns.ClientAct.TheVariants.Other reply before ≡ before
 by_reply (Done fields) before = refl
 by_reply (Broken rule code) before = refl
 by_reply (Stopped code) before = refl
@@ -155,13 +155,13 @@ sent_some (Some ticket) (Some job) (Some room) x e = (ap (λ (o : Option Sent). 
     room_or d None = Some d
     room_or d (Some y) = Some y.room
 
-pub sent_none : (name : ServiceId) (book : List BookEntry) (t : Option ℕ) (j : Option Job) (r : Option FieldSizes) → GoesOut name book t j r → sent t j r ≡ None → t ≡ None
+pub sent_none : {N : Type 0} (name : ServiceId N) (book : List BookEntry) (t : Option ℕ) (j : Option Job) (r : Option FieldSizes) → GoesOut name book t j r → sent t j r ≡ None → t ≡ None
 sent_none name book None j r goes e = refl
 sent_none name book (Some ticket) None r goes e = absurd goes
 sent_none name book (Some ticket) (Some job) None goes e = absurd goes
 sent_none name book (Some ticket) (Some job) (Some room) goes e = cc
 
-room_of : (name : ServiceId) (book : List BookEntry) (ticket : ℕ) (job : Job) (room : FieldSizes) (t : Option ℕ) (j : Option Job) (r : Option FieldSizes) → t ≡ Some ticket → j ≡ Some job → r ≡ Some room → GoesOut name book t j r → IsLeaveRoom name book ticket room
+room_of : {N : Type 0} (name : ServiceId N) (book : List BookEntry) (ticket : ℕ) (job : Job) (room : FieldSizes) (t : Option ℕ) (j : Option Job) (r : Option FieldSizes) → t ≡ Some ticket → j ≡ Some job → r ≡ Some room → GoesOut name book t j r → IsLeaveRoom name book ticket room
 room_of name book ticket job room t j r p q s goes =
     let a : GoesOut name book (Some ticket) j r = subst (λ (o : Option ℕ). GoesOut name book o j r) p goes in
     let b : GoesOut name book (Some ticket) (Some job) r = subst (λ (o : Option Job). GoesOut name book (Some ticket) o r) q a in
@@ -173,12 +173,12 @@ job_out setup past (Done fields) job ticket given has =
 job_out setup past (Broken rule code) job ticket given has = cc
 job_out setup past (Stopped code) job ticket given has = cc
 
-pub job_away : (name : ServiceId) (pass : ℕ) (event : Event) (old new : List BookEntry) (reply : Reply) (job : Option Job) (x : Sent) → HasMade name pass event old new reply job → ticket_in reply ≡ Some x.ticket → job ≡ Some x.job
+pub job_away : {N : Type 0} (name : ServiceId N) (pass : ℕ) (event : Event) (old new : List BookEntry) (reply : Reply) (job : Option Job) (x : Sent) → HasMade name pass event old new reply job → ticket_in reply ≡ Some x.ticket → job ≡ Some x.job
     → IsJobAway name new x.ticket x.job
 job_away name pass event old new reply job x made given is = λ s of.
     job_out s (history_of (log_of new)) reply x.job x.ticket given (subst (λ (o : Option Job). HasJob s (history_of (log_of new)) reply o) is (made.job_is s of))
 
-pub entered_made : (name : ServiceId) (pass client : ℕ) (connected : Bool) (next : ℕ × Bool) (reading : Reading) (act : Act) (front log book : List BookEntry) (reply : Reply) (job : Option Job) (leave : Option FieldSizes) (first last : ℕ) (x : Sent)
+pub entered_made : {N : Type 0} (name : ServiceId N) (pass client : ℕ) (connected : Bool) (next : ℕ × Bool) (reading : Reading) (act : Act) (front log book : List BookEntry) (reply : Reply) (job : Option Job) (leave : Option FieldSizes) (first last : ℕ) (x : Sent)
     → IsFrontOf by pass front log → ((more : List BookEntry) → book ≡ log ++ more → Extends by pass front book more) → IsRequested name pass (event_for reading act pass (log_of log)) log book reply job leave → AreNumbers log book first last
     → IsCaller pass client connected (log_of log) → next ≡ client_after (kind_of act) reply (client, connected) → (ticket_in reply ≡ Some x.ticket) × (job ≡ Some x.job) × (leave ≡ Some x.room)
     → IsEntered name pass next.0 next.1 reading act front book first x.ticket x.room
@@ -216,7 +216,7 @@ entered_made name pass client connected next reading act front log book reply jo
 
 -- ---- what is seen afterwards
 
-pub caller_now : (name : ServiceId) (pass client : ℕ) (connected : Bool) (next : ℕ × Bool) (reading : Reading) (act : Act) (log book : List BookEntry) (reply : Reply) (job : Option Job) (leave : Option FieldSizes)
+pub caller_now : {N : Type 0} (name : ServiceId N) (pass client : ℕ) (connected : Bool) (next : ℕ × Bool) (reading : Reading) (act : Act) (log book : List BookEntry) (reply : Reply) (job : Option Job) (leave : Option FieldSizes)
     → IsRequested name pass (event_for reading act pass (log_of log)) log book reply job leave → IsCaller pass client connected (log_of log) → next ≡ client_after (kind_of act) reply (client, connected) → ticket_in reply ≡ None
     → IsCaller pass next.0 next.1 (log_of book)
 caller_now name pass client connected next reading act log book reply job leave asked caller is none =
@@ -236,23 +236,23 @@ caller_now name pass client connected next reading act log book reply job leave 
 pub front_at : (m n : ℕ) (f front book : List BookEntry) → m ≡ n → f ≡ front → IsFrontOf by m f book → IsFrontOf by n front book
 front_at m n f front book p q begins = subst (λ (z : ℕ × List BookEntry). IsFrontOf by z.0 z.1 book) (λ i. (p i, q i)) begins
 
-pub first_caller : (name : ServiceId) (m n client : ℕ) (connected : Bool) (front book : List BookEntry) → m ≡ n → ∥ HasSeen name m front client connected ∥₁ → lock.own by n front ≡ lock.own by n book → IsCaller n client connected (log_of book)
-first_caller name m n client connected front book is seen same =
-    ∥∥₁_elim seen (caller_prop n client connected (log_of book)) (λ s. caller_on name n client connected front book (subst (λ (k : ℕ). HasSeen name k front client connected) is s) same)
+pub first_caller : {N : Type 0} {g : EntropyGhosts N} (name : ServiceId N) (m n client : ℕ) (connected : Bool) (front book : List BookEntry) → m ≡ n → ∥ HasSeen g name m front client connected ∥₁ → lock.own by n front ≡ lock.own by n book → IsCaller n client connected (log_of book)
+first_caller {g = g} name m n client connected front book is seen same =
+    ∥∥₁_elim seen (caller_prop n client connected (log_of book)) (λ s. caller_on name n client connected front book (subst (λ (k : ℕ). HasSeen g name k front client connected) is s) same)
 
-pub seen_after : {D N : Type 0} (d : DiskGhosts D) (n : EntropyGhosts N) (name named : ServiceId) (engine : Engine) (disk : D) (entropy : N) (book front : List BookEntry) (number m client : ℕ) (connected : Bool) → ∥ IsDesk d n name engine disk entropy book ∥₁
-    → IsCaller number client connected (log_of book) → name ≡ named → m ≡ number → front ≡ book → ∥ HasSeen named m front client connected ∥₁
+pub seen_after : {D N : Type 0} (d : DiskGhosts D) (n : EntropyGhosts N) (name named : ServiceId N) (engine : Engine) (disk : D) (entropy : N) (book front : List BookEntry) (number m client : ℕ) (connected : Bool) → ∥ IsDesk d n name engine disk entropy book ∥₁
+    → IsCaller number client connected (log_of book) → name ≡ named → m ≡ number → front ≡ book → ∥ HasSeen n named m front client connected ∥₁
 seen_after {D} {N} d n name named engine disk entropy book front number m client connected desk caller p q r =
-    let seen : IsDesk d n name engine disk entropy book → HasSeen named m front client connected = λ t.
-    subst (λ (z : ServiceId × ℕ × List BookEntry). HasSeen z.0 z.1 z.2 client connected) (λ i. (p i, sym q i, sym r i)) (seen_of d n name engine disk entropy book number client connected t caller) in
+    let seen : IsDesk d n name engine disk entropy book → HasSeen n named m front client connected = λ t.
+    subst (λ (z : ServiceId N × ℕ × List BookEntry). HasSeen n z.0 z.1 z.2 client connected) (λ i. (p i, sym q i, sym r i)) (seen_of d n name engine disk entropy book number client connected t caller) in
     ∥∥₁_map desk seen
 
-pub seen_made : {D N : Type 0} (d : DiskGhosts D) (n : EntropyGhosts N) (old name named : ServiceId) (engine : Engine) (disk : D) (entropy : N) (log book front : List BookEntry) (pass m client : ℕ) (connected : Bool) (next : ℕ × Bool) (reading : Reading) (act : Act) (reply : Reply)
+pub seen_made : {D N : Type 0} (d : DiskGhosts D) (n : EntropyGhosts N) (old name named : ServiceId N) (engine : Engine) (disk : D) (entropy : N) (log book front : List BookEntry) (pass m client : ℕ) (connected : Bool) (next : ℕ × Bool) (reading : Reading) (act : Act) (reply : Reply)
     (job : Option Job) (leave : Option FieldSizes) → ∥ IsDesk d n name engine disk entropy book ∥₁ → ∥ IsRequested old pass (event_for reading act pass (log_of log)) log book reply job leave ∥₁ → IsCaller pass client connected (log_of log)
-    → next ≡ client_after (kind_of act) reply (client, connected) → sent (ticket_in reply) job leave ≡ None → name ≡ named → m ≡ pass → front ≡ book → ∥ HasSeen named m front next.0 next.1 ∥₁
+    → next ≡ client_after (kind_of act) reply (client, connected) → sent (ticket_in reply) job leave ≡ None → name ≡ named → m ≡ pass → front ≡ book → ∥ HasSeen n named m front next.0 next.1 ∥₁
 seen_made {D} {N} d n old name named engine disk entropy log book front pass m client connected next reading act reply job leave desk requested caller is none p q r =
-    let seen : IsDesk d n name engine disk entropy book → IsRequested old pass (event_for reading act pass (log_of log)) log book reply job leave → HasSeen named m front next.0 next.1 = λ t asked.
-    subst (λ (z : ServiceId × ℕ × List BookEntry). HasSeen z.0 z.1 z.2 next.0 next.1) (λ i. (p i, sym q i, sym r i))
+    let seen : IsDesk d n name engine disk entropy book → IsRequested old pass (event_for reading act pass (log_of log)) log book reply job leave → HasSeen n named m front next.0 next.1 = λ t asked.
+    subst (λ (z : ServiceId N × ℕ × List BookEntry). HasSeen n z.0 z.1 z.2 next.0 next.1) (λ i. (p i, sym q i, sym r i))
     (seen_of d n name engine disk entropy book pass next.0 next.1 t (caller_now old pass client connected next reading act log book reply job leave asked caller is (sent_none old book (ticket_in reply) job leave asked.goes none))) in
     ∥∥₁_map₂ desk requested seen
 
@@ -263,19 +263,19 @@ pub extends_at : (m n : ℕ) (f front g now whole log seen : List BookEntry) →
 extends_at m n f front g now whole log seen p q r same extends more grown =
     subst (λ (z : ℕ × List BookEntry × List BookEntry). Extends by z.0 z.1 z.2 more) (λ i. (p i, q i, r i)) (extends more (grown ∙ ap (λ (l : List BookEntry). l ++ more) (sym same)))
 
-pub entered_at : (name named : ServiceId) (n m client : ℕ) (connected : Bool) (reading : Reading) (act : Act) (old new now : List BookEntry) (first ticket : ℕ) (room : FieldSizes) → name ≡ named → n ≡ m → now ≡ new
+pub entered_at : {N : Type 0} (name named : ServiceId N) (n m client : ℕ) (connected : Bool) (reading : Reading) (act : Act) (old new now : List BookEntry) (first ticket : ℕ) (room : FieldSizes) → name ≡ named → n ≡ m → now ≡ new
     → IsEntered name n client connected reading act old new first ticket room → IsEntered named m client connected reading act old now first ticket room
-entered_at name named n m client connected reading act old new now first ticket room p q r entered =
-    subst (λ (z : ServiceId × ℕ × List BookEntry). IsEntered z.0 z.1 client connected reading act old z.2 first ticket room) (λ i. (p i, q i, sym r i)) entered
+entered_at {N} name named n m client connected reading act old new now first ticket room p q r entered =
+    subst (λ (z : ServiceId N × ℕ × List BookEntry). IsEntered z.0 z.1 client connected reading act old z.2 first ticket room) (λ i. (p i, q i, sym r i)) entered
 
-pub job_at : (name named : ServiceId) (new now : List BookEntry) (ticket : ℕ) (job : Job) → name ≡ named → now ≡ new → IsJobAway name new ticket job → IsJobAway named now ticket job
-job_at name named new now ticket job p q away = subst (λ (z : ServiceId × List BookEntry). IsJobAway z.0 z.1 ticket job) (λ i. (p i, sym q i)) away
+pub job_at : {N : Type 0} (name named : ServiceId N) (new now : List BookEntry) (ticket : ℕ) (job : Job) → name ≡ named → now ≡ new → IsJobAway name new ticket job → IsJobAway named now ticket job
+job_at {N} name named new now ticket job p q away = subst (λ (z : ServiceId N × List BookEntry). IsJobAway z.0 z.1 ticket job) (λ i. (p i, sym q i)) away
 
 pub caller_at : (m n client : ℕ) (connected : Bool) (book now : List BookEntry) → m ≡ n → now ≡ book → IsCaller n client connected (log_of book) → IsCaller m client connected (log_of now)
 caller_at m n client connected book now p q caller = subst (λ (z : ℕ × List BookEntry). IsCaller z.0 client connected (log_of z.1)) (λ i. (sym p i, sym q i)) caller
 
 -- a call that adds nothing
-pub turned_asks : {D N : Type 0} {d : DiskGhosts D} {n : EntropyGhosts N} (shared : Shared D N d n) (pass : Pass) (reading : Reading) (act : Act) (number m client : ℕ) (book now : List BookEntry) (code : Code) (asked : Asked) → number_of pass ≡ number → m ≡ number → now ≡ book
+pub turned_asks : {D N : Type 0} {d : DiskGhosts D} {n : EntropyGhosts N} (shared : Shared D N d n) (pass : Pass N n) (reading : Reading) (act : Act) (number m client : ℕ) (book now : List BookEntry) (code : Code) (asked : Asked N n) → number_of pass ≡ number → m ≡ number → now ≡ book
     → IsCaller number client (connected_of pass) (log_of book) → is_parting act number (log_of book) ≡ false → IsCall number reading act (front_of pass) book (Refused code) → TurnedAway shared m now (connected_of pass) code asked → Asks shared pass reading act asked
 turned_asks shared pass reading act number m client book now code (Answered next served) mine turned same caller stays call away = record {
   ours = away.ours;

@@ -4,6 +4,7 @@ pub mod Entries
 pub mod Replying
 pub mod Waiting
 pub mod StepFacts
+pub mod Drawing
 pub mod Stepping
 pub mod Weights
 pub mod ReplyLengths

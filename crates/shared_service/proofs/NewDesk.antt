@@ -8,8 +8,10 @@ use Rattle.keystore_core.specs.Engine.{Stands, StandsAtFirst, StoreStands}
 use Rattle.service_book.specs.declared.entry.BookEntry.{BookEntry}
 use Rattle.shared_service.specs.declared.name.ServiceId.{ServiceId}
 use Rattle.shared_service.specs.Desks.{IsDesk}
+use Rattle.shared_service.specs.Drawn.{DrewAll}
 use Rattle.shared_service.specs.Facts.{ClientFacts, Facts, TicketFacts}
 use Rattle.shared_service.specs.Making.{IsNameOf}
+use Rattle.shared_service.proofs.Drawing.{drew_none}
 
 none_some : {A : Type 0} {n : ℕ} → None ≡ Some n → A
 none_some e = cc
@@ -41,8 +43,8 @@ no_clients = record {
 no_facts : (setup : Setup) → Facts setup []
 no_facts setup = record { tickets = no_tickets; clients = no_clients; busy = tt; still = tt }
 
-pub new_desk : {D N : Type 0} (d : DiskGhosts D) (n : EntropyGhosts N) (name : ServiceId) (engine : Engine) (disk : D) (entropy : N) (book : List BookEntry) → book ≡ [] → StandsAtFirst engine → ((setup : Setup) → Stands setup engine [] → StoreStands d setup engine disk [])
-    → IsNameOf engine (d.fault_count disk) (n.fault_count entropy) name → IsDesk d n name engine disk entropy book
+pub new_desk : {D N : Type 0} (d : DiskGhosts D) (n : EntropyGhosts N) (name : ServiceId N) (engine : Engine) (disk : D) (entropy : N) (book : List BookEntry) → book ≡ [] → StandsAtFirst engine → ((setup : Setup) → Stands setup engine [] → StoreStands d setup engine disk [])
+    → IsNameOf engine (d.fault_count disk) (n.fault_count entropy) entropy name → IsDesk d n name engine disk entropy book
 new_desk {D} {N} d n name engine disk entropy book none first store is = subst (IsDesk d n name engine disk entropy) (sym none) (record {
   setup = first.setup;
   is_setup = subst (λ (e : Engine). Stands first.setup e []) (sym is.engine_is) first.stands;
@@ -50,5 +52,6 @@ new_desk {D} {N} d n name engine disk entropy book none first store is = subst (
   store = λ s of. store s (subst (λ (e : Engine). Stands s e []) is.engine_is of);
   caused = tt;
   counts = record { disk = omega (arith, is.disk_is); entropy = omega (arith, is.entropy_is) };
+  drew = subst (λ (begin : N). DrewAll n begin entropy []) (sym is.drawn_is) (drew_none n entropy);
   facts = λ s of. no_facts s;
 })

@@ -43,6 +43,6 @@ at_reading reading client connected act (Ok prepared) is = ap (λ (e : Event). e
 at_reading reading client connected act (Err request) is = tt
 
 -- what a request came to, told of the act that was asked for
-pub told_of : (name : ServiceId) (pass : ℕ) (reading : Reading) (a act : Act) (old new : List BookEntry) (result : Result Step Code) → a ≡ act → Requests name pass (event_for reading a pass (log_of old)) old new result
+pub told_of : {N : Type 0} (name : ServiceId N) (pass : ℕ) (reading : Reading) (a act : Act) (old new : List BookEntry) (result : Result Step Code) → a ≡ act → Requests name pass (event_for reading a pass (log_of old)) old new result
     → Requests name pass (event_for reading act pass (log_of old)) old new result
 told_of name pass reading a act old new result same told = subst (λ (x : Act). Requests name pass (event_for reading x pass (log_of old)) old new result) same told

@@ -31,12 +31,15 @@ use Rattle.rule_model.specs.Drawn.{size_of, wanted}
 use Rattle.rule_model.specs.Entries.{History, count_of, is_done}
 use Rattle.rule_model.specs.Jobs.{IsDoneOn, IsDoneOut}
 use Rattle.rule_model.specs.Kept.{has_busy, kept, operation_at}
-use Rattle.rule_model.specs.Operations.{Open, output_of}
+use Rattle.rule_model.specs.declared.operation.Open.{Open}
+use Rattle.rule_model.specs.Operations.{output_of}
 use Rattle.rule_model.specs.Legal.{IsAnswered, MayFollow, MaySettleFirst, is_restart_refusal, Answered, WithoutMemory, WithoutEntropy, Faulted, NotSettled, NotRestarted}
 use Rattle.rule_model.specs.Replies.{broken_or, no_fields}
 use Rattle.rule_model.specs.Setup.{Setup}
 use Rattle.rule_model.specs.Stored.{change_by, where_stored}
-use Rattle.rule_model.specs.Tickets.{ComesBack, Entered, next_ticket, stopped_ticket, ticket_at, ticket_change, admitted_ticket}
+use Rattle.rule_model.specs.declared.entry_change.TicketChange.TheVariants.{ComesBack}
+use Rattle.rule_model.specs.declared.operation.Entered.{Entered}
+use Rattle.rule_model.specs.Tickets.{next_ticket, stopped_ticket, ticket_at, ticket_change, admitted_ticket}
 use Rattle.rule_model.proofs.Admitted.{answered_done, broken_done, broken_fields}
 
 -- ---- an admitted answer is by the rules

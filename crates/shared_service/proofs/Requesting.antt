@@ -142,7 +142,7 @@ enters_of setup past event drawn (Stopped code) ticket l may given = cc
 
 -- ---- what goes out with an enter
 
-goes_out : (name : ServiceId) (setup : Setup) (engine : Engine) (pass : ℕ) (s : OneStep) (old new : List BookEntry) (reply : Reply) (job : Option Job) (leave : Option FieldSizes) → ((s : Setup) → IsSetupOf name s → Stands s engine (history_of (log_of old)))
+goes_out : {N : Type 0} (name : ServiceId N) (setup : Setup) (engine : Engine) (pass : ℕ) (s : OneStep) (old new : List BookEntry) (reply : Reply) (job : Option Job) (leave : Option FieldSizes) → ((s : Setup) → IsSetupOf name s → Stands s engine (history_of (log_of old)))
     → IsSetupOf name setup → ((z : Setup) → IsSetupOf name z → Legal z (history_of (log_of new))) → new ≡ old ++ entries_of pass s → s.reply ≡ reply → is_leave s.event.act ≡ false → HasJob setup (history_of (log_of new)) reply job
     → is_some leave ≡ is_enter s.event.act → IfSome leave (IsOutput engine s.event.act) → GoesOut name new (ticket_in reply) job leave
 goes_out name setup engine pass s old new (Broken rule code) job leave stands is legal grown same l has some room = has
@@ -168,7 +168,7 @@ goes_out name setup engine pass s old new (Done fields) job leave stands is lega
       let enters = ticket_enters setup (after_settling s.settled (history_of (log_of old))) s.event s.drawn fields ticket l (follows setup is).follows e in
       by_room ticket job leave e (some ∙ enters) room
 
-pub requested_made : (name : ServiceId) (setup : Setup) (engine : Engine) (pass : ℕ) (event : Event) (old new : List BookEntry) (places : ℕ) (reply : Reply) (job : Option Job) (leave : Option FieldSizes) → ((s : Setup) → IsSetupOf name s → Stands s engine (history_of (log_of old)))
+pub requested_made : {N : Type 0} (name : ServiceId N) (setup : Setup) (engine : Engine) (pass : ℕ) (event : Event) (old new : List BookEntry) (places : ℕ) (reply : Reply) (job : Option Job) (leave : Option FieldSizes) → ((s : Setup) → IsSetupOf name s → Stands s engine (history_of (log_of old)))
     → IsSetupOf name setup → ((z : Setup) → IsSetupOf name z → Legal z (history_of (log_of new))) → MayGo pass event (log_of old) places → HasLeaveRoom engine event.act leave → HasMade name pass event old new reply job → IsRequested name pass event old new reply job leave
 requested_made name setup engine pass event old new places reply job leave stands is legal may are made =
     let l : is_leave made.s.event.act ≡ false = ap (λ (e : Event). is_leave e.act) made.event_is ∙ asked_no_leave event.act may.asked in
@@ -198,7 +198,7 @@ job_none setup past (Done fields) job none has = subst (λ (t : Option ℕ). Goe
 job_none setup past (Broken rule code) job none has = has
 job_none setup past (Stopped code) job none has = has
 
-pub parting_made : (name : ServiceId) (setup : Setup) (pass : ℕ) (event : Event) (old new : List BookEntry) (reply : Reply) (job : Option Job) (room : Option FieldSizes)
+pub parting_made : {N : Type 0} (name : ServiceId N) (setup : Setup) (pass : ℕ) (event : Event) (old new : List BookEntry) (reply : Reply) (job : Option Job) (room : Option FieldSizes)
     → IsSetupOf name setup → Legal setup (history_of (log_of new)) → event.act ≡ Disconnect → is_parting event.act pass (log_of old) ≡ true → is_done reply ≡ true → HasMade name pass event old new reply job
     → IsRequested name pass event old new reply job room
 parting_made name setup pass event old new reply job room is legal act parting done made =
@@ -223,7 +223,7 @@ parting_made name setup pass event old new reply job room is legal act parting d
 
 -- ---- a leave
 
-pub left_made : (name : ServiceId) (setup : Setup) (pass client : ℕ) (reading : Reading) (ticket : ℕ) (event : Event) (old new : List BookEntry) (reply : Reply) (job : Option Job) (back : JobDone) (room : FieldSizes)
+pub left_made : {N : Type 0} (name : ServiceId N) (setup : Setup) (pass client : ℕ) (reading : Reading) (ticket : ℕ) (event : Event) (old new : List BookEntry) (reply : Reply) (job : Option Job) (back : JobDone) (room : FieldSizes)
     → IsSetupOf name setup → AllFacts setup (log_of old) → Legal setup (history_of (log_of new)) → event ≡ leave_by reading client ticket → MayLeave name (log_of old) pass ticket back room → HasMade name pass event old new reply job
     → HasLeft name pass client reading ticket old new reply
 left_made name setup pass client reading ticket event old new reply job back room is facts legal event_is may made =

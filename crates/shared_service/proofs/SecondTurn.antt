@@ -18,9 +18,10 @@ use Rattle.rule_model.specs.Acts.{is_disconnect, is_enter, is_leave}
 use Rattle.rule_model.specs.Entries.{is_done}
 use Rattle.rule_model.specs.Jobs.{IsDoneOn, IsDoneOut, IsJobOn, IsJobOut}
 use Rattle.rule_model.specs.Kept.{operation_at}
-use Rattle.rule_model.specs.Operations.{Open}
+use Rattle.rule_model.specs.declared.operation.Open.{Open}
 use Rattle.rule_model.specs.Setup.{Setup}
-use Rattle.rule_model.specs.Tickets.{Entered, ticket_at}
+use Rattle.rule_model.specs.declared.operation.Entered.{Entered}
+use Rattle.rule_model.specs.Tickets.{ticket_at}
 use Rattle.keystore_core.specs.Outputs.{PutsOut}
 use Rattle.service_book.specs.declared.entry.BookEntry.{BookEntry}
 use Rattle.service_book.specs.Book.{history_of, log_of}
@@ -47,7 +48,7 @@ done_on : (found : Option Open) (work : Work) (job : Job) (back : JobDone) → (
 done_on None work job back comes refuses is = absurd is
 done_on (Some o) work job back comes refuses is = record { comes = comes _ _ _ _ _ _ work is; refuses = refuses }
 
-pub back_ran : (name : ServiceId) (front : List BookEntry) (ticket : ℕ) (job : Job) (back : JobDone) → ((plan : Plan) (limited : Bool) (key nonce aad text : List ℕ) (w : Work) → JobFor job plan limited key nonce aad text w → ComesTo back plan limited key nonce aad text w)
+pub back_ran : {N : Type 0} (name : ServiceId N) (front : List BookEntry) (ticket : ℕ) (job : Job) (back : JobDone) → ((plan : Plan) (limited : Bool) (key nonce aad text : List ℕ) (w : Work) → JobFor job plan limited key nonce aad text w → ComesTo back plan limited key nonce aad text w)
     → IfErr back.result (λ code. is_refusal code ≡ true) → IsJobAway name front ticket job → IsBack name front ticket back
 back_ran name front ticket job back comes refuses away = λ s of. by_out s (ticket_at (history_of (log_of front)) ticket) (away s of)
   where
@@ -70,7 +71,7 @@ entered_at setup pass ticket front book all p out =
     let facts = facts_before setup (log_of p.0) (log_of front) (subst (AllFacts setup) (log_later front p.0 book p.1) all) in
     some_entered (ticket_at (history_of (log_of front)) ticket) ((newest setup (log_of front) facts).tickets.out_is pass ticket out)
 
-pub may_leave : (name : ServiceId) (pass ticket : ℕ) (back : JobDone) (room : FieldSizes) (front book : List BookEntry) → ((s : Setup) → IsSetupOf name s → AllFacts s (log_of book)) → IsFrontOf by pass front book → out_of pass (log_of front) ≡ Some ticket
+pub may_leave : {N : Type 0} (name : ServiceId N) (pass ticket : ℕ) (back : JobDone) (room : FieldSizes) (front book : List BookEntry) → ((s : Setup) → IsSetupOf name s → AllFacts s (log_of book)) → IsFrontOf by pass front book → out_of pass (log_of front) ≡ Some ticket
     → IsBack name front ticket back → IsLeaveRoom name front ticket room → MayLeave name (log_of book) pass ticket back room
 may_leave name pass ticket back room front book facts begins out is has = record {
   is_out = sym (same_out pass front book begins.owned) ∙ out;
@@ -93,7 +94,7 @@ may_leave name pass ticket back room front book facts begins out is has = record
 trans : (xs ys zs : List BookEntry) → IsPrefix xs ys → IsPrefix ys zs → IsPrefix xs zs
 trans xs ys zs p q = (p.0 ++ q.0, sym (append_assoc xs p.0 q.0) ∙ (ap (λ (w : List BookEntry). w ++ q.0) p.1 ∙ q.1))
 
-pub call_left : (name : ServiceId) (pass client : ℕ) (connected : Bool) (reading : Reading) (act : Act) (old front book new : List BookEntry) (first from last ticket : ℕ) (room : FieldSizes) (reply : Reply)
+pub call_left : {N : Type 0} (name : ServiceId N) (pass client : ℕ) (connected : Bool) (reading : Reading) (act : Act) (old front book new : List BookEntry) (first from last ticket : ℕ) (room : FieldSizes) (reply : Reply)
     → IsEntered name pass client connected reading act old front first ticket room → IsFrontOf by pass front book → ((more : List BookEntry) → new ≡ book ++ more → Extends by pass front new more)
     → HasLeft name pass client reading ticket book new reply → AreNumbers book new from last → IsCall pass reading act old new (record { first = first; last = last; reply = reply })
 call_left name pass client connected reading act old front book new first from last ticket room reply entered begins extends left numbers =
@@ -120,7 +121,7 @@ call_left name pass client connected reading act old front book new first from l
     differ : is_parting act pass (log_of entered.log) ≡ true → is_disconnect act ≡ false → ⊥
     differ q other = let none : is_parting act pass (log_of entered.log) ≡ false = ap (λ (b : Bool). b && is_connected pass (log_of entered.log)) other in cc
 
-pub caller_left : (name : ServiceId) (pass client : ℕ) (connected : Bool) (reading : Reading) (act : Act) (old front book new : List BookEntry) (first ticket : ℕ) (room : FieldSizes) (reply : Reply)
+pub caller_left : {N : Type 0} (name : ServiceId N) (pass client : ℕ) (connected : Bool) (reading : Reading) (act : Act) (old front book new : List BookEntry) (first ticket : ℕ) (room : FieldSizes) (reply : Reply)
     → IsEntered name pass client connected reading act old front first ticket room → IsFrontOf by pass front book → HasLeft name pass client reading ticket book new reply → IsCaller pass client connected (log_of new)
 caller_left name pass client connected reading act old front book new first ticket room reply entered begins left =
     let leaves : left.s.event.act ≡ Leave ticket = ap (λ (e : Event). e.act) left.event_is in
@@ -131,7 +132,7 @@ caller_left name pass client connected reading act old front book new first tick
     record { client_is = now.0; connected_is = now.1; idle = idle_left pass left.s book new left.grown (ap is_leave leaves) }
 
 -- one entry
-pub left_one : (name : ServiceId) (pass client : ℕ) (reading : Reading) (ticket : ℕ) (old new : List BookEntry) (reply : Reply) → HasLeft name pass client reading ticket old new reply → length new ≡ length old + 1
+pub left_one : {N : Type 0} (name : ServiceId N) (pass client : ℕ) (reading : Reading) (ticket : ℕ) (old new : List BookEntry) (reply : Reply) → HasLeft name pass client reading ticket old new reply → length new ≡ length old + 1
 left_one name pass client reading ticket old new reply left =
     let one : length (entries_of pass left.s) ≡ 1 = ap (λ (o : Option Rattle.tags.specs.declared.settled.Settled.Settled). length (Rattle.shared_service.specs.Calls.settling_by pass left.s.before left.s.behind o ++ Rattle.shared_service.proofs.Logs.acted_of pass left.s ∷ [])) left.none in
     ap length left.grown ∙ (length-append old (entries_of pass left.s) ∙ ap (λ (k : ℕ). length old + k) one)

@@ -25,18 +25,19 @@ use Rattle.shared_service.proofs.Fitting.{else_is, same_if, then_is}
 use Rattle.shared_service.proofs.Logs.{log_step, same_client, same_connected, same_out, settled_log, step_log}
 
 -- all of a book is seen
-pub seen_of : {D N : Type 0} (d : DiskGhosts D) (n : EntropyGhosts N) (name : ServiceId) (engine : Engine) (disk : D) (entropy : N) (book : List BookEntry) (pass client : ℕ) (connected : Bool) → IsDesk d n name engine disk entropy book
-    → IsCaller pass client connected (log_of book) → HasSeen name pass book client connected
+pub seen_of : {D N : Type 0} (d : DiskGhosts D) (n : EntropyGhosts N) (name : ServiceId N) (engine : Engine) (disk : D) (entropy : N) (book : List BookEntry) (pass client : ℕ) (connected : Bool) → IsDesk d n name engine disk entropy book
+    → IsCaller pass client connected (log_of book) → HasSeen n name pass book client connected
 seen_of d n name engine disk entropy book pass client connected desk caller = record {
   legal = λ s of. (desk.stands s of).legal;
   caused = desk.caused;
+  drew = (n.content entropy, desk.drew);
   client_is = caller.client_is;
   connected_is = caller.connected_is;
   idle = caller.idle;
 }
 
 -- a pass says the same of itself over a longer book that has no more of its own
-pub caller_on : (name : ServiceId) (pass client : ℕ) (connected : Bool) (front book : List BookEntry) → HasSeen name pass front client connected → own by pass front ≡ own by pass book → IsCaller pass client connected (log_of book)
+pub caller_on : {N : Type 0} {g : EntropyGhosts N} (name : ServiceId N) (pass client : ℕ) (connected : Bool) (front book : List BookEntry) → HasSeen g name pass front client connected → own by pass front ≡ own by pass book → IsCaller pass client connected (log_of book)
 caller_on name pass client connected front book seen same = record {
   client_is = seen.client_is ∙ ap (λ (o : Option ℕ). unwrap_or o 0) (same_client pass front book same);
   connected_is = seen.connected_is ∙ same_connected pass front book same;

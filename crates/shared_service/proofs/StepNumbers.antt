@@ -17,7 +17,8 @@ use Rattle.rule_model.specs.Entries.{History, admits, is_done}
 use Rattle.rule_model.specs.Jobs.{HasDone}
 use Rattle.rule_model.specs.Kept.{has_busy, open_of}
 use Rattle.rule_model.specs.Legal.{MayStep}
-use Rattle.rule_model.specs.Operations.{Open, is_busy, is_of}
+use Rattle.rule_model.specs.declared.operation.Open.{Open}
+use Rattle.rule_model.specs.Operations.{is_busy, is_of}
 use Rattle.rule_model.specs.Setup.{Setup}
 use Rattle.keystore_core.specs.declared.engine.Engine.{Engine}
 use Rattle.keystore_core.specs.Engine.{Stands}
@@ -93,7 +94,7 @@ idle_client setup log pass client (o ∷ opened) facts mine idle all = both (idl
 
 -- ---- what a step needs and leaves
 
-module _ {D N : Type 0} (d : DiskGhosts D) (n : EntropyGhosts N) (name : ServiceId) (engine : Engine) (disk : D) (entropy : N) (book : List BookEntry) (pass : ℕ) (room : FieldSizes) (back : Option JobDone) (s : OneStep)
+module _ {D N : Type 0} (d : DiskGhosts D) (n : EntropyGhosts N) (name : ServiceId N) (engine : Engine) (disk : D) (entropy : N) (book : List BookEntry) (pass : ℕ) (room : FieldSizes) (back : Option JobDone) (s : OneStep)
     (desk : IsDesk d n name engine disk entropy book) (may : MayMake name (log_of book) pass s.event room back)
     (follows : (setup : Setup) (past : History) → Stands setup engine past → HasDone setup past s.event.act back → MayStep setup past s.settled s.event s.drawn s.reply) where
   may_step : MayStep desk.setup (history_of (log_of book)) s.settled s.event s.drawn s.reply

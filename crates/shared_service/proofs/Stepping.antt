@@ -4,6 +4,7 @@ use Rattle.cipher_ops.specs.declared.job.Done.{Done as JobDone}
 use Rattle.ks_outside.specs.declared.disk.Disk.{Ghosts as DiskGhosts}
 use Rattle.ks_outside.specs.declared.entropy.Entropy.{Ghosts as EntropyGhosts}
 use Rattle.ks_outside.specs.Faults.{CountsFaults}
+use Rattle.ks_outside.specs.Shown.{Drew}
 use Rattle.tags.specs.declared.settled.Settled.{Settled}
 use Rattle.rule_model.specs.declared.entry.Entry.{Entry}
 use Rattle.rule_model.specs.declared.entry.Entry.TheVariants.{Acted, Settling}
@@ -27,7 +28,8 @@ use Rattle.service_book.specs.Limits.{acted_bytes, recorded}
 use Rattle.shared_service.specs.Calls.{OneStep, entries_of, entry_by, settling_by}
 use Rattle.shared_service.specs.Desks.{IsDesk, MayMake, counts_of}
 use Rattle.shared_service.specs.Facts.{AllFacts}
-use Rattle.shared_service.specs.Names.{counts_before}
+use Rattle.shared_service.specs.Names.{counts_before, entropy_before}
+use Rattle.shared_service.proofs.Drawing.{drew_step}
 use Rattle.shared_service.proofs.Fitting.{same_if}
 use Rattle.shared_service.proofs.Logs.{acted_of, history_step, log_step, settled_log, settling_of, step_log}
 use Rattle.shared_service.proofs.StepFacts.{facts_step}
@@ -70,7 +72,7 @@ abbrev pub Step : {D N : Type 0} → DiskGhosts D → EntropyGhosts N → D → 
 Step d n disk disk' entropy entropy' event settled drawn reply =
     record { settled = settled; event = event; drawn = drawn; reply = reply; before = counts_of d n disk entropy; behind = counts_of d n disk' entropy' }
 
-module _ {D N : Type 0} (d : DiskGhosts D) (n : EntropyGhosts N) (name : ServiceId) (engine engine' : Engine) (disk disk' : D) (entropy entropy' : N) (book : List BookEntry) (pass : ℕ) (event : Event) (room : FieldSizes) (back : Option JobDone)
+module _ {D N : Type 0} (d : DiskGhosts D) (n : EntropyGhosts N) (name : ServiceId N) (engine engine' : Engine) (disk disk' : D) (entropy entropy' : N) (book : List BookEntry) (pass : ℕ) (event : Event) (room : FieldSizes) (back : Option JobDone)
     (settled : Option Settled) (drawn : List ℕ) (reply : Reply) where
   abbrev This : OneStep
   This = Step d n disk disk' entropy entropy' event settled drawn reply
@@ -115,9 +117,9 @@ module _ {D N : Type 0} (d : DiskGhosts D) (n : EntropyGhosts N) (name : Service
       → ((setup : Setup) (past : History) → Stands setup engine past → HasDone setup past event.act back → MayStep setup past settled event drawn reply)
       → ((setup : Setup) (past : History) → Stands setup engine past → HasDone setup past event.act back → Stays setup past (after_step settled event drawn reply past))
       → ((setup : Setup) (past : History) → Stands setup engine past → StoreStands d setup engine disk past → StoreStands d setup engine' disk' (after_step settled event drawn reply past))
-      → CountsFaults (d.fault_count disk) (d.fault_count disk') (is_disk_fault reply) → CountsFaults (n.fault_count entropy) (n.fault_count entropy') (is_entropy_fault reply)
+      → CountsFaults (d.fault_count disk) (d.fault_count disk') (is_disk_fault reply) → Drew n entropy entropy' drawn (is_entropy_fault reply)
       → IsDesk d n name engine' disk' entropy' (book ++ entries_of pass This)
-  desk_step desk may stands follows stays store faults draws =
+  desk_step desk may stands follows stays store faults drew =
       let log : List BookEntry = log_of book in
       let is : log_of (book ++ entries_of pass This) ≡ step_log pass This log = log_step pass This book in
       let history : after_step settled event drawn reply (history_of log) ≡ history_of (log_of (book ++ entries_of pass This)) = sym (ap history_of is ∙ history_step pass This log) in
@@ -126,8 +128,9 @@ module _ {D N : Type 0} (d : DiskGhosts D) (n : EntropyGhosts N) (name : Service
         is_setup = desk.is_setup;
         stands = λ s of. subst (Stands s engine') history (stands s (history_of log) (desk.stands s of) (may.back_is s of));
         store = λ s of. subst (StoreStands d s engine' disk') history (store s (history_of log) (desk.stands s of) (desk.store s of));
-        caused = subst (IsCausedLog (counts_before name)) (sym is) (caused_step (counts_before name) log desk.caused (legal_ends desk.setup log (desk.stands desk.setup desk.is_setup).legal) desk.counts may.own faults draws);
+        caused = subst (IsCausedLog (counts_before name)) (sym is) (caused_step (counts_before name) log desk.caused (legal_ends desk.setup log (desk.stands desk.setup desk.is_setup).legal) desk.counts may.own faults drew.faults);
         counts = subst (λ (l : List BookEntry). AreLater (counts_after (counts_before name) l) (counts_of d n disk' entropy')) (sym is) (record { disk = same_le _; entropy = same_le _ });
+        drew = drew_step n (entropy_before name) entropy entropy' pass This book desk.drew drew.bytes;
         facts = λ s of. subst (AllFacts s) (sym is) (facts_step s pass This log (desk.facts s of) (desk.stands s of).legal (follows s (history_of log) (desk.stands s of) (may.back_is s of)) (stays s (history_of log) (desk.stands s of) (may.back_is s of)) may.own may.turn);
       }
     where

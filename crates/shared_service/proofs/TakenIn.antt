@@ -21,7 +21,7 @@ use Rattle.shared_service.specs.declared.name.ServiceId.{ServiceId}
 use Rattle.shared_service.specs.Closings.{TookFront}
 
 -- what was taken in stays so
-pub keeps_front : {D N : Type 0} {d : DiskGhosts D} {n : EntropyGhosts N} (old new : Closing (Desk D N d n) BookEntry ServiceId) (number : ℕ) (seen : List BookEntry) → ((other : LockPass (Desk D N d n) BookEntry ServiceId) → Took old other → Took new other)
+pub keeps_front : {D N : Type 0} {d : DiskGhosts D} {n : EntropyGhosts N} (old new : Closing (Desk D N d n) BookEntry (ServiceId N)) (number : ℕ) (seen : List BookEntry) → ((other : LockPass (Desk D N d n) BookEntry (ServiceId N)) → Took old other → Took new other)
     → TookFront old number seen → TookFront new number seen
 keeps_front old new number seen kept t = record { pass = t.pass; took = kept t.pass t.took; number_is = t.number_is; front_is = t.front_is }
 
@@ -71,6 +71,6 @@ all_first P x xs first all zero d lt = first
 all_first P x xs first all (suc k) d lt = all k d (omega arith)
 
 -- the front of a pass that was taken in begins the book, and has all that the pass made
-pub front_in : {D N : Type 0} {d : DiskGhosts D} {n : EntropyGhosts N} (closing : Closing (Desk D N d n) BookEntry ServiceId) (number : ℕ) (seen book : List BookEntry) → ((m : ℕ) (front : List BookEntry) → HasHand (view_of closing).hands m front → IsFrontOf by m front book)
+pub front_in : {D N : Type 0} {d : DiskGhosts D} {n : EntropyGhosts N} (closing : Closing (Desk D N d n) BookEntry (ServiceId N)) (number : ℕ) (seen book : List BookEntry) → ((m : ℕ) (front : List BookEntry) → HasHand (view_of closing).hands m front → IsFrontOf by m front book)
     → TookFront closing number seen → IsFrontOf by number seen book
 front_in closing number seen book all t = subst (λ (z : ℕ × List BookEntry). IsFrontOf by z.0 z.1 book) (λ i. (t.number_is i, t.front_is i)) (all _ _ t.took)

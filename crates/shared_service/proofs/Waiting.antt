@@ -26,12 +26,18 @@ use Rattle.rule_model.specs.Clients.{caller_of}
 use Rattle.rule_model.specs.Entries.{History, admits, count_of, gives, is_done}
 use Rattle.rule_model.specs.Kept.{is_live, kept, open_of, operation_at}
 use Rattle.rule_model.specs.Legal.{LegalBefore, MayFollow}
-use Rattle.rule_model.specs.Operations.{Open, OperationChange, SameOperations, Opens, Enters, Returns, Shows, Closes, ClosesOf, ClosesAll, admitted_operation, as_entered, as_returned, as_shown, begin_facts_in, begin_key_in, closes, enters, has_number, is_for, open_after, opens, operation_change_in, operation_of, returns, step_of, stopped_operation, with_change, without}
+use Rattle.rule_model.specs.declared.operation.Open.{Open}
+use Rattle.rule_model.specs.declared.entry_change.OperationChange.{OperationChange}
+use Rattle.rule_model.specs.declared.entry_change.OperationChange.TheVariants.{SameOperations, Opens, Enters, Returns, Shows, Closes, ClosesOf, ClosesAll}
+use Rattle.rule_model.specs.Operations.{admitted_operation, as_entered, as_returned, as_shown, begin_facts_in, begin_key_in, closes, enters, has_number, is_for, open_after, opens, operation_change_in, operation_of, returns, step_of, stopped_operation, with_change, without}
 use Rattle.rule_model.specs.Blobs.{device_at}
 use Rattle.rule_model.specs.Settling.{is_faulted, is_unsettled}
 use Rattle.rule_model.specs.Setup.{Setup}
 use Rattle.rule_model.specs.StepFacts.{brought_by, facts_of, step_facts}
-use Rattle.rule_model.specs.Tickets.{ComesBack, Entered, GoesOut, TicketChange, admitted_ticket, next_ticket, ticket_after, ticket_at, ticket_change}
+use Rattle.rule_model.specs.declared.entry_change.TicketChange.TheVariants.{ComesBack, GoesOut}
+use Rattle.rule_model.specs.declared.operation.Entered.{Entered}
+use Rattle.rule_model.specs.declared.entry_change.TicketChange.{TicketChange}
+use Rattle.rule_model.specs.Tickets.{admitted_ticket, next_ticket, ticket_after, ticket_at, ticket_change}
 use Rattle.rule_model.proofs.Admitted.{broken_done}
 use Rattle.rule_model.proofs.Bounds.{Each, each_in}
 use Rattle.rule_model.proofs.Outputs.{Apart, Differs}

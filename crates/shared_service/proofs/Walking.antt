@@ -20,9 +20,11 @@ use Rattle.rule_model.specs.declared.reply.Reply.TheVariants.{Done, Broken, Stop
 use Rattle.rule_model.specs.Entries.{History, gives}
 use Rattle.rule_model.specs.Jobs.{IsDoneOn, IsDoneOut, but_shown}
 use Rattle.rule_model.specs.Kept.{operation_at}
-use Rattle.rule_model.specs.Operations.{Open, output_of}
+use Rattle.rule_model.specs.declared.operation.Open.{Open}
+use Rattle.rule_model.specs.Operations.{output_of}
 use Rattle.rule_model.specs.Setup.{Setup}
-use Rattle.rule_model.specs.Tickets.{Entered, admitted_ticket, goes_out, stopped_ticket, ticket_after, ticket_at, ticket_change}
+use Rattle.rule_model.specs.declared.operation.Entered.{Entered}
+use Rattle.rule_model.specs.Tickets.{admitted_ticket, goes_out, stopped_ticket, ticket_after, ticket_at, ticket_change}
 use Rattle.keystore_core.specs.Outputs.{PutsOut, output_out}
 use Rattle.service_book.specs.declared.entry.BookEntry.{BookEntry}
 use Rattle.service_book.specs.Book.{gives_ticket, history_of, log_of, pass_of_ticket}

@@ -25,7 +25,7 @@ use Rattle.shared_service.specs.Passes.{HoldsMaker, IsOurs, connected_of, front_
 
 module _ {D N : Type 0} {d : DiskGhosts D} {n : EntropyGhosts N} where
   -- a call of this pass that was answered, with the pass as it is then
-  pub record IsAnswered (shared : Shared D N d n) (pass : Pass) (reading : Reading) (act : Act) (next : Pass) (served : Served) : Type 0 where
+  pub record IsAnswered (shared : Shared D N d n) (pass : Pass N n) (reading : Reading) (act : Act) (next : Pass N n) (served : Served) : Type 0 where
     pub ours : IsOurs shared next
     pub number_is : number_of next ≡ number_of pass
     pub calls : ∥ IsCall (number_of pass) reading act (front_of pass) (front_of next) served ∥₁
@@ -34,7 +34,7 @@ module _ {D N : Type 0} {d : DiskGhosts D} {n : EntropyGhosts N} where
     pub told : length (reply_body served.reply) < 2 ^ 32
 
   -- a call of this pass that is away, of this service
-  pub record IsAwayOf (shared : Shared D N d n) (pass : Pass) (reading : Reading) (act : Act) (away : Away) : Type 0 where
+  pub record IsAwayOf (shared : Shared D N d n) (pass : Pass N n) (reading : Reading) (act : Act) (away : Away N) : Type 0 where
     pub resting : IsRestingPassAt (service_lock shared) (service_name shared) away.seat
     pub maker_is : HoldsMaker (service_lock shared) (service_name shared) (passes_of shared) (number_of pass) away.kept.maker
     pub number_is : resting_number away.seat ≡ number_of pass
@@ -43,25 +43,25 @@ module _ {D N : Type 0} {d : DiskGhosts D} {n : EntropyGhosts N} where
     pub connected_is : away.kept.connected ≡ connected_of pass
     pub entered : ∥ IsEntered (service_name shared) (number_of pass) away.kept.client away.kept.connected reading act (front_of pass) (resting_front away.seat) away.first away.ticket away.room ∥₁
 
-  abbrev pub Asks : Shared D N d n → Pass → Reading → Act → Asked → Type 0
+  abbrev pub Asks : Shared D N d n → Pass N n → Reading → Act → Asked N n → Type 0
   Asks shared pass reading act (Answered next served) = IsAnswered shared pass reading act next served
   Asks shared pass reading act (Out away job) = IsAwayOf shared pass reading act away × ∥ IsJobAway (service_name shared) (resting_front away.seat) away.ticket job ∥₁
 
   -- a call that adds nothing and is answered with a code, with its pass, which has then seen this book
-  pub record IsTurnedAway (shared : Shared D N d n) (number : ℕ) (book : List BookEntry) (connected : Bool) (code : Code) (next : Pass) (served : Served) : Type 0 where
+  pub record IsTurnedAway (shared : Shared D N d n) (number : ℕ) (book : List BookEntry) (connected : Bool) (code : Code) (next : Pass N n) (served : Served) : Type 0 where
     pub ours : IsOurs shared next
     pub number_is : number_of next ≡ number
     pub front_is : front_of next ≡ book
     pub connected_is : connected_of next ≡ connected
     pub served_is : served ≡ record { first = 0; last = 0; reply = Stopped code }
 
-  abbrev pub TurnedAway : Shared D N d n → ℕ → List BookEntry → Bool → Code → Asked → Type 0
+  abbrev pub TurnedAway : Shared D N d n → ℕ → List BookEntry → Bool → Code → Asked N n → Type 0
   TurnedAway shared number book connected code (Answered next served) = IsTurnedAway shared number book connected code next served
   TurnedAway shared number book connected code (Out away job) = ⊥
 
   -- a call that is away
-  pub record IsOut (shared : Shared D N d n) (away : Away) : Type 0 where
-    pub pass : Pass
+  pub record IsOut (shared : Shared D N d n) (away : Away N) : Type 0 where
+    pub pass : Pass N n
     pub reading : Reading
     pub act : Act
     pub is : IsAwayOf shared pass reading act away

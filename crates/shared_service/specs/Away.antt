@@ -21,7 +21,7 @@ use Rattle.shared_service.specs.Owning.{by, client_for, event_for, is_connected,
 use Rattle.shared_service.specs.Requests.{IsLeaveRoom}
 
 -- an admitted enter: the book before it and behind it, which the pass has seen
-pub record IsEntered (name : ServiceId) (pass client : ℕ) (connected : Bool) (reading : Reading) (act : Act) (old new : List BookEntry) (first ticket : ℕ) (room : FieldSizes) : Type 0 where
+pub record IsEntered {N : Type 0} (name : ServiceId N) (pass client : ℕ) (connected : Bool) (reading : Reading) (act : Act) (old new : List BookEntry) (first ticket : ℕ) (room : FieldSizes) : Type 0 where
   pub log : List BookEntry
   pub s : OneStep
   pub begins : IsFrontOf by pass old log
@@ -39,9 +39,9 @@ pub record IsEntered (name : ServiceId) (pass client : ℕ) (connected : Bool) (
   pub has_room : IsLeaveRoom name new ticket room
 
 -- the job is that of the work that is out
-abbrev pub IsJobAway : ServiceId → List BookEntry → ℕ → Job → Type 0
+abbrev pub IsJobAway : {N : Type 0} → ServiceId N → List BookEntry → ℕ → Job → Type 0
 IsJobAway name new ticket job = (s : Setup) → IsSetupOf name s → IsJobOut s (history_of (log_of new)) (ticket_at (history_of (log_of new)) ticket) job
 
 -- and this is what it came to
-abbrev pub IsBack : ServiceId → List BookEntry → ℕ → JobDone → Type 0
+abbrev pub IsBack : {N : Type 0} → ServiceId N → List BookEntry → ℕ → JobDone → Type 0
 IsBack name new ticket back = (s : Setup) → IsSetupOf name s → IsDoneOut s (history_of (log_of new)) (ticket_at (history_of (log_of new)) ticket) (Some back)

@@ -9,8 +9,8 @@ use Rattle.shared_service.specs.declared.desk.Desk.{Desk}
 use Rattle.shared_service.specs.declared.name.ServiceId.{ServiceId}
 
 -- a pass with this number and this front of the book
-pub record TookFront {D N : Type 0} {d : DiskGhosts D} {n : EntropyGhosts N} (closing : Closing (Desk D N d n) BookEntry ServiceId) (number : ℕ) (seen : List BookEntry) : Type 0 where
-  pub pass : LockPass (Desk D N d n) BookEntry ServiceId
+pub record TookFront {D N : Type 0} {d : DiskGhosts D} {n : EntropyGhosts N} (closing : Closing (Desk D N d n) BookEntry (ServiceId N)) (number : ℕ) (seen : List BookEntry) : Type 0 where
+  pub pass : LockPass (Desk D N d n) BookEntry (ServiceId N)
   pub took : Took closing pass
   pub number_is : number_of pass ≡ number
   pub front_is : front pass ≡ seen

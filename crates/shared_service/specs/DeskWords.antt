@@ -9,7 +9,7 @@ use Rattle.shared_service.specs.declared.name.ServiceId.{ServiceId}
 use Rattle.shared_service.specs.Records.{book_in, places_in}
 
 module _ {D N : Type 0} {d : DiskGhosts D} {n : EntropyGhosts N} where
-  abbrev pub desk_name : Desk D N d n → ServiceId
+  abbrev pub desk_name : Desk D N d n → ServiceId N
   desk_name desk = desk.name
 
   abbrev pub desk_book : Desk D N d n → List BookEntry

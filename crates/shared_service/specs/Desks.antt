@@ -24,8 +24,9 @@ use Rattle.rule_model.specs.Acts.{need_of}
 use Rattle.service_book.specs.Limits.{MOST_ENTRIES, clients_in, tickets_in}
 use Rattle.shared_service.specs.declared.name.ServiceId.{ServiceId}
 use Rattle.shared_service.specs.Calls.{OneStep, entries_of}
+use Rattle.shared_service.specs.Drawn.{DrewAll, DrewFirst}
 use Rattle.shared_service.specs.Facts.{AllFacts}
-use Rattle.shared_service.specs.Names.{IsSetupOf, counts_before}
+use Rattle.shared_service.specs.Names.{IsSetupOf, counts_before, entropy_before}
 use Rattle.shared_service.specs.Owning.{is_connected, is_parting, out_of}
 
 -- the counts of faults of two devices
@@ -38,20 +39,22 @@ abbrev pub weight : List BookEntry → ℕ
 weight log = length log + clients_in log + tickets_in log
 
 -- Engine, disk and entropy stand for a book: for the setups of the service the engine and its store stand for the book's history, the
--- book is caused, and its last counts are no greater than those of the devices.
-pub record IsDesk {D N : Type 0} (d : DiskGhosts D) (n : EntropyGhosts N) (name : ServiceId) (engine : Engine) (disk : D) (entropy : N) (book : List BookEntry) : Type 0 where
+-- book is caused, its last counts are no greater than those of the devices, and what it drew is what the entropy gave.
+pub record IsDesk {D N : Type 0} (d : DiskGhosts D) (n : EntropyGhosts N) (name : ServiceId N) (engine : Engine) (disk : D) (entropy : N) (book : List BookEntry) : Type 0 where
   pub setup : Setup
   pub is_setup : IsSetupOf name setup
   pub stands : (s : Setup) → IsSetupOf name s → Stands s engine (history_of (log_of book))
   pub store : (s : Setup) → IsSetupOf name s → StoreStands d s engine disk (history_of (log_of book))
   pub caused : IsCaused (counts_before name) book
   pub counts : AreLater (counts_after (counts_before name) (log_of book)) (counts_of d n disk entropy)
+  pub drew : DrewAll n (entropy_before name) entropy book
   pub facts : (s : Setup) → IsSetupOf name s → AllFacts s (log_of book)
 
--- what a pass has seen is legal and caused, its client is its own, and no ticket of its own is out
-pub record HasSeen (name : ServiceId) (pass : ℕ) (front : List BookEntry) (client : ℕ) (connected : Bool) : Type 0 where
+-- what a pass has seen is legal and caused, the entropy gave what it drew, its client is its own, and no ticket of its own is out
+pub record HasSeen {N : Type 0} (n : EntropyGhosts N) (name : ServiceId N) (pass : ℕ) (front : List BookEntry) (client : ℕ) (connected : Bool) : Type 0 where
   pub legal : (s : Setup) → IsSetupOf name s → Legal s (history_of (log_of front))
   pub caused : IsCaused (counts_before name) front
+  pub drew : DrewFirst n (entropy_before name) front
   pub client_is : client ≡ unwrap_or (client_of pass (log_of front)) 0
   pub connected_is : connected ≡ is_connected pass (log_of front)
   pub idle : out_of pass (log_of front) ≡ None
@@ -70,7 +73,7 @@ ComesInTurn act pass log = (is_asked act ≡ true) × (out_of pass log ≡ None)
 
 -- A pass may make an event over a log: it is its own and comes in its turn, a leave has what its job came back with, and there is room
 -- for the copy of each reply.
-pub record MayMake (name : ServiceId) (log : List BookEntry) (pass : ℕ) (event : Event) (room : FieldSizes) (back : Option JobDone) : Type 0 where
+pub record MayMake {N : Type 0} (name : ServiceId N) (log : List BookEntry) (pass : ℕ) (event : Event) (room : FieldSizes) (back : Option JobDone) : Type 0 where
   pub out : ℕ
   pub few : out ≤ 1048656
   pub room_is : room ≡ sizes_of event.act out
@@ -80,7 +83,7 @@ pub record MayMake (name : ServiceId) (log : List BookEntry) (pass : ℕ) (event
   pub enough : (s : Setup) → IsSetupOf name s → HasOutRoom s (history_of log) event.act out
 
 -- what a step made of the book, with the job of an enter
-pub record HasMade (name : ServiceId) (pass : ℕ) (event : Event) (old new : List BookEntry) (reply : Reply) (job : Option Job) : Type 0 where
+pub record HasMade {N : Type 0} (name : ServiceId N) (pass : ℕ) (event : Event) (old new : List BookEntry) (reply : Reply) (job : Option Job) : Type 0 where
   pub s : OneStep
   pub event_is : s.event ≡ event
   pub reply_is : s.reply ≡ reply

@@ -6,9 +6,10 @@ use Rattle.rule_model.specs.Clients.{uid_of}
 use Rattle.rule_model.specs.Entries.{admits, count_of}
 use Rattle.rule_model.specs.Jobs.{Stays}
 use Rattle.rule_model.specs.Kept.{open_of}
-use Rattle.rule_model.specs.Operations.{Open}
+use Rattle.rule_model.specs.declared.operation.Open.{Open}
 use Rattle.rule_model.specs.Setup.{Setup}
-use Rattle.rule_model.specs.Tickets.{Entered, ticket_at}
+use Rattle.rule_model.specs.declared.operation.Entered.{Entered}
+use Rattle.rule_model.specs.Tickets.{ticket_at}
 use Rattle.service_book.specs.declared.entry.BookEntry.{BookEntry}
 use Rattle.service_book.specs.Book.{client_given, client_of, history_of, pass_of_ticket}
 use Rattle.service_book.specs.Limits.{count, is_of}

@@ -4,6 +4,7 @@ pub mod Calls
 pub mod Answers
 pub mod Facts
 pub mod Records
+pub mod Drawn
 pub mod Desks
 pub mod DeskWords
 pub mod Requests

@@ -16,28 +16,28 @@ use Rattle.shared_service.specs.declared.pass.Pass.{Pass}
 use Rattle.shared_service.specs.declared.shared.Shared.{Shared}
 use Rattle.shared_service.specs.Names as names
 
-abbrev pub number_of : Pass → ℕ
+abbrev pub number_of : {N : Type 0} {n : EntropyGhosts N} → Pass N n → ℕ
 number_of pass = resting_number pass.seat
 
 -- the front of the book that it has seen
-abbrev pub front_of : Pass → List BookEntry
+abbrev pub front_of : {N : Type 0} {n : EntropyGhosts N} → Pass N n → List BookEntry
 front_of pass = resting_front pass.seat
 
 -- whether it has a client that is connected
-abbrev pub connected_of : Pass → Bool
+abbrev pub connected_of : {N : Type 0} {n : EntropyGhosts N} → Pass N n → Bool
 connected_of pass = pass.kept.connected
 
 -- of so many passes the last has the right to make passes, so that none is made any more where it ends the service
-abbrev pub HoldsMaker : TableId → ServiceId → ℕ → ℕ → Option (RestingMaker BookEntry ServiceId) → Type 0
+abbrev pub HoldsMaker : {N : Type 0} → TableId → ServiceId N → ℕ → ℕ → Option (RestingMaker BookEntry (ServiceId N)) → Type 0
 HoldsMaker lock name count number None = number + 1 < count
 HoldsMaker lock name count number (Some maker) = IsRestingMakerAt lock name maker × (resting_made maker ≡ count)
 
 -- a pass of the lock with this identity and name
-abbrev pub RestsAt : TableId → ServiceId → Pass → Type 0
+abbrev pub RestsAt : {N : Type 0} {n : EntropyGhosts N} → TableId → ServiceId N → Pass N n → Type 0
 RestsAt lock name pass = IsRestingPassAt lock name pass.seat
 
 module _ {D N : Type 0} {d : DiskGhosts D} {n : EntropyGhosts N} where
-  abbrev pub service_name : Shared D N d n → ServiceId
+  abbrev pub service_name : Shared D N d n → ServiceId N
   service_name shared = name_of shared.lock
 
   abbrev pub service_lock : Shared D N d n → TableId
@@ -46,6 +46,10 @@ module _ {D N : Type 0} {d : DiskGhosts D} {n : EntropyGhosts N} where
   -- the engine as the service took it
   abbrev pub engine_of : Shared D N d n → Engine
   engine_of shared = names.engine_before (service_name shared)
+
+  -- the entropy as the service took it
+  abbrev pub entropy_of : Shared D N d n → N
+  entropy_of shared = names.entropy_before (service_name shared)
 
   -- how many passes were made
   abbrev pub passes_of : Shared D N d n → ℕ
@@ -59,28 +63,28 @@ module _ {D N : Type 0} {d : DiskGhosts D} {n : EntropyGhosts N} where
   start_of shared = names.counts_before (service_name shared)
 
   -- a pass of this service
-  pub record IsOurs (shared : Shared D N d n) (pass : Pass) : Type 0 where
+  pub record IsOurs (shared : Shared D N d n) (pass : Pass N n) : Type 0 where
     pub resting : RestsAt (service_lock shared) (service_name shared) pass
     pub maker_is : HoldsMaker (service_lock shared) (service_name shared) (passes_of shared) (number_of pass) pass.kept.maker
 
 -- whether a pass of this number is among them
-abbrev pub has_number : ℕ → List Pass → Bool
-has_number number passes = list_any (λ (p : Pass). number_of p == number) passes
+abbrev pub has_number : {N : Type 0} {n : EntropyGhosts N} → ℕ → List (Pass N n) → Bool
+has_number {N} {n} number passes = list_any (λ (p : Pass N n). number_of p == number) passes
 
 -- all passes of the numbers below a count are among them
-abbrev pub HasAll : ℕ → List Pass → Type 0
+abbrev pub HasAll : {N : Type 0} {n : EntropyGhosts N} → ℕ → List (Pass N n) → Type 0
 HasAll count passes = (number : ℕ) → number < count → has_number number passes ≡ true
 
 -- they are numbered in their order, from 0
-abbrev pub AreNumbered : List Pass → Type 0
-AreNumbered passes = (k : ℕ) (d : Pass) → k < length passes → number_of (get_or passes k d) ≡ k
+abbrev pub AreNumbered : {N : Type 0} {n : EntropyGhosts N} → List (Pass N n) → Type 0
+AreNumbered {N} {n} passes = (k : ℕ) (d : Pass N n) → k < length passes → number_of (get_or passes k d) ≡ k
 
 -- a pass that has seen nothing, and has no client
-abbrev pub IsNew : Pass → Type 0
+abbrev pub IsNew : {N : Type 0} {n : EntropyGhosts N} → Pass N n → Type 0
 IsNew pass = (front_of pass ≡ []) × (connected_of pass ≡ false)
 
 -- the pass of this number, of so many
-pub record IsNewPass (lock : TableId) (name : ServiceId) (count number : ℕ) (pass : Pass) : Type 0 where
+pub record IsNewPass {N : Type 0} {n : EntropyGhosts N} (lock : TableId) (name : ServiceId N) (count number : ℕ) (pass : Pass N n) : Type 0 where
   pub rests : RestsAt lock name pass
   pub maker_is : HoldsMaker lock name count (number_of pass) pass.kept.maker
   pub number_is : number_of pass ≡ number

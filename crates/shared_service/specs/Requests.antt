@@ -27,21 +27,21 @@ pub record IsCaller (pass client : ℕ) (connected : Bool) (log : List BookEntry
   pub idle : out_of pass log ≡ None
 
 -- room for the reply to the leave of a ticket that went out
-pub record IsLeaveRoom (name : ServiceId) (book : List BookEntry) (ticket : ℕ) (room : FieldSizes) : Type 0 where
+pub record IsLeaveRoom {N : Type 0} (name : ServiceId N) (book : List BookEntry) (ticket : ℕ) (room : FieldSizes) : Type 0 where
   pub out : ℕ
   pub few : out ≤ 1048656
   pub room_is : room ≡ record no_sizes { out = out }
   pub enough : (s : Setup) → IsSetupOf name s → PutsOut s (history_of (log_of book)) ticket out
 
 -- an enter that is admitted has its job and the room of its leave, and no other step has a job
-abbrev pub GoesOut : ServiceId → List BookEntry → Option ℕ → Option Job → Option FieldSizes → Type 0
+abbrev pub GoesOut : {N : Type 0} → ServiceId N → List BookEntry → Option ℕ → Option Job → Option FieldSizes → Type 0
 GoesOut name book None job room = job ≡ None
 GoesOut name book (Some ticket) None room = ⊥
 GoesOut name book (Some ticket) (Some job) None = ⊥
 GoesOut name book (Some ticket) (Some job) (Some room) = IsLeaveRoom name book ticket room
 
 -- a request that is recorded
-pub record IsRequested (name : ServiceId) (pass : ℕ) (event : Event) (old new : List BookEntry) (reply : Reply) (job : Option Job) (room : Option FieldSizes) : Type 0 where
+pub record IsRequested {N : Type 0} (name : ServiceId N) (pass : ℕ) (event : Event) (old new : List BookEntry) (reply : Reply) (job : Option Job) (room : Option FieldSizes) : Type 0 where
   pub made : HasMade name pass event old new reply job
   pub goes : GoesOut name new (ticket_in reply) job room
   pub within : (is_parting event.act pass (log_of old) ≡ true) ⊎ (passes_limit event.act (log_of old) ≡ false)

@@ -23,7 +23,7 @@ use Rattle.shared_service.specs.Owning.{is_parting, out_of}
 use Rattle.shared_service.specs.Requests.{AreNumbers, GrowsBy, IsLeaveRoom, IsRequested}
 
 -- what a request came to
-abbrev pub Requests : ServiceId → ℕ → Event → List BookEntry → List BookEntry → Result Step Code → Type 0
+abbrev pub Requests : {N : Type 0} → ServiceId N → ℕ → Event → List BookEntry → List BookEntry → Result Step Code → Type 0
 Requests name pass event old new (Ok step) =
     ∥ IsRequested name pass event old new step.reply step.job step.leave ∥₁ × AreNumbers old new step.first step.last × GrowsBy pass old new × (length (reply_body step.reply) < 2 ^ 32)
 Requests name pass event old new (Err RunFull) = (new ≡ old) × (passes_limit event.act (log_of old) ≡ true) × (is_parting event.act pass (log_of old) ≡ false)
@@ -31,7 +31,7 @@ Requests name pass event old new (Err MemoryAllocationFailed) = (new ≡ old) ×
 Requests name pass event old new (Err _) = ⊥
 
 -- a pass may bring its ticket back with what its job came to, and there is room for the reply
-pub record MayLeave (name : ServiceId) (log : List BookEntry) (pass ticket : ℕ) (back : JobDone) (room : FieldSizes) : Type 0 where
+pub record MayLeave {N : Type 0} (name : ServiceId N) (log : List BookEntry) (pass ticket : ℕ) (back : JobDone) (room : FieldSizes) : Type 0 where
   pub is_out : out_of pass log ≡ Some ticket
   pub back_is : (s : Setup) → IsSetupOf name s → HasDone s (history_of log) (Leave ticket) (Some back)
   pub has_room : (book : List BookEntry) → log_of book ≡ log → IsLeaveRoom name book ticket room
@@ -41,7 +41,7 @@ abbrev pub leave_by : Reading → ℕ → ℕ → Event
 leave_by reading client ticket = record { reading = reading; client = client; act = Leave ticket }
 
 -- it is one step, which settles nothing, and whose reply is neither for want of memory nor for want of its ticket
-pub record HasLeft (name : ServiceId) (pass client : ℕ) (reading : Reading) (ticket : ℕ) (old new : List BookEntry) (reply : Reply) : Type 0 where
+pub record HasLeft {N : Type 0} (name : ServiceId N) (pass client : ℕ) (reading : Reading) (ticket : ℕ) (old new : List BookEntry) (reply : Reply) : Type 0 where
   pub s : OneStep
   pub event_is : s.event ≡ leave_by reading client ticket
   pub none : s.settled ≡ None

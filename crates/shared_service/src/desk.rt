@@ -24,7 +24,7 @@ mod steps;
 #[derive(Drop)]
 pub struct Desk<D: Disk, N: Entropy> {
     alloc: Global,
-    name: ServiceId,
+    name: ServiceId<N>,
     engine: Engine,
     disk: D,
     entropy: N,
@@ -35,7 +35,7 @@ pub struct Desk<D: Disk, N: Entropy> {
     ghost small: { recorded (log_of (book_in book)) ≤ length (book_in book) * 2 ^ 35 },
 }
 
-impl<D: Disk, N: Entropy> History<BookEntry, ServiceId> for Desk<D, N> {
+impl<D: Disk, N: Entropy> History<BookEntry, ServiceId<N>> for Desk<D, N> {
     ghost use Rattle.std.specs.Prelude.{◌≡◌};
     ghost use Rattle.std.proofs.Common.{arith};
     ghost use Rattle.shared_service.specs.Records.{book_in};

@@ -17,6 +17,6 @@ mod turns;
 #[derive(Drop)]
 pub struct Shared<D: Disk, N: Entropy> {
     alloc: Global,
-    lock: TurnLock<Desk<D, N>, BookEntry, ServiceId>,
+    lock: TurnLock<Desk<D, N>, BookEntry, ServiceId<N>>,
     passes: u32,
 }

@@ -3,6 +3,7 @@ use Rattle.std.proofs.Common.{◌≡◌, inl, inr, ℕ, List, [], ◌∷◌}
 use Rattle.journal_records.specs.Holding.{Holding, IsMember, Sure, Unsure}
 use Rattle.journal_records.specs.LastingPart.{Lasting}
 use Rattle.key_database.specs.Store.{MayBe, StandsFor}
+use Rattle.key_database.specs.StoredChanges.{stored_by}
 use Rattle.rule_model.specs.Setup.{Setup}
 use Rattle.rule_model.specs.Stored.{holding_of}
 use Rattle.rule_model.specs.Uses.{AreRuns, BeginsAfter, UsesLaw}
@@ -14,18 +15,15 @@ use Rattle.store_runs.specs.Runs.{AreStoredRuns, Reads, StoredRun, StoredUsesLaw
 abbrev pub OnePart : Type 0
 OnePart = (part other : Lasting) (image : List ℕ) → StandsFor part image → StandsFor other image → part ≡ other
 
-stands_for : (setup : Setup) (image : List ℕ) → IsStart setup image → StandsFor setup.start image
-stands_for setup image is = record { past = is.past; changes = is.changes; journal = is.journal; lasting = is.lasting }
-
 member : OnePart → (held : Holding) (part : Lasting) (image : List ℕ) → StandsFor part image → MayBe held image → IsMember held part
 member one (Sure known) part image stands is = one part known image stands is
 member one (Unsure known later) part image stands (inl is) = inl (one part known image stands is)
 member one (Unsure known later) part image stands (inr is) = inr (one part later image stands is)
 
 begins_after : OnePart → (earlier : List StoredRun) (setup : Setup) → AreStoredRuns earlier → Reads earlier setup → BeginsAfter (runs_of earlier) setup.start
-begins_after one [] setup are read = (read.1.past, read.1.lasting)
+begins_after one [] setup are read = stored_by setup.start read.0 read.1.stands
 begins_after one (before ∷ earlier) setup are read =
-    rw (may_is before.run.setup before.run.past setup.start) (member one (holding_of before.run.setup before.run.past) setup.start before.image (stands_for setup before.image read) are.1)
+    rw (may_is before.run.setup before.run.past setup.start) (member one (holding_of before.run.setup before.run.past) setup.start before.image read.stands are.1)
 
 are_runs : OnePart → (stored : List StoredRun) → AreStoredRuns stored → AreRuns (runs_of stored)
 are_runs one [] are = are

@@ -294,12 +294,12 @@ fn the_look_ups_of_access(rt: HostRuntime) {
     assert!(rt; shared_found(rt.alloc()) == wanted);
 }
 
-/// Of the calls 6 to 9, which make the first key, the one that fails; how it settles, and how many keys there are then.
+/// Of the calls 8 to 11, which make the first key, the one that fails; how it settles, and how many keys there are then.
 static FAULTS: [(&[u64], Settled, u64); 4] = [
-    (&[6], Settled::Lost, 0),
-    (&[7], Settled::Lost, 0),
     (&[8], Settled::Lost, 0),
-    (&[9], Settled::Kept, 1),
+    (&[9], Settled::Lost, 0),
+    (&[10], Settled::Lost, 0),
+    (&[11], Settled::Kept, 1),
 ];
 
 /// How many keys the database of a disk has, opened anew.

@@ -71,12 +71,12 @@ fn opened(alloc: Global, disk: &mut MemoryDisk) -> Option<Journal> {
 
 /// How many changes a disk's journal has, opened anew.
 fn count<D: Disk>(alloc: Global, disk: &mut D) -> Result<usize, StoreFault> {
-    let (_, changes) = Journal::open(alloc, disk)?;
-    Ok(changes.as_slice().len())
+    let (_, records) = Journal::open(alloc, disk)?;
+    Ok(records.as_slice().len())
 }
 
-/// A use is added to a key with these calls of the disk failing: 1 to 5 format and open it, 6 to 9 add the key, 10
-/// to 13 the use, and the later ones settle.
+/// A use is added to a key with these calls of the disk failing: 1 to 7 format and open it, 8 to 11 add the key, 12
+/// to 15 the use, and the later ones settle.
 struct Fault {
     failing: &'static [u64],
     /// how many settlings fail before one succeeds
@@ -86,16 +86,6 @@ struct Fault {
 
 static FAULTS: [Fault; 8] = [
     Fault {
-        failing: &[10],
-        failed: 0,
-        settled: Settled::Lost,
-    },
-    Fault {
-        failing: &[11],
-        failed: 0,
-        settled: Settled::Lost,
-    },
-    Fault {
         failing: &[12],
         failed: 0,
         settled: Settled::Lost,
@@ -103,25 +93,35 @@ static FAULTS: [Fault; 8] = [
     Fault {
         failing: &[13],
         failed: 0,
+        settled: Settled::Lost,
+    },
+    Fault {
+        failing: &[14],
+        failed: 0,
+        settled: Settled::Lost,
+    },
+    Fault {
+        failing: &[15],
+        failed: 0,
         settled: Settled::Kept,
-    },
-    Fault {
-        failing: &[11, 12],
-        failed: 1,
-        settled: Settled::Lost,
-    },
-    Fault {
-        failing: &[12, 14],
-        failed: 1,
-        settled: Settled::Lost,
     },
     Fault {
         failing: &[13, 14],
         failed: 1,
+        settled: Settled::Lost,
+    },
+    Fault {
+        failing: &[14, 16],
+        failed: 1,
+        settled: Settled::Lost,
+    },
+    Fault {
+        failing: &[15, 16],
+        failed: 1,
         settled: Settled::Kept,
     },
     Fault {
-        failing: &[13, 15, 16],
+        failing: &[15, 17, 18],
         failed: 2,
         settled: Settled::Kept,
     },
@@ -303,10 +303,9 @@ impl Disk for LargeDisk {
         self.call();
         let count = self.size().saturating_sub(at).min(out.len() as u64) as usize;
         out.fill(0);
-        if at == 0 {
-            for i in 0..self.head.len().min(count) {
-                out[i] = self.head[i];
-            }
+        let front = &self.head[self.head.len().min(at as usize)..];
+        for i in 0..front.len().min(count) {
+            out[i] = front[i];
         }
         let list = self.blob.saturating_add(43);
         if at <= list && list - at < count as u64 {
@@ -346,9 +345,9 @@ fn add_at_end(
         blob,
         calls: 0,
     };
-    let (mut journal, changes) = Journal::open(alloc, &mut disk)?;
+    let (mut journal, records) = Journal::open(alloc, &mut disk)?;
     let before = disk.calls;
-    drop(changes);
+    drop(records);
     let added = add(&mut journal, &mut disk, USE);
     Ok((added, disk.calls.saturating_sub(before)))
 }
@@ -456,7 +455,7 @@ fn add_drawn(
 /// What is read of a disk, as two numbers: how many changes and where they end; or 2^64 - 1 and the offset.
 fn reading(alloc: Global, disk: &mut MemoryDisk) -> (u64, u64) {
     match Journal::open(alloc, disk) {
-        Ok((journal, changes)) => (changes.as_slice().len() as u64, journal.end()),
+        Ok((journal, records)) => (records.as_slice().len() as u64, journal.end()),
         Err(StoreFault::Corrupted { offset }) => (u64::MAX, offset),
         Err(_) => (u64::MAX, u64::MAX),
     }

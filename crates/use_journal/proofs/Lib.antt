@@ -1,3 +1,3 @@
-pub mod Sides
+pub mod Marked
+pub mod Readings
 pub mod Unique
-pub mod Walks

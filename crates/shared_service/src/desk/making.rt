@@ -17,11 +17,12 @@ use std::snapshot::Snapshot;
 
 impl<D: Disk, N: Entropy> Desk<D, N> {
     /// The name of a service that begins with these.
-    pub(crate) fn name_of(engine: &Engine, disk: &D, entropy: &N) -> ServiceId
-        ensures { IsNameOf engine.now (D.fault_count disk.now) (N.fault_count entropy.now) result }
+    pub(crate) fn name_of(engine: &Engine, disk: &D, entropy: &N) -> ServiceId<N>
+        ensures { IsNameOf engine.now (D.fault_count disk.now) (N.fault_count entropy.now) entropy.now result }
     {
         ServiceId {
             engine: Snapshot::of(engine),
+            drawn_from: Snapshot::of(entropy),
             disk: disk.faults(),
             entropy: entropy.faults(),
         }
@@ -33,7 +34,7 @@ impl<D: Disk, N: Entropy> Desk<D, N> {
         requires store { (setup : Setup) → Stands setup engine [] → StoreStands D.Disk setup engine disk [] }
         ensures book { desk_book result ≡ [] }
         ensures parts { (desk_engine result ≡ engine) × (desk_disk result ≡ disk) × (desk_entropy result ≡ entropy) }
-        ensures name { IsNameOf engine (D.fault_count disk) (N.fault_count entropy) (desk_name result) }
+        ensures name { IsNameOf engine (D.fault_count disk) (N.fault_count entropy) entropy (desk_name result) }
     {
         Desk {
             alloc,

@@ -94,7 +94,7 @@ impl<D: Disk, N: Entropy> Desk<D, N> {
     /// Why a request is refused for whose copies memory was wanting: a limit that it passes is told first.
     fn refusal(&self, request: &Request) -> Code
         requires short { length (body_of request.now) < 2 ^ 32 }
-        ensures { (name : ServiceId) (pass : ℕ) (reading : Reading) → is_parting request.now pass (log_of (desk_book self.now)) ≡ false
+        ensures { (name : ServiceId N) (pass : ℕ) (reading : Reading) → is_parting request.now pass (log_of (desk_book self.now)) ≡ false
             → Requests name pass (event_for reading request.now pass (log_of (desk_book self.now))) (desk_book self.now) (desk_book self.now) (Err result) }
     {
         if self.is_full(request.act(), frame_length(request)) {

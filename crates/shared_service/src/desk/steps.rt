@@ -79,15 +79,12 @@ impl<D: Disk, N: Entropy> Desk<D, N> {
         };
         self.book.settle(stamp, settled);
         let bytes = recorded_bytes(&copy.act, frame, &reply);
-        let copied = room.copy(&reply);
-        self.book.add(
-            stamp.entry(Entry::Acted {
-                event: copy,
-                drawn,
-                reply: copied,
-            }),
-            bytes,
-        );
+        let acted = Entry::Acted {
+            event: copy,
+            drawn,
+            reply: room.copy(&reply),
+        };
+        self.book.add(stamp.entry(acted), bytes);
         Step {
             first,
             last: self.book.len(),

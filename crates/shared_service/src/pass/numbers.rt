@@ -4,8 +4,9 @@ ghost use Rattle.std.specs.Prelude.{◌≡◌};
 ghost use Rattle.shared_service.specs.Passes.{connected_of, number_of};
 
 use super::Pass;
+use ks_outside::Entropy;
 
-impl Pass {
+impl<N: Entropy> Pass<N> {
     /// No other pass of its service has the same.
     pub fn number(&self) -> u64
         ensures { result ≡ number_of self.now }

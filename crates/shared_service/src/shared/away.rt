@@ -8,15 +8,16 @@ use crate::name::ServiceId;
 use crate::pass::{Kept, Pass};
 use crate::served::Served;
 use cipher_ops::Job;
+use ks_outside::Entropy;
 use rule_model::{Reading, Reply, ReplyRoom};
 use service_book::BookEntry;
 use turn_lock::RestingPass;
 
 /// The pass of a call whose ticket is out, with the room for the reply to the leave.
 #[derive(Drop)]
-pub(crate) struct Away {
-    pub(crate) seat: RestingPass<BookEntry, ServiceId>,
-    pub(crate) kept: Kept,
+pub(crate) struct Away<N> {
+    pub(crate) seat: RestingPass<BookEntry, ServiceId<N>>,
+    pub(crate) kept: Kept<N>,
     pub(crate) reading: Reading,
     pub(crate) first: u64,
     pub(crate) ticket: u64,
@@ -25,11 +26,11 @@ pub(crate) struct Away {
 
 /// How the first turn of a call ended.
 #[derive(Drop)]
-pub(crate) enum Asked {
+pub(crate) enum Asked<N: Entropy> {
     /// with the answer
-    Answered(Pass, Served),
+    Answered(Pass<N>, Served),
     /// with a work that is to be done
-    Out(Away, Job),
+    Out(Away<N>, Job),
 }
 
 /// The work of an enter that is admitted, with the room for the reply to its leave.

@@ -10,8 +10,9 @@ ghost use Rattle.wire_frames.specs.Replies.{reply_body};
 ghost use Rattle.wire_frames.specs.Spelling.{body_of};
 ghost use Rattle.shared_service.specs.Answers.{AreAnswers};
 ghost use Rattle.shared_service.specs.Calls.{IsCall};
+ghost use Rattle.shared_service.specs.Drawn.{DrewFirst};
 ghost use Rattle.shared_service.specs.Kinds.{connected_after};
-ghost use Rattle.shared_service.specs.Passes.{IsOurs, IsSetupOf, connected_of, front_of, number_of, start_of};
+ghost use Rattle.shared_service.specs.Passes.{IsOurs, IsSetupOf, connected_of, entropy_of, front_of, number_of, start_of};
 
 use super::Shared;
 use super::away::Asked;
@@ -30,11 +31,11 @@ impl<D: Disk, N: Entropy> Shared<D, N> {
     pub fn call<R: Wait, G: Gate>(
         &self,
         rt: &R,
-        pass: Pass,
+        pass: Pass<N>,
         reading: Reading,
         request: Request,
         gate: &G,
-    ) -> (Pass, Served)
+    ) -> (Pass<N>, Served)
         requires ours { IsOurs self.now pass }
         requires short { length (body_of request) < 2 ^ 32 }
         ensures ours { IsOurs self.now result.0 }
@@ -45,6 +46,7 @@ impl<D: Disk, N: Entropy> Shared<D, N> {
         ensures told { length (reply_body result.1.reply) < 2 ^ 32 }
         ensures legal { (setup : Setup) → IsSetupOf self.now setup → ∥ Legal setup (history_of (log_of (front_of result.0))) ∥₁ }
         ensures caused { ∥ IsCaused (start_of self.now) (front_of result.0) ∥₁ }
+        ensures drew { ∥ DrewFirst N.Entropy (entropy_of self.now) (front_of result.0) ∥₁ }
         ensures complete { (setup : Setup) → IsSetupOf self.now setup → ∥ AreAnswers setup (log_of (front_of result.0)) ∥₁ }
     {
         match self.ask(rt, pass, reading, request) {

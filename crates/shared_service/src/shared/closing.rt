@@ -13,8 +13,9 @@ ghost use Rattle.service_book.specs.Book.{AreLater, IsCaused, counts_after, hist
 ghost use Rattle.shared_service.specs.declared.pass.Pass.{Pass};
 ghost use Rattle.shared_service.specs.Closings.{TookFront};
 ghost use Rattle.shared_service.specs.Desks.{counts_of};
+ghost use Rattle.shared_service.specs.Drawn.{DrewAll};
 ghost use Rattle.shared_service.specs.Owning.{by};
-ghost use Rattle.shared_service.specs.Passes.{HasAll, IsOurs, IsSetupOf, RestsAt, front_of, number_of, passes_of, start_of};
+ghost use Rattle.shared_service.specs.Passes.{HasAll, IsOurs, IsSetupOf, RestsAt, entropy_of, front_of, number_of, passes_of, start_of};
 
 use super::Shared;
 use crate::desk::Desk;
@@ -27,18 +28,18 @@ use std::sync::Wait;
 use turn_lock::{Closing, TurnLock};
 
 /// The place of the pass with this number.
-fn place_of(passes: &[Pass], number: u64) -> Option<usize>
-    ensures { result ≡ position (λ (p : Pass). number_of p == number) passes.now }
+fn place_of<N: Entropy>(passes: &[Pass<N>], number: u64) -> Option<usize>
+    ensures { result ≡ position (λ (p : Pass N N.Entropy). number_of p == number) passes.now }
 {
     passes.iter().position(|pass| pass.number() == number)
 }
 
 /// Takes passes in.
 fn take_in<D: Disk, N: Entropy>(
-    lock: &TurnLock<Desk<D, N>, BookEntry, ServiceId>,
-    closing: Closing<Desk<D, N>, BookEntry, ServiceId>,
-    passes: Vec<Pass>,
-) -> Closing<Desk<D, N>, BookEntry, ServiceId>
+    lock: &TurnLock<Desk<D, N>, BookEntry, ServiceId<N>>,
+    closing: Closing<Desk<D, N>, BookEntry, ServiceId<N>>,
+    passes: Vec<Pass<N>>,
+) -> Closing<Desk<D, N>, BookEntry, ServiceId<N>>
     requires closing { IsClosingOf lock.now closing }
     requires ours { All (RestsAt (lock_id lock.now) (name_of lock.now)) passes.items }
     ensures closing { IsClosingOf lock.now result }
@@ -58,7 +59,7 @@ fn take_in<D: Disk, N: Entropy>(
 impl<D: Disk, N: Entropy> Shared<D, N> {
     /// Ends the service, with all the passes that it was made with, each once. It gives the engine, the devices and the book,
     /// and takes no memory.
-    pub fn close<R: Wait>(self, rt: &R, passes: Vec<Pass>) -> (Engine, D, N, Book)
+    pub fn close<R: Wait>(self, rt: &R, passes: Vec<Pass<N>>) -> (Engine, D, N, Book)
         requires some { 0 < passes_of self }
         requires ours { All (IsOurs self) passes.items }
         requires all { HasAll (passes_of self) passes.items }
@@ -69,6 +70,7 @@ impl<D: Disk, N: Entropy> Shared<D, N> {
         ensures own { All (λ p. own by (number_of p) result.3 ≡ own by (number_of p) (front_of p)) passes.items }
         ensures none { (number : ℕ) → passes_of self ≤ number → own by number result.3 ≡ [] }
         ensures counts { AreLater (counts_after (start_of self) (log_of result.3)) (counts_of D.Disk N.Entropy result.1 result.2) }
+        ensures drew { ∥ DrewAll N.Entropy (entropy_of self) result.2 result.3 ∥₁ }
         ensures stands { (setup : Setup) → IsSetupOf self setup → ∥ Stands setup result.0 (history_of (log_of result.3)) ∥₁ }
         ensures store { (setup : Setup) → IsSetupOf self setup → ∥ StoreStands D.Disk setup result.0 result.1 (history_of (log_of result.3)) ∥₁ }
     {

@@ -8,7 +8,7 @@ ghost use Rattle.rule_model.specs.Setup.{Setup};
 ghost use Rattle.keystore_core.specs.Engine.{Stands, StandsAtFirst, StoreStands};
 ghost use Rattle.shared_service.specs.declared.name.ServiceId.{ServiceId};
 ghost use Rattle.shared_service.specs.declared.pass.Pass.{Pass};
-ghost use Rattle.shared_service.specs.Passes.{AreNumbered, HasAll, HoldsMaker, IsNew, IsNewPass, IsOurs, engine_of, passes_of, start_of};
+ghost use Rattle.shared_service.specs.Passes.{AreNumbered, HasAll, HoldsMaker, IsNew, IsNewPass, IsOurs, engine_of, entropy_of, passes_of, start_of};
 
 use super::Shared;
 use crate::desk::Desk;
@@ -22,12 +22,12 @@ use tags::NoMemory;
 use turn_lock::{Maker, RestingMaker, RestingPass, TurnLock};
 
 /// A pass that has seen nothing and has no client.
-fn new_pass(
-    pass: RestingPass<BookEntry, ServiceId>,
-    maker: Option<RestingMaker<BookEntry, ServiceId>>,
-) -> Pass
+fn new_pass<N: Entropy>(
+    pass: RestingPass<BookEntry, ServiceId<N>>,
+    maker: Option<RestingMaker<BookEntry, ServiceId<N>>>,
+) -> Pass<N>
     requires new { resting_front pass ≡ [] }
-    ensures { (lock : TableId) (name : ServiceId) (count : ℕ) → IsRestingPassAt lock name pass → HoldsMaker lock name count (resting_number pass) maker
+    ensures { (lock : TableId) (name : ServiceId N) (count : ℕ) → IsRestingPassAt lock name pass → HoldsMaker lock name count (resting_number pass) maker
         → IsNewPass lock name count (resting_number pass) result }
 {
     Pass {
@@ -41,7 +41,7 @@ fn new_pass(
 }
 
 /// Adds a pass at a place that there is.
-fn add_pass(passes: &mut Vec<Pass>, pass: Pass)
+fn add_pass<N: Entropy>(passes: &mut Vec<Pass<N>>, pass: Pass<N>)
     requires place { length passes.old.items < vec_capacity passes.old }
     ensures added { passes.new.items ≡ passes.old.items ++ pass ∷ [] }
     ensures places { vec_capacity passes.old ≤ vec_capacity passes.new }
@@ -55,9 +55,9 @@ fn add_pass(passes: &mut Vec<Pass>, pass: Pass)
 /// Adds so many new passes, numbered from 0, where there were none and are places for them. The last has the right to make
 /// passes.
 fn add_passes<D: Disk, N: Entropy>(
-    lock: &TurnLock<Desk<D, N>, BookEntry, ServiceId>,
-    maker: Maker<Desk<D, N>, BookEntry, ServiceId>,
-    passes: &mut Vec<Pass>,
+    lock: &TurnLock<Desk<D, N>, BookEntry, ServiceId<N>>,
+    maker: Maker<Desk<D, N>, BookEntry, ServiceId<N>>,
+    passes: &mut Vec<Pass<N>>,
     count: u32,
 )
     requires some { 0 < count }
@@ -66,7 +66,7 @@ fn add_passes<D: Disk, N: Entropy>(
     requires none { length passes.old.items ≡ 0 }
     requires places { count ≤ vec_capacity passes.old }
     ensures count { length passes.new.items ≡ count }
-    ensures each { (k : ℕ) (d : Pass) → k < count → IsNewPass (lock_id lock.now) (name_of lock.now) count k (get_or passes.new.items k d) }
+    ensures each { (k : ℕ) (d : Pass N N.Entropy) → k < count → IsNewPass (lock_id lock.now) (name_of lock.now) count k (get_or passes.new.items k d) }
 {
     let mut maker = maker;
     for _made in 1..count {
@@ -87,11 +87,12 @@ impl<D: Disk, N: Entropy> Shared<D, N> {
         disk: D,
         entropy: N,
         passes: u32,
-    ) -> Result<(Shared<D, N>, Vec<Pass>), (NoMemory, Engine, D, N)>
+    ) -> Result<(Shared<D, N>, Vec<Pass<N>>), (NoMemory, Engine, D, N)>
         requires some { 0 < passes }
         requires stands { ∥ StandsAtFirst engine ∥₁ }
         requires store { (setup : Setup) → Stands setup engine [] → StoreStands D.Disk setup engine disk [] }
         ensures engine { IfOk result (λ r. engine_of r.0 ≡ engine) }
+        ensures entropy { IfOk result (λ r. entropy_of r.0 ≡ entropy) }
         ensures counts { IfOk result (λ r. start_of r.0 ≡ record { disk = D.fault_count disk; entropy = N.fault_count entropy }) }
         ensures count { IfOk result (λ r. (passes_of r.0 ≡ passes) × (length r.1.items ≡ passes)) }
         ensures ours { IfOk result (λ r. All (IsOurs r.0) r.1.items) }

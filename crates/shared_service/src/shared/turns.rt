@@ -37,39 +37,39 @@ use turn_lock::{RestingPass, Turn};
 
 /// What a call changes of its pass's client.
 #[derive(Clone, Copy)]
-pub(crate) enum ClientChange {
+pub(crate) enum ClientAct {
     Connects,
     Parts,
     Other,
 }
 
-fn kind_of(act: &Act) -> ClientChange
+fn kind_of(act: &Act) -> ClientAct
     ensures { result ≡ kind_of act.now }
 {
     match act {
-        Act::Connect { .. } => ClientChange::Connects,
-        Act::Disconnect => ClientChange::Parts,
-        _ => ClientChange::Other,
+        Act::Connect { .. } => ClientAct::Connects,
+        Act::Disconnect => ClientAct::Parts,
+        _ => ClientAct::Other,
     }
 }
 
 /// The client of a pass, and whether it is connected, after a reply.
-fn client_after(kind: ClientChange, client: u64, connected: bool, reply: &Reply) -> (u64, bool)
+fn client_after(kind: ClientAct, client: u64, connected: bool, reply: &Reply) -> (u64, bool)
     ensures { (result.0, result.1) ≡ client_after kind reply.now (client, connected) }
 {
     let Reply::Done(fields) = reply else {
         return (client, connected);
     };
     match kind {
-        ClientChange::Connects => (fields.client.unwrap_or(client), true),
-        ClientChange::Parts => (client, false),
-        ClientChange::Other => (client, connected),
+        ClientAct::Connects => (fields.client.unwrap_or(client), true),
+        ClientAct::Parts => (client, false),
+        ClientAct::Other => (client, connected),
     }
 }
 
-impl Kept {
+impl<N> Kept<N> {
     /// The same, with the client that the pass has after a reply.
-    fn after(self, kind: ClientChange, reply: &Reply) -> Kept
+    fn after(self, kind: ClientAct, reply: &Reply) -> Kept<N>
         ensures client { (result.client, result.connected) ≡ spec_after kind reply.now (self.client, self.connected) }
         ensures maker { result.maker ≡ self.maker }
     {
@@ -95,9 +95,9 @@ fn refused(code: Code) -> Served
 
 impl<D: Disk, N: Entropy> Shared<D, N> {
     /// The pass with what it kept.
-    fn seated(&self, pass: RestingPass<BookEntry, ServiceId>, kept: Kept) -> Pass
+    fn seated(&self, pass: RestingPass<BookEntry, ServiceId<N>>, kept: Kept<N>) -> Pass<N>
         requires resting { IsRestingPassAt (service_lock self.now) (service_name self.now) pass }
-        requires seen { ∥ HasSeen (service_name self.now) (resting_number pass) (resting_front pass) kept.client kept.connected ∥₁ }
+        requires seen { ∥ HasSeen N.Entropy (service_name self.now) (resting_number pass) (resting_front pass) kept.client kept.connected ∥₁ }
         requires maker { HoldsMaker (service_lock self.now) (service_name self.now) (passes_of self.now) (resting_number pass) kept.maker }
         ensures ours { IsOurs self.now result }
         ensures number { number_of result ≡ resting_number pass }
@@ -110,11 +110,11 @@ impl<D: Disk, N: Entropy> Shared<D, N> {
     /// The end of a call that adds nothing: it gives its turn back, and its pass has then seen the whole book.
     fn turned_away(
         &self,
-        turn: Turn<Desk<D, N>, BookEntry, ServiceId>,
+        turn: Turn<Desk<D, N>, BookEntry, ServiceId<N>>,
         desk: Desk<D, N>,
-        kept: Kept,
+        kept: Kept<N>,
         code: Code,
-    ) -> Asked
+    ) -> Asked<N>
         requires turn { IsTurnAt by (service_lock self.now) (service_name self.now) turn }
         requires same { desk_book desk ≡ seen turn }
         requires fits { desk_name desk ≡ service_name self.now }
@@ -130,10 +130,10 @@ impl<D: Disk, N: Entropy> Shared<D, N> {
     pub(super) fn ask<R: Wait>(
         &self,
         rt: &R,
-        pass: Pass,
+        pass: Pass<N>,
         reading: Reading,
         request: Request,
-    ) -> Asked
+    ) -> Asked<N>
         requires ours { IsOurs self.now pass }
         requires short { length (body_of request) < 2 ^ 32 }
         ensures asks { Asks self.now pass reading request result }
@@ -173,10 +173,10 @@ impl<D: Disk, N: Entropy> Shared<D, N> {
     }
 
     /// The second turn of a call: its leave.
-    pub(super) fn bring_back<R: Wait>(&self, rt: &R, away: Away, back: Done) -> (Pass, Served)
+    pub(super) fn bring_back<R: Wait>(&self, rt: &R, away: Away<N>, back: Done) -> (Pass<N>, Served)
         requires away { IsOut self.now away }
         requires back { ∥ IsBack (service_name self.now) (resting_front away.seat) away.ticket back ∥₁ }
-        ensures brings { (pass : Pass) (reading : Reading) (act : Act) → IsAwayOf self.now pass reading act away → IsAnswered self.now pass reading act result.0 result.1 }
+        ensures brings { (pass : Pass N N.Entropy) (reading : Reading) (act : Act) → IsAwayOf self.now pass reading act away → IsAnswered self.now pass reading act result.0 result.1 }
     {
         let Away {
             seat,

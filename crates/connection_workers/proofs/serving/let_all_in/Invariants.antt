@@ -8,6 +8,6 @@ invariant-passes g l = record {
   ours : IsMakerOf l.lock l.maker;
   made : made_of l.maker ≡ l.place;
   count : length l.workers ≡ length l.fn.workers;
-  passes : (k : ℕ) (d : _) → k < l.place → IsLetIn l.lock (get_or l.workers k d);
+  passes : (k : ℕ) (d : _) → k < l.place → IsLetIn l.lock k (get_or l.workers k d);
   same : (k : ℕ) (d : _) → k < length l.fn.workers → answerer_of (get_or l.workers k d) ≡ answerer_of (get_or l.fn.workers k d);
 }

@@ -10,35 +10,35 @@ use Rattle.keystore_run.proofs.Openings.{fine, fresh_cause, runs_cause}
 use Rattle.keystore_run.proofs.Soaking.{soak_disk, soak_source, soak_usage}
 use Rattle.keystore_run.proofs.run.run_words.Goals as goal
 
-pub returns-in-Some-Run-true-default-default-clause-does : goal.returns-in-Some-Run-true-default-default-clause-does
-returns-in-Some-Run-true-default-default-clause-does g c = λ form said.
-    let same : Run true c.in-Some-Run-true-default-default.slots c.in-Some-Run-true-default-default.written ≡ form = cc (said, c.in-Some-Run-true-default-default.ensures.form, c.in-Some-Run-true-default-default.field-0-is) in
+pub returns-then-fresh-clause-does : goal.returns-then-fresh-clause-does
+returns-then-fresh-clause-does g c = λ form said.
+    let same : Run true c.in-Some-Run.slots c.in-Some-Run.written ≡ form = cc (said, c.in-Some-Run.ensures.form, c.in-Some-Run.field-0-is, c.if-fresh.true) in
     subst (λ (form : Form). Does g.S.Source g.K.Sink g.D.Disk g.N.Entropy c.args.device.now c.args.policy.now form
-    (outside c.args.source.now c.args.sink.now c.args.disk.now c.args.entropy.now) (outside c.serve_fresh.new.source c.serve_fresh.new.sink c.serve_fresh.new.disk c.serve_fresh.new.entropy) c.serve_fresh.result)
+    (outside c.args.source.now c.args.sink.now c.args.disk.now c.args.entropy.now) (outside c.serve_fresh.new.handed.0 c.serve_fresh.new.handed.1.0 c.serve_fresh.new.handed.1.1.0 c.serve_fresh.new.handed.1.1.1.0) c.serve_fresh.result)
     same c.serve_fresh.ensures.runs
 
-pub returns-in-Some-Run-false-default-default-clause-does : goal.returns-in-Some-Run-false-default-default-clause-does
-returns-in-Some-Run-false-default-default-clause-does g c = λ form said.
-    let same : Run false c.in-Some-Run-false-default-default.slots c.in-Some-Run-false-default-default.written ≡ form = cc (said, c.in-Some-Run-false-default-default.ensures.form, c.in-Some-Run-false-default-default.field-0-is) in
+pub returns-else-fresh-clause-does : goal.returns-else-fresh-clause-does
+returns-else-fresh-clause-does g c = λ form said.
+    let same : Run false c.in-Some-Run.slots c.in-Some-Run.written ≡ form = cc (said, c.in-Some-Run.ensures.form, c.in-Some-Run.field-0-is, c.if-fresh.false) in
     subst (λ (form : Form). Does g.S.Source g.K.Sink g.D.Disk g.N.Entropy c.args.device.now c.args.policy.now form
-    (outside c.args.source.now c.args.sink.now c.args.disk.now c.args.entropy.now) (outside c.serve_store.new.source c.serve_store.new.sink c.serve_store.new.disk c.serve_store.new.entropy) c.serve_store.result)
+    (outside c.args.source.now c.args.sink.now c.args.disk.now c.args.entropy.now) (outside c.serve_store.new.handed.0 c.serve_store.new.handed.1.0 c.serve_store.new.handed.1.1.0 c.serve_store.new.handed.1.1.1.0) c.serve_store.result)
     same c.serve_store.ensures.since_call
 
-pub returns-in-Some-Run-true-default-default-clause-disk_faults : goal.returns-in-Some-Run-true-default-default-clause-disk_faults
-returns-in-Some-Run-true-default-default-clause-disk_faults g c = fresh_cause g.S.Source g.K.Sink g.D.Disk g.N.Entropy _ _ _ _ c.serve_fresh.ensures.runs
+pub returns-then-fresh-clause-disk_faults : goal.returns-then-fresh-clause-disk_faults
+returns-then-fresh-clause-disk_faults g c = fresh_cause g.S.Source g.K.Sink g.D.Disk g.N.Entropy _ _ _ _ c.serve_fresh.ensures.runs
 
-pub returns-in-Some-Run-false-default-default-clause-disk_faults : goal.returns-in-Some-Run-false-default-default-clause-disk_faults
-returns-in-Some-Run-false-default-default-clause-disk_faults g c = runs_cause g.S.Source g.K.Sink g.D.Disk g.N.Entropy _ (λ opened. c.args.disk.now) _ _ _ (λ setup opened read. refl) c.serve_store.ensures.since_call
+pub returns-else-fresh-clause-disk_faults : goal.returns-else-fresh-clause-disk_faults
+returns-else-fresh-clause-disk_faults g c = runs_cause g.S.Source g.K.Sink g.D.Disk g.N.Entropy _ (λ opened. c.args.disk.now) _ _ _ (λ setup opened read. refl) c.serve_store.ensures.since_call
 
-pub returns-in-Some-Run-true-default-default-clause-complete : goal.returns-in-Some-Run-true-default-default-clause-complete
-returns-in-Some-Run-true-default-default-clause-complete g c = λ fresh slots written start bytes said ready fine.
+pub returns-then-fresh-clause-complete : goal.returns-then-fresh-clause-complete
+returns-then-fresh-clause-complete g c = λ fresh slots written start bytes said ready fine.
     does_complete g.S.Source g.K.Sink g.D.Disk g.N.Entropy c.args.device.now c.args.policy.now fresh slots written start bytes _ _ _
-    (returns-in-Some-Run-true-default-default-clause-does g c (Run fresh slots written) said) ready fine
+    (returns-then-fresh-clause-does g c (Run fresh slots written) said) ready fine
 
-pub returns-in-Some-Run-false-default-default-clause-complete : goal.returns-in-Some-Run-false-default-default-clause-complete
-returns-in-Some-Run-false-default-default-clause-complete g c = λ fresh slots written start bytes said ready fine.
+pub returns-else-fresh-clause-complete : goal.returns-else-fresh-clause-complete
+returns-else-fresh-clause-complete g c = λ fresh slots written start bytes said ready fine.
     does_complete g.S.Source g.K.Sink g.D.Disk g.N.Entropy c.args.device.now c.args.policy.now fresh slots written start bytes _ _ _
-    (returns-in-Some-Run-false-default-default-clause-does g c (Run fresh slots written) said) ready fine
+    (returns-else-fresh-clause-does g c (Run fresh slots written) said) ready fine
 
 pub returns-in-Some-Soak-clause-usage : goal.returns-in-Some-Soak-clause-usage
 returns-in-Some-Soak-clause-usage g c = (λ e. absurd (soak_usage g.K.Sink _ _ _ _ _ c.soak.ensures.soaks e), λ none. absurd (cc (none, c.in-Some-Soak.ensures.form)))

@@ -52,15 +52,15 @@ returns-then-is_empty-clause-ends g c = λ setup begin for unwritten.
     let none : length c.fill.new.self.bytes ≡ 0 = rw whole at (is_zero (length c.line-line-in-End.result.now) _ c.is_empty.ensures c.if-is_empty.true) in
     ends_empty g.S.Source g.K.Sink g.D.Disk g.N.Entropy g.met.D.Disk.only_now c.args.written setup _ _ _ _ _ _ going found.end found.few none
 
-pub returns-in-Ok-clause-ends : goal.returns-in-Ok-clause-ends
-returns-in-Ok-clause-ends g c = λ setup begin for unwritten.
+pub returns-in-End-clause-ends : goal.returns-in-End-clause-ends
+returns-in-End-clause-ends g c = λ setup begin for unwritten.
     let more = c.in-End.ensures.bytes in
     let going = fills g.S.Source g.K.Sink g.D.Disk g.N.Entropy g.met.D.Disk.only_now c.args.written setup _ _ c.fill.new.source _ _ c.fill.new.self.bytes more.0 _ c.fill.new.self.taken _ false (c.lines.invariant.going setup begin for unwritten) more.1 more.2 more.3 in
     let found = c.in-End.ensures.found in
     let whole = whole_line c.fill.new.self.bytes c.line-line-in-End.result.now c.held.result c.line-line-in-End.ensures c.held.ensures in
     let some : 0 < length c.fill.new.self.bytes = rw whole at (is_some_length (length c.line-line-in-End.result.now) _ c.is_empty.ensures c.if-is_empty.false) in
     (ends_last g.S.Source g.K.Sink g.D.Disk g.N.Entropy g.met.D.Disk.only_now c.args.written setup _ _ c.serve_line-in-End.new.sink c.serve_line-in-End.new.disk c.serve_line-in-End.new.entropy _ _ _ _ _ going found.opened.free found.opened.short found.end found.few some
-    (rw whole at (c.in-Ok.ensures.serves setup going.past going.stands)))
+    (rw whole at (c.in_default-serve_line.ensures.serves setup going.past going.stands)))
 
 pub returns-in-Err-serve_line-clause-ends : goal.returns-in-Err-serve_line-clause-ends
 returns-in-Err-serve_line-clause-ends g c = λ setup begin for unwritten.

@@ -10,13 +10,13 @@ use Rattle.tags.specs.declared.limits.TheConstants.{SCRIPT_BYTES}
 
 abbrev pub invariant-lines : goal.invariant-lines
 invariant-lines g l = record {
-  going : (setup : Setup) (begin : g.row.D.Denot) → StandsFor g.D.Disk setup l.fn.session l.fn.disk [] → IsUnwritten g.D.Disk begin l.fn.disk
-      → Going g.S.Source g.K.Sink g.D.Disk g.N.Entropy g.met.D.Disk.only_now l.fn.written setup (outside l.fn.source l.fn.sink begin l.fn.entropy) (outside l.source l.sink l.disk l.entropy) l.session l.reader.bytes l.reader.taken l.served false;
+  going : (setup : Setup) (begin : g.row.D.Denot) → StandsFor g.D.Disk setup l.fn.session l.fn.handed.disk.now [] → IsUnwritten g.D.Disk begin l.fn.handed.disk.now
+      → Going g.S.Source g.K.Sink g.D.Disk g.N.Entropy g.met.D.Disk.only_now l.fn.written setup (outside l.fn.handed.source.now l.fn.handed.sink.now begin l.fn.handed.entropy.now) (outside l.source l.sink l.disk l.entropy) l.session l.reader.bytes l.reader.taken l.served false;
   entries : entries_in l.session ≤ l.served + l.served + l.served;
   bytes : l.served + length l.reader.bytes ≤ l.reader.taken;
   taken : l.reader.taken ≤ SCRIPT_BYTES;
-  source : CountsFaults (g.S.Source.fault_count l.fn.source) (g.S.Source.fault_count l.source) false;
-  sink : CountsFaults (g.K.Sink.fault_count l.fn.sink) (g.K.Sink.fault_count l.sink) false;
+  source : CountsFaults (g.S.Source.fault_count l.fn.handed.source.now) (g.S.Source.fault_count l.source) false;
+  sink : CountsFaults (g.K.Sink.fault_count l.fn.handed.sink.now) (g.K.Sink.fault_count l.sink) false;
 }
 
 abbrev pub decreases-lines : goal.decreases-lines

@@ -7,11 +7,11 @@ use Rattle.keystore_run.proofs.run.serve_store.Goals as goal
 
 pub returns-in-Err-clause-since_call : goal.returns-in-Err-clause-since_call
 returns-in-Err-clause-since_call g c = rw c.refusal.ensures (Refused (record { source = refl; sink = refl; entropy = refl })
-    (refused g.D.Disk c.args.disk.now c.open.new.disk c.in-Err.fault c.in-Err.ensures.goes c.in-Err.ensures.reads c.in-Err.ensures.finds))
+    (refused g.D.Disk c.args.handed.disk.now c.open.new.disk c.in-Err.fault c.in-Err.ensures.goes c.in-Err.ensures.reads c.in-Err.ensures.finds))
 
 pub returns-in-Err-clause-since_opened : goal.returns-in-Err-clause-since_opened
 returns-in-Err-clause-since_opened g c = rw c.refusal.ensures (Refused (record { source = refl; sink = refl; entropy = refl })
-    (refused g.D.Disk c.args.disk.now c.open.new.disk c.in-Err.fault c.in-Err.ensures.goes c.in-Err.ensures.reads c.in-Err.ensures.finds))
+    (refused g.D.Disk c.args.handed.disk.now c.open.new.disk c.in-Err.fault c.in-Err.ensures.goes c.in-Err.ensures.reads c.in-Err.ensures.finds))
 
 pub new-session-requires : goal.new-session-requires
 new-session-requires g c = ∣ record {
@@ -26,7 +26,7 @@ returns-clause-since_call g c =
     let setup : Setup = setup_of c.args.device.now c.args.policy.now c.args.slots c.in-Ok-open.engine in
     let opens = is_opened c.args.device.now c.args.policy.now c.args.slots c.in-Ok-open.engine in
     let disk = c.open.new.disk in
-    let unwritten : IsUnwritten g.D.Disk c.args.disk.now disk = unwritten_of g.D.Disk c.args.disk.now disk c.in-Ok-open.ensures.goes in
+    let unwritten : IsUnwritten g.D.Disk c.args.handed.disk.now disk = unwritten_of g.D.Disk c.args.handed.disk.now disk c.in-Ok-open.ensures.goes in
     Opened disk (record {
       setup = setup;
       is = record { device_is = refl; policy_is = refl; slots_are = refl };
@@ -36,7 +36,7 @@ returns-clause-since_call g c =
         finds = c.in-Ok-open.ensures.finds;
         unwritten = unwritten;
       };
-      ends = c.serve_script-status.ensures.ends setup c.args.disk.now
+      ends = c.serve_script-status.ensures.ends setup c.args.handed.disk.now
           (session_stands g.D.Disk setup c.in-Ok-open.engine c.new-session.result disk c.new-session.ensures.engine (c.in-Ok-open.ensures.stands setup opens) (c.in-Ok-open.ensures.holds setup opens) (c.new-session.ensures.jobs setup)) unwritten;
     })
 
@@ -45,7 +45,7 @@ returns-clause-since_opened g c =
     let setup : Setup = setup_of c.args.device.now c.args.policy.now c.args.slots c.in-Ok-open.engine in
     let opens = is_opened c.args.device.now c.args.policy.now c.args.slots c.in-Ok-open.engine in
     let disk = c.open.new.disk in
-    let unwritten : IsUnwritten g.D.Disk c.args.disk.now disk = unwritten_of g.D.Disk c.args.disk.now disk c.in-Ok-open.ensures.goes in
+    let unwritten : IsUnwritten g.D.Disk c.args.handed.disk.now disk = unwritten_of g.D.Disk c.args.handed.disk.now disk c.in-Ok-open.ensures.goes in
     Opened disk (record {
       setup = setup;
       is = record { device_is = refl; policy_is = refl; slots_are = refl };

@@ -4,7 +4,7 @@ use denote.Exit.{no}
 use denote.Param.{param}
 use denote.Param.Send.{Quiet-if}
 use Rattle.keystore_server.proofs.Sending.{caller_send}
-use Rattle.keystore_server.proofs.Pairing.{all_answered, all_free, passes_served, passes_unserved}
+use Rattle.keystore_server.proofs.Pairing.{all_answered, all_free, listened, none_listened, passes_unserved}
 use Rattle.keystore_server.proofs.listening.serve_listener.Goals as goal
 
 pub serve_by-listener-requires-clause-some : goal.serve_by-listener-requires-clause-some
@@ -12,21 +12,31 @@ serve_by-listener-requires-clause-some g c = omega (arith, c.requires.some, c.ad
 
 pub serve_by-listener-requires-clause-free : goal.serve_by-listener-requires-clause-free
 serve_by-listener-requires-clause-free g c κs within =
-    all_free c.add_workers.new.workers.items (λ caller. caller.shared.now) (λ caller. caller.pass) c.args.shared.now c.args.passes.items c.add_workers.ensures.paired c.requires.idle
+    all_free c.add_workers.new.workers.items (λ caller. caller.shared.now) (λ caller. caller.clock.now) (λ caller. caller.pass) c.args.shared.now c.args.clock.now c.args.passes.items c.add_workers.ensures.paired c.requires.idle
 
 pub take_passes-requires-clause-answered : goal.take_passes-requires-clause-answered
 take_passes-requires-clause-answered g c =
-    all_answered c.add_workers.new.workers.items (λ caller. caller.shared.now) (λ caller. caller.pass) c.args.shared.now g.B.L.Link c.serve_by-listener.new.workers.items c.serve_by-listener.ensures.count
-    (all_free c.add_workers.new.workers.items (λ caller. caller.shared.now) (λ caller. caller.pass) c.args.shared.now c.args.passes.items c.add_workers.ensures.paired c.requires.idle) c.serve_by-listener.ensures.served
+    all_answered c.add_workers.new.workers.items (λ caller. caller.shared.now) (λ caller. caller.clock.now) (λ caller. caller.pass) c.args.shared.now c.args.clock.now g.C.Clock.shows g.B.L.Link g.B.HangsUp.leaves
+    c.serve_by-listener.ensures.served.arrivals c.serve_by-listener.new.workers.items c.serve_by-listener.ensures.count c.serve_by-listener.ensures.served.served
+    (all_free c.add_workers.new.workers.items (λ caller. caller.shared.now) (λ caller. caller.clock.now) (λ caller. caller.pass) c.args.shared.now c.args.clock.now c.args.passes.items c.add_workers.ensures.paired c.requires.idle)
+
+pub returns-in_default-clause-served : goal.returns-in_default-clause-served
+returns-in_default-clause-served g c =
+    none_listened g.B.L.Link c.args.shared.now (g.C.Clock.shows c.args.clock.now) g.B.HangsUp.leaves g.B.Listener c.args.connections c.args.listener c.args.passes.items c.requires.ours c.requires.idle
+
+pub returns-in_default-with_capacity-clause-served : goal.returns-in_default-with_capacity-clause-served
+returns-in_default-with_capacity-clause-served g c =
+    none_listened g.B.L.Link c.args.shared.now (g.C.Clock.shows c.args.clock.now) g.B.HangsUp.leaves g.B.Listener c.args.connections c.args.listener c.args.passes.items c.requires.ours c.requires.idle
 
 pub returns-clause-served : goal.returns-clause-served
 returns-clause-served g c =
-    passes_served c.add_workers.new.workers.items (λ caller. caller.shared.now) (λ caller. caller.pass) c.args.shared.now g.B.L.Link c.args.passes.items c.take_passes.new.passes.items c.serve_by-listener.new.workers.items
-    c.requires.ours c.add_workers.ensures.paired c.serve_by-listener.ensures.count c.serve_by-listener.ensures.served c.take_passes.ensures.paired
+    listened c.add_workers.new.workers.items (λ caller. caller.shared.now) (λ caller. caller.clock.now) (λ caller. caller.pass) c.args.shared.now c.args.clock.now g.C.Clock.shows g.B.L.Link g.B.HangsUp.leaves g.B.Listener c.args.connections c.args.listener
+    c.serve_by-listener.result.0 c.serve_by-listener.result.1 c.serve_by-listener.new.workers.items c.args.passes.items c.take_passes.new.passes.items c.serve_by-listener.ensures.count c.serve_by-listener.ensures.served
+    c.requires.ours c.add_workers.ensures.paired c.take_passes.ensures.paired
 
 pub returns-clause-unserved : goal.returns-clause-unserved
 returns-clause-unserved g c = λ wanting.
-    passes_unserved c.add_workers.new.workers.items (λ caller. caller.shared.now) (λ caller. caller.pass) c.args.shared.now c.args.passes.items c.take_passes.new.passes.items c.serve_by-listener.new.workers.items
+    passes_unserved c.add_workers.new.workers.items (λ caller. caller.shared.now) (λ caller. caller.clock.now) (λ caller. caller.pass) c.args.shared.now c.args.clock.now c.args.passes.items c.take_passes.new.passes.items c.serve_by-listener.new.workers.items
     c.add_workers.ensures.paired (c.serve_by-listener.ensures.unserved wanting) c.take_passes.ensures.paired
 
 pub serve_by-listener-requires-send-A : goal.serve_by-listener-requires-send-A

@@ -11,7 +11,7 @@ pub returns-in-Ok-clause-serves : goal.returns-in-Ok-clause-serves
 returns-in-Ok-clause-serves g c = λ form said.
     let same : c.in-Some.form ≡ form = cc (said, c.in-Some.ensures.form) in
     let setup = setup_of c.args.device.now c.args.policy.now 16 c.in-Ok.engine in
-    subst (λ (f : ServeForm). Serves g.B.Listener g.B.L.Link g.D.Disk g.N.Entropy c.args.device.now c.args.policy.now f c.args.listener c.args.disk c.args.entropy c.serve_opened.result) same
+    subst (λ (f : ServeForm). Serves g.B.Listener g.B.L.Link g.D.Disk g.N.Entropy (g.C.Clock.shows c.args.clock.now) g.B.HangsUp.leaves c.args.device.now c.args.policy.now f c.args.listener c.args.disk c.args.entropy c.serve_opened.result) same
     (Opened c.open.new.disk setup (record { device_is = refl; policy_is = refl; slots_are = refl })
     (record { stands = opened_images g.D.Disk c.args.device.now c.args.policy.now 16 c.in-Ok.engine c.open.new.disk (c.in-Ok.ensures.holds setup (is_opened c.args.device.now c.args.policy.now 16 c.in-Ok.engine)); images = c.in-Ok.ensures.goes.images; finds = c.in-Ok.ensures.finds; unwritten = unwritten_of g.D.Disk c.args.disk c.open.new.disk c.in-Ok.ensures.goes })
     (c.serve_opened.ensures.serves setup (c.in-Ok.ensures.stands setup (is_opened c.args.device.now c.args.policy.now 16 c.in-Ok.engine))))
@@ -19,25 +19,25 @@ returns-in-Ok-clause-serves g c = λ form said.
 pub returns-in-Ok-clause-listen_faults : goal.returns-in-Ok-clause-listen_faults
 returns-in-Ok-clause-listen_faults g c =
     let setup = setup_of c.args.device.now c.args.policy.now 16 c.in-Ok.engine in
-    serves_listened g.B.Listener g.B.L.Link g.D.Disk g.N.Entropy setup c.in-Some.form c.args.listener c.open.new.disk c.args.entropy c.serve_opened.result
+    serves_listened g.B.Listener g.B.L.Link g.D.Disk g.N.Entropy (g.C.Clock.shows c.args.clock.now) g.B.HangsUp.leaves setup c.in-Some.form c.args.listener c.open.new.disk c.args.entropy c.serve_opened.result
     (c.serve_opened.ensures.serves setup (c.in-Ok.ensures.stands setup (is_opened c.args.device.now c.args.policy.now 16 c.in-Ok.engine)))
 
 pub returns-in-Ok-clause-disk_faults : goal.returns-in-Ok-clause-disk_faults
 returns-in-Ok-clause-disk_faults g c = λ e.
     let setup = setup_of c.args.device.now c.args.policy.now 16 c.in-Ok.engine in
-    absurd (serves_disk g.B.Listener g.B.L.Link g.D.Disk g.N.Entropy setup c.in-Some.form c.args.listener c.open.new.disk c.args.entropy c.serve_opened.result
+    absurd (serves_disk g.B.Listener g.B.L.Link g.D.Disk g.N.Entropy (g.C.Clock.shows c.args.clock.now) g.B.HangsUp.leaves setup c.in-Some.form c.args.listener c.open.new.disk c.args.entropy c.serve_opened.result
     (c.serve_opened.ensures.serves setup (c.in-Ok.ensures.stands setup (is_opened c.args.device.now c.args.policy.now 16 c.in-Ok.engine))) e)
 
 pub returns-in-Ok-clause-complete : goal.returns-in-Ok-clause-complete
 returns-in-Ok-clause-complete g c = λ part stands told.
     let setup = setup_of c.args.device.now c.args.policy.now 16 c.in-Ok.engine in
-    serves_completed g.B.Listener g.B.L.Link g.D.Disk g.N.Entropy setup c.in-Some.form c.args.listener c.open.new.disk c.args.entropy c.serve_opened.result
+    serves_completed g.B.Listener g.B.L.Link g.D.Disk g.N.Entropy (g.C.Clock.shows c.args.clock.now) g.B.HangsUp.leaves setup c.in-Some.form c.args.listener c.open.new.disk c.args.entropy c.serve_opened.result
     (c.serve_opened.ensures.serves setup (c.in-Ok.ensures.stands setup (is_opened c.args.device.now c.args.policy.now 16 c.in-Ok.engine)))
 
 pub returns-in-Ok-clause-usage : goal.returns-in-Ok-clause-usage
 returns-in-Ok-clause-usage g c =
     let setup = setup_of c.args.device.now c.args.policy.now 16 c.in-Ok.engine in (
-      (λ e. absurd (serves_usage g.B.Listener g.B.L.Link g.D.Disk g.N.Entropy setup c.in-Some.form c.args.listener c.open.new.disk c.args.entropy c.serve_opened.result
+      (λ e. absurd (serves_usage g.B.Listener g.B.L.Link g.D.Disk g.N.Entropy (g.C.Clock.shows c.args.clock.now) g.B.HangsUp.leaves setup c.in-Some.form c.args.listener c.open.new.disk c.args.entropy c.serve_opened.result
           (c.serve_opened.ensures.serves setup (c.in-Ok.ensures.stands setup (is_opened c.args.device.now c.args.policy.now 16 c.in-Ok.engine))) e)),
       (λ none. absurd (cc (none, c.in-Some.ensures.form))),
     )
@@ -45,7 +45,7 @@ returns-in-Ok-clause-usage g c =
 pub returns-in-Ok-clause-untouched : goal.returns-in-Ok-clause-untouched
 returns-in-Ok-clause-untouched g c = λ e.
     let setup = setup_of c.args.device.now c.args.policy.now 16 c.in-Ok.engine in
-    absurd (serves_usage g.B.Listener g.B.L.Link g.D.Disk g.N.Entropy setup c.in-Some.form c.args.listener c.open.new.disk c.args.entropy c.serve_opened.result
+    absurd (serves_usage g.B.Listener g.B.L.Link g.D.Disk g.N.Entropy (g.C.Clock.shows c.args.clock.now) g.B.HangsUp.leaves setup c.in-Some.form c.args.listener c.open.new.disk c.args.entropy c.serve_opened.result
     (c.serve_opened.ensures.serves setup (c.in-Ok.ensures.stands setup (is_opened c.args.device.now c.args.policy.now 16 c.in-Ok.engine))) e)
 
 -- the store was not opened

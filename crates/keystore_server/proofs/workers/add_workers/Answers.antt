@@ -12,7 +12,7 @@ passes-init g c =
     let first = c.into_iter-left.ensures.rest in
     record {
       left = first ∙ ap (λ (n : ℕ). drop n c.args.passes.items) (sym none);
-      count = omega (arith, c.into_iter-left.ensures.len, ap (λ (l : List Pass). length l) first);
+      count = omega (arith, c.into_iter-left.ensures.len, ap (λ (l : List (Pass g.row.N.Denot g.N.Entropy)). length l) first);
       few = omega (arith, none);
       places = c.requires.places;
       each = λ k w less. absurd (omega (arith, none, less));
@@ -24,7 +24,7 @@ new-caller-requires g c =
     let k = length at.workers.items in
     let e : drop k c.args.passes.items ≡ c.in-Some.pass ∷ into_iter_items c.next.new.self = sym at.invariant.left ∙ c.in-Some.ensures.items in
     record {
-      ours = subst (λ (p : Pass). IsOurs c.args.shared.now p) (next_is c.args.passes.items k c.in-Some.pass (into_iter_items c.next.new.self) e c.in-Some.pass)
+      ours = subst (λ (p : Pass g.row.N.Denot g.N.Entropy). IsOurs c.args.shared.now p) (next_is c.args.passes.items k c.in-Some.pass (into_iter_items c.next.new.self) e c.in-Some.pass)
           (c.requires.ours k c.in-Some.pass (next_within c.args.passes.items k c.in-Some.pass (into_iter_items c.next.new.self) e));
     }
 
@@ -51,11 +51,11 @@ passes-preserved g c =
     let places = at.invariant.places in
     record {
       left = sym (ap (λ (n : ℕ). drop n c.args.passes.items) long ∙ next_rest c.args.passes.items k c.in-Some.pass left e);
-      count = omega (arith, was, shorter, ap (λ (l : List Pass). length l) c.in-Some.ensures.items);
+      count = omega (arith, was, shorter, ap (λ (l : List (Pass g.row.N.Denot g.N.Entropy)). length l) c.in-Some.ensures.items);
       few = omega (arith, within, long);
       places = omega (arith, places, room);
-      each = worker_more c.args.passes.items at.workers.items c.add.new.items.items c.of.result left c.in-Some.pass c.new-caller.result (λ pass caller. (caller.shared.now ≡ c.args.shared.now) × (caller.pass ≡ pass))
-          c.add.ensures.added e c.of.ensures (c.new-caller.ensures.shared, c.new-caller.ensures.pass) at.invariant.each;
+      each = worker_more c.args.passes.items at.workers.items c.add.new.items.items c.of.result left c.in-Some.pass c.new-caller.result (λ pass caller. (caller.shared.now ≡ c.args.shared.now) × (caller.clock.now ≡ c.args.clock.now) × (caller.pass ≡ pass))
+          c.add.ensures.added e c.of.ensures (c.new-caller.ensures.shared, c.new-caller.ensures.clock, c.new-caller.ensures.pass) at.invariant.each;
     }
 
 pub returns : goal.returns

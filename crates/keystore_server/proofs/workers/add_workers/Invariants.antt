@@ -10,7 +10,7 @@ invariant-passes g l = record {
   count : into_iter_len l.left ≡ length (into_iter_items l.left);
   few : length l.workers.items ≤ length l.fn.passes.items;
   places : length l.fn.passes.items ≤ vec_capacity l.workers;
-  each : (k : ℕ) (w : _) → k < length l.workers.items → Suited l.fn.passes.items k (get_or l.workers.items k w) (λ pass caller. (caller.shared.now ≡ l.shared) × (caller.pass ≡ pass));
+  each : (k : ℕ) (w : _) → k < length l.workers.items → Suited l.fn.passes.items k (get_or l.workers.items k w) (λ pass caller. (caller.shared.now ≡ l.shared) × (caller.clock.now ≡ l.clock) × (caller.pass ≡ pass));
 }
 
 abbrev pub decreases-passes : goal.decreases-passes

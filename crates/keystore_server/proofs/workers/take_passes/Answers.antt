@@ -26,7 +26,7 @@ answerer_in-requires g c =
     let left = into_iter_items c.next.new.self in
     let e : drop k c.args.workers.items ≡ w ∷ left = sym at.invariant.left ∙ c.in-Some.ensures.items in
     let a = c.requires.answered k w (next_within c.args.workers.items k w left e) in
-    (a.0, sym (ap (λ (u : Worker _ _). answerer_of u) (next_is c.args.workers.items k w left e w)) ∙ a.1)
+    (a.0, sym (ap (λ (u : Worker _ _ _). answerer_of u) (next_is c.args.workers.items k w left e w)) ∙ a.1)
 
 pub add-requires : goal.add-requires
 add-requires g c =

@@ -11,7 +11,7 @@ invariant-workers g l = record {
   count : into_iter_len l.left ≡ length (into_iter_items l.left);
   few : length l.passes.items ≤ length l.fn.workers.items;
   places : length l.fn.workers.items ≤ vec_capacity l.passes;
-  each : (k : ℕ) (p : Pass) → k < length l.passes.items → Taken l.fn.workers.items k (get_or l.passes.items k p) (λ pass caller. caller.pass ≡ pass);
+  each : (k : ℕ) (p : Pass g.row.N.Denot g.N.Entropy) → k < length l.passes.items → Taken l.fn.workers.items k (get_or l.passes.items k p) (λ pass caller. caller.pass ≡ pass);
 }
 
 abbrev pub decreases-workers : goal.decreases-workers

@@ -20,17 +20,17 @@ invariant_of-self-in-Err-Device g c = record {
 pub returns-in-Ok-clause-commits : goal.returns-in-Ok-clause-commits
 returns-in-Ok-clause-commits g c before holds =
     commits_done g.D.Disk c.args.self.now _ c.args.disk.now c.append_change.new.disk c.args.change c.requires.settled c.requires.can.0 before holds
-    (λ past settled. c.in-Ok.ensures.appends past settled) c.make.ensures
+    (λ frame past is settled. c.in-Ok.ensures.appends frame past is settled) c.make.ensures
 
 pub returns-in-Err-Device-clause-commits : goal.returns-in-Err-Device-clause-commits
 returns-in-Err-Device-clause-commits g c before holds =
     commits_torn g.D.Disk c.args.self.now _ c.args.disk.now c.append_change.new.disk c.args.change c.requires.settled c.requires.can.0 before holds
-    (λ past settled. rw c.in-Err-Device.field-0-is at c.in-Err-Device.ensures.appends past settled) refl refl
+    (λ frame past is settled. rw c.in-Err-Device.field-0-is at c.in-Err-Device.ensures.appends frame past is settled) refl refl
 
 pub returns-in-Err-Full-clause-commits : goal.returns-in-Err-Full-clause-commits
 returns-in-Err-Full-clause-commits g c before holds =
     commits_none g.D.Disk c.args.self.now _ c.args.disk.now c.append_change.new.disk c.args.change c.requires.settled c.requires.can.0 before holds
-    (λ past settled. rw c.in-Err-Full.field-0-is at c.in-Err-Full.ensures.appends past settled) refl
+    (λ frame past is settled. rw c.in-Err-Full.field-0-is at c.in-Err-Full.ensures.appends frame past is settled) refl
     (c.in-Err-Full.ensures.same (ap Err c.in-Err-Full.field-0-is)).0
 
 pub returns-in-Err-Device-clause-made : goal.returns-in-Err-Device-clause-made

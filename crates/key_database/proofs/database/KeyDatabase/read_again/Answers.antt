@@ -8,7 +8,7 @@ returns-in-Ok-clause-same g c = λ held h told.
     let image = told_image g.D.Disk c.open.new.disk g.met.D.Disk.content_is_image (c.open.ensures.goes.goes.telling ∙ told) in
     c.same_store.ensures.no
     (same_found g.D.Disk c.args.self.now c.args.disk.now c.open.new.disk c.open.ensures.goes.images c.requires held h c.in-Ok.read (λ part all. c.in-Ok.ensures.stands part all told))
-    (same_read g.D.Disk c.args.self.now c.args.disk.now c.open.new.disk c.open.ensures.goes.images c.requires held h image.0 image.1 c.one_reading.ensures.changes c.in-Ok.read c.in-Ok.ensures.holds)
+    (same_read g.D.Disk c.args.self.now c.args.disk.now c.open.new.disk c.open.ensures.goes.images c.requires held h image.0 image.1 c.one_reading.ensures.records c.in-Ok.read c.in-Ok.ensures.holds)
 
 pub returns-in-Err-clause-same : goal.returns-in-Err-clause-same
 returns-in-Err-clause-same g c = λ held h told.

@@ -1,4 +1,4 @@
-use Rattle.std.proofs.Common.{◌≡◌, true, sym, ap, ◌∙◌, refl, subst}
+use Rattle.std.proofs.Common.{◌≡◌, true, ap, ◌∙◌, refl, subst}
 use Rattle.std.specs.Prelude.{IfOk}
 use Rattle.rule_model.specs.declared.facts.Conditions.{Conditions}
 use Rattle.keystore_core.proofs.Begun.{admitted_over, facts_are, gathered_facts, key_is}

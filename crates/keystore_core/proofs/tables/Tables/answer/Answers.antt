@@ -1,5 +1,4 @@
-use Rattle.std.proofs.Common.{◌≡◌, false, [], Ok, inl, refl, sym, ◌∙◌, arith, subst}
-use Rattle.rule_model.specs.Acts.{is_leave}
+use Rattle.std.proofs.Common.{◌≡◌, [], inl, refl, sym, ◌∙◌, arith, subst}
 use Rattle.rule_model.specs.Legal.{WithoutMemory}
 use Rattle.keystore_core.proofs.Standing.{at_none, leave_is, no_leave, stands_none, without_memory}
 use Rattle.rule_model.specs.declared.event.Act.TheVariants.{Leave}

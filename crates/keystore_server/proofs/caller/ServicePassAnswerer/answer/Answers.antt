@@ -14,8 +14,10 @@ pub returns-clause-answers : goal.returns-clause-answers
 returns-clause-answers g c =
     let call = c.call-pass.ensures in (
       c.new-caller.ensures.shared,
-      subst (λ (p : Pass). IsAnswered c.args.self.shared.now c.args.self.pass c.args.request c.call-pass.result.1.reply p) (sym c.new-caller.ensures.pass) (record {
+      c.new-caller.ensures.clock,
+      subst (λ (p : Pass g.row.N.Denot g.N.Entropy). IsAnswered c.args.self.shared.now (g.C.Clock.shows c.args.self.clock.now) c.args.self.pass c.args.request c.call-pass.result.1.reply p) (sym c.new-caller.ensures.pass) (record {
         reading = c.now-reading.result;
+        shown = c.now-reading.ensures.shown;
         served = c.call-pass.result.1;
         reply_is = refl;
         call = call.calls;
@@ -23,15 +25,16 @@ returns-clause-answers g c =
         ours = call.ours;
         legal = call.legal;
         caused = call.caused;
+        drew = call.drew;
         complete = call.complete;
       }),
     )
 
 pub returns-clause-stays : goal.returns-clause-stays
 returns-clause-stays g c = λ framed.
-    ap (λ (p : Pass). connected_of p) c.new-caller.ensures.pass ∙ (c.call-pass.ensures.connected ∙ stays_connected c.args.request c.call-pass.result.1.reply (connected_of c.args.self.pass) framed)
+    ap (λ (p : Pass g.row.N.Denot g.N.Entropy). connected_of p) c.new-caller.ensures.pass ∙ (c.call-pass.ensures.connected ∙ stays_connected c.args.request c.call-pass.result.1.reply (connected_of c.args.self.pass) framed)
 
 pub returns-clause-goes : goal.returns-clause-goes
 returns-clause-goes g c = λ is on.
     let both = goes_away c.args.request c.call-pass.result.1.reply (connected_of c.args.self.pass) is (c.call-pass.ensures.parts is on) in
-    (ap (λ (p : Pass). connected_of p) c.new-caller.ensures.pass ∙ (c.call-pass.ensures.connected ∙ both.0), both.1)
+    (ap (λ (p : Pass g.row.N.Denot g.N.Entropy). connected_of p) c.new-caller.ensures.pass ∙ (c.call-pass.ensures.connected ∙ both.0), both.1)

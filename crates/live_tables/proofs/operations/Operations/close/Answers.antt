@@ -1,12 +1,15 @@
 use Rattle.std.proofs.Common.{refl}
-use Rattle.live_tables.proofs.RowTable.{ordered, numbered_fewer}
+use Rattle.live_tables.proofs.RowTable.{numbered_fewer}
 use Rattle.live_tables.proofs.operations.Operations.close.Goals as goal
 
-pub drop_row-requires : goal.drop_row-requires
-drop_row-requires c = ordered c.args.self.now.rows.items _ c.args.self.now.order
-
 pub invariant_of-self : goal.invariant_of-self
-invariant_of-self c = record { order = rw c.drop_row.ensures.rows (numbered_fewer _ c.args.self.now.rows.items _ c.args.self.now.order) }
+invariant_of-self c = record { order = rw c.close.ensures.rows (numbered_fewer _ c.args.self.now.rows.rows _ c.args.self.now.order) }
 
 pub returns-clause-closes : goal.returns-clause-closes
-returns-clause-closes c = record { rows = c.drop_row.ensures.rows; given = refl }
+returns-clause-closes c = record { rows = c.close.ensures.rows; given = refl; most = c.close.ensures.most }
+
+pub returns-clause-room : goal.returns-clause-room
+returns-clause-room c = c.close.ensures.room
+
+pub returns-clause-fewer : goal.returns-clause-fewer
+returns-clause-fewer c = c.close.ensures.fewer

@@ -51,8 +51,8 @@ recorded_bytes-bytes-requires-clause-short g c =
     body_few (sizes_of c.args.prepared.event.act m.out) c.step-settled.result.reply (small_sizes c.args.prepared.event.act m.out m.few)
     (c.step-settled.ensures.fits t.setup (history_of (log_of (desk_book old))) m.out (t.stands t.setup t.is_setup) (m.back_is t.setup t.is_setup) (m.enough t.setup t.is_setup))))
 
-pub copy-copied-requires : goal.copy-copied-requires
-copy-copied-requires g c =
+pub copy-requires : goal.copy-requires
+copy-requires g c =
     let old = c.args.self.now in
     let reply = c.step-settled.result.reply in
     record {
@@ -76,8 +76,8 @@ invariant_of-self g c =
     let grown : book_in c.add.new.self ≡ desk_book old ++ entries_of c.args.pass (Step g.D.Disk g.N.Entropy old.disk c.step-settled.new.disk old.entropy c.step-settled.new.entropy c.args.prepared.event c.step-settled.result.settled c.step-settled.result.drawn c.step-settled.result.reply) =
     step_grown g.D.Disk g.N.Entropy old.name old.engine c.step-settled.new.self old.disk c.step-settled.new.disk old.entropy c.step-settled.new.entropy (desk_book old) c.args.pass c.args.prepared.event c.args.prepared.room c.args.back
     c.step-settled.result.settled c.step-settled.result.drawn c.step-settled.result.reply
-    (book_in c.settle.new.self) (book_in c.add.new.self) c.entry.result c.copy-copied.result c.args.prepared.copy c.faults-disk_before.result c.faults.result c.faults-entropy_before.result c.faults-2.result
-    c.faults-disk_before.ensures c.faults.ensures c.faults-entropy_before.ensures c.faults-2.ensures c.settle.ensures.added c.add.ensures.added c.entry.ensures c.requires.same c.copy-copied.ensures.copy in
+    (book_in c.settle.new.self) (book_in c.add.new.self) c.entry.result c.copy.result c.args.prepared.copy c.faults-disk_before.result c.faults.result c.faults-entropy_before.result c.faults-2.result
+    c.faults-disk_before.ensures c.faults.ensures c.faults-entropy_before.ensures c.faults-2.ensures c.settle.ensures.added c.add.ensures.added c.entry.ensures c.requires.same c.copy.ensures.copy in
     let log : log_of (book_in c.add.new.self) ≡ step_log c.args.pass (Step g.D.Disk g.N.Entropy old.disk c.step-settled.new.disk old.entropy c.step-settled.new.entropy c.args.prepared.event c.step-settled.result.settled c.step-settled.result.drawn c.step-settled.result.reply) (log_of (desk_book old)) = ap log_of grown ∙ log_step c.args.pass (Step g.D.Disk g.N.Entropy old.disk c.step-settled.new.disk old.entropy c.step-settled.new.entropy c.args.prepared.event c.step-settled.result.settled c.step-settled.result.drawn c.step-settled.result.reply) (desk_book old) in
     let bytes : acted_bytes c.args.prepared.event.act c.step-settled.result.reply ≡ c.recorded_bytes-bytes.result = ap (λ (e : Event). acted_bytes e.act c.step-settled.result.reply) (sym c.requires.same) ∙ sym c.recorded_bytes-bytes.ensures.bytes in
     let few = c.recorded_bytes-bytes.ensures.small in
@@ -91,7 +91,7 @@ invariant_of-self g c =
       stands = ∥∥₁_map₂ old.stands c.requires.may (λ t m. subst (IsDesk g.D.Disk g.N.Entropy old.name c.step-settled.new.self c.step-settled.new.disk c.step-settled.new.entropy) (sym grown)
           (desk_step g.D.Disk g.N.Entropy old.name old.engine c.step-settled.new.self old.disk c.step-settled.new.disk old.entropy c.step-settled.new.entropy (desk_book old) c.args.pass c.args.prepared.event c.args.prepared.room c.args.back
           c.step-settled.result.settled c.step-settled.result.drawn c.step-settled.result.reply t m c.step-settled.ensures.stands c.step-settled.ensures.follows c.step-settled.ensures.stays c.step-settled.ensures.store
-          c.step-settled.ensures.goes.cause c.step-settled.ensures.drew.faults));
+          c.step-settled.ensures.goes.cause c.step-settled.ensures.drew));
       places = ∥∥₁_elim weights le_prop (λ w. let a = w.0 in omega arith);
       few = ∥∥₁_elim weights le_prop (λ w. w.1);
       small = subst (λ (l : List BookEntry). recorded (log_of l) ≤ length l * 2 ^ 35) (sym grown)
@@ -105,8 +105,8 @@ returns-clause-made g c =
     let grown : book_in c.add.new.self ≡ desk_book old ++ entries_of c.args.pass (Step g.D.Disk g.N.Entropy old.disk c.step-settled.new.disk old.entropy c.step-settled.new.entropy c.args.prepared.event c.step-settled.result.settled c.step-settled.result.drawn c.step-settled.result.reply) =
     step_grown g.D.Disk g.N.Entropy old.name old.engine c.step-settled.new.self old.disk c.step-settled.new.disk old.entropy c.step-settled.new.entropy (desk_book old) c.args.pass c.args.prepared.event c.args.prepared.room c.args.back
     c.step-settled.result.settled c.step-settled.result.drawn c.step-settled.result.reply
-    (book_in c.settle.new.self) (book_in c.add.new.self) c.entry.result c.copy-copied.result c.args.prepared.copy c.faults-disk_before.result c.faults.result c.faults-entropy_before.result c.faults-2.result
-    c.faults-disk_before.ensures c.faults.ensures c.faults-entropy_before.ensures c.faults-2.ensures c.settle.ensures.added c.add.ensures.added c.entry.ensures c.requires.same c.copy-copied.ensures.copy in
+    (book_in c.settle.new.self) (book_in c.add.new.self) c.entry.result c.copy.result c.args.prepared.copy c.faults-disk_before.result c.faults.result c.faults-entropy_before.result c.faults-2.result
+    c.faults-disk_before.ensures c.faults.ensures c.faults-entropy_before.ensures c.faults-2.ensures c.settle.ensures.added c.add.ensures.added c.entry.ensures c.requires.same c.copy.ensures.copy in
     ∥∥₁_map₂ old.stands c.requires.may (λ t m. record {
       s = (Step g.D.Disk g.N.Entropy old.disk c.step-settled.new.disk old.entropy c.step-settled.new.entropy c.args.prepared.event c.step-settled.result.settled c.step-settled.result.drawn c.step-settled.result.reply);
       event_is = refl;
@@ -124,8 +124,8 @@ returns-clause-grown g c =
     grows_by c.args.pass s (desk_book old) (book_in c.add.new.self)
     (step_grown g.D.Disk g.N.Entropy old.name old.engine c.step-settled.new.self old.disk c.step-settled.new.disk old.entropy c.step-settled.new.entropy (desk_book old) c.args.pass c.args.prepared.event c.args.prepared.room c.args.back
     c.step-settled.result.settled c.step-settled.result.drawn c.step-settled.result.reply
-    (book_in c.settle.new.self) (book_in c.add.new.self) c.entry.result c.copy-copied.result c.args.prepared.copy c.faults-disk_before.result c.faults.result c.faults-entropy_before.result c.faults-2.result
-    c.faults-disk_before.ensures c.faults.ensures c.faults-entropy_before.ensures c.faults-2.ensures c.settle.ensures.added c.add.ensures.added c.entry.ensures c.requires.same c.copy-copied.ensures.copy)
+    (book_in c.settle.new.self) (book_in c.add.new.self) c.entry.result c.copy.result c.args.prepared.copy c.faults-disk_before.result c.faults.result c.faults-entropy_before.result c.faults-2.result
+    c.faults-disk_before.ensures c.faults.ensures c.faults-entropy_before.ensures c.faults-2.ensures c.settle.ensures.added c.add.ensures.added c.entry.ensures c.requires.same c.copy.ensures.copy)
 
 pub returns-clause-parts : goal.returns-clause-parts
 returns-clause-parts g c p =

@@ -14,7 +14,7 @@ use Rattle.shared_service.specs.Kinds.{client_after, kind_of}
 use Rattle.shared_service.specs.Owning.{event_for}
 use Rattle.shared_service.specs.Passes.{front_of, number_of, service_lock, service_name}
 use Rattle.shared_service.specs.Requests.{IsCaller, IsRequested}
-use Rattle.shared_service.specs.declared.shared.turns.ClientChange.{ClientChange}
+use Rattle.shared_service.specs.declared.shared.turns.ClientAct.{ClientAct}
 use Rattle.shared_service.specs.declared.shared.away.Sent.{Sent}
 use Rattle.shared_service.proofs.Calling.{recorded_once}
 use Rattle.shared_service.proofs.FirstTurn.{after_connected, call_at, caller_at, enter_after, entered_at, entered_made, extends_at, first_caller, front_at, job_at, job_away, refused_so, requested_parts, seen_made, sent_none, sent_some, turned_asks}
@@ -130,7 +130,7 @@ seated-requires-clause-seen g c =
     (c.in-Ok.ensures.requests c.args.reading (at_reading c.args.reading mine.kept.client mine.kept.connected c.args.request c.of-coming.result c.of-coming.ensures)) in
     let next : ℕ × Bool = (c.after-kept.result.client, c.after-kept.result.connected) in
     let is : next ≡ client_after (kind_of c.args.request) made.reply (mine.kept.client, mine.kept.connected) =
-    c.after-kept.ensures.client ∙ ap (λ (k : ClientChange). client_after k made.reply (mine.kept.client, mine.kept.connected)) (c.kind_of-kind.ensures ∙ ap kind_of c.act.ensures.act) in
+    c.after-kept.ensures.client ∙ ap (λ (k : ClientAct). client_after k made.reply (mine.kept.client, mine.kept.connected)) (c.kind_of-kind.ensures ∙ ap kind_of c.act.ensures.act) in
     let turned : turn_number c.enter-turn.result.0 ≡ n = c.enter-turn.ensures.number ∙ (c.wake.ensures.same.0 ∙ number) in
     let rested : resting_number c.rest-seat.result ≡ n = c.rest-seat.ensures.same.0 ∙ (c.leave.ensures.number ∙ turned) in
     let left = c.leave.ensures.front (added_some made.first made.last (desk_book old) (desk_book new) (longer_by n (desk_book old) (desk_book new) told.2) told.1) in
@@ -157,7 +157,7 @@ returns-in_default g c =
     (c.in-Ok.ensures.requests c.args.reading (at_reading c.args.reading mine.kept.client mine.kept.connected c.args.request c.of-coming.result c.of-coming.ensures)) in
     let next : ℕ × Bool = (c.after-kept.result.client, c.after-kept.result.connected) in
     let is : next ≡ client_after (kind_of c.args.request) made.reply (mine.kept.client, mine.kept.connected) =
-    c.after-kept.ensures.client ∙ ap (λ (k : ClientChange). client_after k made.reply (mine.kept.client, mine.kept.connected)) (c.kind_of-kind.ensures ∙ ap kind_of c.act.ensures.act) in
+    c.after-kept.ensures.client ∙ ap (λ (k : ClientAct). client_after k made.reply (mine.kept.client, mine.kept.connected)) (c.kind_of-kind.ensures ∙ ap kind_of c.act.ensures.act) in
     let turned : turn_number c.enter-turn.result.0 ≡ n = c.enter-turn.ensures.number ∙ (c.wake.ensures.same.0 ∙ number) in
     let rested : resting_number c.rest-seat.result ≡ n = c.rest-seat.ensures.same.0 ∙ (c.leave.ensures.number ∙ turned) in
     let left = c.leave.ensures.front (added_some made.first made.last (desk_book old) (desk_book new) (longer_by n (desk_book old) (desk_book new) told.2) told.1) in
@@ -198,7 +198,7 @@ returns g c =
     (c.in-Ok.ensures.requests c.args.reading (at_reading c.args.reading mine.kept.client mine.kept.connected c.args.request c.of-coming.result c.of-coming.ensures)) in
     let next : ℕ × Bool = (c.after-kept.result.client, c.after-kept.result.connected) in
     let is : next ≡ client_after (kind_of c.args.request) made.reply (mine.kept.client, mine.kept.connected) =
-    c.after-kept.ensures.client ∙ ap (λ (k : ClientChange). client_after k made.reply (mine.kept.client, mine.kept.connected)) (c.kind_of-kind.ensures ∙ ap kind_of c.act.ensures.act) in
+    c.after-kept.ensures.client ∙ ap (λ (k : ClientAct). client_after k made.reply (mine.kept.client, mine.kept.connected)) (c.kind_of-kind.ensures ∙ ap kind_of c.act.ensures.act) in
     let turned : turn_number c.enter-turn.result.0 ≡ n = c.enter-turn.ensures.number ∙ (c.wake.ensures.same.0 ∙ number) in
     let rested : resting_number c.rest-seat.result ≡ n = c.rest-seat.ensures.same.0 ∙ (c.leave.ensures.number ∙ turned) in
     let left = c.leave.ensures.front (added_some made.first made.last (desk_book old) (desk_book new) (longer_by n (desk_book old) (desk_book new) told.2) told.1) in

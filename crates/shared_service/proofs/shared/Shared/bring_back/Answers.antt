@@ -35,7 +35,7 @@ bring-step-requires g c =
           let entered = entered_at (service_name self) (desk_name old) (number_of out.pass) n away.kept.client away.kept.connected out.reading out.act (front_of out.pass) front front away.first away.ticket away.room
           (sym c.enter-turn.ensures.fits) (sym (c.number-number.ensures ∙ out.is.number_is)) refl e in
           may_leave (desk_name old) n away.ticket c.args.back away.room front (desk_book old) t.facts begins entered.is_out
-          (subst (λ (name : ServiceId). IsBack name front away.ticket c.args.back) (sym c.enter-turn.ensures.fits) b) entered.has_room);
+          (subst (λ (name : ServiceId g.row.N.Denot). IsBack name front away.ticket c.args.back) (sym c.enter-turn.ensures.fits) b) entered.has_room);
     }
 
 pub leave-requires-clause-grown : goal.leave-requires-clause-grown
@@ -68,7 +68,7 @@ seated-requires-clause-seen g c =
     let entered = entered_at (service_name self) (desk_name old) (number_of out.pass) n away.kept.client away.kept.connected out.reading out.act (front_of out.pass) front front away.first away.ticket away.room
     (sym c.enter-turn.ensures.fits) (sym (c.number-number.ensures ∙ out.is.number_is)) refl e in
     let left = subst (λ (r : Reading). HasLeft (desk_name old) n away.kept.client r away.ticket (desk_book old) (desk_book new) c.bring-step.result.reply) out.is.reading_is l in
-    subst (λ (z : ServiceId × ℕ × List BookEntry). HasSeen z.0 z.1 z.2 away.kept.client away.kept.connected) (λ i. (named i, sym rested i, sym fronted i))
+    subst (λ (z : ServiceId g.row.N.Denot × ℕ × List BookEntry). HasSeen g.N.Entropy z.0 z.1 z.2 away.kept.client away.kept.connected) (λ i. (named i, sym rested i, sym fronted i))
     (seen_of g.D.Disk g.N.Entropy new.name new.engine new.disk new.entropy (desk_book new) n away.kept.client away.kept.connected t
     (caller_left (desk_name old) n away.kept.client away.kept.connected out.reading out.act (front_of out.pass) front (desk_book old) (desk_book new) away.first away.ticket away.room c.bring-step.result.reply entered begins left)))
 

@@ -23,6 +23,11 @@ returns-in-Answered-clause-caused g c =
     let self = c.args.self.now in
     ∥∥₁_map (c.in-Answered.pass.seen (service_lock self) (service_name self) c.in-Answered.ensures.asks.ours.resting) (λ s. s.caused)
 
+pub returns-in-Answered-clause-drew : goal.returns-in-Answered-clause-drew
+returns-in-Answered-clause-drew g c =
+    let self = c.args.self.now in
+    ∥∥₁_map (c.in-Answered.pass.seen (service_lock self) (service_name self) c.in-Answered.ensures.asks.ours.resting) (λ s. s.drew)
+
 pub returns-in-Answered-clause-complete : goal.returns-in-Answered-clause-complete
 returns-in-Answered-clause-complete g c setup of =
     let self = c.args.self.now in
@@ -40,6 +45,12 @@ returns-in-Out-clause-caused g c =
     let self = c.args.self.now in
     let brought = c.bring_back.ensures.brings c.args.pass c.args.reading c.args.request c.in-Out.ensures.asks.0 in
     ∥∥₁_map (c.bring_back.result.0.seen (service_lock self) (service_name self) brought.ours.resting) (λ s. s.caused)
+
+pub returns-in-Out-clause-drew : goal.returns-in-Out-clause-drew
+returns-in-Out-clause-drew g c =
+    let self = c.args.self.now in
+    let brought = c.bring_back.ensures.brings c.args.pass c.args.reading c.args.request c.in-Out.ensures.asks.0 in
+    ∥∥₁_map (c.bring_back.result.0.seen (service_lock self) (service_name self) brought.ours.resting) (λ s. s.drew)
 
 pub returns-in-Out-clause-complete : goal.returns-in-Out-clause-complete
 returns-in-Out-clause-complete g c setup of =

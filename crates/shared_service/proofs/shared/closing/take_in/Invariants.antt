@@ -15,5 +15,5 @@ invariant-loop-next g l = record {
   closing : IsClosingOf l.lock l.closing;
   made : made_before l.closing ≡ made_before l.fn.closing;
   kept : (number : ℕ) (front : List BookEntry) → TookFront l.fn.closing number front → TookFront l.closing number front;
-  taking : IsTaking (λ (p : Pass). TookFront l.closing (number_of p) (front_of p)) l.fn.passes.items l.passes.items;
+  taking : IsTaking (λ (p : Pass g.row.N.Denot g.N.Entropy). TookFront l.closing (number_of p) (front_of p)) l.fn.passes.items l.passes.items;
 }

@@ -11,5 +11,5 @@ invariant-loop-made g l = record {
   made : made_of l.maker + 1 ≡ l._made;
   count : length l.passes.items + 1 ≡ l._made;
   places : l.count ≤ vec_capacity l.passes;
-  each : (k : ℕ) (d : Pass) → k < length l.passes.items → IsNewPass (lock_id l.lock) (name_of l.lock) l.count k (get_or l.passes.items k d);
+  each : (k : ℕ) (d : Pass g.row.N.Denot g.N.Entropy) → k < length l.passes.items → IsNewPass (lock_id l.lock) (name_of l.lock) l.count k (get_or l.passes.items k d);
 }

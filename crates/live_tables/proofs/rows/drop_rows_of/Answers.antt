@@ -1,7 +1,0 @@
--- What `retain` leaves are the rows at which the closure answers true.
-use Rattle.std.proofs.Common.{rules}
-use Rattle.std.proofs.lemmas.Fn.{filter_same}
-use Rattle.live_tables.proofs.rows.drop_rows_of.Goals as goal
-
-pub returns : goal.returns
-returns c = filter_same _ _ _ (λ x b f' k. search rules) _ _ c.retain.ensures.filtered
