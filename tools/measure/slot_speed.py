@@ -6,7 +6,7 @@ Each kind of step with 16 operations open beside 1,024, each of another uid: a b
 taken, an update of the operation that began last, an abort of the one that began first with a begin in its place, and
 a client that comes and goes. The time is that of the program's own processor, without that of a run that only makes
 what is open. It prints microseconds a line for both and their ratio, of the least of all rounds, which are taken by
-turns. Then the same of a look at the oldest idle operation of one of two uids, with 2 slots taken beside 64: its
+turns. Then the same of a look at the oldest idle operation of one of two uids, with 2 slots taken beside 1,024: its
 program (tools/measure/slot_speed/main.rt.in) is proved and built in a folder for the time of the run, over copies of
 the crates with what earlier checks kept of them."""
 import os
@@ -79,10 +79,10 @@ def taken(program, slots, script, folder):
 
 
 def look_times(folder):
-    """Microseconds of a look with 2 slots taken, and with 64."""
+    """Microseconds of a look with 2 slots taken, and with all."""
     _, said = run_over(USED, __file__, FILES, folder)
     rows = [line.split() for line in said.stdout.splitlines()]
-    times = [[int(row[1]) / 1e9 for row in rows if row[0] == taken] for taken in ("2", "64")]
+    times = [[int(row[1]) / 1e9 for row in rows if row[0] == taken] for taken in ("2", str(MOST))]
     if not all(times):
         sys.exit("slot_speed.py: the program was not built: run `rt check` in crates/operation_slots")
     return [min(rounds) for rounds in times]
@@ -121,4 +121,4 @@ def main():
     print(f"{'step':<30} {'open':>6} {'us':>8} {'open':>6} {'us':>8} {'ratio':>6}")
     measured(ask.program, ask.rounds)
     with tempfile.TemporaryDirectory(prefix="slot-speed-") as place:
-        tell("look at the oldest", (2, 64), *look_times(place))
+        tell("look at the oldest", (2, MOST), *look_times(place))
