@@ -3,6 +3,7 @@
 ghost use Rattle.std.specs.Prelude.{◌≡◌, ◌<◌, ◌++◌, ◌^◌, [], ◌∷◌, not, false, ◌&&◌, filter, find, length, map, slice_get, IfOk, IsSome};
 ghost use Rattle.std.specs.List.{AllByRecursion, list_any};
 ghost use Rattle.std.specs.Option.{option_copied, option_map_or};
+ghost use Rattle.group_index.specs.Grouped.{number_of};
 ghost use Rattle.live_tables.specs.Numbered.{row_number};
 ghost use Rattle.live_tables.specs.Operations.{changed, has_row, is_row_of, with_row, with_shown};
 
@@ -70,6 +71,13 @@ impl PlacedRows {
         ensures { result ≡ list_any (λ row. is_row_of client row && row.busy) self.now.rows }
     {
         self.any_busy(self.clients.of(client))
+    }
+
+    /// The numbers of a client's operations.
+    pub(crate) fn numbers_of(&self, client: u64) -> &[Grouped]
+        ensures { map number_of result.now ≡ map row_number (filter (is_row_of client) self.now.rows) }
+    {
+        self.clients.of(client)
     }
 
     /// The least number of a client's operations.

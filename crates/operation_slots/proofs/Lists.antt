@@ -22,6 +22,13 @@ module _ {T : Type 0} where
     | inr e ↦ ((λ (s : x.number ≡ n). absurd (let t = eq-eqb x.number n s in cc)), not_found n xs (rw e at h))
   ]
 
+  pub all_left : (n : ℕ) (xs : List (SlotOperation T)) → find (has_number n) xs ≡ None → without n xs ≡ xs
+  all_left n [] h = refl
+  all_left n (x ∷ xs) h = elim (cases_Bool (has_number n x)) [
+    | inl e ↦ absurd (let h' : Some x ≡ None = rw e at h in cc)
+    | inr e ↦ rw e (ap (λ ys. x ∷ ys) (all_left n xs (rw e at h)))
+  ]
+
   -- ---- what a look-up finds afterwards
 
   pub found_change : (n : ℕ) (f : SlotOperation T → SlotOperation T) → ((o : SlotOperation T) → (f o).number ≡ o.number) → (xs : List (SlotOperation T)) (m : ℕ) →

@@ -181,6 +181,11 @@ module _ {T : Type 0} where
     pub operations : new.operations ≡ without number old.operations
     pub capacity : new.capacity ≡ old.capacity
 
+  -- the operations but those of these numbers, which are taken out one after another
+  abbrev pub without_all : List ℕ → List (SlotOperation T) → List (SlotOperation T)
+  without_all [] operations = operations
+  without_all (number ∷ numbers) operations = without_all numbers (without number operations)
+
   -- the operations of this client are gone, and the others are as they were
   pub record TakesOutOf (old new : SlotTable T) (client : ℕ) : Type 0 where
     pub operations : new.operations ≡ filter (λ o. not (is_client client o)) old.operations
