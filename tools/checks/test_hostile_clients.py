@@ -44,8 +44,8 @@ MATERIAL = b"\x0b" * 20
 USES, TURNS = 1000, 60
 ROOMS = [2 << 20, 1 << 18, 1 << 17, 0, -(1 << 16)]
 # How it may have ended: it goes on, want of memory, a fault of the disk or of the listener, or the system found no room
-# for its libraries.
-ENDS, MEMORY = {None, 1, 6, 9, 127}, -41
+# for its libraries, or none for its stack to grow.
+ENDS, MEMORY = {None, 1, 6, 9, 127, -signal.SIGSEGV}, -41
 USER, HOUR = 7, 3_600_000
 SOURCE = TOOLS / "checks/other_clocks.c"
 ACKNOWLEDGED = 50
@@ -190,7 +190,7 @@ class LittleMemory(Case):
             for turn in range(TURNS):
                 with Client.connect(UID, port=port, timeout=PATIENCE, patience=0) as client:
                     told += [one_mac(client) for _ in range(1 + turn % 3)]
-            check("the end of the service", process.poll() in ENDS, True)
+            self.assertIn(process.poll(), ENDS, "the end of the service")
         return told
 
 
