@@ -1,13 +1,16 @@
 """Checks a crate as it stands over the libraries that `rt ci` left in a clone, and lists the modules that took longest.
 
     tools/ks measure check_over CLONE CRATE [--test] [--only PATH].. [--most N]
+        [--holes | --fix-imports | --build]
 
 `rt ci` keeps what it proves for itself alone, and a first `rt check` proves all crates below once more. Over a clone
-in which `rt ci CRATE` has run, the functions of a path (`--only CRATE::MODULE`) are checked within a minute or two,
-and again only where they changed. With `--test` the tests are checked too; N modules are listed. What was checked
-stays in the crate's `out/over`. It is for the work on proofs and on what they cost, and gives no verdict: that is
-the gate's."""
+in which a whole `rt ci` has run, the functions of a path (`--only CRATE::MODULE`) are checked within a minute or two,
+and again only where they changed. With `--test` the tests are checked too; N modules are listed. With `--holes` the
+goals that are open are printed, and with `--fix-imports` imports that nothing uses are dropped; `--build` proves the
+whole crate and puts its library into the clone, for those above it. What was checked stays in the crate's `out/over`.
+It is for the work on proofs and on what they cost, and gives no verdict: that is the gate's."""
 import pathlib
+import shutil
 import subprocess
 import time
 
@@ -47,6 +50,16 @@ def command(clone, name, kept):
     return [*words, "--jobs", "1", "--incremental", kept]
 
 
+def build_command(clone, name):
+    """The same whose library is put into the clone, in the place of one that is there."""
+    words = command(clone, name, None)
+    words[1] = "build"
+    place = clone / f"crates/{name}/out/rlib/{name}.rlib"
+    shutil.rmtree(place, ignore_errors=True)
+    place.parent.mkdir(parents=True, exist_ok=True)
+    return [*words[: words.index("--incremental")], "--statements", "-o", place]
+
+
 def main():
     parser = parser_of(__doc__)
     parser.add_argument("clone", type=pathlib.Path)
@@ -54,12 +67,18 @@ def main():
     parser.add_argument("--test", action="store_true")
     parser.add_argument("--only", action="append", default=[])
     parser.add_argument("--most", type=int, default=12)
+    ways = parser.add_mutually_exclusive_group()
+    ways.add_argument("--holes", action="store_const", const="--allow-holes", dest="way")
+    ways.add_argument("--fix-imports", action="store_const", const="--fix-imports", dest="way")
+    ways.add_argument("--build", action="store_true")
     given = parser.parse_args()
     if given.crate not in build.listed():
         parser.error(f"crates.txt lists no {given.crate}")
     folder = TOP / "crates" / given.crate
     (folder / "out/over").mkdir(parents=True, exist_ok=True)
-    words = [*command(given.clone.resolve(), given.crate, "out/over"), "--empty-contracts"]
+    clone = given.clone.resolve()
+    words = build_command(clone, given.crate) if given.build else command(clone, given.crate, "out/over")
+    words += ["--empty-contracts", *[given.way] * bool(given.way)]
     words += ["--test"] * given.test + [word for path in given.only for word in ("--only", path)]
     start = time.time()
     said = subprocess.run(words, cwd=folder, stdout=subprocess.PIPE, stderr=subprocess.STDOUT, text=True, check=False)
