@@ -175,7 +175,7 @@ module _ {P I O S R T Q L : Type 0} (p : SystemGhosts P I O S R T Q L) (system :
     -- The words were served by this device, with this status: they are no form; the port was not had; or a service ended so.
     pub data Serving (words : List (String Global)) (device : Device) (status : Status) : Type 0 where
       NoForm : serve_form_of words ≡ None → status ≡ statuses.Usage → Serving words device status
-      NoPort : (form : ServeForm) (port : Q) → serve_form_of words ≡ Some form → p.has_port system form.port port → status ≡ statuses.ListenFault → Serving words device status
+      NoPort : (form : ServeForm) (port : Q) → serve_form_of words ≡ Some form → p.has_port system form.port port → p.is_had port ≡ false → status ≡ statuses.ListenFault → Serving words device status
       Served : (form : ServeForm) (end : ServeEnd Q S R) → serve_form_of words ≡ Some form → IsServed device form end → Tells form.traced end status → Serving words device status
 
     module _ (s : SourceGhosts I) where
@@ -193,5 +193,5 @@ module _ {P I O S R T Q L : Type 0} (p : SystemGhosts P I O S R T Q L) (system :
       -- what else they ask for.
       pub data Ends (number : ℕ) : Type 0 where
         WithoutWords : number ≡ number_of statuses.Memory → Ends number
-        Printed : (words : List (String Global)) (asked : TextAsked) (status : Status) → p.has_words system words → text_asked words ≡ Some asked → number ≡ number_of status → Ends number
+        Printed : (words : List (String Global)) (asked : TextAsked) (status : Status) → p.has_words system words → text_asked words ≡ Some asked → p.has_printed system asked status → number ≡ number_of status → Ends number
         Did : (words : List (String Global)) (status : Status) → p.has_words system words → text_asked words ≡ None → ByDevice words status → number ≡ number_of status → Ends number

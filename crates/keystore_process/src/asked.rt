@@ -53,7 +53,7 @@ pub fn text_asked(words: &[String]) -> Option<TextAsked>
 }
 
 /// Whether the first word is this one.
-pub(crate) fn begins_with(words: &[String], word: &str) -> bool
+pub fn begins_with(words: &[String], word: &str) -> bool
     ensures { result ≡ spec.begins_with word.now words.now }
 {
     match words {

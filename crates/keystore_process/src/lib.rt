@@ -13,7 +13,7 @@ mod running;
 mod serving;
 mod system;
 
-pub use asked::{TextAsked, text_asked};
+pub use asked::{TextAsked, begins_with, text_asked};
 pub use device::{DEVICE, Device, POLICY};
 pub use ended::{RunEnd, STORE};
 pub use processing::process_words;

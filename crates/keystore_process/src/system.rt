@@ -1,7 +1,9 @@
 //! What a process has of its system.
 
-ghost use Rattle.std.specs.Prelude.{ℕ, Bool, List, Option, IfOk, IfErr};
+ghost use Rattle.std.specs.Prelude.{◌≡◌, ℕ, Bool, List, Option, IfOk, IfErr};
 ghost use Rattle.device_files.specs.declared.files.FileTrouble.{FileTrouble};
+ghost use Rattle.keystore_run.specs.declared.status.Status.{Status};
+ghost use Rattle.keystore_process.specs.declared.asked.TextAsked.{TextAsked};
 ghost use Rattle.std.specs.declared.string.String.{String};
 ghost use Rattle.std.specs.declared.alloc.Global.{Global};
 
@@ -53,6 +55,12 @@ pub trait System {
     /// Whether these are the connections to the port of this number.
     ghost has_port: { Self → ℕ → Self.Port → Type 0 };
 
+    /// Whether the port could be had.
+    ghost is_had: { Self.Port → Bool };
+
+    /// Whether this came of printing a text.
+    ghost has_printed: { Self → TextAsked → Status → Type 0 };
+
     /// The words behind the program's name.
     fn words(&self) -> Result<Vec<String>, NoMemory>
         ensures { IfOk result (λ words. has_words self.now words.items) };
@@ -83,10 +91,12 @@ pub trait System {
         ensures { has_port self.now number result };
 
     /// Whether the port could be had.
-    fn is_open(port: &Self::Port) -> bool;
+    fn is_open(port: &Self::Port) -> bool
+        ensures { result ≡ is_had port.now };
 
     /// Prints a text that was asked for.
-    fn print(&self, asked: TextAsked) -> Status;
+    fn print(&self, asked: TextAsked) -> Status
+        ensures { has_printed self.now asked result };
 
     /// Says a status, and where the words are no form what is wrong with them.
     fn tell(&self, status: Status, words: &[String]);

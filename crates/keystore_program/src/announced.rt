@@ -1,6 +1,6 @@
 //! A listener that says where it listens, once it is asked for the first connection: the store is open by then.
 
-ghost use Rattle.std.specs.Prelude.{◌≡◌};
+ghost use Rattle.std.specs.Prelude.{◌≡◌, is_some};
 ghost use Rattle.ks_outside.specs.Faults.{HasCause};
 ghost use Rattle.ks_outside.specs.Listening.{given_after, ended_after};
 
@@ -45,7 +45,9 @@ impl<'a, B> Announced<'a, B> {
     }
 
     /// Whether the port could be had.
-    pub fn is_open(&self) -> bool {
+    pub fn is_open(&self) -> bool
+        ensures { result ≡ is_some self.now.found }
+    {
         self.found.is_some()
     }
 

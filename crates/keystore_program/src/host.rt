@@ -1,7 +1,7 @@
 //! What this process has of its system: its words, the files of the current folder, its standard streams, the system's random device and
 //! clocks, and ports of this machine. No clause is of these, so whatever is made here is of the process.
 
-ghost use Rattle.std.specs.Prelude.{⊤};
+ghost use Rattle.std.specs.Prelude.{◌≡◌, ⊤, is_some};
 
 use crate::announced::Announced;
 use crate::help::{help_text, version_text};
@@ -9,7 +9,7 @@ use crate::notices::{tell_counts, tell_device, tell_file, tell_misuse, tell_port
 use crate::tally::ReplyTally;
 use device_files::{FileTrouble, read_file};
 use file_disk::{FileDisk, StoreFile, open_store};
-use keystore_process::{DEVICE, Device, RunEnd, System, TextAsked};
+use keystore_process::{DEVICE, Device, RunEnd, System, TextAsked, begins_with};
 use keystore_run::Status;
 use keystore_server::ServeEnd;
 use ks_outside::{DeviceEntropy, MachineClock, ReaderSource, WriterSink, open_device};
@@ -31,14 +31,6 @@ pub struct Host<'a, W: Print> {
     rt: &'a HostRuntime,
     /// what output is printed to
     printer: &'a W,
-}
-
-/// Whether the words ask for a run of a script.
-fn asks_to_run(words: &[String]) -> bool {
-    match words {
-        [first, ..] => first.as_str() == "run",
-        _ => false,
-    }
 }
 
 impl<'a, W: Print> Host<'a, W> {
@@ -85,6 +77,10 @@ impl<'a, W: Print> System for Host<'a, W> {
     ghost has_clock = { λ _ _. ⊤ };
 
     ghost has_port = { λ _ _ _. ⊤ };
+
+    ghost is_had = { λ port. is_some port.found };
+
+    ghost has_printed = { λ _ _ _. ⊤ };
 
     fn words(&self) -> Result<Vec<String>, NoMemory> {
         let mut words = Vec::new(self.rt.alloc());
@@ -138,7 +134,9 @@ impl<'a, W: Print> System for Host<'a, W> {
         Announced::new(listener, self.rt, number, found, is_demo)
     }
 
-    fn is_open(port: &Announced<'a, PortListener<'a, TcpListener, HostRuntime>>) -> bool {
+    fn is_open(port: &Announced<'a, PortListener<'a, TcpListener, HostRuntime>>) -> bool
+        ensures { result ≡ is_some port.now.found }
+    {
         port.is_open()
     }
 
@@ -189,7 +187,7 @@ impl<'a, W: Print> System for Host<'a, W> {
     ) {
         self.tell(end.status, words);
         tell_store(self.rt, end.status, &end.store);
-        if asks_to_run(words) && end.status != Status::Usage {
+        if begins_with(words, "run") && end.status != Status::Usage {
             tell_counts(self.rt, end.output.counts());
             tell_device(self.rt, device.is_demo);
         }
