@@ -5,3 +5,4 @@ pub mod OneStore
 pub mod Opened
 pub mod Replayed
 pub mod Rereading
+pub mod Storables

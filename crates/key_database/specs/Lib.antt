@@ -1,4 +1,3 @@
 pub mod Frames
 pub mod Stands
 pub mod Store
-pub mod StoredChanges

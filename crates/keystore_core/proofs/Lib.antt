@@ -14,6 +14,7 @@ pub mod Restarted
 pub mod Stepped
 pub mod Entered
 pub mod Left
+pub mod Ended
 pub mod Shown
 pub mod OtherStore
 pub mod Completing

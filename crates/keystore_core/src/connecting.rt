@@ -1,19 +1,39 @@
 //! A client comes, and goes.
 
-ghost use Rattle.std.specs.Prelude.{◌≡◌, ◌-◌, ◌^◌, None, Ok, IfOk};
+ghost use Rattle.std.specs.Prelude.{◌≡◌, ◌-◌, ◌^◌, map, None, Ok, IfOk};
+ghost use Rattle.group_index.specs.Grouped.{number_of};
+ghost use Rattle.operation_slots.specs.Table.{FindsNoMore, KeepsLater, capacity_of, operations_of, without_all};
+ghost use Rattle.rule_model.specs.Entries.{History};
+ghost use Rattle.rule_model.specs.Setup.{Setup};
 ghost use Rattle.rule_model.specs.declared.event.Act.TheVariants as acts;
 ghost use Rattle.keystore_core.specs.Drawn.{IsUndrawn};
+ghost use Rattle.keystore_core.specs.Keys.{SameKeys};
 ghost use Rattle.keystore_core.specs.Leaving.{EndsClient};
 ghost use Rattle.live_tables.specs.Operations.{has_busy_row};
-ghost use Rattle.keystore_core.specs.Tables.{IsCaller, IsTables, ServesAfter, event_by};
+ghost use Rattle.keystore_core.specs.Tables.{IsCaller, IsTables, ServesAfter, TablesStand, event_by};
 ghost use Rattle.keystore_core.specs.Writing.{LeavesStore};
 
 use crate::answered::Answered;
 use crate::tables::Tables;
 use call_rules::check_disconnect;
+use cipher_ops::CipherState;
+use group_index::Grouped;
+use operation_slots::Slots;
 use rule_model::{Caller, Fields, NO_FIELDS, Reply};
 use std::alloc::Global;
 use tags::NoMemory;
+
+/// Takes the operations of these numbers out of their slots.
+fn take_all_out(slots: &mut Slots<CipherState>, numbers: &[Grouped])
+    ensures operations { operations_of slots.new ≡ without_all (map number_of numbers.now) (operations_of slots.old) }
+    ensures capacity { capacity_of slots.new ≡ capacity_of slots.old }
+    ensures fresh { FindsNoMore slots.old slots.new }
+    ensures later { KeepsLater slots.old slots.new }
+{
+    for pair in numbers.iter() {
+        slots.take_out(pair.number);
+    }
+}
 
 impl Tables {
     /// A client comes with this uid.
@@ -37,12 +57,14 @@ impl Tables {
         Ok(Answered::undrawn(alloc, Reply::Done(fields)))
     }
 
-    /// The client goes, and its operations close.
+    /// The client goes, and its operations close. It takes as many steps as the client has operations.
     fn end_client(&mut self, client: u64)
-        ensures { EndsClient client self.old self.new }
+        ensures ends { (setup : Setup) (past : History) → TablesStand setup self.old past → EndsClient client self.old self.new }
+        ensures keys { SameKeys self.old self.new }
     {
+        let numbers = self.operations.numbers_of(client);
+        take_all_out(&mut self.slots, numbers);
         self.operations.close_of(client);
-        self.slots.close_of(client);
         self.clients.disconnect(client);
     }
 

@@ -10,3 +10,5 @@ pub mod Ends
 pub mod Lockstep
 pub mod Afters
 pub mod Listing
+pub mod Lengths
+pub mod Storing

@@ -47,9 +47,9 @@ impl Desk {
         self.slots.idle_owner(place)
     }
 
-    /// Takes out all operations of a client.
-    pub(crate) fn leave(&mut self, client: u64) {
-        self.slots.close_of(client);
+    /// Takes an operation out, idle or busy.
+    pub(crate) fn take_out(&mut self, op: OpId) {
+        self.slots.take_out(op);
     }
 
     /// Takes out all operations.

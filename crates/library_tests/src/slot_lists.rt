@@ -153,6 +153,15 @@ fn go_on(desk: &mut Desk, rows: &mut Vec<Row>, draws: &mut Draws, op: OpId) {
     }
 }
 
+/// Takes the operations of a client out of the desk.
+fn take_out_of(desk: &mut Desk, rows: &[Row], client: u64) {
+    for row in rows {
+        if row.client == client {
+            desk.take_out(row.op);
+        }
+    }
+}
+
 /// A client of eight ends, or, seldom, all is cleared.
 fn leave(desk: &mut Desk, rows: &mut Vec<Row>, draws: &mut Draws) {
     if draws.below(16) == 0 {
@@ -161,7 +170,7 @@ fn leave(desk: &mut Desk, rows: &mut Vec<Row>, draws: &mut Draws) {
         return;
     }
     let client = draws.below(8) as u64;
-    desk.leave(client);
+    take_out_of(desk, rows, client);
     rows.retain(|row| row.client != client);
 }
 

@@ -14,6 +14,7 @@ use Rattle.live_tables.specs.declared.operations.Operations.{Operations}
 use Rattle.live_tables.specs.declared.operations.RowChange.{RowChange}
 use Rattle.live_tables.specs.declared.operations.RowChange.TheVariants.{Enters, Returns}
 use Rattle.live_tables.specs.Alike.{Alike}
+use Rattle.live_tables.specs.Numbered.{row_number}
 
 -- the rows, in the order of their begins
 abbrev pub rows_in : Operations → List OperationRow
@@ -24,6 +25,10 @@ has_row number row = row.number == number
 
 abbrev pub is_row_of : ℕ → OperationRow → Bool
 is_row_of client row = row.client == client
+
+-- the numbers of the operations of a client, in their order
+abbrev pub numbers_of_client : Operations → ℕ → List ℕ
+numbers_of_client operations client = map row_number (filter (is_row_of client) (rows_in operations))
 
 -- the open operation of a number
 abbrev pub operation_in : Operations → ℕ → Option OperationRow

@@ -3,8 +3,9 @@
 ghost use Rattle.std.specs.Prelude.{◌+◌};
 ghost use Rattle.live_tables.specs.Numbered.{AreNumbered, AreNumbered-prop};
 
-use crate::placed::PlacedRows;
+use crate::placed::{OperationPlace, PlacedRows};
 use auth_tokens::AuthToken;
+use group_index::Grouped;
 use std::alloc::Global;
 use tag_lists::AuthList;
 use tags::{NoMemory, Plan};
@@ -59,9 +60,12 @@ pub struct Operations {
 }
 
 impl Operations {
-    ghost use Rattle.std.specs.Prelude.{◌≡◌, ◌≤◌, ◌^◌, ◌<◌, [], IfOk, IsSome, length};
+    ghost use Rattle.std.specs.Prelude.{◌≡◌, ◌≤◌, ◌^◌, ◌<◌, [], IfOk, IsSome, length, map};
     ghost use Rattle.std.specs.Option.{option_copied};
-    ghost use Rattle.live_tables.specs.Operations.{AddsRow, ChangesRow, DropsRow, DropsRowsOf, HasRoomForOperation, ShowsRows, has_busy_row, most_operations, operation_in, operations_given, rows_in};
+    ghost use Rattle.slot_chain.specs.Linked.{AllDiffer};
+    ghost use Rattle.group_index.specs.Grouped.{number_of};
+    ghost use Rattle.live_tables.specs.Numbered.{row_number};
+    ghost use Rattle.live_tables.specs.Operations.{AddsRow, ChangesRow, DropsRow, DropsRowsOf, HasRoomForOperation, ShowsRows, has_busy_row, most_operations, numbers_of_client, operation_in, operations_given, rows_in};
     ghost use Rattle.tags.specs.declared.limits.TheConstants.{MOST_SLOTS};
 
     /// No operations, of which none was begun, with the memory of as many as there are slots. It is the one call that takes
@@ -83,6 +87,13 @@ impl Operations {
         ensures { option_copied result ≡ operation_in self.now number }
     {
         self.rows.get(number)
+    }
+
+    /// The open operation of a number, and the place in which `change` finds its row without another look-up.
+    pub fn look_up(&self, number: u64) -> (Option<&OperationRow>, OperationPlace)
+        ensures { option_copied result.0 ≡ operation_in self.now number }
+    {
+        self.rows.look_up(number)
     }
 
     /// Whether a work on an operation of a client is out.
@@ -111,11 +122,11 @@ impl Operations {
         self.given += 1;
     }
 
-    /// Changes an open operation.
-    pub fn change(&mut self, number: u64, change: RowChange)
+    /// Changes an open operation, whose row is looked up where it is not in this place.
+    pub fn change(&mut self, number: u64, place: OperationPlace, change: RowChange)
         ensures { ChangesRow number change self.old self.new }
     {
-        self.rows.change(number, change);
+        self.rows.change(number, place, change);
     }
 
     /// Shows a token to each open operation that it is for, a busy one too.
@@ -141,6 +152,14 @@ impl Operations {
         'operations: while let Some(number) = self.rows.first_of(client) {
             self.close(number);
         }
+    }
+
+    /// The numbers of the operations of a client, which rise. They are found by halving.
+    pub fn numbers_of(&self, client: u64) -> &[Grouped]
+        ensures numbers { map number_of result.now ≡ numbers_of_client self.now client }
+        ensures apart { AllDiffer (map row_number (rows_in self.now)) }
+    {
+        self.rows.numbers_of(client)
     }
 
     /// Closes all operations.

@@ -7,6 +7,5 @@ pub mod Counting
 pub mod Boards
 pub mod Reading
 pub mod Seeing
-pub mod Closing
 pub mod Laying
 pub mod OldestIdle

@@ -1,7 +1,5 @@
 -- What a change of one operation, and taking one out, do to the plain list.
-use Rattle.std.proofs.Common.{◌≡◌, ◌≢◌, ◌<◌, ℕ, zero, suc, true, false, cond, List, [], ◌∷◌, ◌++◌, length, get_or, find, Option, Some, None, refl, sym, ap, ◌∙◌, inl, inr, arith, subst, option_map, ◌==◌}
-use Rattle.std.proofs.Math.ListN.{set}
-use Rattle.std.specs.List.{remove}
+use Rattle.std.proofs.Common.{◌≡◌, ℕ, true, false, cond, List, [], ◌∷◌, ◌++◌, find, Option, Some, None, refl, sym, ap, ◌∙◌, inl, inr, subst, option_map, ◌==◌}
 use Rattle.std.specs.Option.{option_or}
 use Rattle.std.proofs.lemmas.List.Folds.{find-append}
 use Rattle.std.proofs.lemmas.Bool.{eqb-true, ne_eqb, cases_Bool, eq-eqb}
@@ -20,6 +18,13 @@ module _ {T : Type 0} where
   not_found n (x ∷ xs) h = elim (cases_Bool (has_number n x)) [
     | inl e ↦ absurd (let h' : Some x ≡ None = rw e at h in cc)
     | inr e ↦ ((λ (s : x.number ≡ n). absurd (let t = eq-eqb x.number n s in cc)), not_found n xs (rw e at h))
+  ]
+
+  pub all_left : (n : ℕ) (xs : List (SlotOperation T)) → find (has_number n) xs ≡ None → without n xs ≡ xs
+  all_left n [] h = refl
+  all_left n (x ∷ xs) h = elim (cases_Bool (has_number n x)) [
+    | inl e ↦ absurd (let h' : Some x ≡ None = rw e at h in cc)
+    | inr e ↦ rw e (ap (λ ys. x ∷ ys) (all_left n xs (rw e at h)))
   ]
 
   -- ---- what a look-up finds afterwards

@@ -1,5 +1,5 @@
 -- What contracts see of the slots: the operations that are held, what a look-up finds among them, and what each call makes of them.
-use Rattle.std.specs.Prelude.{◌≡◌, option_map, ◌≢◌, ◌<◌, ◌≤◌, ◌^◌, ℕ, Bool, true, false, ◌&&◌, not, ◌==◌, nat_lt, is_some, List, [], ◌∷◌, ◌++◌, Option, Some, None, length, map, filter, find, count_by, All, if◌then◌else◌}
+use Rattle.std.specs.Prelude.{◌≡◌, option_map, ◌<◌, ◌≤◌, ◌^◌, ℕ, Bool, true, false, ◌&&◌, not, ◌==◌, nat_lt, is_some, List, [], ◌∷◌, ◌++◌, Option, Some, None, length, map, filter, find, count_by, All, if◌then◌else◌}
 use Rattle.std.specs.List.{list_any}
 use Rattle.slot_chain.specs.Linked.{AllDiffer}
 use Rattle.operation_slots.specs.declared.operation.SlotOperation.{SlotOperation}
@@ -180,6 +180,11 @@ module _ {T : Type 0} where
   pub record TakesOut (old new : SlotTable T) (number : ℕ) : Type 0 where
     pub operations : new.operations ≡ without number old.operations
     pub capacity : new.capacity ≡ old.capacity
+
+  -- the operations but those of these numbers, which are taken out one after another
+  abbrev pub without_all : List ℕ → List (SlotOperation T) → List (SlotOperation T)
+  without_all [] operations = operations
+  without_all (number ∷ numbers) operations = without_all numbers (without number operations)
 
   -- the operations of this client are gone, and the others are as they were
   pub record TakesOutOf (old new : SlotTable T) (client : ℕ) : Type 0 where

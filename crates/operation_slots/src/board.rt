@@ -1,9 +1,9 @@
 //! The operations in their places, with all by which they are found, and each call on them.
 
-ghost use Rattle.std.specs.Prelude.{◌≡◌, ◌<◌, ◌≤◌, ◌+◌, ◌++◌, ℕ, [], ◌∷◌, not, false, true, filter, find, length, slice_get, if◌then◌else◌, Some, None, IfOk, IfSome, IfNone, OnSome, IsSome, IsNone, All};
+ghost use Rattle.std.specs.Prelude.{◌≡◌, ◌<◌, ◌≤◌, ◌+◌, ◌++◌, ℕ, [], ◌∷◌, false, true, find, length, slice_get, Some, None, IfOk, IfSome, IfNone, OnSome, IsSome, IsNone, All};
 ghost use Rattle.std.specs.List.{list_any, remove};
-ghost use Rattle.operation_slots.specs.Table.{IsOldestAmong, given_back, has_number, idle_value, is_busy, is_client, is_idle_of, is_of, is_taken, made_busy, taken, with_change, without};
-ghost use Rattle.operation_slots.specs.Boards.{IsKept, entries_of, operation_of, operations_on};
+ghost use Rattle.operation_slots.specs.Table.{IsOldestAmong, given_back, has_number, idle_value, is_busy, is_idle_of, is_of, is_taken, made_busy, taken, with_change, without};
+ghost use Rattle.operation_slots.specs.Boards.{IsKept, entries_of, operations_on};
 
 use crate::cells::{Cell, give_value, lay, set_free, take_value};
 use crate::counts::UidCounts;
@@ -136,7 +136,7 @@ impl<T> SlotBoard<T> {
     }
 
     /// Takes out the operation at a place of the index, with its value, where it is idle.
-    pub fn take_out(&mut self, at: usize) -> Option<T>
+    fn take_out_at(&mut self, at: usize) -> Option<T>
         requires kept { IsKept self.old }
         requires at { at < length (entries_of self.old) }
         ensures kept { IsKept self.new }
@@ -173,7 +173,7 @@ impl<T> SlotBoard<T> {
         if !self.cells[place as usize].operation.is_idle() {
             return None;
         }
-        self.take_out(at)
+        self.take_out_at(at)
     }
 
     /// Takes a busy operation out.
@@ -188,52 +188,26 @@ impl<T> SlotBoard<T> {
             Ok(at) => at,
             Err(_at) => unreachable!(),
         };
-        match self.take_out(at) {
+        match self.take_out_at(at) {
             None => (),
             Some(_value) => unreachable!(),
         }
     }
 
-    /// Takes all operations of a client out.
-    pub fn close_of(&mut self, client: u64)
+    /// Takes an operation out, idle or busy, where it is held.
+    pub fn take_out(&mut self, op: OpId)
     where
         T: Drop,
         requires { IsKept self.old }
         ensures kept { IsKept self.new }
-        ensures operations { operations_on self.new ≡ filter (λ o. not (is_client client o)) (operations_on self.old) }
+        ensures operations { operations_on self.new ≡ without op (operations_on self.old) }
         ensures capacity { self.new.capacity ≡ self.old.capacity }
     {
-        let mut at = self.index.len();
-        'operations: while at > 0 {
-            at -= 1;
-            self.close_at(at, client);
-        }
-    }
-
-    /// Takes the operation at a place of the index out, where it is of a client.
-    fn close_at(&mut self, at: usize, client: u64)
-    where
-        T: Drop,
-        requires kept { IsKept self.old }
-        requires at { at < length (entries_of self.old) }
-        ensures kept { IsKept self.new }
-        ensures entries { (e : _) → slice_get (entries_of self.old) at ≡ Some e → entries_of self.new ≡ (if is_client client (operation_of e) then remove (entries_of self.old) at else entries_of self.old) }
-        ensures capacity { self.new.capacity ≡ self.old.capacity }
-    {
-        if !self.is_of_client(at, client) {
-            return;
-        }
-        drop(self.take_out(at));
-    }
-
-    /// Whether the operation at a place of the index is of a client.
-    fn is_of_client(&self, at: usize, client: u64) -> bool
-        requires kept { IsKept self.now }
-        requires at { at < length (entries_of self.now) }
-        ensures { (e : _) → slice_get (entries_of self.now) at ≡ Some e → result ≡ is_client client (operation_of e) }
-    {
-        let place = self.index[at].place;
-        self.cells[place as usize].operation.client == client
+        let at = match number_at(&self.index, op) {
+            Ok(at) => at,
+            Err(_at) => return,
+        };
+        drop(self.take_out_at(at));
     }
 
     /// The number and the stamp of the oldest idle operation of a uid. It takes one step.

@@ -1,7 +1,7 @@
 //! The operations in their slots, and each call on them.
 
 ghost use Rattle.std.specs.Prelude.{◌≡◌, ℕ, ◌+◌, ◌<◌, ◌≤◌, true, false, length, slice_get, Some, None, IfSome, IfNone, OnSome, IfOk};
-ghost use Rattle.operation_slots.specs.Table.{IsSound, IsEmpty, IsLater, Same, Begins, Takes, Gives, TakesOut, TakesOutOf, idle_operation, held, open_count as held_count, open_of as held_of, has_room as room_in, has_idle, owners_of, capacity_of, taken, idle_value, is_busy, is_taken, MatchTaken, FindsNew, FindsChanged, FindsWithout, FindsNoMore, KeepsLater, KeepsLaterThan, made_busy, given_back, IsOldestIdle};
+ghost use Rattle.operation_slots.specs.Table.{IsSound, IsEmpty, IsLater, Same, Begins, Takes, Gives, TakesOut, idle_operation, held, open_count as held_count, open_of as held_of, has_room as room_in, has_idle, owners_of, capacity_of, taken, idle_value, is_busy, is_taken, MatchTaken, FindsNew, FindsChanged, FindsWithout, KeepsLater, KeepsLaterThan, made_busy, given_back, IsOldestIdle};
 
 use crate::board::SlotBoard;
 use crate::{OpId, SlotOperation, Steps, Taken};
@@ -165,15 +165,15 @@ impl<T> Slots<T> {
         self.board.close(op)
     }
 
-    /// Takes all operations of a client out, idle and busy.
-    pub fn close_of(&mut self, client: u64)
+    /// Takes an operation out, idle or busy, where it is held.
+    pub fn take_out(&mut self, op: OpId)
     where
         T: Drop,
-        ensures takes_out { TakesOutOf self.old self.new client }
-        ensures found { FindsNoMore self.old self.new }
+        ensures takes_out { TakesOut self.old self.new op }
+        ensures found { FindsWithout self.old self.new op }
         ensures later { KeepsLater self.old self.new }
     {
-        self.board.close_of(client);
+        self.board.take_out(op);
     }
 
     /// Takes a busy operation out.

@@ -12,3 +12,5 @@ mod disks;
 mod journals;
 #[cfg(test)]
 mod records;
+#[cfg(test)]
+mod rows;

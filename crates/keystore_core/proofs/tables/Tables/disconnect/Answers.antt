@@ -13,4 +13,4 @@ returns-clause-serves c = λ setup past stands.
     let ruling = c.in_default.ensures.first ∙ ruling_is setup past c.args.self.now c.args.caller stands c.requires _ _ c.is_some.ensures c.has_busy-busy.ensures in
     rw (c.undrawn.ensures.reply, c.undrawn.ensures.job, c.undrawn.ensures.drawn)
     (disconnected setup past c.args.self.now c.args.caller stands c.requires _ (sym ruling)
-    (sym (busy_is setup past c.args.self.now c.args.caller stands c.requires) ∙ sym c.has_busy-busy.ensures ∙ c.in_default.ensures.idle) c.end_client.ensures)
+    (sym (busy_is setup past c.args.self.now c.args.caller stands c.requires) ∙ sym c.has_busy-busy.ensures ∙ c.in_default.ensures.idle) (c.end_client.ensures.ends setup past stands))

@@ -1,0 +1,25 @@
+-- What a store stands for is what a store can hold.
+use Rattle.std.proofs.Common.{◌≡◌, ℕ, List, [], ◌∷◌, Option, None, Some, refl, arith, subst}
+use Rattle.std.specs.Option.{option_map}
+use Rattle.std.proofs.lemmas.Option.{none-some, same_Some}
+use Rattle.journal_records.specs.declared.record.Record.{Record}
+use Rattle.journal_records.specs.LastingPart.{Lasting}
+use Rattle.journal_records.specs.States.{ReadState, state_of}
+use Rattle.journal_records.specs.Storable.{IsStorable, LeavesStorable, area_kinds}
+use Rattle.record_areas.specs.Frames.{AreRecords, Frame}
+use Rattle.key_database.specs.Frames.{IsStoreFrame, kinds_are}
+use Rattle.key_database.specs.Store.{StandsFor, left_by, part_of}
+
+-- a store of a frame has the records of an area, and no others
+area_records : (frame : Frame) (past : List Record) → IsStoreFrame frame → AreRecords frame.kinds past → AreRecords area_kinds past
+area_records frame [] is are = tt
+area_records frame (it ∷ past) is are = ((are.0.0, are.0.1, omega (arith, are.0.2, kinds_are frame is)), area_records frame past is are.1)
+
+pub stored_part : LeavesStorable → (frame : Frame) (past : List Record) (part : Lasting) → IsStoreFrame frame → AreRecords frame.kinds past → left_by past ≡ Some part → IsStorable part
+stored_part law frame past part is are left = of_state (state_of past) refl left where
+  of_state : (found : Option ReadState) → state_of past ≡ found → option_map part_of found ≡ Some part → IsStorable part
+  of_state None e left_is = absurd (none-some part left_is)
+  of_state (Some state) e left_is = subst IsStorable (same_Some state.part part left_is) (law past state (area_records frame past is are) e)
+
+pub stored_image : LeavesStorable → (part : Lasting) (image : List ℕ) → StandsFor part image → IsStorable part
+stored_image law part image stands = stored_part law stands.frame stands.past part stands.is_frame stands.records stands.lasting
