@@ -65,7 +65,7 @@ entries_made None = 1
 entries_made (Some settled) = 2
 
 -- An engine stands for a history: it counted the entries, and its tables answer as the history says. The history is legal, and
--- what lasted at its start is what a store can stand for.
+-- what lasted at its start is what a store can hold.
 pub record Stands (setup : Setup) (engine : Engine) (past : History) : Type 0 where
   pub entries : engine.entries ≡ length past
   pub tables : TablesStand setup engine.tables past

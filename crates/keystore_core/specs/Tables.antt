@@ -49,7 +49,7 @@ row_at tables op = operation_in tables.operations op
 abbrev pub state_at : Tables → ℕ → Option CipherState
 state_at tables op = idle_value (held tables.slots op)
 
--- a history that may stand behind an entry: it is legal before some event, over what a store can stand for
+-- a history that may stand behind an entry: it is legal before some event, over what a store can hold
 pub record IsLegal (setup : Setup) (past : History) : Type 0 where
   pub next : Option Event
   pub legal : LegalBefore setup next past

@@ -14,10 +14,11 @@ use Rattle.journal_records.specs.declared.record.KeyRecord.{KeyRecord}
 use Rattle.journal_records.specs.LastingPart.{Lasting, has_id, some_has_id, is_owned, is_named, without_keys}
 use Rattle.journal_records.specs.Needs.{has_uses, has_place_for}
 use Rattle.journal_records.specs.Effects.{with_use, with_key, is_last_use, used}
-use Rattle.lasting_table.specs.Rows.{AreRows, IsBefore, IsFit, NonePass, AreBelow}
-use Rattle.lasting_table.specs.Names.{name_of, is_at_name}
-use Rattle.lasting_table.proofs.KeyRows.{later_id, rows_filter, rows_more, name_without, use_keeps_all, id_from_found, find_with_use}
-use Rattle.lasting_table.proofs.Whole.{none_out, named_is, owned_parts, found_short}
+use Rattle.key_maps.specs.Rows.{AreRows, IsBefore, IsFit, NonePass, AreBelow}
+use Rattle.key_maps.specs.Names.{name_of, is_at_name}
+use Rattle.key_maps.proofs.KeyRows.{later_id, rows_filter, rows_more, name_without, use_keeps_all, id_from_found, find_with_use}
+use Rattle.key_maps.proofs.Tests.{any_is_found, copied_some}
+use Rattle.key_maps.proofs.Whole.{none_out, named_is, owned_parts, found_short}
 use Rattle.tags.specs.declared.limits.TheConstants.{ALIAS_BYTES, MOST_KEYS}
 
 -- ---- lists
@@ -33,10 +34,6 @@ filter_twice p q r h (x ∷ xs) =
       | inl kept ↦ rw (kept, filter_twice p q r h xs) refl
       | inr out ↦ rw (out, filter_twice p q r h xs) refl
     ])
-
-pub any_is_found : {X : Type 0} (p : X → Bool) (xs : List X) → list_any p xs ≡ is_some (find p xs)
-any_is_found p [] = refl
-any_is_found p (x ∷ xs) = elim (cases_Bool (p x)) [ inl passes ↦ rw passes refl | inr fails ↦ rw fails (any_is_found p xs) ]
 
 -- ---- what holds of the key of a number
 
@@ -369,10 +366,6 @@ any_of_number q id (key ∷ rows) t found e =
     none_pass : (rows : List KeyRecord) → NonePass (has_id id) rows → list_any (λ key. has_id id key && q key) rows ≡ false
     none_pass [] a = refl
     none_pass (other ∷ rows) a = rw (a.0, none_pass rows a.1) refl
-
-pub copied_some : {X : Type 0} (o : Option (Bor X)) → is_some (option_copied o) ≡ is_some o
-copied_some None = refl
-copied_some (Some x) = refl
 
 -- the key under a name ends, or there is none
 pub end_of_none : (domain nspace : ℕ) (alias : List ℕ) (part : Lasting) → find (is_named domain nspace alias) part.keys ≡ None → part ≡ without_keys (is_named domain nspace alias) part

@@ -17,9 +17,10 @@ use Rattle.journal_records.specs.Effects.{with_use}
 use Rattle.journal_records.specs.Storable.{IsStorable, IsStorableKey, key_row_length, key_rows_length, snapshot_length}
 use Rattle.std.specs.Str.{is_utf8}
 use Rattle.lasting_table.specs.Parts.{row_bytes}
-use Rattle.lasting_table.specs.Rows.{AreRows, IsBefore, NonePass, is_past}
-use Rattle.lasting_table.proofs.KeyRows.{later_id}
-use Rattle.lasting_table.proofs.Whole.{none_out}
+use Rattle.key_maps.specs.Rows.{AreRows, IsBefore, NonePass, is_past}
+use Rattle.key_maps.proofs.KeyRows.{later_id}
+use Rattle.key_maps.proofs.Tests.{below_test}
+use Rattle.key_maps.proofs.Whole.{none_out}
 
 pub bytes_push : (rows : List KeyRecord) (key : KeyRecord) → key_rows_length (rows ++ key ∷ []) ≡ key_rows_length rows + key_row_length key
 bytes_push [] key = omega arith
@@ -79,26 +80,6 @@ pub snapshot_small : (part : Lasting) → IsStorable part → snapshot_length pa
 snapshot_small part is = omega (arith, keys_short part.next_key part.keys is.keys, is.key_count, is.grant_count)
 
 -- ---- numbers below one
-
--- whether nothing is found
-pub none_test : {X : Type 0} (found : Option (Bor X)) (none : Bool) → is_some found ≡ not none → none ≡ not (is_some (option_copied found))
-none_test None true e = refl
-none_test None false e = absurd (cc)
-none_test (Some x) true e = absurd (cc)
-none_test (Some x) false e = refl
-
-below_test : (number held : ℕ) → 1 ≤ number → nat_lt held number ≡ not (nat_lt (number - 1) held)
-below_test number held some = elim (cases_lt held number) [
-  | inl less ↦ rw (lt-ltb held number less, le-ltb (number - 1) held (omega (arith, less))) refl
-  | inr more ↦ rw (le-ltb held number more, lt-ltb (number - 1) held (omega (arith, more, some))) refl
-]
-
-pub keys_below : (id : ℕ) (rows : List KeyRecord) → 1 ≤ id → list_all (λ key. nat_lt key.id id) rows ≡ not (is_some (find (is_past (Some (id - 1))) rows))
-keys_below id [] some = refl
-keys_below id (key ∷ rows) some = elim (cases_Bool (nat_lt (id - 1) key.id)) [
-  | inl past ↦ rw (past, below_test id key.id some, past) refl
-  | inr below ↦ rw (below, below_test id key.id some, below) (keys_below id rows some)
-]
 
 pub grants_below : (number : ℕ) (rows : List GrantRow) → 1 ≤ number → list_all (λ row. nat_lt row.grant number) rows ≡ not (is_some (find (grant_rows.is_past (Some (number - 1))) rows))
 grants_below number [] some = refl

@@ -13,14 +13,14 @@ ghost use Rattle.journal_records.specs.Effects.{after, with_key, used, granted, 
 ghost use Rattle.journal_records.specs.States.{has_uses_within, is_given, may_hold, may_hold_grant};
 ghost use Rattle.journal_records.specs.Storable.{key_row_length, key_rows_length, snapshot_length};
 ghost use Rattle.std.specs.List.{list_all, list_any};
-ghost use Rattle.lasting_table.specs.Rows.{AreBelow, AreRows, IsFit};
-ghost use Rattle.lasting_table.specs.Table.{HasRoom, KeepsRoom};
+ghost use Rattle.key_maps.specs.Rows.{AreBelow, AreRows, IsFit};
+ghost use Rattle.key_maps.specs.Table.{HasRoom, KeepsRoom};
 ghost use Rattle.tags.specs.Descriptor as descriptors;
 
-use crate::keys::Keys;
 use crate::widths::is_wide;
 use grants::{GrantRow, Grants};
 use journal_records::{Change, GRANT_ROW, KEY_ROW, KeyRecord, NEXT_ROW};
+use key_maps::Keys;
 use std::alloc::Global;
 use tags::{
     ALIAS_BYTES, BLOB_BYTES, KEPT_LIST_BYTES, MOST_GRANTS, MOST_KEYS, MOST_USER, NUMBERS_END,
@@ -297,8 +297,8 @@ impl Part {
         let Some(key) = self.keys.named(domain, nspace, alias) else {
             return;
         };
-        let id = key.id;
-        self.end_key(id);
+        let held = key.id;
+        self.end_key(held);
     }
 
     /// Puts a new key behind the others, and ends the key under its name.

@@ -4,4 +4,4 @@ use Rattle.store_tests.proofs.LiveRows.{told_is_live}
 use Rattle.store_tests.proofs.rows.rows_of.Goals as goal
 
 pub alias-requires : goal.alias-requires
-alias-requires g c = record { live = told_is_live (is_key_past 0) (g.H.Held.part c.args.held.now).keys c.in-Some.key (sym c.key_after.ensures ∙ c.in-Some.is) }
+alias-requires g c = told_is_live (is_key_past 0) (g.H.Held.part c.args.held.now).keys c.in-Some.key (sym c.key_after.ensures ∙ c.in-Some.is)

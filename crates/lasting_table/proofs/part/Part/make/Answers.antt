@@ -3,7 +3,7 @@ use Rattle.std.specs.List.{list_any}
 use Rattle.journal_records.specs.LastingPart.{has_id}
 use Rattle.journal_records.specs.Needs.{is_met}
 use Rattle.lasting_table.specs.Parts.{part_of}
-use Rattle.lasting_table.proofs.Ends.{any_is_found}
+use Rattle.key_maps.proofs.Tests.{any_is_found}
 use Rattle.lasting_table.proofs.part.Part.make.Goals as goal
 
 pub end_key-requires : goal.end_key-requires
