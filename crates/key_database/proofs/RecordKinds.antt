@@ -1,11 +1,16 @@
 -- The kinds of the records of a store.
-use Rattle.std.proofs.Common.{◌≤◌, arith}
+use Rattle.std.proofs.Common.{◌≡◌, ◌≤◌, ap, arith}
 use Rattle.journal_records.specs.declared.change.Change.{Change}
 use Rattle.journal_records.specs.declared.change.Change.TheVariants.{Create, Delete, Use, Grant, Ungrant, Clear, Removed}
 use Rattle.journal_records.specs.declared.record.Record.TheVariants as records
 use Rattle.journal_records.specs.Spelling.{kind_of}
+use Rattle.journal_records.specs.Storable.{area_kinds}
 use Rattle.record_areas.specs.Frames.{Frame}
-use Rattle.key_database.specs.Frames.{IsStoreFrame, kinds_are}
+use Rattle.key_database.specs.Frames.{IsStoreFrame}
+
+-- a store has the records of an area
+pub kinds_are : (frame : Frame) → IsStoreFrame frame → frame.kinds ≡ area_kinds
+kinds_are frame is = ap (λ (f : Frame). f.kinds) is.of.is
 
 small_kind : (change : Change) → kind_of (records.Change change) ≤ 7
 small_kind (Create id domain nspace alias blob list limit) = omega arith

@@ -1,5 +1,5 @@
 -- What a store stands for is what a store can hold.
-use Rattle.std.proofs.Common.{◌≡◌, ℕ, List, [], ◌∷◌, Option, None, Some, refl, arith, subst}
+use Rattle.std.proofs.Common.{◌≡◌, ℕ, List, Option, None, Some, refl, sym, subst}
 use Rattle.std.specs.Option.{option_map}
 use Rattle.std.proofs.lemmas.Option.{none-some, same_Some}
 use Rattle.journal_records.specs.declared.record.Record.{Record}
@@ -7,13 +7,17 @@ use Rattle.journal_records.specs.LastingPart.{Lasting}
 use Rattle.journal_records.specs.States.{ReadState, state_of}
 use Rattle.journal_records.specs.Storable.{IsStorable, LeavesStorable, area_kinds}
 use Rattle.record_areas.specs.Frames.{AreRecords, Frame}
-use Rattle.key_database.specs.Frames.{IsStoreFrame, kinds_are}
+use Rattle.key_database.specs.Frames.{IsStoreFrame}
 use Rattle.key_database.specs.Store.{StandsFor, left_by, part_of}
+use Rattle.key_database.proofs.RecordKinds.{kinds_are}
 
 -- a store of a frame has the records of an area, and no others
-area_records : (frame : Frame) (past : List Record) → IsStoreFrame frame → AreRecords frame.kinds past → AreRecords area_kinds past
-area_records frame [] is are = tt
-area_records frame (it ∷ past) is are = ((are.0.0, are.0.1, omega (arith, are.0.2, kinds_are frame is)), area_records frame past is are.1)
+pub area_records : (frame : Frame) (past : List Record) → IsStoreFrame frame → AreRecords frame.kinds past → AreRecords area_kinds past
+area_records frame past is are = subst (λ (kinds : ℕ). AreRecords kinds past) (kinds_are frame is) are
+
+-- and the other way
+pub frame_records : (frame : Frame) (past : List Record) → IsStoreFrame frame → AreRecords area_kinds past → AreRecords frame.kinds past
+frame_records frame past is are = subst (λ (kinds : ℕ). AreRecords kinds past) (sym (kinds_are frame is)) are
 
 pub stored_part : LeavesStorable → (frame : Frame) (past : List Record) (part : Lasting) → IsStoreFrame frame → AreRecords frame.kinds past → left_by past ≡ Some part → IsStorable part
 stored_part law frame past part is are left = of_state (state_of past) refl left where

@@ -5,6 +5,7 @@ ghost use Rattle.journal_records.specs.LastingPart.{Lasting};
 ghost use Rattle.journal_records.specs.Storable.{IsStorable};
 ghost use Rattle.key_database.specs.Store.{StandsFor, IsBadStore};
 
+use journal_compact::one_reading as one_frame;
 use journal_records::storable_law;
 use record_areas::one_reading;
 
@@ -17,6 +18,7 @@ pub fn one_store()
         → offset ≡ other }
     ensures storable { (part : Lasting) (image : List ℕ) → StandsFor part image → IsStorable part }
 {
+    one_frame();
     one_reading();
     storable_law();
 }

@@ -6,15 +6,15 @@ ghost use Rattle.disk_calls.specs.Still.{IsStill};
 ghost use Rattle.journal_records.specs.declared.record.Record.{Record};
 ghost use Rattle.journal_records.specs.Commits.{open_failed};
 ghost use Rattle.record_areas.specs.Readings.{IsBehind, IsWhole};
-ghost use Rattle.use_journal.specs.Holding.{is_waiting};
+ghost use Rattle.journal_compact.specs.Holding.{is_waiting};
 ghost use Rattle.key_database.specs.Stands.{FindsRest, ReadsKept, Replays};
 
+use journal_compact::Areas;
 use journal_records::StoreFault;
 use ks_outside::Disk;
 use lasting_table::{LastingTable, TableReplay};
 use record_areas::Reading;
 use std::alloc::Global;
-use use_journal::Journal;
 
 /// Reads on to the gate that is shut.
 fn read_rest<D: Disk>(alloc: Global, disk: &mut D, reading: &mut Reading) -> Result<(), StoreFault>
@@ -60,17 +60,17 @@ fn replay<D: Disk>(
     Ok(table.into_table())
 }
 
-/// Syncs, and reads the store that the disk holds, as its journal and the table that its records leave. It holds one record and a piece of
-/// the disk beside that table.
+/// Syncs, and reads the store that the disk holds, as its areas and the table that the records of the selected one leave. It holds one record
+/// and a piece of the disk beside that table.
 pub(crate) fn read_store<D: Disk>(
     alloc: Global,
     disk: &mut D,
-) -> Result<(Journal, LastingTable), StoreFault>
+) -> Result<(Areas, LastingTable), StoreFault>
     ensures reads { ReadsKept D.Disk disk.new result }
     ensures idle { IfOk result (λ opened. is_waiting opened.0 ≡ false) }
     ensures goes { Reads D.Disk disk.old disk.new (open_failed result) }
 {
-    let mut reading = Journal::read(alloc, disk)?;
+    let (selected, mut reading) = Areas::read(alloc, disk)?;
     let table = replay(alloc, disk, &mut reading)?;
-    Ok((Journal::of(reading), table))
+    Ok((Areas::of(selected, reading), table))
 }

@@ -1,7 +1,7 @@
 -- A reply gives a ticket to an enter alone.
 use Rattle.std.proofs.Common.{◌≡◌, ℕ, ◌+◌, Bool, true, false, ◌==◌, if◌then◌else◌, List, length, Option, Some, None, Result, Ok, Err, is_some, refl, sym, subst}
 use Rattle.tags.specs.declared.code.Code.{Code}
-use Rattle.tags.specs.declared.code.Code.TheVariants.{JournalFull, StoreFull, TokensFull}
+use Rattle.tags.specs.declared.code.Code.TheVariants.{StoreFull, TokensFull}
 use Rattle.tags.specs.declared.descriptor.Descriptor.{Descriptor}
 use Rattle.tags.specs.declared.rule.Rule.{Rule}
 use Rattle.auth_tokens.specs.declared.token.AuthToken.{AuthToken}
@@ -38,7 +38,6 @@ use Rattle.rule_model.specs.Replies.{broken_or, no_fields}
 use Rattle.rule_model.specs.Setup.{Setup}
 use Rattle.rule_model.specs.Slots.{begin_facts, pruned_for}
 use Rattle.rule_model.specs.StepFacts.{brought_by_abort, step_facts}
-use Rattle.rule_model.specs.Stored.{has_record_room, stored_bytes, where_stored}
 use Rattle.rule_model.specs.declared.operation.Entered.{Entered}
 use Rattle.rule_model.specs.Tickets.{ticket_at}
 use Rattle.rule_model.specs.Tokens.{token_of}
@@ -57,12 +56,6 @@ broken_untold (Err (rule, code)) reply e = refl
 if_untold : (b : Bool) (first second : Reply) → tells_ticket first ≡ false → tells_ticket second ≡ false → tells_ticket (if b then first else second) ≡ false
 if_untold true first second e f = e
 if_untold false first second e f = f
-
-stored_untold : (bytes : ℕ) (change : Option Change) (reply : Reply) → tells_ticket reply ≡ false → tells_ticket (where_stored bytes change reply) ≡ false
-stored_untold bytes None reply e = e
-stored_untold bytes (Some change) (Done fields) e = if_untold (has_record_room bytes change) (Done fields) (Stopped JournalFull) e refl
-stored_untold bytes (Some change) (Broken rule code) e = refl
-stored_untold bytes (Some change) (Stopped code) e = refl
 
 given_untold : (work : Work) (result : Result (List ℕ) Code) → tells_ticket (given_or work result) ≡ false
 given_untold work (Ok bytes) = refl
@@ -125,5 +118,4 @@ untold setup past event drawn fields e may =
     let is : IsAnswered setup past event drawn (Done fields) = answered_done setup past event drawn fields may in
     no_ticket fields.ticket
     (subst (λ r. tells_ticket r ≡ false) (sym is.is_answer)
-    (stored_untold (stored_bytes setup past) (change_of event.act (device_at setup past) setup.policy (kept setup past) (open_of setup past) (caller_of past event) drawn)
-    (answer_by_rules event.act setup past (caller_of past event) drawn) (rules_untold event.act setup past (caller_of past event) drawn e)))
+    (rules_untold event.act setup past (caller_of past event) drawn e))

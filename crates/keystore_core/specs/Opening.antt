@@ -1,22 +1,15 @@
 -- What a store that was opened holds, and what is fixed in a run over it.
-use Rattle.std.proofs.Common.{◌≡◌, ℕ, List, [], true, false, refl, ◌∙◌}
+use Rattle.std.proofs.Common.{◌≡◌, ℕ, List, [], true, false, refl}
 use Rattle.ks_outside.specs.Images.{AllImages, Passes, Reads, tells}
 use Rattle.ks_outside.specs.declared.disk.Disk.{Ghosts as DiskGhosts}
 use Rattle.tags.specs.declared.policy.PolicyRow.{PolicyRow}
 use Rattle.tags.specs.declared.secrets.DeviceSecrets.{DeviceSecrets}
-use Rattle.journal_records.specs.Holding.{Sure}
 use Rattle.journal_records.specs.LastingPart.{Lasting}
-use Rattle.key_database.specs.declared.database.KeyDatabase.{KeyDatabase}
-use Rattle.key_database.specs.Stands.{Holds, store_bytes}
-use Rattle.key_database.specs.Store.{StandsFor, stored_length}
+use Rattle.key_database.specs.Stands.{held_images}
+use Rattle.key_database.specs.Store.{StandsFor}
 use Rattle.rule_model.specs.Setup.{Setup}
 use Rattle.keystore_core.specs.declared.engine.Engine.{Engine}
-use Rattle.keystore_core.specs.Engine.{IsOpened, StoreStands, bytes_of, lasting_of}
-
--- the image stands for the lasting part at the start, in so many bytes
-pub record IsStart (setup : Setup) (image : List ℕ) : Type 0 where
-  pub stands : StandsFor setup.start image
-  pub bytes : setup.bytes ≡ stored_length setup.start image stands
+use Rattle.keystore_core.specs.Engine.{IsOpened, StoreStands, lasting_of}
 
 -- no image came but those that were there, no call failed, and the disk tells as much as before
 pub record IsUnwritten {D : Type 0} (d : DiskGhosts D) (old new : D) : Type 0 where
@@ -31,7 +24,7 @@ unwritten_of d old new reads = record { passes = reads.passes; count = reads.goe
 -- The store was read, and nothing was written: each image is one of those before, and the store of the start. Where all images stood
 -- for one lasting part and the disk tells its content, it is the start's.
 pub record IsRead {D : Type 0} (d : DiskGhosts D) (setup : Setup) (old opened : D) : Type 0 where
-  pub stands : AllImages d opened (IsStart setup)
+  pub stands : AllImages d opened (StandsFor setup.start)
   pub images : AllImages d opened (d.images old)
   pub finds : (part : Lasting) → AllImages d old (StandsFor part) → tells d old ≡ true → setup.start ≡ part
   pub unwritten : IsUnwritten d old opened
@@ -44,24 +37,11 @@ pub record IsSetup (setup : Setup) (device : DeviceSecrets) (policy : List Polic
 
 -- what is fixed over an engine that was opened
 abbrev pub setup_of : DeviceSecrets → List PolicyRow → ℕ → Engine → Setup
-setup_of device policy slots engine = record { device = device; policy = policy; slots = slots; start = lasting_of engine; bytes = bytes_of engine }
+setup_of device policy slots engine = record { device = device; policy = policy; slots = slots; start = lasting_of engine }
 
 pub is_opened : (device : DeviceSecrets) (policy : List PolicyRow) (slots : ℕ) (engine : Engine) → IsOpened (setup_of device policy slots engine) device policy slots engine
-is_opened device policy slots engine = record { start = refl; bytes = refl; device_is = refl; policy_is = refl; slots_are = refl }
-
-start_images : {D : Type 0} (d : DiskGhosts D) (setup : Setup) (keys : KeyDatabase) (disk : D) → Holds d keys disk (Sure setup.start) → setup.bytes ≡ store_bytes keys → AllImages d disk (IsStart setup)
-start_images d setup keys disk is bytes c image = record {
-  stands = record {
-    frame = is.kept.frame;
-    is_frame = is.kept.is_frame;
-    past = is.kept.past;
-    records = is.kept.settled.records;
-    store = is.kept.settled.images c image;
-    lasting = is.kept.left;
-  };
-  bytes = bytes ∙ is.kept.settled.place;
-}
+is_opened device policy slots engine = record { start = refl; device_is = refl; policy_is = refl; slots_are = refl }
 
 -- the images after an opening are the store of the start
-pub opened_images : {D : Type 0} (d : DiskGhosts D) (device : DeviceSecrets) (policy : List PolicyRow) (slots : ℕ) (engine : Engine) (disk : D) → StoreStands d (setup_of device policy slots engine) engine disk [] → AllImages d disk (IsStart (setup_of device policy slots engine))
-opened_images d device policy slots engine disk store = start_images d (setup_of device policy slots engine) _ disk store refl
+pub opened_images : {D : Type 0} (d : DiskGhosts D) (device : DeviceSecrets) (policy : List PolicyRow) (slots : ℕ) (engine : Engine) (disk : D) → StoreStands d (setup_of device policy slots engine) engine disk [] → AllImages d disk (StandsFor (lasting_of engine))
+opened_images d device policy slots engine disk store = held_images d engine.tables.keys disk _ store

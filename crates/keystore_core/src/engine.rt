@@ -13,9 +13,10 @@ ghost use Rattle.rule_model.specs.Legal.{MayStep};
 ghost use Rattle.rule_model.specs.ReplyRooms.{Fits, sizes_of};
 ghost use Rattle.rule_model.specs.Setup.{Setup};
 ghost use Rattle.rule_model.specs.Settling.{is_disk_fault};
+ghost use Rattle.journal_compact.specs.Holding.{ReformedFrom};
 ghost use Rattle.journal_records.specs.LastingPart.{Lasting, empty_lasting};
 ghost use Rattle.key_database.specs.Store.{StandsFor};
-ghost use Rattle.ks_outside.specs.Images.{AllImages, Goes, Passes, Reads, TornFrom, tells};
+ghost use Rattle.ks_outside.specs.Images.{AllImages, Goes, Passes, Reads, tells};
 ghost use Rattle.journal_records.specs.Commits.{open_failed};
 ghost use Rattle.keystore_core.specs.Complete.{GivesAnswer, HasNoFault};
 ghost use Rattle.keystore_core.specs.Restarting.{HasRead, is_other_store};
@@ -76,10 +77,10 @@ fn root_is_whole(device: &DeviceSecrets)
 impl Engine {
     ghost use Rattle.keystore_core.specs.Engine.{IsOpened, MayHoldEither, MayTake, OpensFor, OpensStore, Stands, StandsAtFirst, StandsForSome, StoreStands, entries_made, entries_of, lasting_of, tickets_of};
 
-    /// Writes an empty store, and syncs. It takes no memory.
+    /// Writes an empty store, a sync behind each write: a crash leaves the store that was, or the empty one. It takes no memory.
     pub fn format<D: Disk>(disk: &mut D) -> Result<(), Failed>
         ensures formatted { OnOk result (AllImages D.Disk disk.new (StandsFor empty_lasting)) }
-        ensures passes { Passes D.Disk disk.old disk.new (TornFrom D.Disk disk.old 0 9) }
+        ensures passes { Passes D.Disk disk.old disk.new (ReformedFrom D.Disk disk.old) }
         ensures goes { Goes D.Disk disk.old disk.new (is_err result) }
     {
         KeyDatabase::format(disk)

@@ -28,7 +28,6 @@ use Rattle.rule_model.specs.Operations.{operation_of}
 use Rattle.rule_model.specs.Replies.{broken_or}
 use Rattle.rule_model.specs.Setup.{Setup}
 use Rattle.rule_model.specs.StepFacts.{brought_by, facts_of, has_ended}
-use Rattle.rule_model.specs.Stored.{where_stored}
 
 -- ---- through the layers of an answer
 
@@ -39,17 +38,6 @@ broken_done (Err broken) reply e = cc
 pub broken_fields : {T : Type 0} (ruling : Result T (Rule × Code)) (fields given : Fields) → broken_or ruling (Done fields) ≡ Done given → fields ≡ given
 broken_fields (Ok found) fields given e = cc
 broken_fields (Err broken) fields given e = cc
-
-where_done : (bytes : ℕ) (change : Option Change) (reply : Reply) → is_done (where_stored bytes change reply) ≡ true → is_done reply ≡ true
-where_done bytes None reply e = e
-where_done bytes (Some change) (Done fields) e = refl
-where_done bytes (Some change) (Broken rule code) e = cc
-where_done bytes (Some change) (Stopped code) e = cc
-
--- an admitted answer is one by the rules
-pub admitted_by_rules : (setup : Setup) (past : History) (event : Event) (drawn : List ℕ) → is_done (answer setup past event drawn) ≡ true → is_done (answer_by_rules event.act setup past (caller_of past event) drawn) ≡ true
-admitted_by_rules setup past event drawn e =
-    where_done _ _ (answer_by_rules event.act setup past (caller_of past event) drawn) e
 
 -- ---- a step that enters an operation
 

@@ -44,8 +44,7 @@ use Rattle.rule_model.specs.Operations.{used_key}
 use Rattle.rule_model.specs.Replies.{broken_or}
 use Rattle.rule_model.specs.Settling.{is_faulted, is_kept, is_unsettled}
 use Rattle.rule_model.specs.Setup.{Setup}
-use Rattle.rule_model.specs.Stored.{stored_bytes, where_stored}
-use Rattle.rule_model.proofs.Admitted.{admitted_by_rules, answered_done, broken_done}
+use Rattle.rule_model.proofs.Admitted.{answered_done, broken_done}
 use Rattle.rule_model.proofs.Bounds.{Each, each_as, each_changed, each_left, each_more}
 use Rattle.rule_model.proofs.Kept.{restart_unfaulted, waiting_unfaulted}
 use Rattle.tags.specs.declared.limits.TheConstants.{ALIAS_BYTES, KEPT_LIST_BYTES}
@@ -146,20 +145,16 @@ makes_done (ImportKey key params format material) setup past caller drawn e =
 makes_done _ setup past caller drawn e = tt
 
 -- an answer that is no broken rule
-stopped_ok : {T : Type 0} (bytes : ℕ) (change : Option Change) (ruling : Result T (Rule × Code)) (reply : Reply) (code : Code) → Stopped code ≡ where_stored bytes change (broken_or ruling reply) → is_ok ruling ≡ true
-stopped_ok bytes change (Ok found) reply code e = refl
-stopped_ok bytes None (Err broken) reply code e = cc
-stopped_ok bytes (Some change) (Err broken) reply code e = cc
+stopped_ok : {T : Type 0} (ruling : Result T (Rule × Code)) (reply : Reply) (code : Code) → Stopped code ≡ broken_or ruling reply → is_ok ruling ≡ true
+stopped_ok (Ok found) reply code e = refl
+stopped_ok (Err broken) reply code e = cc
 
-makes_stopped : (act : Act) (setup : Setup) (past : History) (caller : Caller) (drawn : List ℕ) (code : Code) → Stopped code ≡ where_stored (stored_bytes setup past)
-    (change_of act (device_at setup past) setup.policy (kept setup past) (open_of setup past) caller drawn) (answer_by_rules act setup past caller drawn) → MakesKey act setup past caller
+makes_stopped : (act : Act) (setup : Setup) (past : History) (caller : Caller) (drawn : List ℕ) (code : Code) → Stopped code ≡ answer_by_rules act setup past caller drawn → MakesKey act setup past caller
 makes_stopped (GenerateKey key params) setup past caller drawn code e =
-    stopped_ok (stored_bytes setup past) (change_of (GenerateKey key params) (device_at setup past) setup.policy (kept setup past) (open_of setup past) caller drawn)
-    (new_key (new_facts setup.policy caller key params None (has_early_ended setup past)))
+    stopped_ok (new_key (new_facts setup.policy caller key params None (has_early_ended setup past)))
     (made_in (kept setup past) caller key (new_blob (device_at setup past) (planned setup.policy caller key params None) None drawn)) code e
 makes_stopped (ImportKey key params format material) setup past caller drawn code e =
-    stopped_ok (stored_bytes setup past) (change_of (ImportKey key params format material) (device_at setup past) setup.policy (kept setup past) (open_of setup past) caller drawn)
-    (new_key (new_facts setup.policy caller key params (import_of format material) (has_early_ended setup past)))
+    stopped_ok (new_key (new_facts setup.policy caller key params (import_of format material) (has_early_ended setup past)))
     (made_in (kept setup past) caller key (new_blob (device_at setup past) (planned setup.policy caller key params (import_of format material)) (Some material) drawn)) code e
 makes_stopped _ setup past caller drawn code e = tt
 
@@ -175,7 +170,7 @@ makes_faulted setup past event drawn code faulted (WithoutMemory is) =
     let no : is_faulted (is_unsettled past) event.act (Stopped MemoryAllocationFailed) ≡ true = subst (λ r. is_faulted (is_unsettled past) event.act r ≡ true) is.is_want faulted in cc
 makes_faulted setup past event drawn code faulted (WithoutEntropy is) =
     let no : is_faulted (is_unsettled past) event.act (Stopped EntropyFault) ≡ true = subst (λ r. is_faulted (is_unsettled past) event.act r ≡ true) is.is_fault faulted in cc
-makes_faulted setup past event drawn code faulted (Faulted is) = makes_done event.act setup past (caller_of past event) drawn (admitted_by_rules setup past event drawn is.admitted)
+makes_faulted setup past event drawn code faulted (Faulted is) = makes_done event.act setup past (caller_of past event) drawn is.admitted
 makes_faulted setup past event drawn code faulted (NotSettled is) =
     both_ways (is_faulted (is_unsettled past) event.act (Stopped code)) faulted (waiting_unfaulted (is_unsettled past) event.act (Stopped code) is.waits)
 makes_faulted setup past event drawn code faulted (NotRestarted other is) =
@@ -205,7 +200,7 @@ kept_short setup next (Settling settled ∷ past) legal storable verdict = kept_
 kept_short setup next (Acted event drawn (Done fields) ∷ past) legal storable verdict =
     let is = answered_done setup past event drawn fields legal.0 in
     over setup past event drawn verdict
-    (makes_done event.act setup past (caller_of past event) drawn (admitted_by_rules setup past event drawn (subst (λ r. is_done r ≡ true) is.is_answer refl)))
+    (makes_done event.act setup past (caller_of past event) drawn (subst (λ r. is_done r ≡ true) is.is_answer refl))
     (kept_short setup (Some event) past legal.1 storable verdict)
 kept_short setup next (Acted event drawn (Broken rule code) ∷ past) legal storable verdict = kept_short setup (Some event) past legal.1 storable verdict
 kept_short setup next (Acted event drawn (Stopped code) ∷ past) legal storable verdict =

@@ -5,6 +5,8 @@
 #[cfg(test)]
 mod areas;
 #[cfg(test)]
+mod compactions;
+#[cfg(test)]
 mod databases;
 #[cfg(test)]
 mod disks;

@@ -9,14 +9,14 @@ returns-in-Ok-clause-holds g c = record { kept = rw c.in-Ok.is at c.read_store.e
 
 pub returns-in-Ok-clause-reads : goal.returns-in-Ok-clause-reads
 returns-in-Ok-clause-reads g c =
-    let kept : KeepsPart g.D.Disk c.in-Ok.journal c.read_store.new.disk (lasting_in c.in-Ok.table) = rw c.in-Ok.is at c.read_store.ensures.reads in
-    kept_stands g.D.Disk c.in-Ok.journal c.read_store.new.disk (lasting_in c.in-Ok.table) kept
+    let kept : KeepsPart g.D.Disk c.in-Ok.areas c.read_store.new.disk (lasting_in c.in-Ok.table) = rw c.in-Ok.is at c.read_store.ensures.reads in
+    kept_stands g.D.Disk c.in-Ok.areas c.read_store.new.disk (lasting_in c.in-Ok.table) kept
 
 pub returns-in-Ok-clause-stands : goal.returns-in-Ok-clause-stands
 returns-in-Ok-clause-stands g c = λ part all told.
-    let kept : KeepsPart g.D.Disk c.in-Ok.journal c.read_store.new.disk (lasting_in c.in-Ok.table) = rw c.in-Ok.is at c.read_store.ensures.reads in
+    let kept : KeepsPart g.D.Disk c.in-Ok.areas c.read_store.new.disk (lasting_in c.in-Ok.table) = rw c.in-Ok.is at c.read_store.ensures.reads in
     let image = told_image g.D.Disk c.read_store.new.disk g.met.D.Disk.content_is_image (c.read_store.ensures.goes.goes.telling ∙ told) in
-    c.one_store.ensures.part (lasting_in c.in-Ok.table) part image.0 (kept_stands g.D.Disk c.in-Ok.journal c.read_store.new.disk (lasting_in c.in-Ok.table) kept image.0 image.1)
+    c.one_store.ensures.part (lasting_in c.in-Ok.table) part image.0 (kept_stands g.D.Disk c.in-Ok.areas c.read_store.new.disk (lasting_in c.in-Ok.table) kept image.0 image.1)
     (all image.0 (c.read_store.ensures.goes.images image.0 image.1))
 
 pub returns-in-Err-clause-reads : goal.returns-in-Err-clause-reads
