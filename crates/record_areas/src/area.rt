@@ -58,8 +58,8 @@ impl Area {
         read_area(alloc, disk, start, limit, kinds)
     }
 
-    /// A settled area whose records end at a place. It takes no memory.
-    pub fn at(start: u64, limit: u64, end: u64) -> Area
+    /// A settled area whose records end at a place.
+    pub(crate) fn at(start: u64, limit: u64, end: u64) -> Area
         requires { end < limit }
         ensures start { start_of result ≡ start }
         ensures limit { limit_of result ≡ limit }

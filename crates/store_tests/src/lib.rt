@@ -12,5 +12,3 @@ mod disks;
 mod journals;
 #[cfg(test)]
 mod records;
-#[cfg(test)]
-mod rows;
