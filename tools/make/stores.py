@@ -2,10 +2,9 @@
 
     tools/ks make stores --stores    prints the digest of 1,000 stores
     tools/ks make stores --damage    prints the tables of damaged stores
-    tools/ks make stores --records   prints a record of each kind
-    tools/ks make stores --needs     prints records behind others, and whether their needs are met"""
+    tools/ks make stores --records   prints a record of each kind"""
 from keystore.harness import parser_of
-from keystore.store import AREA_KINDS, COUNTED, HEADER, KINDS, NUMBERS_END, THREE, Lasting, framed, read_journal
+from keystore.store import COUNTED, HEADER, KINDS, THREE, framed, read_journal
 
 
 class Draws:
@@ -75,66 +74,14 @@ def print_damage():
     print("cut", "".join(letter(store[:size], gates) for size in range(len(store) + 1)))
 
 
-# The records of an area: its next numbers; key 2 of uid 10001, m, with two uses left of three; grant 3 of it to uid
-# 10002; and a use of it.
-KEY = [2, 0, 10001, b"m", b"\xaa", b"", 3, 2]
-FRONT = [(8, [5, 9]), (9, KEY), (10, [3, 2, 10002, 256]), (3, [2])]
-
-
-def key_with(**fields):
-    """A key that may be held behind the first, but for these fields."""
-    names = [name for name, _ in AREA_KINDS[9][1]]
-    values = [3, 0, 10001, b"n", b"\xaa", b"", 0, 0]
-    return (9, [fields.get(name, value) for name, value in zip(names, values)])
-
-
-OVER = NUMBERS_END + 1
-NUMBERS = [(1, 1), (NUMBERS_END, NUMBERS_END), (0, 1), (1, 0), (OVER, 1), (1, OVER)]
-OWNERS = [(0, 2**32 - 1), (0, 2**32), (1, 1), (2, 2**32)]
-# How many of them stand before, and a record behind those.
-NEEDS = [
-    # the next numbers: first of all, from 1 to 2^63
-    *((0, (8, [*numbers])) for numbers in NUMBERS),
-    *((count, FRONT[0]) for count in (1, 2, 3, 4)),
-    # a key: its number given, above the others; owner, alias, blob and list as a new key has them; and its uses
-    (0, FRONT[1]),
-    *((2, key_with(id=number)) for number in (0, 1, 2, 3, 4, 5)),
-    *((2, key_with(domain=domain, nspace=nspace)) for domain, nspace in OWNERS),
-    *((2, key_with(alias=alias)) for alias in (b"", b"\xff", b"m")),
-    (2, key_with(domain=2, alias=b"m")),
-    *((2, key_with(limit=limit, left=left)) for limit, left in ((0, 1), (1, 0), (1, 1), (2, 1), (2, 3))),
-    (3, key_with()),
-    (4, key_with()),
-    # a grant: its number given, above the others; a live key that is not granted to that uid
-    *((2, (10, [number, 2, 10002, 256])) for number in (0, 1, 8, 9)),
-    (2, (10, [3, 3, 10002, 256])),
-    *((3, (10, [number, 2, uid, 256])) for number, uid in ((2, 10003), (3, 10003), (4, 10002), (4, 10003))),
-    (4, (10, [4, 2, 10003, 256])),
-    # a change stands behind any of them
-    *((count, (3, [2])) for count in (0, 1, 2, 3, 4)),
-]
-
-
-def print_needs():
-    for kind, values in FRONT:
-        print(framed(kind, values).hex())
-    for count, (kind, values) in NEEDS:
-        lasting = Lasting()
-        assert all(lasting.apply(*record) for record in FRONT[:count])
-        print(count, framed(kind, values).hex(), lasting.apply(kind, values))
-
-
 def main():
     parser = parser_of(__doc__)
     ways = parser.add_mutually_exclusive_group(required=True)
     ways.add_argument("--stores", action="store_true", help="print the digest of 1,000 stores")
     ways.add_argument("--damage", action="store_true", help="print the tables of damaged stores")
     ways.add_argument("--records", action="store_true", help="print a record of each kind")
-    ways.add_argument("--needs", action="store_true", help="print records behind others, and whether they may stand")
     given = parser.parse_args()
-    if given.needs:
-        print_needs()
-    elif given.stores:
+    if given.stores:
         print(f"{random_stores():016x}")
     elif given.damage:
         print_damage()

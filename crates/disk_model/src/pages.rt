@@ -1,7 +1,7 @@
 //! Bytes in pages of 4,096, of which those alone are held that were written.
 
 ghost use Rattle.std.specs.Prelude.{◌≡◌, ℕ, ◌+◌, ◌-◌, ◌/◌, ◌%◌, ◌^◌, ◌<◌, ◌≤◌, ◌==◌, true, Some, is_some, get_or, length, OnOk, OnErr, if◌then◌else◌, replicate};
-ghost use Rattle.std.specs.Prelude.{nat_eq, IfOk, IsOk, take, drop};
+ghost use Rattle.std.specs.Prelude.{nat_eq, IfOk, IsOk};
 ghost use Rattle.std.specs.HashMap.{get, spare};
 ghost use Rattle.disk_model.specs.Pages.{byte_in, pages_over, Overlaid};
 
@@ -24,14 +24,6 @@ impl Page {
     {
         Page { bytes: [0; 4096] }
     }
-
-    /// Fills `out` with its bytes from an offset on.
-    fn copy_to(&self, offset: usize, out: &mut [u8])
-        requires { offset + length out.old ≤ 4096 }
-        ensures { out.new ≡ take (length out.old) (drop offset self.now.bytes) }
-    {
-        out.copy_from_slice(&self.bytes[offset..offset + out.len()]);
-    }
 }
 
 /// The page with this number has the bytes from place `number * 4096` on. One that is not held is all 00.
@@ -49,6 +41,16 @@ impl Pages {
         Ok(Pages {
             rows: HashMap::with_capacity(alloc, pages)?,
         })
+    }
+
+    /// The byte at a place.
+    pub fn byte(&self, place: u64) -> u8
+        ensures { result ≡ byte_in self.now.rows place }
+    {
+        match self.rows.get(&(place / PAGE)) {
+            Some(page) => page.bytes[(place % PAGE) as usize],
+            None => 0,
+        }
     }
 
     /// Holds this page from now on.
@@ -133,29 +135,13 @@ impl Pages {
         }
     }
 
-    /// Fills `out` with the bytes from a place on, which lie in one page.
-    fn read_page(&self, at: u64, out: &mut [u8])
-        requires { at % 4096 + length out.old ≤ 4096 }
-        ensures { (i : ℕ) → i < length out.new → get_or out.new i 0 ≡ byte_in self.now.rows (at + i) }
-    {
-        match self.rows.get(&(at / PAGE)) {
-            Some(page) => page.copy_to((at % PAGE) as usize, out),
-            None => out.fill(0),
-        }
-    }
-
-    /// Fills `out` with the bytes from a place on, a page at a time.
+    /// Fills `out` with the bytes from a place on.
     pub fn read(&self, at: u64, out: &mut [u8])
         requires { at + length out.old < 2 ^ 64 }
         ensures { (i : ℕ) → i < length out.new → get_or out.new i 0 ≡ byte_in self.now.rows (at + i) }
     {
-        let mut done = 0;
-        'pages: while done < out.len() {
-            let here = at + done as u64;
-            let left = (PAGE - here % PAGE) as usize;
-            let count = left.min(out.len() - done);
-            self.read_page(here, &mut out[done..done + count]);
-            done += count;
+        'bytes: for i in 0..out.len() {
+            out[i] = self.byte(at + i as u64);
         }
     }
 }

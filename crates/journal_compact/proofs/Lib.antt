@@ -1,6 +1,7 @@
 pub mod Adding
 pub mod Formed
 pub mod Kept
+pub mod Olders
 pub mod Single
 pub mod Telling
 pub mod Turns

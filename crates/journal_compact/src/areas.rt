@@ -21,6 +21,7 @@ ghost use Rattle.journal_compact.specs.declared.areas.Turn.TheVariants.{Copying,
 ghost use Rattle.journal_compact.specs.declared.places.TheConstants.{AREA_BYTES};
 ghost use Rattle.journal_compact.specs.Turning.{seal};
 
+use crate::older::{put_beside_journal, turn_journal};
 use crate::opening::find_marks;
 use crate::places::{AREA_A, KINDS, SELECTOR, SELECTS_A, Selected};
 use crate::turning::{put_beside, turn_from};
@@ -70,7 +71,11 @@ const FRESH: [u8; 13] = [
 impl Areas {
     ghost use Rattle.journal_compact.specs.Holding.{area_of, end_of, end_with, is_turning, is_waiting, record_bytes, selected_of, turn_of, SameTurn};
     ghost use Rattle.journal_compact.specs.Holding.{Appends, Compacts, FindsAreas, IsMarkedOn, IsSettledIn, IsSettledOn, IsTurningOn, IsUnsettledOn, ReadsAreas, ReformedFrom, SettlesTo, SettlesTurn, write_state};
+    ghost use Rattle.journal_compact.specs.Adopting.{Adopts};
     ghost use Rattle.journal_compact.specs.Missing.{MissesMarks};
+    ghost use Rattle.journal_compact.specs.declared.places.Selected.TheVariants.{A};
+    ghost use Rattle.journal_compact.specs.declared.places.TheConstants.{JOURNAL_RECORDS};
+    ghost use Rattle.use_journal.specs.Journal.{IsJournal};
 
     /// Writes an empty store, a sync behind each write: area A is emptied and selected before the front of the store is written. So a crash
     /// leaves the store that was, or the empty one. It takes no memory.
@@ -227,6 +232,35 @@ impl Areas {
             turn: Turn::Idle,
         };
         Ok(())
+    }
+
+    /// Brings a journal to areas: writes the snapshot of what a table holds, which is what the journal's records leave, into area A and
+    /// selects it, and syncs; writes the version of a store of areas, and syncs; seals the journal, and syncs. At each moment each image is the
+    /// journal, or a store of areas with the snapshot. It takes no memory.
+    pub fn adopt<D: Disk, K: Held>(disk: &mut D, keys: &K) -> Result<Areas, Failed>
+        requires { IsStorable (K.part keys.now) }
+        ensures adopts { (past : List Record) → AllImages D.Disk disk.old (IsJournal past)
+            → Adopts D.Disk disk.old disk.new past (reverse (snapshot (K.part keys.now))) result }
+        ensures selected { IfOk result (λ areas. selected_of areas ≡ A) }
+        ensures bytes { IfOk result (λ areas. record_bytes areas ≡ snapshot_length (K.part keys.now)) }
+        ensures idle { IfOk result (λ areas. is_waiting areas ≡ false) }
+        ensures sealed { OnOk result (AllImages D.Disk disk.new (HoldsAt JOURNAL_RECORDS seal)) }
+        ensures goes { Goes D.Disk disk.old disk.new (is_err result) }
+    {
+        storable_law();
+        let Ok(end) = put_beside_journal(disk, keys) else {
+            return Err(Failed);
+        };
+        let selected = Selected::A;
+        let area = Area::at(selected.start(), selected.limit(), end);
+        let Ok(()) = turn_journal(disk) else {
+            return Err(Failed);
+        };
+        Ok(Areas {
+            selected,
+            area,
+            turn: Turn::Idle,
+        })
     }
 
     /// The areas once the selector was read behind a compaction that failed.

@@ -3,7 +3,9 @@
 ghost use Rattle.std.specs.Prelude.{◌≡◌, ℕ, List};
 ghost use Rattle.journal_records.specs.declared.record.Record.{Record};
 ghost use Rattle.record_areas.specs.Frames.{Frame, IsMarked, IsStore};
+ghost use Rattle.journal_compact.specs.Older.{AgreeUpTo};
 ghost use Rattle.journal_compact.specs.Quiet.{AgreeIn};
+ghost use Rattle.use_journal.specs.Journal.{IsJournal};
 ghost use Rattle.journal_compact.specs.Stores.{AreAreaRecords, IsAreas, IsAreasFrame, IsCorrupted, IsUnmarked};
 
 use record_areas::one_reading as one_list;
@@ -13,6 +15,12 @@ use record_areas::one_reading as one_list;
 pub fn quiet_law()
     ensures { (frame : Frame) (past : List Record) (image other : List ℕ) → IsAreasFrame frame → IsStore frame past image
         → AgreeIn frame past image other → IsStore frame past other }
+{}
+
+/// Two images that agree up to the gate that ends the records of a journal are that journal, or neither is: what is written behind that gate
+/// changes nothing.
+pub fn older_law()
+    ensures { (past : List Record) (image other : List ℕ) → IsJournal past image → AgreeUpTo past image other → IsJournal past other }
 {}
 
 /// An image has the marks of one store of areas at most, and of none where it is told that they are not there; it is a store of one list of

@@ -14,6 +14,12 @@ pub(crate) const MAGIC_BYTES: usize = 7;
 /// The version of a journal, which no store of areas has.
 pub(crate) const JOURNAL: u8 = 0x31;
 
+/// Where the records of a journal begin.
+pub(crate) const JOURNAL_RECORDS: u64 = 8;
+
+/// The version that is written. Every one but that of a journal is a store of areas.
+pub(crate) const VERSION: u8 = 0x32;
+
 /// The place of the byte that selects an area: where a journal would end.
 pub(crate) const SELECTOR: u64 = JOURNAL_BYTES;
 

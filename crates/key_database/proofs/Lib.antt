@@ -5,4 +5,3 @@ pub mod OneStore
 pub mod Opened
 pub mod Replayed
 pub mod Rereading
-pub mod Storables

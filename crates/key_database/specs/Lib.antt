@@ -1,3 +1,4 @@
 pub mod Frames
 pub mod Stands
 pub mod Store
+pub mod StoredChanges

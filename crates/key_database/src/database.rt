@@ -9,7 +9,6 @@ ghost use Rattle.journal_records.specs.LastingPart.{Lasting, empty_lasting};
 ghost use Rattle.journal_records.specs.Needs.{is_met};
 ghost use Rattle.journal_records.specs.Holding.{Holding, Sure, after_settle};
 ghost use Rattle.journal_records.specs.Spelling.{closed_of};
-ghost use Rattle.journal_records.specs.Storable.{IsStorable};
 ghost use Rattle.use_journal.specs.Holding.{end_of, end_with, is_waiting};
 ghost use Rattle.lasting_table.specs.TableView.{CanMake, HasRoomForGrant, HasRoomForKey, KeepsRoom, takes_memory};
 ghost use Rattle.key_database.specs.Store.{MayBe, StandsFor};
@@ -40,12 +39,11 @@ pub struct KeyDatabase {
 impl KeyDatabase {
     ghost use Rattle.key_database.specs.Stands.{lasting, part_after, table_of, is_unsettled, pending_of, waiting_after, Commits, SettledBy, store_bytes, change_bytes, bytes_after, Holds, IsReadAgain, Rereads, SameStore, ReadsStore, FindsStore};
 
-    /// Syncs, reads the store that the disk holds, record by record, and tests the need of each. Corrupted has the place of what
-    /// is wrong first: of what is no journal, and where it is one of the first record whose need is not met.
+    /// Syncs, reads the store that the disk holds, record by record, and tests the need of each change. Corrupted has the place of what
+    /// is wrong first: of what is no journal, and where it is one of the first change whose need is not met.
     pub fn open<D: Disk>(alloc: Global, disk: &mut D) -> Result<KeyDatabase, StoreFault>
         ensures holds { IfOk result (λ database. Holds D.Disk database disk.new (Sure (lasting database))) }
         ensures idle { IfOk result (λ database. pending_of database ≡ None) }
-        ensures storable { IfOk result (λ database. IsStorable (lasting database)) }
         ensures reads { AllImages D.Disk disk.new (λ image. ReadsStore image result) }
         ensures stands { (part : Lasting) → AllImages D.Disk disk.old (StandsFor part)
             → tells D.Disk disk.old ≡ true → FindsStore part result }
@@ -53,14 +51,11 @@ impl KeyDatabase {
     {
         one_store();
         match read_store(alloc, disk) {
-            Ok((journal, table)) => {
-                table.storable();
-                Ok(KeyDatabase {
-                    journal,
-                    table,
-                    pending: None,
-                })
-            }
+            Ok((journal, table)) => Ok(KeyDatabase {
+                journal,
+                table,
+                pending: None,
+            }),
             Err(fault) => Err(fault),
         }
     }

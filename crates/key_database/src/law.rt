@@ -2,21 +2,17 @@
 
 ghost use Rattle.std.specs.Prelude.{◌≡◌, ℕ, List};
 ghost use Rattle.journal_records.specs.LastingPart.{Lasting};
-ghost use Rattle.journal_records.specs.Storable.{IsStorable};
 ghost use Rattle.key_database.specs.Store.{StandsFor, IsBadStore};
 
-use journal_records::storable_law;
 use record_areas::one_reading;
 
 /// An image stands for one lasting part at most; one that stands for a lasting part has nothing wrong; and what is wrong
-/// first is so at one place. What it stands for is what a store can hold.
+/// first is so at one place.
 pub fn one_store()
     ensures part { (part other : Lasting) (image : List ℕ) → StandsFor part image → StandsFor other image → part ≡ other }
     ensures sound { (part : Lasting) (offset : ℕ) (image : List ℕ) → StandsFor part image → IsBadStore image offset → ⊥ }
     ensures place { (offset other : ℕ) (image : List ℕ) → IsBadStore image offset → IsBadStore image other
         → offset ≡ other }
-    ensures storable { (part : Lasting) (image : List ℕ) → StandsFor part image → IsStorable part }
 {
     one_reading();
-    storable_law();
 }

@@ -56,7 +56,6 @@ use Rattle.rule_model.proofs.UsesMet.{uses_met}
 use Rattle.keystore_core.specs.declared.answered.Answered.{Answered as Answer}
 use Rattle.live_tables.specs.declared.operations.OperationRow.{OperationRow as Row}
 use Rattle.live_tables.specs.declared.operations.RowChange.TheVariants.{Enters as RowEnters}
-use Rattle.live_tables.specs.declared.placed.OperationPlace.{OperationPlace}
 use Rattle.keystore_core.specs.declared.tables.Tables.{Tables}
 use Rattle.live_tables.specs.declared.tickets.Out.{Out}
 use Rattle.live_tables.specs.Alike.{BothFound}
@@ -132,7 +131,7 @@ use_met setup past tables caller op (Text input) id stands legal used ended = cc
 use_met setup past tables caller op (Last input signature) id stands legal used ended =
     let own : option_and_then limited_key (operation_at setup past op) ≡ Some id = sym (same_used (row_at tables op) (operation_at setup past op) (row_found setup past tables op stands)) ∙ used in
     subst (λ part. is_met part (changes.Use id) ≡ true) (sym stands.keys.lasting_is)
-    (uses_met setup legal.next past legal.legal legal.storable op id own (live_used (is_live setup past) caller (brought_by (Last input signature)) (operation_at setup past op) id own ended))
+    (uses_met setup legal.next past legal.legal legal.stored op id own (live_used (is_live setup past) caller (brought_by (Last input signature)) (operation_at setup past op) id own ended))
 
 -- the answer of the store is that of the use, where it admits it
 pub is_told : (old new : KeyDatabase) (used : Option Change) (fields : Fields) (reply : Reply) → IsWrittenIf old new used fields reply → is_done reply ≡ true → reply ≡ Done fields
@@ -192,8 +191,8 @@ module _ (setup : Setup) (past : History) (start : Tables) (keys : KeyDatabase) 
   abbrev First : Entered
   First = record { op = op; work = work }
 
-  abbrev Sent : OperationPlace → Out
-  Sent place = record { op = op; place = place; brought = brought_by work }
+  abbrev Sent : Out
+  Sent = record { op = op; brought = brought_by work }
 
   abbrev Used : Option Change
   Used = used_by (used_in start op (brought_by work).kind)
@@ -242,10 +241,10 @@ module _ (setup : Setup) (past : History) (start : Tables) (keys : KeyDatabase) 
   idle_open idle = is_idle (is_live setup past) caller (operation_at setup past op) (brought_by work) idle
 
   -- a work goes out, after the room of its ticket was taken and its key was used
-  pub goes_out : (new : Tables) (place : OperationPlace) (room : JobRoom) (job : Job) (ticket : ℕ) (o : Open) → operation_at setup past op ≡ Some o → step_table.answer Facts ≡ Ok tt → Facts.busy ≡ false → Enters Facts
-      → IsRoomAt (row_at start op) work room → ticket ≡ tickets_given start.tickets + 1 → IsWrittenIf start.keys keys Used (Told ticket) (Done (Told ticket)) → SendsJob (Sent place) room Spent new job
+  pub goes_out : (new : Tables) (room : JobRoom) (job : Job) (ticket : ℕ) (o : Open) → operation_at setup past op ≡ Some o → step_table.answer Facts ≡ Ok tt → Facts.busy ≡ false → Enters Facts
+      → IsRoomAt (row_at start op) work room → ticket ≡ tickets_given start.tickets + 1 → IsWrittenIf start.keys keys Used (Told ticket) (Done (Told ticket)) → SendsJob Sent room Spent new job
       → AnswersAfter setup past new Entering (record { reply = Done (Told ticket); job = Some job; drawn = [] })
-  goes_out new place room job ticket o e let_through idle enters is_room next written sent =
+  goes_out new room job ticket o e let_through idle enters is_room next written sent =
       let reply : Reply = Done (Told ticket) in
       let later : History = Acted Entering [] reply ∷ past in
       let first : ticket ≡ next_ticket past = next ∙ ap (λ n. n + 1) now.tickets.given in
@@ -283,8 +282,8 @@ module _ (setup : Setup) (past : History) (start : Tables) (keys : KeyDatabase) 
           tickets = record {
             outs = λ t. subst (λ c. SameOut (out.out_in new.tickets t) (ticket_after c t (ticket_at past t))) (sym ticket_is)
                 (subst (λ x. SameOut x (if ticket == t then Some First else ticket_at past t)) (sym (sent.tickets.outs t))
-                (subst (λ n. SameOut (if n == t then Some (Sent place) else out.out_in start.tickets t) (if ticket == t then Some First else ticket_at past t)) next
-                (both_out (ticket == t) (Sent place) First (out.out_in start.tickets t) (ticket_at past t) (record { op = refl; brought = refl }) (now.tickets.outs t))));
+                (subst (λ n. SameOut (if n == t then Some Sent else out.out_in start.tickets t) (if ticket == t then Some First else ticket_at past t)) next
+                (both_out (ticket == t) Sent First (out.out_in start.tickets t) (ticket_at past t) (record { op = refl; brought = refl }) (now.tickets.outs t))));
             given = sent.tickets.given ∙ ap (λ n. n + 1) now.tickets.given ∙ sym (ap (λ b. if b then count_of is_enter past + 1 else count_of is_enter past) (enter_enters op work));
             busy = λ t entered after.
                 ticket_case (ticket == t) (λ x. BusyWith t x.work (operation_at setup later x.op)) First (ticket_at past t) entered (sym (ap (λ c. ticket_after c t (ticket_at past t)) ticket_is) ∙ after)
@@ -302,12 +301,12 @@ module _ (setup : Setup) (past : History) (start : Tables) (keys : KeyDatabase) 
   own_open None own = cc
   own_open (Some o) own = (o, refl)
 
-  pub entered_after : (new : Tables) (place : OperationPlace) (room : JobRoom) (job : Job) (ticket : ℕ) (reply : Reply) → is_done reply ≡ true → step_table.answer Facts ≡ Ok tt → Facts.own ≡ true → Facts.busy ≡ false → Enters Facts
-      → IsRoomAt (row_at start op) work room → ticket ≡ tickets_given start.tickets + 1 → IsWrittenIf start.keys keys Used (Told ticket) reply → SendsJob (Sent place) room Spent new job
+  pub entered_after : (new : Tables) (room : JobRoom) (job : Job) (ticket : ℕ) (reply : Reply) → is_done reply ≡ true → step_table.answer Facts ≡ Ok tt → Facts.own ≡ true → Facts.busy ≡ false → Enters Facts
+      → IsRoomAt (row_at start op) work room → ticket ≡ tickets_given start.tickets + 1 → IsWrittenIf start.keys keys Used (Told ticket) reply → SendsJob Sent room Spent new job
       → AnswersAfter setup past new Entering (record { reply = Done (Told ticket); job = Some job; drawn = [] })
-  entered_after new place room job ticket reply done let_through own idle enters is_room next written sent =
+  entered_after new room job ticket reply done let_through own idle enters is_room next written sent =
       let there = own_open (operation_at setup past op) own in
-      goes_out new place room job ticket there.0 there.1 let_through idle enters is_room next (subst (IsWrittenIf start.keys keys Used (Told ticket)) (is_told start.keys keys Used (Told ticket) reply written done) written) sent
+      goes_out new room job ticket there.0 there.1 let_through idle enters is_room next (subst (IsWrittenIf start.keys keys Used (Told ticket)) (is_told start.keys keys Used (Told ticket) reply written done) written) sent
 
   -- ---- a finish whose key could not be used
 

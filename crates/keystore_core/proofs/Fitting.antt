@@ -35,7 +35,6 @@ use Rattle.journal_records.specs.declared.change.Change.{Change}
 use Rattle.journal_records.specs.declared.record.KeyRecord.{KeyRecord}
 use Rattle.journal_records.specs.LastingPart.{Lasting, has_id}
 use Rattle.journal_records.specs.Lookups.{alias_cmp, is_listed, least, lesser, next_key}
-use Rattle.journal_records.specs.Storable.{IsStorable}
 use Rattle.rule_model.specs.declared.entry.Entry.TheVariants.{Settling}
 use Rattle.rule_model.specs.declared.event.Act.{Act}
 use Rattle.rule_model.specs.declared.event.Act.TheVariants.{GenerateKey, ImportKey, CreateOperation, EnterAad, EnterUpdate, EnterFinish, Abort, Disconnect, GetKeyEntry, DeleteKey, Grant, Ungrant, GetNumberOfEntries, ListEntriesBatched, ClearNamespace, UserRemoved, AddAuthToken, DeviceLocked, DeviceUnlocked, EarlyBootEnded, Leave}
@@ -69,6 +68,7 @@ use Rattle.rule_model.specs.Stored.{has_record_room, stored_bytes, where_stored}
 use Rattle.rule_model.specs.declared.operation.Entered.{Entered}
 use Rattle.rule_model.specs.Tickets.{next_ticket, ticket_at}
 use Rattle.rule_model.specs.Tokens.{token_of}
+use Rattle.rule_model.specs.Uses.{IsStored}
 use Rattle.rule_model.proofs.Bounds.{Each, each_found, each_left}
 use Rattle.rule_model.proofs.KeySizes.{AreShort, IsShort, kept_short}
 use Rattle.keystore_core.specs.Outputs.{HasOutRoom, output_out}
@@ -290,8 +290,8 @@ same_room setup past settled (Leave ticket) out room = same_output (ticket_at pa
   same_output (Some entered) few = few
 same_room setup past settled _ out room = tt
 
-pub step_fits : (setup : Setup) (past : History) (settled : Option Settled) (event : Event) (drawn : List ℕ) (reply : Reply) (out : ℕ) → Legal setup past → IsStorable setup.start → length (device_at setup past).root ≡ 32
+pub step_fits : (setup : Setup) (past : History) (settled : Option Settled) (event : Event) (drawn : List ℕ) (reply : Reply) (out : ℕ) → Legal setup past → IsStored setup.start → length (device_at setup past).root ≡ 32
     → HasOutRoom setup past event.act out → MayStep setup past settled event drawn reply → Fits (sizes_of event.act out) reply
-step_fits setup past None event drawn reply out legal storable long room may = follow_fits setup past event drawn reply out (kept_short setup None past legal storable None) long room may.follows
-step_fits setup past (Some settled) event drawn reply out legal storable long room may =
-    follow_fits setup (Settling settled ∷ past) event drawn reply out (kept_short setup None past legal storable (Some settled)) long (same_room setup past settled event.act out room) may.follows
+step_fits setup past None event drawn reply out legal stored long room may = follow_fits setup past event drawn reply out (kept_short setup None past legal stored None) long room may.follows
+step_fits setup past (Some settled) event drawn reply out legal stored long room may =
+    follow_fits setup (Settling settled ∷ past) event drawn reply out (kept_short setup None past legal stored (Some settled)) long (same_room setup past settled event.act out room) may.follows

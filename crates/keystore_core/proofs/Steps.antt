@@ -89,7 +89,7 @@ module _ (setup : Setup) (past : History) (old : Engine) (mid : Tables) (event :
     setup = setup;
     past = after_settling settled past;
     stands = stands_mid done;
-    legal = record { next = Some event; legal = legal_after setup past mid event settled has stands.legal; storable = stands.storable };
+    legal = record { next = Some event; legal = legal_after setup past mid event settled has stands.legal; stored = stands.stored };
   }
 
   module _ (new : Tables) (answered : Answered) (after : AnswersAfter setup (after_settling settled past) new event answered) where
@@ -101,7 +101,7 @@ module _ (setup : Setup) (past : History) (old : Engine) (mid : Tables) (event :
       entries = entries ∙ made_length old.entries settled event answered.drawn answered.reply past stands.entries;
       tables = rw tables after.stands;
       legal = legal_step setup past settled event answered.drawn answered.reply stands.legal may_step;
-      storable = stands.storable;
+      stored = stands.stored;
     }
 
     pub stays_on : Stays setup past (after_step settled event answered.drawn answered.reply past)
@@ -162,7 +162,7 @@ module _ (setup : Setup) (past : History) (old : Engine) (mid : Tables) (event :
     entries = omega (arith, entries, stands.entries);
     tables = rw tables unmade.0;
     legal = legal_step setup past None event [] (Stopped SystemError) stands.legal may_not;
-    storable = stands.storable;
+    stored = stands.stored;
   }
 
   pub stays_not : Stays setup past Unmade

@@ -2,6 +2,7 @@
 use Rattle.std.specs.Prelude.{◌≡◌, ◌⊎◌, ℕ, List, [], length, Option, Some, None, Result, Ok, Err}
 use Rattle.rule_model.specs.Entries.{History}
 use Rattle.rule_model.specs.Legal.{Legal}
+use Rattle.rule_model.specs.Uses.{IsStored}
 use Rattle.tags.specs.declared.settled.Settled.{Settled}
 use Rattle.tags.specs.declared.policy.PolicyRow.{PolicyRow}
 use Rattle.tags.specs.declared.secrets.DeviceSecrets.{DeviceSecrets}
@@ -9,7 +10,6 @@ use Rattle.ks_outside.specs.declared.disk.Disk.{Ghosts}
 use Rattle.journal_records.specs.LastingPart.{Lasting}
 use Rattle.journal_records.specs.declared.fault.StoreFault.{StoreFault}
 use Rattle.journal_records.specs.declared.fault.StoreFault.TheVariants as faults
-use Rattle.journal_records.specs.Storable.{IsStorable}
 use Rattle.key_database.specs.declared.database.KeyDatabase.{KeyDatabase}
 use Rattle.key_database.specs.Stands.{Holds, lasting, store_bytes}
 use Rattle.key_database.specs.Store.{IsBadStore, MayBe, StandsFor}
@@ -70,7 +70,7 @@ pub record Stands (setup : Setup) (engine : Engine) (past : History) : Type 0 wh
   pub entries : engine.entries ≡ length past
   pub tables : TablesStand setup engine.tables past
   pub legal : Legal setup past
-  pub storable : IsStorable setup.start
+  pub stored : IsStored setup.start
 
 -- the engine's store and the disk hold what is known by a history
 abbrev pub StoreStands : {D : Type 0} → Ghosts D → Setup → Engine → D → History → Type 0

@@ -3,7 +3,6 @@ use Rattle.std.specs.Prelude.{◌≡◌, ℕ, ◌≤◌, IsTrue, ◌∷◌, leng
 use Rattle.tags.specs.declared.bytes.NoMemory.{NoMemory}
 use Rattle.cipher_ops.specs.declared.job.Done.{Done}
 use Rattle.cipher_ops.specs.declared.state.CipherState.{CipherState}
-use Rattle.journal_records.specs.Storable.{IsStorable}
 use Rattle.operation_slots.specs.Table.{held, idle_value}
 use Rattle.rule_model.specs.declared.entry.Entry.TheVariants.{Acted}
 use Rattle.rule_model.specs.declared.event.Event.{Event}
@@ -14,6 +13,7 @@ use Rattle.rule_model.specs.Jobs.{HasDone, HasJob, Stays}
 use Rattle.rule_model.specs.Legal.{LegalBefore, MayFollow, is_ready}
 use Rattle.rule_model.specs.Operations.{step_of}
 use Rattle.rule_model.specs.Setup.{Setup}
+use Rattle.rule_model.specs.Uses.{IsStored}
 use Rattle.keystore_core.specs.declared.answered.Answered.{Answered}
 use Rattle.live_tables.specs.declared.operations.OperationRow.{OperationRow}
 use Rattle.keystore_core.specs.declared.tables.Tables.{Tables}
@@ -53,7 +53,7 @@ state_at tables op = idle_value (held tables.slots op)
 pub record IsLegal (setup : Setup) (past : History) : Type 0 where
   pub next : Option Event
   pub legal : LegalBefore setup next past
-  pub storable : IsStorable setup.start
+  pub stored : IsStored setup.start
 
 -- the tables stand for some legal history of at most so many entries
 pub record IsTables (tables : Tables) (most : ℕ) : Type 0 where

@@ -59,7 +59,7 @@ impl Tables {
         match state {
             Some(state) => {
                 let change = RowChange::Returns(added_by(out.brought));
-                self.operations.change(out.op, out.place, change);
+                self.operations.change(out.op, change);
                 self.slots.give(out.op, step, state);
             }
             None => {

@@ -1,7 +1,6 @@
 //! The enters of an open operation with additional data, text and the last text, and the abort.
 
 ghost use Rattle.std.specs.Prelude.{◌≡◌, ℕ, ◌+◌, ◌-◌, ◌^◌, ◌<◌, ◌&&◌, not, is_some, [], true, false, Some, None, Ok, IfOk, IfSome, IsSome};
-ghost use Rattle.std.specs.Option.{option_copied};
 ghost use Rattle.cipher_ops.specs.Jobs.{ticket_of};
 ghost use Rattle.step_rules.specs.Table.{ends_operation as ends};
 ghost use Rattle.operation_slots.specs.Table.{has_room as is_free};
@@ -75,42 +74,6 @@ fn is_waiting(operation: &OperationRow) -> bool
     operation.challenge.is_some() && !operation.shown
 }
 
-/// The stored key that a step on the operation of a row uses once: a finish does, on an operation of a key with a use limit.
-fn used_key(row: Option<&OperationRow>, kind: StepKind) -> Option<u64>
-    ensures { result ≡ spec.used_for kind (option_copied row.entry) }
-{
-    if kind != StepKind::Last {
-        return None;
-    }
-    match row {
-        Some(operation) => {
-            if operation.limited {
-                operation.key
-            } else {
-                None
-            }
-        }
-        None => None,
-    }
-}
-
-/// Takes the room of a work on the open operation of a row.
-fn room_on(alloc: Global, row: Option<&OperationRow>, work: Work) -> Result<JobRoom, NoMemory>
-    requires { spec.MayGrow (option_copied row) work }
-    ensures { IfOk result (λ room. spec.IsRoomAt (option_copied row.entry) work room) }
-{
-    match row {
-        Some(operation) => JobRoom::of(
-            alloc,
-            operation.plan,
-            operation.limited,
-            operation.text,
-            work,
-        ),
-        None => unreachable!(),
-    }
-}
-
 /// Whether a reply says that a device call failed.
 fn is_fault(reply: &Reply) -> bool
     ensures { result ≡ is_disk_fault reply.now }
@@ -150,17 +113,16 @@ impl Tables {
         }
     }
 
-    /// What the rules read of a step on the operation of a row, where there is one.
-    fn step_facts(&self, row: Option<&OperationRow>, caller: Caller, brought: Brought) -> StepFacts
-        ensures { (setup : Setup) (past : History) (op : ℕ) → TablesStand setup self.now past → option_copied row.entry ≡ row_at self.now op
-            → result ≡ model.step_facts setup past caller op brought }
+    /// What the rules read of a step.
+    fn step_facts(&self, caller: Caller, op: u64, brought: Brought) -> StepFacts
+        ensures { (setup : Setup) (past : History) → TablesStand setup self.now past → result ≡ model.step_facts setup past caller op brought }
     {
         let Brought {
             kind,
             input,
             signature,
         } = brought;
-        match row {
+        match self.operations.get(op) {
             Some(operation) => StepFacts {
                 kind,
                 own: operation.client == caller.client,
@@ -214,6 +176,23 @@ impl Tables {
         Answered::refused(alloc, rule, code)
     }
 
+    /// Takes the room of a work on an open operation.
+    fn room(&self, alloc: Global, op: u64, work: Work) -> Result<JobRoom, NoMemory>
+        requires { spec.MayGrow (row_at self.now op) work }
+        ensures { IfOk result (λ room. spec.IsRoomAt (row_at self.now op) work room) }
+    {
+        match self.operations.get(op) {
+            Some(operation) => JobRoom::of(
+                alloc,
+                operation.plan,
+                operation.limited,
+                operation.text,
+                work,
+            ),
+            None => unreachable!(),
+        }
+    }
+
     /// Sends a work on an idle operation out, under the next ticket.
     fn send(&mut self, out: Out, room: JobRoom) -> Job
         requires state { spec.CanWork (state_at self.old out.op) room }
@@ -225,9 +204,28 @@ impl Tables {
         let Taken::Found(state) = self.slots.take(out.op) else {
             unreachable!()
         };
-        self.operations.change(out.op, out.place, RowChange::Enters);
+        self.operations.change(out.op, RowChange::Enters);
         self.tickets.give(out);
         Job::new(state, ticket, room)
+    }
+
+    /// The stored key that a step of an operation uses once: a finish does, on an operation of a key with a use limit.
+    fn used_key(&self, op: u64, kind: StepKind) -> Option<u64>
+        ensures { result ≡ spec.used_in self.now op kind }
+    {
+        if kind != StepKind::Last {
+            return None;
+        }
+        match self.operations.get(op) {
+            Some(operation) => {
+                if operation.limited {
+                    operation.key
+                } else {
+                    None
+                }
+            }
+            None => None,
+        }
     }
 
     /// Answers a finish whose key could not be used. Where a device call failed, that ends the operation.
@@ -263,14 +261,13 @@ impl Tables {
         ensures store { StoreGoesAfter D.Disk self.old self.new disk.old disk.new caller (spec.entering op work) result }
     {
         let brought = brought_by(&work);
-        let (row, place) = self.operations.look_up(op);
-        let facts = self.step_facts(row, caller, brought);
+        let facts = self.step_facts(caller, op, brought);
         if let Err((rule, code)) = check_step(&facts) {
             drop(work);
             return Ok(self.deny(alloc, op, rule, code));
         }
-        let used = used_key(row, brought.kind);
-        let room = room_on(alloc, row, work)?;
+        let used = self.used_key(op, brought.kind);
+        let room = self.room(alloc, op, work)?;
         let ticket = self.tickets.next();
         self.tickets.reserve()?;
         let reply = spend(&mut self.keys, disk, used, ticket);
@@ -278,7 +275,7 @@ impl Tables {
             drop(room);
             return Ok(self.unspent(alloc, op, reply));
         }
-        let job = self.send(Out { op, place, brought }, room);
+        let job = self.send(Out { op, brought }, room);
         Ok(Answered::entered(alloc, ticket, job))
     }
 
@@ -291,7 +288,7 @@ impl Tables {
         ensures drew { IsUndrawn result }
         ensures store { LeavesStore self.old self.new result }
     {
-        let facts = self.step_facts(self.operations.get(op), caller, ABORT);
+        let facts = self.step_facts(caller, op, ABORT);
         if let Err((rule, code)) = check_step(&facts) {
             return self.deny(alloc, op, rule, code);
         }

@@ -295,7 +295,7 @@ named_back key other here =
     (and_from (other.domain == key.domain) (other.nspace == key.nspace) (eq-eqb other.domain key.domain (sym owner.0)) (eq-eqb other.nspace key.nspace (sym owner.1)))
     ((bytes_eq-Decides other.alias key.alias).1 (sym ((bytes_eq-Decides key.alias other.alias).0 parts.1)))
 
-pub before_new : (rows : List KeyRecord) (key : KeyRecord) → AllByRecursion (λ held. held.id < key.id) rows → NonePass (is_named key.domain key.nspace key.alias) rows → AllByRecursion (λ held. IsBefore held key) rows
+before_new : (rows : List KeyRecord) (key : KeyRecord) → AllByRecursion (λ held. held.id < key.id) rows → NonePass (is_named key.domain key.nspace key.alias) rows → AllByRecursion (λ held. IsBefore held key) rows
 before_new [] key below apart = tt
 before_new (held ∷ rows) key below apart =
     let other : is_named held.domain held.nspace held.alias key ≡ false =
@@ -315,12 +315,14 @@ new_rows old new key t below fit e =
     subst (λ part. AreRows (part.keys ++ key ∷ [])) (sym e) (rows_more left key (rows_filter (λ held. not (is_named key.domain key.nspace key.alias held)) old.keys t) fit
     (before_new left key (each_below key.id left (below_filter (λ held. not (is_named key.domain key.nspace key.alias held)) key.id old.keys below)) (none_named (is_named key.domain key.nspace key.alias) old.keys)))
 
-pub below_push : (number : ℕ) (rows : List KeyRecord) (key : KeyRecord) → AreBelow number rows → key.id < number → AreBelow number (rows ++ key ∷ [])
-below_push number rows key below less = λ id le.
-    find_none (has_id id) (rows ++ key ∷ []) (all_push (λ held. has_id id held ≡ false) rows key (all_from_none (has_id id) rows (below id le)) (ne_eqb key.id id (λ same. omega (arith, same, le, less))))
-
 pub below_new : (number : ℕ) (rows : List KeyRecord) (key : KeyRecord) → AreBelow number rows → number ≡ key.id → AreBelow (key.id + 1) (rows ++ key ∷ [])
-below_new number rows key below e = below_push (key.id + 1) rows key (λ id le. below id (omega (arith, e, le))) (omega arith)
+below_new number rows key below e = λ id le. none_push id (find_none_from rows id (below id (omega (arith, e, le)))) (ne_eqb key.id id (λ same. omega (arith, same, le)))
+  where
+    find_none_from : (rows : List KeyRecord) (id : ℕ) → find (has_id id) rows ≡ None → NonePass (has_id id) rows
+    find_none_from rows id none = all_from_none (has_id id) rows none
+
+    none_push : (id : ℕ) → NonePass (has_id id) rows → has_id id key ≡ false → find (has_id id) (rows ++ key ∷ []) ≡ None
+    none_push id none other = find_none (has_id id) (rows ++ key ∷ []) (all_push (λ held. has_id id held ≡ false) rows key none other)
 
 pub with_new : (old new : Lasting) (key : KeyRecord) → new ≡ without_keys (is_named key.domain key.nspace key.alias) old → record new { keys = new.keys ++ key ∷ []; next_key = key.id + 1 } ≡ with_key key old
 with_new old new key e = rw e refl

@@ -10,5 +10,3 @@ pub mod Ends
 pub mod Lockstep
 pub mod Afters
 pub mod Listing
-pub mod Lengths
-pub mod Storing

@@ -1,7 +1,6 @@
 //! The table of keys: the maps, and beside them the newest key.
 
-ghost use Rattle.std.specs.Prelude.{◌≡◌, ◌∷◌, [], ◌++◌, ◌≤◌, ◌<◌, ◌^◌, ℕ, true, false, length, map, find, filter, not, nat_lt, take, OnOk, IfSome, IfNone, IsSomeAnd};
-ghost use Rattle.std.specs.List.{list_all, list_any};
+ghost use Rattle.std.specs.Prelude.{◌≡◌, ◌∷◌, [], ◌++◌, ◌≤◌, ◌<◌, ◌^◌, ℕ, true, false, length, map, find, filter, not, take, OnOk, IfSome, IfNone, IsSomeAnd};
 ghost use Rattle.std.specs.Option.{option_copied};
 ghost use Rattle.std.specs.declared.cmp.Ordering.TheVariants.{Less};
 ghost use Rattle.std.specs.BTreeMap.Range.{IsFromStart};
@@ -246,21 +245,6 @@ impl Keys {
             Some(newest) if is_named(newest, domain, nspace, alias) => Some(newest),
             _ => None,
         }
-    }
-
-    /// Whether an owner has a key of this alias.
-    pub(crate) fn has_name(&self, domain: u8, nspace: u64, alias: &[u8]) -> bool
-        ensures { result ≡ list_any (is_named domain nspace alias.now) self.now.rows }
-    {
-        self.named(domain, nspace, alias).is_some()
-    }
-
-    /// Whether the numbers of all keys are below one.
-    pub(crate) fn are_below(&self, id: u64) -> bool
-        requires { 1 ≤ id }
-        ensures { result ≡ list_all (λ key. nat_lt key.id id) self.now.rows }
-    {
-        self.next_after(Some(id - 1)).is_none()
     }
 
     /// The key of an owner and an alias, where the owner's domain may have more than a byte; then it has no key.

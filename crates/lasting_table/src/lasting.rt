@@ -10,7 +10,6 @@ ghost use Rattle.lasting_table.specs.TableView.{lasting_in, HasRoomForKey, HasRo
 
 use crate::compared::same_part;
 use crate::part::Part;
-use crate::widths::change_widths;
 use grants::Grants;
 use journal_records::{Change, KeyRecord};
 use key_domains::{GrantedRow, KeyLookups, KeyRow, Permissions};
@@ -25,19 +24,16 @@ use tags::NoMemory;
 /// `reserve_grant` and `reserve` take memory; they come before a change that makes a key or a grant.
 #[derive(Drop)]
 pub struct LastingTable {
-    pub(crate) part: Part,
+    part: Part,
 }
 
 impl Model for LastingTable {
     ghost use Rattle.lasting_table.specs.TableView.{TableView};
-    ghost use Rattle.journal_records.specs.Storable.{IsStorable};
-    ghost use Rattle.lasting_table.specs.Parts.{held_of, part_of};
+    ghost use Rattle.lasting_table.specs.Parts.{held_of};
 
     ghost Value = { TableView };
 
     ghost view = { λ table. held_of table.part };
-
-    ghost invariant = { λ table. IsStorable (part_of table.part) };
 }
 
 /// A key, as far as access to it goes.
@@ -52,9 +48,6 @@ fn row_of(key: &KeyRecord) -> KeyRow
 }
 
 impl LastingTable {
-    ghost use Rattle.lasting_table.specs.Parts.{part_of};
-    ghost use Rattle.journal_records.specs.Storable.{IsStorable, snapshot_length};
-
     /// No keys and no grants; numbers count from 1. It takes no memory.
     pub fn empty(alloc: Global) -> LastingTable
         ensures { lasting_in result ≡ empty_lasting }
@@ -62,28 +55,6 @@ impl LastingTable {
         LastingTable {
             part: Part::empty(alloc),
         }
-    }
-
-    /// The table of a part that a store can hold.
-    pub(crate) fn of(part: Part) -> LastingTable
-        requires { IsStorable (part_of part) }
-        ensures { lasting_in result ≡ part_of part }
-    {
-        LastingTable { part }
-    }
-
-    /// What it holds is what a store can hold. It takes no time and no memory.
-    pub fn storable(&self)
-        ensures { IsStorable (lasting_in self.now) }
-    {
-        let _ = &self.part;
-    }
-
-    /// How many bytes the records of a snapshot of it have, without the closing byte behind them. It walks no key.
-    pub fn snapshot_length(&self) -> u64
-        ensures { result ≡ snapshot_length (lasting_in self.now) }
-    {
-        self.part.snapshot_length()
     }
 
     /// The live key of a number.
@@ -193,7 +164,6 @@ impl LastingTable {
         requires { CanMake self.old change }
         ensures { lasting_in self.new ≡ after (lasting_in self.old) change }
     {
-        change_widths(&change);
         self.part.make(change);
     }
 }

@@ -2,9 +2,7 @@
 //!
 //! Its contract: `LastingTable` is seen as a lasting part (`lasting_in` of `specs/TableView.antt`) with the room for more
 //! keys and grants, each look-up is a search of it (`journal_records/specs/Lookups.antt`), and a change that is made leaves
-//! what `after` says of it (`journal_records/specs/Effects.antt`). It is what a store can hold (`storable`), and the length
-//! of its snapshot stands ready (`snapshot_length`); it tells its rows in their order (`held_rows::Held`). `TableReplay`
-//! takes the records of a store one behind the other, each with its need met, and gives the table that they leave.
+//! what `after` says of it (`journal_records/specs/Effects.antt`).
 //!
 //! ```rust
 //! use lasting_table::LastingTable;
@@ -19,14 +17,10 @@
 
 mod compared;
 mod counts;
-mod held;
 mod keys;
 mod lasting;
 mod maps;
 mod names;
 mod part;
-mod replay;
-mod widths;
 
 pub use lasting::LastingTable;
-pub use replay::{Stage, TableReplay};

@@ -57,6 +57,4 @@ mod token_macs;
 #[cfg(test)]
 mod victims;
 #[cfg(test)]
-mod whole_texts;
-#[cfg(test)]
 mod wrapped;

@@ -4,7 +4,6 @@ use Rattle.std.specs.List.{AllByRecursion, remove}
 use Rattle.std.proofs.lemmas.List.{length_push, length-map}
 use Rattle.std.proofs.lemmas.List.Edits.{length-remove}
 use Rattle.slot_chain.specs.Ordered.{IsAbove, IsRising, IsAt}
-use Rattle.slot_chain.proofs.Ordering.{found_at}
 use Rattle.auth_tokens.specs.declared.token.AuthToken.{AuthToken}
 use Rattle.group_index.specs.Grouped.{GroupTable, IsEmpty, count_in, numbers_in, room_in}
 use Rattle.live_tables.specs.declared.operations.OperationRow.{OperationRow}
@@ -13,8 +12,8 @@ use Rattle.live_tables.specs.declared.operations.RowChange.TheVariants.{Enters, 
 use Rattle.live_tables.specs.declared.placed.RowPlace.{RowPlace}
 use Rattle.live_tables.specs.Numbered.{row_number}
 use Rattle.live_tables.specs.Operations.{changed, has_row, with_all_shown, with_shown}
-use Rattle.live_tables.specs.Places.{Grows, HasMemory, IsFree, IsIndexOf, IsKept, IsLinked, IsPlaced, Lays, PutsCell, Rewrites, Shrinks, cell_at, challenge_group, client_group, entry_of, place_number, row_on, row_or_blank, rows_on}
-use Rattle.live_tables.proofs.Places.{all_push, all_weaker, apart_free, map_push, placed_stay, rows_stay, there, found, index_differ, linked_less, own_within, rows_differ, rows_less}
+use Rattle.live_tables.specs.Places.{Grows, HasMemory, IsFree, IsIndexOf, IsKept, IsLinked, IsPlaced, Lays, PutsCell, Rewrites, Shrinks, cell_at, challenge_group, client_group, place_number, row_on, row_or_blank, rows_on}
+use Rattle.live_tables.proofs.Places.{all_push, all_weaker, apart_free, map_push, placed_stay, rows_stay, there, found, linked_less, own_within, rows_differ, rows_less}
 use Rattle.live_tables.proofs.Groups.{all_less, all_shown, few, index_less, index_more, index_same, indexes_shown, none_indexed, shown_challenge, shown_client}
 
 -- no rows
@@ -114,25 +113,22 @@ module _ (places : List (Option OperationRow)) (index : List RowPlace) (free : L
   -- ---- a row goes
 
   module _ (n at : ℕ) (entry : RowPlace) (here : IsAt place_number index n at) (is : entry ≡ get_or index at entry) (row : OperationRow) (row_is : cell_at places entry.place ≡ Some row) where
-    entry_is : entry_of index n ≡ Some entry
-    entry_is = found_at place_number index n at entry (index_differ places index kept.linked.order kept.linked.placed) here ∙ ap (λ (e : RowPlace). Some e) (sym is)
-
     there_is : find (has_row n) Rows ≡ Some row
-    there_is = found places index kept.linked.order kept.linked.placed n entry entry_is ∙ ap (λ (cell : Option OperationRow). Some (row_or_blank cell)) row_is
+    there_is = found places index kept.linked.order kept.linked.placed n at entry here is ∙ ap (λ (cell : Option OperationRow). Some (row_or_blank cell)) row_is
 
     pub place_within : entry.place < length places
-    place_within = own_within places index kept.linked.order kept.linked.placed n entry entry_is
+    place_within = own_within places index kept.linked.order kept.linked.placed n at entry here is
 
     module _ (new : List (Option OperationRow)) (puts : PutsCell places new entry.place None) (size : length new ≡ length places) where
       pub rows_closed : rows_on new (remove index at) ≡ filter (λ r. not (has_row n r)) Rows
-      rows_closed = rows_less places index kept.linked.order kept.linked.placed n entry entry_is at here new puts free kept.linked.spare kept.linked.differ
+      rows_closed = rows_less places index kept.linked.order kept.linked.placed n at entry here is new puts free kept.linked.spare kept.linked.differ
 
       pub kept_closed : (own_clients own_waiting : GroupTable) (d e f : ℕ) → Shrinks (Some row.client) n clients own_clients → Shrinks row.challenge n waiting own_waiting
           → HasMemory most d e f own_clients own_waiting → IsKept new (remove index at) (free ++ entry.place ∷ []) own_clients own_waiting most d e f
       kept_closed own_clients own_waiting d e f goes waits memory =
           let differ = rows_differ places index kept.linked.order kept.linked.placed in
           record {
-            linked = linked_less places index kept.linked.order kept.linked.placed n entry entry_is at here new puts free kept.linked.spare kept.linked.differ size place_within kept.linked.rest;
+            linked = linked_less places index kept.linked.order kept.linked.placed n at entry here is new puts free kept.linked.spare kept.linked.differ size place_within kept.linked.rest;
             within = omega (arith, kept.within, size);
             clients_are = subst (IsIndexOf client_group own_clients) (sym rows_closed) (index_less client_group clients own_clients Rows n row kept.clients_are differ there_is goes);
             waiting_are = subst (IsIndexOf challenge_group own_waiting) (sym rows_closed) (index_less challenge_group waiting own_waiting Rows n row kept.waiting_are differ there_is waits);

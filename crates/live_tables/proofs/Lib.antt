@@ -2,7 +2,6 @@ pub mod RowTable
 pub mod Alike
 pub mod Users
 pub mod Places
-pub mod Listed
 pub mod Groups
 pub mod First
 pub mod Keeping

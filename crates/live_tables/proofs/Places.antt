@@ -6,12 +6,12 @@ use Rattle.std.proofs.lemmas.Bool.{cases_Bool, eqb-true, eq-eqb, ne_eqb, ltb-tru
 use Rattle.std.proofs.lemmas.List.{length-set, length_push, get_or-set_same, get_or-set_other, get_or_past}
 use Rattle.std.proofs.lemmas.List.Edits.{length-remove}
 use Rattle.slot_chain.specs.Linked.{NoneIs, AllDiffer}
-use Rattle.slot_chain.specs.Ordered.{IsRising, IsOrdered, IsAt}
-use Rattle.slot_chain.proofs.Ordering.{all_others, none_changed, none_named, none_out, not_found, remove_is_filter, rising_differ, rising_removed}
+use Rattle.slot_chain.specs.Ordered.{IsRising, IsOrdered, IsAt, IsGap}
+use Rattle.slot_chain.proofs.Ordering.{all_others, found_at, found_in_gap, none_changed, none_named, none_out, not_found, remove_is_filter, rising_differ, rising_removed}
 use Rattle.live_tables.specs.declared.operations.OperationRow.{OperationRow}
 use Rattle.live_tables.specs.declared.placed.RowPlace.{RowPlace}
 use Rattle.live_tables.specs.Numbered.{row_number}
-use Rattle.live_tables.specs.Places.{IsFree, IsLinked, IsPlaced, Lays, PutsCell, Rewrites, cell_at, entry_of, place_number, row_on, row_or_blank, rows_on}
+use Rattle.live_tables.specs.Places.{IsFree, IsLinked, IsPlaced, Lays, PutsCell, Rewrites, cell_at, place_number, row_on, row_or_blank, rows_on}
 
 -- ---- lists
 
@@ -35,25 +35,6 @@ module _ {A : Type 0} where
   pub all_filtered : (P : A → Type 0) (p : A → Bool) (xs : List A) → AllByRecursion P xs → AllByRecursion P (filter p xs)
   all_filtered P p [] h = tt
   all_filtered P p (x ∷ xs) h = elim (cases_Bool (p x)) [ inl e ↦ rw e (h.0, all_filtered P p xs h.1) | inr e ↦ rw e (all_filtered P p xs h.1) ]
-
-  -- what a look-up finds passes its test, and has what all have
-  pub found_passes : (q : A → Bool) (xs : List A) (x : A) → find q xs ≡ Some x → q x ≡ true
-  found_passes q [] x e = absurd cc
-  found_passes q (y ∷ ys) x e = elim (cases_Bool (q y)) [
-    | inl t ↦ (let e' : Some y ≡ Some x = rw t at e in
-        let s : y ≡ x = cc in
-        ap q (sym s) ∙ t)
-    | inr t ↦ found_passes q ys x (rw t at e)
-  ]
-
-  pub found_has : (P : A → Type 0) (q : A → Bool) (xs : List A) (x : A) → AllByRecursion P xs → find q xs ≡ Some x → P x
-  found_has P q [] x h e = absurd cc
-  found_has P q (y ∷ ys) x h e = elim (cases_Bool (q y)) [
-    | inl t ↦ (let e' : Some y ≡ Some x = rw t at e in
-        let s : y ≡ x = cc in
-        subst P s h.0)
-    | inr t ↦ found_has P q ys x h.1 (rw t at e)
-  ]
 
   pub filter_push : (p : A → Bool) (xs : List A) (x : A) → filter p (xs ++ x ∷ []) ≡ cond (p x) (filter p xs ++ x ∷ []) (filter p xs)
   filter_push p [] x = refl
@@ -235,13 +216,16 @@ module _ (places : List (Option OperationRow)) (index : List RowPlace) (order : 
   pub rows_differ : AllDiffer (map row_number (rows_on places index))
   rows_differ = rising_differ (map row_number (rows_on places index)) rows_ordered
 
-  pub index_differ : AllDiffer (map place_number index)
+  index_differ : AllDiffer (map place_number index)
   index_differ = rising_differ (map place_number index) order
 
   -- no row has the number
-  module _ (n : ℕ) (none : entry_of index n ≡ None) where
-    none_of_rows : NoneIs n (map row_number (rows_on places index))
-    none_of_rows = subst (NoneIs n) (sym (numbers_are places index placed)) (none_named place_number n index none)
+  module _ (n at : ℕ) (gap : IsGap place_number index n at) where
+    pub none_here : NoneIs n (map place_number index)
+    none_here = none_named place_number n index (found_in_gap place_number index n at gap)
+
+    pub none_of_rows : NoneIs n (map row_number (rows_on places index))
+    none_of_rows = subst (NoneIs n) (sym (numbers_are places index placed)) none_here
 
     pub absent : None ≡ find (λ row. row.number == n) (rows_on places index)
     absent = sym (not_found row_number n (rows_on places index) none_of_rows)
@@ -258,12 +242,17 @@ module _ (places : List (Option OperationRow)) (index : List RowPlace) (order : 
     kept_out = sym (none_out row_number n (rows_on places index) none_of_rows)
 
   -- one has it
-  module _ (n : ℕ) (entry : RowPlace) (entry_is : entry_of index n ≡ Some entry) where
-    own_placed : IsPlaced places entry
-    own_placed = found_has (IsPlaced places) (λ e. e.number == n) index entry placed entry_is
+  module _ (n at : ℕ) (entry : RowPlace) (here : IsAt place_number index n at) (is : entry ≡ get_or index at entry) where
+    find_placed : (es : List RowPlace) (i : ℕ) → AllByRecursion (IsPlaced places) es → i < length es → IsPlaced places (get_or es i entry)
+    find_placed [] i h l = absurd (omega (arith, l))
+    find_placed (e ∷ es) zero h l = h.0
+    find_placed (e ∷ es) (suc i) h l = find_placed es i h.1 (omega (arith, l))
 
-    own_number : entry.number ≡ n
-    own_number = eqb-true entry.number n (found_passes (λ e. e.number == n) index entry entry_is)
+    pub own_placed : IsPlaced places entry
+    own_placed = subst (IsPlaced places) (sym is) (find_placed index at placed here.within)
+
+    pub own_number : entry.number ≡ n
+    own_number = ap place_number is ∙ here.named entry
 
     pub own_within : entry.place < length places
     own_within = elim (cases_Bool (ltb entry.place (length places))) [
@@ -275,8 +264,11 @@ module _ (places : List (Option OperationRow)) (index : List RowPlace) (order : 
     pub own_cell : cell_at places entry.place ≡ Some (row_on places entry)
     own_cell = row_of_some (cell_at places entry.place) own_placed.0
 
+    entry_found : find (λ e. e.number == n) index ≡ Some entry
+    entry_found = found_at place_number index n at entry index_differ here ∙ ap (λ (e : RowPlace). Some e) (sym is)
+
     pub found : find (λ row. row.number == n) (rows_on places index) ≡ Some (row_on places entry)
-    found = found_on index placed entry_is
+    found = found_on index placed entry_found
       where
         found_on : (es : List RowPlace) → AllByRecursion (IsPlaced places) es → find (λ e. e.number == n) es ≡ Some entry → find (λ row. row.number == n) (rows_on places es) ≡ Some (row_on places entry)
         found_on [] h f = absurd cc
@@ -290,7 +282,7 @@ module _ (places : List (Option OperationRow)) (index : List RowPlace) (order : 
         ]
 
     only_entry : AllByRecursion (λ e. e.number ≡ n → e ≡ entry) index
-    only_entry = only_one place_number index n entry index_differ entry_is
+    only_entry = only_one place_number index n entry index_differ entry_found
 
     named_here : row_number (row_on places entry) ≡ n
     named_here = own_placed.1 ∙ own_number
@@ -334,7 +326,7 @@ module _ (places : List (Option OperationRow)) (index : List RowPlace) (order : 
           record { rows = both.0; placed = both.1; size = long; free = λ place is. free_on place long is }
 
     -- the row is taken out
-    module _ (at : ℕ) (here : IsAt place_number index n at) (new : List (Option OperationRow)) (puts : PutsCell places new entry.place None) (free : List ℕ) (spare : AllByRecursion (IsFree places) free) (differ : AllDiffer free) where
+    module _ (new : List (Option OperationRow)) (puts : PutsCell places new entry.place None) (free : List ℕ) (spare : AllByRecursion (IsFree places) free) (differ : AllDiffer free) where
       gone : remove index at ≡ filter (λ e. not (e.number == n)) index
       gone = remove_is_filter place_number n index at entry index_differ here.within (here.named entry)
 

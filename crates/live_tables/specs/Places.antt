@@ -1,5 +1,5 @@
 -- How the rows of the open operations are kept in places, and how that is seen.
-use Rattle.std.specs.Prelude.{◌≡◌, ◌<◌, ◌≤◌, ◌+◌, ◌^◌, ◌==◌, ℕ, Bool, true, false, List, [], length, map, filter, find, get_or, Option, Some, None, is_some, if◌then◌else◌}
+use Rattle.std.specs.Prelude.{◌≡◌, ◌<◌, ◌≤◌, ◌+◌, ◌^◌, ◌==◌, ℕ, Bool, true, false, List, [], length, map, filter, get_or, Option, Some, None, is_some, if◌then◌else◌}
 use Rattle.std.specs.List.{AllByRecursion}
 use Rattle.slot_chain.specs.Linked.{AllDiffer}
 use Rattle.slot_chain.specs.Ordered.{IsOrdered}
@@ -44,17 +44,6 @@ seen places index most = record { rows = rows_on places index; most = most }
 -- the row of an entry is in its place
 abbrev pub IsPlaced : List (Option OperationRow) → RowPlace → Type 0
 IsPlaced places entry = (is_some (cell_at places entry.place) ≡ true) × (row_number (row_on places entry) ≡ entry.number)
-
--- the entry of a number, where it has one
-abbrev pub entry_of : List RowPlace → ℕ → Option RowPlace
-entry_of index number = find (λ entry. entry.number == number) index
-
-abbrev pub entry_at : ℕ → ℕ → RowPlace
-entry_at number place = record { number = number; place = place }
-
--- each row has its entry
-abbrev pub AreListed : List (Option OperationRow) → List RowPlace → Type 0
-AreListed places index = (place : ℕ) (row : OperationRow) → cell_at places place ≡ Some row → entry_of index row.number ≡ Some (entry_at row.number place)
 
 -- a place has no row
 abbrev pub IsFree : List (Option OperationRow) → ℕ → Type 0

@@ -22,6 +22,5 @@ pub use boot::Boot;
 pub use clients::Clients;
 pub use device::DeviceState;
 pub use operations::{Added, OperationRow, Operations, RowChange};
-pub use placed::OperationPlace;
 pub use tickets::{Out, Tickets};
 pub use tokens::Tokens;

@@ -3,7 +3,7 @@
 ghost use Rattle.std.specs.Prelude.{◌+◌};
 ghost use Rattle.live_tables.specs.Numbered.{AreNumbered, AreNumbered-prop};
 
-use crate::placed::{OperationPlace, PlacedRows};
+use crate::placed::PlacedRows;
 use auth_tokens::AuthToken;
 use group_index::Grouped;
 use std::alloc::Global;
@@ -89,13 +89,6 @@ impl Operations {
         self.rows.get(number)
     }
 
-    /// The open operation of a number, and the place in which `change` finds its row without another look-up.
-    pub fn look_up(&self, number: u64) -> (Option<&OperationRow>, OperationPlace)
-        ensures { option_copied result.0 ≡ operation_in self.now number }
-    {
-        self.rows.look_up(number)
-    }
-
     /// Whether a work on an operation of a client is out.
     pub fn has_busy(&self, client: u64) -> bool
         ensures { result ≡ has_busy_row self.now client }
@@ -122,11 +115,11 @@ impl Operations {
         self.given += 1;
     }
 
-    /// Changes an open operation, whose row is looked up where it is not in this place.
-    pub fn change(&mut self, number: u64, place: OperationPlace, change: RowChange)
+    /// Changes an open operation.
+    pub fn change(&mut self, number: u64, change: RowChange)
         ensures { ChangesRow number change self.old self.new }
     {
-        self.rows.change(number, place, change);
+        self.rows.change(number, change);
     }
 
     /// Shows a token to each open operation that it is for, a busy one too.

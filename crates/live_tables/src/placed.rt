@@ -11,13 +11,6 @@ pub struct RowPlace {
     pub place: u32,
 }
 
-/// In which place the row of an operation was found; any place where there was none. A row stays in its place while its
-/// operation is open, and a change sees by the number whether it is there.
-#[derive(Clone, Copy, Debug, PartialEq, Eq)]
-pub struct OperationPlace {
-    pub(crate) place: u32,
-}
-
 /// Rows in places that do not move, seen as their list in the order of the numbers.
 #[derive(Drop)]
 pub struct PlacedRows {

@@ -8,10 +8,9 @@ ghost use Rattle.live_tables.specs.Numbered.{row_number};
 ghost use Rattle.live_tables.specs.Operations.{changed, has_row, is_row_of, with_row, with_shown};
 
 use crate::operations::{OperationRow, RowChange};
-use crate::placed::{OperationPlace, PlacedRows, RowPlace};
+use crate::placed::{PlacedRows, RowPlace};
 use crate::placing::{
-    change_row, lay, number_at, place_of, put_entry, put_in, set_free, show_rows, take_from,
-    take_row,
+    change_at, lay, number_at, put_entry, put_in, set_free, show_rows, take_from, take_row,
 };
 use auth_tokens::AuthToken;
 use group_index::{GroupIndex, Grouped};
@@ -40,23 +39,14 @@ impl PlacedRows {
         })
     }
 
-    /// The row of a number, and its place; any place where there is no row.
-    pub(crate) fn look_up(&self, number: u64) -> (Option<&OperationRow>, OperationPlace)
-        ensures { option_copied result.0 ≡ find (has_row number) self.now.rows }
-    {
-        let Some(place) = place_of(&self.index, number) else {
-            return (None, OperationPlace { place: 0 });
-        };
-        let row = self.places[place as usize].as_ref();
-        (row, OperationPlace { place })
-    }
-
     /// The row of a number.
     pub(crate) fn get(&self, number: u64) -> Option<&OperationRow>
         ensures { option_copied result ≡ find (has_row number) self.now.rows }
     {
-        let (row, _place) = self.look_up(number);
-        row
+        let Ok(at) = number_at(&self.index, number) else {
+            return None;
+        };
+        self.places[self.index[at].place as usize].as_ref()
     }
 
     /// Whether a work on the operation of a number is out.
@@ -111,12 +101,12 @@ impl PlacedRows {
         put_in(&mut self.waiting, challenge, number);
     }
 
-    /// Changes the row of a number, which is looked up where it is not in this place.
-    pub(crate) fn change(&mut self, number: u64, at: OperationPlace, change: RowChange)
+    /// Changes the row of a number.
+    pub(crate) fn change(&mut self, number: u64, change: RowChange)
         ensures rows { self.new.rows ≡ with_row number (changed change) self.old.rows }
         ensures most { self.new.most ≡ self.old.most }
     {
-        change_row(&mut self.places, &self.index, number, at.place, change);
+        change_at(&mut self.places, &self.index, number, change);
     }
 
     /// Shows a token to the operations that it is for.

@@ -1,15 +1,14 @@
 //! How a row is found, laid, changed and taken out of its place.
 
-ghost use Rattle.std.specs.Prelude.{◌≡◌, ◌<◌, ◌≤◌, ◌+◌, ◌++◌, ◌^◌, [], ◌∷◌, true, false, length, map, Some, None, option_map, is_some, if◌then◌else◌, IfOk, IfErr, vec_capacity};
+ghost use Rattle.std.specs.Prelude.{◌≡◌, ◌<◌, ◌≤◌, ◌+◌, ◌++◌, ◌^◌, [], ◌∷◌, true, length, map, Some, None, option_map, is_some, if◌then◌else◌, IfOk, IfErr, vec_capacity};
 ghost use Rattle.std.specs.List.{AllByRecursion};
 ghost use Rattle.slot_chain.specs.Linked.{AllDiffer};
 ghost use Rattle.slot_chain.specs.Ordered.{IsOrdered, IsAt, IsGap};
 ghost use Rattle.group_index.specs.Grouped.{count_in, number_of, numbers_in, room_in};
 ghost use Rattle.rule_model.specs.Entries.{gives};
 ghost use Rattle.live_tables.specs.Operations as spec;
-ghost use Rattle.live_tables.specs.Operations.{has_row, shown_if, with_all_shown};
-ghost use Rattle.std.specs.Option.{option_map_or};
-ghost use Rattle.live_tables.specs.Places.{AreListed, Grows, IsFree, IsPlaced, Lays, PutsCell, Rewrites, Shrinks, cell_at, entry_at, entry_of, place_number, rows_on};
+ghost use Rattle.live_tables.specs.Operations.{shown_if, with_all_shown};
+ghost use Rattle.live_tables.specs.Places.{Grows, IsFree, IsPlaced, Lays, PutsCell, Rewrites, Shrinks, cell_at, place_number, rows_on};
 
 use crate::operations::{OperationRow, RowChange};
 use crate::placed::RowPlace;
@@ -24,44 +23,6 @@ pub(crate) fn number_at(index: &[RowPlace], number: u64) -> Result<usize, usize>
     ensures absent { IfErr result (IsGap place_number index.now number) }
 {
     index.binary_search_by_key(&number, |entry| entry.number)
-}
-
-/// In which place the row of a number is, where it has one. It is found by halving.
-pub(crate) fn place_of(index: &[RowPlace], number: u64) -> Option<u32>
-    requires { IsOrdered place_number index.now }
-    ensures { entry_of index.now number ≡ option_map (entry_at number) result }
-{
-    match number_at(index, number) {
-        Ok(at) => Some(index[at].place),
-        Err(_gap) => None,
-    }
-}
-
-/// Whether the row of a number is in a place.
-fn is_in(places: &[Option<OperationRow>], place: u32, number: u64) -> bool
-    ensures { result ≡ option_map_or (has_row number) (cell_at places.now place) false }
-{
-    match places.get(place as usize) {
-        Some(Some(row)) => row.number == number,
-        _ => false,
-    }
-}
-
-/// The same, where a place is told: it is the place where the row is in it, and nothing is looked up.
-fn place_told(
-    places: &[Option<OperationRow>],
-    index: &[RowPlace],
-    number: u64,
-    told: u32,
-) -> Option<u32>
-    requires order { IsOrdered place_number index.now }
-    requires listed { AreListed places.now index.now }
-    ensures { entry_of index.now number ≡ option_map (entry_at number) result }
-{
-    if is_in(places, told, number) {
-        return Some(told);
-    }
-    place_of(index, number)
 }
 
 /// Puts an entry behind the others.
@@ -174,22 +135,20 @@ fn change_place(places: &mut Vec<Option<OperationRow>>, place: u32, change: RowC
     }
 }
 
-/// Changes the row of a number, which is looked up where it is not in the place that is told.
-pub(crate) fn change_row(
+/// Changes the row of a number.
+pub(crate) fn change_at(
     places: &mut Vec<Option<OperationRow>>,
     index: &[RowPlace],
     number: u64,
-    told: u32,
     change: RowChange,
 )
     requires order { IsOrdered place_number index.now }
     requires placed { AllByRecursion (IsPlaced places.old.items) index.now }
-    requires listed { AreListed places.old.items index.now }
     ensures rewrites { Rewrites number (spec.changed change) index.now places.old.items places.new.items }
     ensures capacity { vec_capacity places.new ≡ vec_capacity places.old }
 {
-    if let Some(place) = place_told(places, index, number, told) {
-        change_place(places, place, change);
+    if let Ok(at) = number_at(index, number) {
+        change_place(places, index[at].place, change);
     }
 }
 
@@ -243,8 +202,8 @@ fn show_at(
     ensures rewrites { Rewrites number (shown_if token.now) index.now places.old.items places.new.items }
     ensures capacity { vec_capacity places.new ≡ vec_capacity places.old }
 {
-    if let Some(place) = place_of(index, number) {
-        show_place(places, place, token);
+    if let Ok(at) = number_at(index, number) {
+        show_place(places, index[at].place, token);
     }
 }
 

@@ -3,17 +3,15 @@
 ghost use Rattle.std.specs.Prelude.{◌≡◌, ◌+◌, ◌^◌, ◌<◌, None, OnOk, ℕ};
 ghost use Rattle.live_tables.specs.Tickets.{GivesTicket, HasRoomForTicket, SameTickets, TakesTicket, out_in, tickets_given};
 
-use crate::placed::OperationPlace;
 use rule_model::Brought;
 use std::alloc::Global;
 use std::collections::BTreeMap;
 use tags::NoMemory;
 
-/// A work that is out: the operation that it entered, with the place of its row, and what it brought.
+/// A work that is out: the operation that it entered, and what it brought.
 #[derive(Clone, Copy, Debug, PartialEq, Eq)]
 pub struct Out {
     pub op: u64,
-    pub place: OperationPlace,
     pub brought: Brought,
 }
 

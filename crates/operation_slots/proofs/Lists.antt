@@ -1,5 +1,7 @@
 -- What a change of one operation, and taking one out, do to the plain list.
-use Rattle.std.proofs.Common.{◌≡◌, ℕ, true, false, cond, List, [], ◌∷◌, ◌++◌, find, Option, Some, None, refl, sym, ap, ◌∙◌, inl, inr, subst, option_map, ◌==◌}
+use Rattle.std.proofs.Common.{◌≡◌, ◌≢◌, ◌<◌, ℕ, zero, suc, true, false, cond, List, [], ◌∷◌, ◌++◌, length, get_or, find, Option, Some, None, refl, sym, ap, ◌∙◌, inl, inr, arith, subst, option_map, ◌==◌}
+use Rattle.std.proofs.Math.ListN.{set}
+use Rattle.std.specs.List.{remove}
 use Rattle.std.specs.Option.{option_or}
 use Rattle.std.proofs.lemmas.List.Folds.{find-append}
 use Rattle.std.proofs.lemmas.Bool.{eqb-true, ne_eqb, cases_Bool, eq-eqb}

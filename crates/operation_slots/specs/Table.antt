@@ -1,5 +1,5 @@
 -- What contracts see of the slots: the operations that are held, what a look-up finds among them, and what each call makes of them.
-use Rattle.std.specs.Prelude.{◌≡◌, option_map, ◌<◌, ◌≤◌, ◌^◌, ℕ, Bool, true, false, ◌&&◌, not, ◌==◌, nat_lt, is_some, List, [], ◌∷◌, ◌++◌, Option, Some, None, length, map, filter, find, count_by, All, if◌then◌else◌}
+use Rattle.std.specs.Prelude.{◌≡◌, option_map, ◌≢◌, ◌<◌, ◌≤◌, ◌^◌, ℕ, Bool, true, false, ◌&&◌, not, ◌==◌, nat_lt, is_some, List, [], ◌∷◌, ◌++◌, Option, Some, None, length, map, filter, find, count_by, All, if◌then◌else◌}
 use Rattle.std.specs.List.{list_any}
 use Rattle.slot_chain.specs.Linked.{AllDiffer}
 use Rattle.operation_slots.specs.declared.operation.SlotOperation.{SlotOperation}

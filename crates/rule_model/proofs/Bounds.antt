@@ -1,15 +1,16 @@
 -- A key's uses that are left, over the changes of a lasting part.
 use Rattle.std.proofs.Common.{◌≡◌, ℕ, zero, suc, ◌+◌, ◌-◌, ◌<◌, ◌≤◌, Bool, true, false, ◌==◌, ◌&&◌, ◌||◌, not, if◌then◌else◌, List, [], ◌∷◌, ◌++◌, map, filter, find, Option, Some, None, refl, sym, ap, ◌∙◌, subst, arith}
 use Rattle.std.proofs.lemmas.Bool.{eqb-true, eqb-false}
-use Rattle.std.specs.List.{AllByRecursion, list_any}
+use Rattle.std.specs.List.{list_any}
+use Rattle.std.specs.Option.{option_and_then}
 use Rattle.grants.specs.declared.row.GrantRow.{GrantRow}
 use Rattle.grants.specs.Rows.{is_for}
 use Rattle.journal_records.specs.declared.change.Change.{Change}
 use Rattle.journal_records.specs.declared.change.Change.TheVariants.{Create, Delete, Use, Grant, Ungrant, Clear, Removed}
 use Rattle.journal_records.specs.declared.record.KeyRecord.{KeyRecord}
-use Rattle.journal_records.specs.Effects.{after, granted, is_last_use, used, with_key, with_use}
-use Rattle.journal_records.specs.LastingPart.{Lasting, has_id, is_named, is_of_user, is_owned, some_has_id, without_keys}
-use Rattle.journal_records.specs.Storable.{AreKeys, IsKeyBefore, IsStorable, IsStorableKey}
+use Rattle.journal_records.specs.Effects.{after, changed, granted, is_last_use, lasting_of, used, with_key, with_use}
+use Rattle.journal_records.specs.LastingPart.{Lasting, empty_lasting, has_id, is_named, is_of_user, is_owned, some_has_id, without_keys}
+use Rattle.journal_records.specs.Needs.{is_met}
 use Rattle.rule_model.specs.Uses.{HasLimit}
 
 -- ---- each item of a list
@@ -21,10 +22,6 @@ Each P (x ∷ xs) = P x × Each P xs
 pub each_in : {X : Type 0} (P Q : X → Type 0) → ((x : X) → P x → Q x) → (xs : List X) → Each P xs → Each Q xs
 each_in P Q f [] each = tt
 each_in P Q f (x ∷ xs) each = (f x each.0, each_in P Q f xs each.1)
-
-pub each_as : {X : Type 0} (P Q : X → Type 0) → ((x : X) → P x → Q x) → (xs : List X) → AllByRecursion P xs → Each Q xs
-each_as P Q f [] each = tt
-each_as P Q f (x ∷ xs) each = (f x each.0, each_as P Q f xs each.1)
 
 -- those that pass a test, which they then do
 pub each_filtered : {X : Type 0} (P : X → Type 0) (test : X → Bool) (xs : List X) → Each P xs → Each (λ x. P x × (test x ≡ true)) (filter test xs)
@@ -262,31 +259,35 @@ goes_on id made limit part (Ungrant grant) next bounded = goes_still id made lim
 goes_on id made limit part (Clear domain nspace) next bounded = goes_ended id made limit (is_owned domain nspace) part bounded
 goes_on id made limit part (Removed user) next bounded = goes_ended id made limit (is_of_user user) part bounded
 
--- ---- what a store can hold
+first_of : (b rest : Bool) → b && rest ≡ true → b ≡ true
+first_of true rest e = refl
+first_of false rest e = cc
 
--- the keys of one number, of which there is one at most
-owned_from : (id next : ℕ) (keys : List KeyRecord) → AllByRecursion (IsStorableKey next) keys → AreKeys keys → (limit : ℕ) × Each (IsWithin id 0 limit) keys
-owned_from id next [] each differ = (0, tt)
-owned_from id next (key ∷ keys) each differ = by_number (key.id == id) refl (owned_from id next keys each.1 differ.1) where
-  by_number : (b : Bool) → (key.id == id) ≡ b → (limit : ℕ) × Each (IsWithin id 0 limit) keys → (limit : ℕ) × Each (IsWithin id 0 limit) (key ∷ keys)
-  by_number true is rest = (
-    key.limit,
-    (
-      λ same. (refl, λ limited. (omega (arith, each.0.uses.0), each.0.uses.1 limited)),
-      each_as (IsKeyBefore key) (IsWithin id 0 key.limit) (λ later before same. absurd (omega (arith, before.0, same, eqb-true key.id id is))) keys differ.0,
-    ),
-  )
-  by_number false is (limit, rest) = (limit, (λ same. absurd (eqb-false key.id id is same), rest))
+-- a change whose need is met takes the next number for a new key
+takes_next : (part : Lasting) (change : Change) → is_met part change ≡ true → TakesNext part change
+takes_next part (Create id domain nspace alias blob list limit) met = eqb-true id part.next_key (first_of (id == part.next_key) _ (first_of _ _ met))
+takes_next part (Delete id) met = tt
+takes_next part (Use id) met = tt
+takes_next part (Grant row) met = tt
+takes_next part (Ungrant grant) met = tt
+takes_next part (Clear domain nspace) met = tt
+takes_next part (Removed user) met = tt
 
-pub bounded_from : (id : ℕ) (part : Lasting) → IsStorable part → (limit : ℕ) × Bounded id 0 limit part
-bounded_from id part is = by_owned (owned_from id part.next_key part.keys is.keys is.keys_differ) where
-  by_owned : (limit : ℕ) × Each (IsWithin id 0 limit) part.keys → (limit : ℕ) × Bounded id 0 limit part
-  by_owned (limit, owned) = (
-    limit,
-    record {
-      numbered = each_as (IsStorableKey part.next_key) (λ (key : KeyRecord). key.id < part.next_key) (λ key one. one.numbered.1) part.keys is.keys;
-      owned = owned;
-      fresh = λ less. refl;
-      within = λ limited. omega arith;
-    },
-  )
+-- what no change left yet has no key, and what some changes left keeps to this
+pub bounded_empty : (id : ℕ) → Bounded id 0 0 empty_lasting
+bounded_empty id = record { numbered = tt; owned = tt; fresh = λ less. refl; within = λ limited. omega arith }
+
+-- whatever changes leave, each with its need met
+pub bounded_from : (id : ℕ) (changes : List Change) (part : Lasting) → lasting_of changes ≡ Some part → (limit : ℕ) × Bounded id 0 limit part
+bounded_from id [] part e = let is : empty_lasting ≡ part = cc in (0, subst (Bounded id 0 0) is (bounded_empty id))
+bounded_from id (change ∷ past) part e = by_before (lasting_of past) e (λ before is. bounded_from id past before is) where
+  over : (before : Lasting) → (limit : ℕ) × Bounded id 0 limit before → (b : Bool) → is_met before change ≡ b → (if b then Some (after before change) else None) ≡ Some part → (limit : ℕ) × Bounded id 0 limit part
+  over before (limit, bounded) false met is = cc
+  over before (limit, bounded) true met is =
+      let made : after before change ≡ part = cc in
+      let goes : Goes id limit 0 before (after before change) = goes_on id 0 limit before change (takes_next before change met) bounded in
+      (goes.limit_now, subst (Bounded id 0 goes.limit_now) made goes.bounded)
+
+  by_before : (found : Option Lasting) → option_and_then (λ before. changed before change) found ≡ Some part → ((before : Lasting) → found ≡ Some before → (limit : ℕ) × Bounded id 0 limit before) → (limit : ℕ) × Bounded id 0 limit part
+  by_before None is rest = cc
+  by_before (Some before) is rest = over before (rest before refl) (is_met before change) refl is

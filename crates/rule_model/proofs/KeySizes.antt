@@ -1,5 +1,6 @@
 -- The alias and the list of each key that lasts are short: those of a new key are by its rules, and no change makes them longer.
 use Rattle.std.proofs.Common.{◌≡◌, ℕ, ◌-◌, ◌≤◌, Bool, true, false, ◌==◌, ◌&&◌, not, if◌then◌else◌, List, [], ◌∷◌, filter, find, length, Option, Some, None, option_map, Result, Ok, Err, is_ok, refl, subst, arith}
+use Rattle.std.specs.Option.{option_and_then}
 use Rattle.std.specs.Prelude.{nat_le}
 use Rattle.std.specs.Str.{is_utf8}
 use Rattle.std.proofs.lemmas.Bool.{and_parts, leb-true}
@@ -16,9 +17,9 @@ use Rattle.journal_records.specs.declared.change.Change.{Change}
 use Rattle.journal_records.specs.declared.change.Change.TheVariants as changes
 use Rattle.journal_records.specs.declared.change.Change.TheVariants.{Create, Delete, Use, Grant as Granting, Ungrant as Ungranting, Clear, Removed}
 use Rattle.journal_records.specs.declared.record.KeyRecord.{KeyRecord}
-use Rattle.journal_records.specs.Effects.{after, granted, is_last_use, with_use}
-use Rattle.journal_records.specs.LastingPart.{Lasting, has_id, is_named, is_of_user, is_owned}
-use Rattle.journal_records.specs.Storable.{IsStorable, IsStorableKey}
+use Rattle.journal_records.specs.Effects.{after, changed, granted, is_last_use, lasting_of, with_use}
+use Rattle.journal_records.specs.LastingPart.{Lasting, empty_lasting, has_id, is_named, is_of_user, is_owned}
+use Rattle.journal_records.specs.Needs.{has_place_for, is_met, is_number_left, is_owner}
 use Rattle.key_rules.specs.declared.facts.NewFacts.{NewFacts}
 use Rattle.key_rules.specs.Creation.{new_key, plan_of}
 use Rattle.key_rules.proofs.NewKeys.{fit_if_ok, named_short}
@@ -45,10 +46,11 @@ use Rattle.rule_model.specs.Replies.{broken_or}
 use Rattle.rule_model.specs.Settling.{is_faulted, is_kept, is_unsettled}
 use Rattle.rule_model.specs.Setup.{Setup}
 use Rattle.rule_model.specs.Stored.{stored_bytes, where_stored}
+use Rattle.rule_model.specs.Uses.{IsStored}
 use Rattle.rule_model.proofs.Admitted.{admitted_by_rules, answered_done, broken_done}
-use Rattle.rule_model.proofs.Bounds.{Each, each_as, each_changed, each_left, each_more}
+use Rattle.rule_model.proofs.Bounds.{Each, each_changed, each_left, each_more}
 use Rattle.rule_model.proofs.Kept.{restart_unfaulted, waiting_unfaulted}
-use Rattle.tags.specs.declared.limits.TheConstants.{ALIAS_BYTES, KEPT_LIST_BYTES}
+use Rattle.tags.specs.declared.limits.TheConstants.{ALIAS_BYTES, BLOB_BYTES, KEPT_LIST_BYTES}
 
 -- ---- over a change
 
@@ -92,15 +94,37 @@ short_changed : (change : Option Change) (part : Lasting) → IsShortIn change �
 short_changed None part new short = short
 short_changed (Some change) part new short = short_after part change new short
 
--- ---- what a store can hold
+-- ---- what a store can stand for
 
-alias_short : (alias : List ℕ) → is_alias alias ≡ true → length alias ≤ ALIAS_BYTES
-alias_short alias e =
-    let some = and_parts (nat_le 1 (length alias)) (nat_le (length alias) ALIAS_BYTES && is_utf8 alias) e in
-    leb-true (length alias) ALIAS_BYTES (and_parts (nat_le (length alias) ALIAS_BYTES) (is_utf8 alias) some.1).0
+met_short : (part : Lasting) (change : Change) → is_met part change ≡ true → IsShortChange change
+met_short part (Create id domain nspace alias blob list limit) met =
+    let first = and_parts ((id == part.next_key) && is_number_left id) (is_owner domain nspace && (is_alias alias && (nat_le (length blob) BLOB_BYTES && (nat_le (length list) KEPT_LIST_BYTES && has_place_for domain nspace alias part)))) met in
+    let second = and_parts (is_owner domain nspace) (is_alias alias && (nat_le (length blob) BLOB_BYTES && (nat_le (length list) KEPT_LIST_BYTES && has_place_for domain nspace alias part))) first.1 in
+    let third = and_parts (is_alias alias) (nat_le (length blob) BLOB_BYTES && (nat_le (length list) KEPT_LIST_BYTES && has_place_for domain nspace alias part)) second.1 in
+    let fourth = and_parts (nat_le (length blob) BLOB_BYTES) (nat_le (length list) KEPT_LIST_BYTES && has_place_for domain nspace alias part) third.1 in
+    let fifth = and_parts (nat_le (length list) KEPT_LIST_BYTES) (has_place_for domain nspace alias part) fourth.1 in
+    let name = and_parts (nat_le 1 (length alias)) (nat_le (length alias) ALIAS_BYTES && is_utf8 alias) third.0 in
+    let long = and_parts (nat_le (length alias) ALIAS_BYTES) (is_utf8 alias) name.1 in
+    (leb-true (length alias) ALIAS_BYTES long.0, leb-true (length list) KEPT_LIST_BYTES fifth.0)
+met_short part (Delete id) met = tt
+met_short part (Use id) met = tt
+met_short part (Granting row) met = tt
+met_short part (Ungranting grant) met = tt
+met_short part (Clear domain nspace) met = tt
+met_short part (Removed user) met = tt
 
-short_from : (part : Lasting) → IsStorable part → AreShort part
-short_from part is = each_as (IsStorableKey part.next_key) IsShort (λ key one. (alias_short key.alias one.alias, one.list)) part.keys is.keys
+short_from : (made : List Change) (part : Lasting) → lasting_of made ≡ Some part → AreShort part
+short_from [] part e = let is : empty_lasting ≡ part = cc in subst AreShort is tt
+short_from (change ∷ past) part e = by_before (lasting_of past) e (λ before is. short_from past before is) where
+  over : (before : Lasting) → AreShort before → (b : Bool) → is_met before change ≡ b → (if b then Some (after before change) else None) ≡ Some part → AreShort part
+  over before short false met is = cc
+  over before short true met is =
+      let made : after before change ≡ part = cc in
+      subst AreShort made (short_after before change (met_short before change met) short)
+
+  by_before : (found : Option Lasting) → option_and_then (λ before. changed before change) found ≡ Some part → ((before : Lasting) → found ≡ Some before → AreShort before) → AreShort part
+  by_before None is rest = cc
+  by_before (Some before) is rest = over before (rest before refl) (is_met before change) refl is
 
 -- ---- the change of an act
 
@@ -199,15 +223,15 @@ module _ (setup : Setup) (past : History) (event : Event) (drawn : List ℕ) whe
   stopped_over verdict false counting through short = short verdict
 
 -- whatever a settling says of what waits
-pub kept_short : (setup : Setup) (next : Option Event) (past : History) → LegalBefore setup next past → IsStorable setup.start → (verdict : Option Settled) → AreShort (kept_settled setup verdict past)
-kept_short setup next [] legal storable verdict = short_from setup.start storable
-kept_short setup next (Settling settled ∷ past) legal storable verdict = kept_short setup None past legal.1 storable (Some settled)
-kept_short setup next (Acted event drawn (Done fields) ∷ past) legal storable verdict =
+pub kept_short : (setup : Setup) (next : Option Event) (past : History) → LegalBefore setup next past → IsStored setup.start → (verdict : Option Settled) → AreShort (kept_settled setup verdict past)
+kept_short setup next [] legal (made, stored) verdict = short_from made setup.start stored
+kept_short setup next (Settling settled ∷ past) legal stored verdict = kept_short setup None past legal.1 stored (Some settled)
+kept_short setup next (Acted event drawn (Done fields) ∷ past) legal stored verdict =
     let is = answered_done setup past event drawn fields legal.0 in
     over setup past event drawn verdict
     (makes_done event.act setup past (caller_of past event) drawn (admitted_by_rules setup past event drawn (subst (λ r. is_done r ≡ true) is.is_answer refl)))
-    (kept_short setup (Some event) past legal.1 storable verdict)
-kept_short setup next (Acted event drawn (Broken rule code) ∷ past) legal storable verdict = kept_short setup (Some event) past legal.1 storable verdict
-kept_short setup next (Acted event drawn (Stopped code) ∷ past) legal storable verdict =
+    (kept_short setup (Some event) past legal.1 stored verdict)
+kept_short setup next (Acted event drawn (Broken rule code) ∷ past) legal stored verdict = kept_short setup (Some event) past legal.1 stored verdict
+kept_short setup next (Acted event drawn (Stopped code) ∷ past) legal stored verdict =
     stopped_over setup past event drawn verdict (is_faulted (is_unsettled past) event.act (Stopped code)) (is_kept verdict) (λ faulted. makes_faulted setup past event drawn code faulted legal.0)
-    (λ v. kept_short setup (Some event) past legal.1 storable v)
+    (λ v. kept_short setup (Some event) past legal.1 stored v)

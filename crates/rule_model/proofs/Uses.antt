@@ -35,7 +35,7 @@ front_of run legal = legal_front run.setup None run.undone run.past legal
 
 -- what is known of a key at the start of each run, and so in it
 first_at : (id : ℕ) (start : Lasting) → BeginsAfter [] start → HoldsAt id 0 (HasStood [] id) start
-first_at id start storable = by_bound (bounded_from id start storable) where
+first_at id start (changes, is) = by_bound (bounded_from id changes start is) where
   by_bound : (limit : ℕ) × Bounded id 0 limit start → HoldsAt id 0 (HasStood [] id) start
   by_bound (limit, bounded) = record { limit = limit; bounded = bounded; known = λ l none. absurd none }
 

@@ -7,7 +7,6 @@ use Rattle.journal_records.specs.declared.change.Change.TheVariants as changes
 use Rattle.journal_records.specs.declared.record.KeyRecord.{KeyRecord}
 use Rattle.journal_records.specs.LastingPart.{has_id, some_has_id}
 use Rattle.journal_records.specs.Needs.{has_uses, is_met}
-use Rattle.journal_records.specs.Storable.{IsStorable}
 use Rattle.rule_model.specs.declared.event.Event.{Event}
 use Rattle.rule_model.specs.BeginFacts.{is_limited}
 use Rattle.rule_model.specs.Entries.{History}
@@ -16,7 +15,7 @@ use Rattle.rule_model.specs.Legal.{LegalBefore}
 use Rattle.rule_model.specs.declared.operation.Open.{Open}
 use Rattle.rule_model.specs.Operations.{has_number, limited_key, used_key}
 use Rattle.rule_model.specs.Setup.{Setup}
-use Rattle.rule_model.specs.Uses.{Stood, uses_made}
+use Rattle.rule_model.specs.Uses.{IsStored, Stood, uses_made}
 use Rattle.rule_model.proofs.Begun.{BeganOn, began_on}
 use Rattle.rule_model.proofs.Bounds.{Bounded, Each, IsWithin, bounded_from, each_found}
 use Rattle.rule_model.proofs.Held.{HoldBoth, HoldsAt, hold_both}
@@ -44,9 +43,9 @@ uses_left id made limit (key ∷ keys) limited owned e = by_number (key.id == id
   by_number true is any rest = rw (lt-ltb 0 key.left ((owned.0 (eqb-true key.id id is)).1 limited).1) refl
   by_number false is any rest = rest any
 
-pub uses_met : (setup : Setup) (next : Option Event) (past : History) → LegalBefore setup next past → IsStorable setup.start → (op id : ℕ) → used_key op (open_of setup past) ≡ Some id → some_has_id id (kept setup past).keys ≡ true
+pub uses_met : (setup : Setup) (next : Option Event) (past : History) → LegalBefore setup next past → IsStored setup.start → (op id : ℕ) → used_key op (open_of setup past) ≡ Some id → some_has_id id (kept setup past).keys ≡ true
     → is_met (kept setup past) (changes.Use id) ≡ true
-uses_met setup next past legal storable op id used live = by_limit (used_stood setup past op id (find (has_number op) (open_of setup past)) refl used) where
+uses_met setup next past legal (made, stored) op id used live = by_limit (used_stood setup past op id (find (has_number op) (open_of setup past)) refl used) where
   None_known : ℕ → Type 0
   None_known l = ⊥
 
@@ -54,7 +53,7 @@ uses_met setup next past legal storable op id used live = by_limit (used_stood s
   by_bound (limit, bounded) = record { limit = limit; bounded = bounded; known = λ l none. absurd none }
 
   start : HoldsAt id 0 None_known setup.start
-  start = by_bound (bounded_from id setup.start storable)
+  start = by_bound (bounded_from id made setup.start stored)
 
   both : HoldBoth setup past id 0 None_known
   both = hold_both setup next past id 0 None_known legal start

@@ -3,10 +3,11 @@ use Rattle.std.specs.Prelude.{◌≡◌, ◌≤◌, ◌⊎◌, ℕ, ◌+◌, Boo
 use Rattle.std.specs.Option.{option_and_then}
 use Rattle.cipher_ops.specs.declared.room.Work.{Work}
 use Rattle.cipher_ops.specs.declared.room.Work.TheVariants.{Aad, Text, Last}
+use Rattle.journal_records.specs.declared.change.Change.{Change}
 use Rattle.journal_records.specs.declared.record.KeyRecord.{KeyRecord}
+use Rattle.journal_records.specs.Effects.{lasting_of}
 use Rattle.journal_records.specs.LastingPart.{Lasting}
 use Rattle.journal_records.specs.Lookups.{key_of_id}
-use Rattle.journal_records.specs.Storable.{IsStorable}
 use Rattle.rule_model.specs.declared.entry.Entry.TheVariants.{Acted, Settling}
 use Rattle.rule_model.specs.declared.event.Act.{Act}
 use Rattle.rule_model.specs.declared.event.Act.TheVariants.{EnterFinish, Leave}
@@ -90,9 +91,13 @@ pub record Run : Type 0 where
   pub undone : History
   pub past : History
 
--- a run begins at what its store stands for: what the crash of the one before it may have left, or at first what any store can hold
+-- a lasting part that a store can stand for: what some changes leave, each with its need met
+abbrev pub IsStored : Lasting → Type 0
+IsStored part = (changes : List Change) × (lasting_of changes ≡ Some part)
+
+-- a run begins at what its store stands for: what the crash of the one before it may have left
 abbrev pub BeginsAfter : List Run → Lasting → Type 0
-BeginsAfter [] start = IsStorable start
+BeginsAfter [] start = IsStored start
 BeginsAfter (before ∷ earlier) start = May before.setup before.past start
 
 -- legal runs, the newest first, each begun at what the one before it may have left

@@ -1,1 +1,1 @@
-mod LiveRows
+mod Rebinding

@@ -11,6 +11,8 @@ mod disks;
 #[cfg(test)]
 mod journals;
 #[cfg(test)]
+mod rebound;
+#[cfg(test)]
 mod records;
 #[cfg(test)]
-mod rows;
+mod two_areas;

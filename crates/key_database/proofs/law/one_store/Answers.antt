@@ -1,5 +1,4 @@
 use Rattle.key_database.proofs.OneStore.{one_part, not_bad, one_offset}
-use Rattle.key_database.proofs.Storables.{stored_image}
 use Rattle.key_database.proofs.law.one_store.Goals as goal
 
 pub returns-clause-part : goal.returns-clause-part
@@ -10,6 +9,3 @@ returns-clause-sound c = not_bad c.one_reading.ensures.records c.one_reading.ens
 
 pub returns-clause-place : goal.returns-clause-place
 returns-clause-place c = one_offset c.one_reading.ensures.records c.one_reading.ensures.sound c.one_reading.ensures.place
-
-pub returns-clause-storable : goal.returns-clause-storable
-returns-clause-storable c = stored_image c.storable_law.ensures.leaves

@@ -1,20 +1,22 @@
-use Rattle.std.proofs.Common.{refl, sym, ap, ◌∙◌, subst}
+use Rattle.std.proofs.Common.{Some, refl, sym, ap, ◌∙◌, subst}
 use Rattle.journal_records.specs.Holding.{Sure}
-use Rattle.journal_records.specs.Storable.{IsStorable}
 use Rattle.key_database.specs.Stands.{Holds, lasting, store_bytes}
+use Rattle.key_database.specs.StoredChanges.{left_by_changes}
 use Rattle.rule_model.specs.Setup.{Setup}
 use Rattle.keystore_core.specs.Engine.{IsOver}
 use Rattle.keystore_core.proofs.engine.Engine.open.Goals as goal
 
 pub returns-in-Ok-new-clause-stands : goal.returns-in-Ok-new-clause-stands
 returns-in-Ok-new-clause-stands g c = λ setup is.
+    let kept = c.in-Ok-open.ensures.holds.kept in
+    let changes = left_by_changes kept.frame kept.past (lasting c.in-Ok-open.keys) kept.is_frame kept.settled.records kept.left in
     record {
       entries = refl;
       tables = c.in-Ok-new.ensures.stands setup
           (subst (λ k. IsOver setup c.args.device.now c.in-Ok.policy c.args.slots k) c.in-Ok-new.ensures.keys
           (subst (λ p. IsOver setup c.args.device.now p c.args.slots c.in-Ok-new.tables.keys) (sym c.in-Ok.ensures) is));
       legal = tt;
-      storable = subst IsStorable (sym (ap lasting c.in-Ok-new.ensures.keys) ∙ sym is.start) c.in-Ok-open.ensures.storable;
+      stored = (changes.0, changes.1 ∙ ap Some (sym (ap lasting c.in-Ok-new.ensures.keys) ∙ sym is.start));
     }
 
 pub returns-in-Ok-new-clause-first : goal.returns-in-Ok-new-clause-first

@@ -114,4 +114,4 @@ returns-clause-fits g c = λ setup past out stands done room.
     let may = may_step setup past c.args.self.now c.settle_first.new.self c.args.event c.in-Ok.settled c.args.done stands has c.answer-answered.new.self c.answer-answered.result
     (c.answer-answered.ensures.answers setup (after_settling c.in-Ok.settled past) (rw c.entries_made.ensures (stands_mid setup past c.args.self.now c.settle_first.new.self c.args.event c.in-Ok.settled c.args.done stands has done))) in
     let long : length c.args.self.now.tables.device.root ≡ 32 = c.root_is_whole.ensures in
-    step_fits setup past c.in-Ok.settled c.args.event c.answer-answered.result.drawn c.answer-answered.result.reply out stands.legal stands.storable (sym (ap (λ (d : DeviceSecrets). length d.root) stands.tables.keys.device_is) ∙ long) room may
+    step_fits setup past c.in-Ok.settled c.args.event c.answer-answered.result.drawn c.answer-answered.result.reply out stands.legal stands.stored (sym (ap (λ (d : DeviceSecrets). length d.root) stands.tables.keys.device_is) ∙ long) room may

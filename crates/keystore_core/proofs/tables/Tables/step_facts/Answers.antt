@@ -7,11 +7,11 @@ use Rattle.keystore_core.proofs.Stepped.{none_facts, row_found, some_facts}
 use Rattle.keystore_core.proofs.tables.Tables.step_facts.Goals as goal
 
 pub returns-in-Some : goal.returns-in-Some
-returns-in-Some c = λ setup past op stands is.
+returns-in-Some c = λ setup past stands.
     rw (c.has_ended.ensures, c.is_waiting.ensures)
-    (some_facts (live_key c.args.self.now) (is_live setup past) (λ id. ap (λ (part : Lasting). some_has_id id part.keys) stands.keys.lasting_is) c.in-Some.operation.now (operation_at setup past op) _ c.args.caller c.args.brought
-    (row_found setup past c.args.self.now op stands) (sym is ∙ ap option_copied c.in-Some.is))
+    (some_facts (live_key c.args.self.now) (is_live setup past) (λ id. ap (λ (part : Lasting). some_has_id id part.keys) stands.keys.lasting_is) c.in-Some.operation.now (operation_at setup past c.args.op) _ c.args.caller c.args.brought
+    (row_found setup past c.args.self.now c.args.op stands) (sym c.get.ensures ∙ ap option_copied c.in-Some.is))
 
 pub returns-in-None : goal.returns-in-None
-returns-in-None c = λ setup past op stands is.
-    none_facts (is_live setup past) (operation_at setup past op) _ c.args.caller c.args.brought (row_found setup past c.args.self.now op stands) (sym is ∙ ap option_copied c.in-None.is)
+returns-in-None c = λ setup past stands.
+    none_facts (is_live setup past) (operation_at setup past c.args.op) _ c.args.caller c.args.brought (row_found setup past c.args.self.now c.args.op stands) (sym c.get.ensures ∙ ap option_copied c.in-None.is)

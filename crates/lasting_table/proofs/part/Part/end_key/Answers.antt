@@ -1,19 +1,14 @@
-use Rattle.std.proofs.Common.{◌∙◌, ap, not, arith}
+use Rattle.std.proofs.Common.{◌∙◌, ap, not}
 use Rattle.grants.specs.Rows.{is_of}
 use Rattle.grants.specs.Table.{unless}
 use Rattle.journal_records.specs.LastingPart.{has_id}
 use Rattle.lasting_table.specs.Parts.{part_of}
 use Rattle.lasting_table.proofs.Ends.{ended, below_filter}
-use Rattle.lasting_table.proofs.Lengths.{bytes_end}
 use Rattle.lasting_table.proofs.part.Part.end_key.Goals as goal
-
-pub overflow_sub-self : goal.overflow_sub-self
-overflow_sub-self c = omega (arith, c.args.self.now.long, c.row_bytes-bytes.ensures.bytes, bytes_end c.args.id c.args.self.now.keys.rows c.row_bytes-bytes.ensures.orderly)
 
 pub invariant_of-self : goal.invariant_of-self
 invariant_of-self c = record {
   keys_below = rw (c.end.ensures.rows) (below_filter (λ key. not (has_id c.args.id key)) c.args.self.now.next_key c.args.self.now.keys.rows c.args.self.now.keys_below);
-  long = rw (c.end.ensures.rows) (omega (arith, c.args.self.now.long, c.row_bytes-bytes.ensures.bytes, bytes_end c.args.id c.args.self.now.keys.rows c.row_bytes-bytes.ensures.orderly));
   grants_below = λ other le. c.end_key.ensures.by_number other ∙ ap (unless (is_of c.args.id)) (c.args.self.now.grants_below other le);
 }
 

@@ -8,5 +8,5 @@ use Rattle.lasting_table.proofs.part.Part.make.Goals as goal
 
 pub end_key-requires : goal.end_key-requires
 end_key-requires c =
-    let met : list_any (has_id c.in-Delete.id) c.args.self.now.keys.rows ≡ true = ap (is_met (part_of c.args.self.now)) (sym c.in-Delete.is) ∙ c.requires.can.0 in
+    let met : list_any (has_id c.in-Delete.id) c.args.self.now.keys.rows ≡ true = ap (is_met (part_of c.args.self.now)) (sym c.in-Delete.is) ∙ c.requires.0 in
     sym (any_is_found (has_id c.in-Delete.id) c.args.self.now.keys.rows) ∙ met

@@ -1,7 +1,6 @@
 use Rattle.std.proofs.Common.{◌∙◌, sym, ap}
 use Rattle.lasting_table.specs.Parts.{part_of}
 use Rattle.lasting_table.proofs.Ends.{last_use_at, no_last_use, used_is_live, below_use}
-use Rattle.lasting_table.proofs.Lengths.{bytes_use}
 use Rattle.lasting_table.proofs.part.Part.spend.Goals as goal
 
 pub end_key-requires : goal.end_key-requires
@@ -14,7 +13,6 @@ pub invariant_of-self : goal.invariant_of-self
 invariant_of-self c = record {
   keys_below = rw (c.spend.ensures.rows) (below_use c.args.id c.args.self.now.next_key c.args.self.now.keys.rows c.args.self.now.keys_below);
   grants_below = c.args.self.now.grants_below;
-  long = rw (c.spend.ensures.rows) (c.args.self.now.long ∙ sym (bytes_use c.args.id c.args.self.now.keys.rows));
 }
 
 pub returns : goal.returns

@@ -1,14 +1,10 @@
 use Rattle.std.proofs.Common.{arith}
 use Rattle.live_tables.specs.Operations.{changed}
 use Rattle.live_tables.proofs.Keeping.{changed_challenge, changed_client, changed_number, kept_rewritten}
-use Rattle.live_tables.proofs.Listed.{listed}
 use Rattle.live_tables.proofs.placed.PlacedRows.change.Goals as goal
-
-pub change_row-requires-clause-listed : goal.change_row-requires-clause-listed
-change_row-requires-clause-listed c = rw c.deref.ensures.value (listed c.self.inside.places.items c.self.inside.index.items c.self.inside.free.items c.self.invariant.linked)
 
 pub invariant_of-self : goal.invariant_of-self
 invariant_of-self c =
     kept_rewritten c.self.inside.places.items c.self.inside.index.items c.self.inside.free.items c.self.inside.clients c.self.inside.waiting c.self.inside.most c.self.inside.places.cap c.self.inside.index.cap c.self.inside.free.cap c.self.invariant
-    c.args.number (changed c.args.change) (changed_number c.args.change) (changed_client c.args.change) (changed_challenge c.args.change) c.change_row.new.places.items (rw c.deref.ensures.value at c.change_row.ensures.rewrites) _
-    (omega (arith, c.change_row.ensures.capacity))
+    c.args.number (changed c.args.change) (changed_number c.args.change) (changed_client c.args.change) (changed_challenge c.args.change) c.change_at.new.places.items (rw c.deref.ensures.value at c.change_at.ensures.rewrites) _
+    (omega (arith, c.change_at.ensures.capacity))

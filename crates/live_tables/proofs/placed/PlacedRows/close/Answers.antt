@@ -1,6 +1,4 @@
 use Rattle.std.proofs.Common.{◌≡◌, false, true, is_some, ap, ◌∙◌, arith}
-use Rattle.slot_chain.proofs.Ordering.{found_in_gap}
-use Rattle.live_tables.specs.Places.{place_number}
 use Rattle.live_tables.proofs.Keeping.{fewer_closed, kept_closed, room_closed, rows_closed, shrinks_room}
 use Rattle.live_tables.proofs.Places.{absent, kept_out}
 use Rattle.live_tables.proofs.placed.PlacedRows.close.Goals as goal
@@ -8,18 +6,18 @@ use Rattle.live_tables.proofs.placed.PlacedRows.close.Goals as goal
 pub returns-in_default-clause-rows : goal.returns-in_default-clause-rows
 returns-in_default-clause-rows c =
     rw (← c.self.view_is)
-    (kept_out c.self.inside.places.items c.self.inside.index.items c.self.invariant.linked.order c.self.invariant.linked.placed c.args.number (found_in_gap place_number c.self.inside.index.items c.args.number c.in_default.field-0 (rw c.deref.ensures.value at c.in_default.ensures.absent)))
+    (kept_out c.self.inside.places.items c.self.inside.index.items c.self.invariant.linked.order c.self.invariant.linked.placed c.args.number c.in_default.field-0 (rw c.deref.ensures.value at c.in_default.ensures.absent))
 
 pub returns-in_default-clause-fewer : goal.returns-in_default-clause-fewer
 returns-in_default-clause-fewer c = λ some. absurd (
     let there = rw (← c.self.view_is) at some in
-    let none : false ≡ true = ap is_some (absent c.self.inside.places.items c.self.inside.index.items c.self.invariant.linked.order c.self.invariant.linked.placed c.args.number (found_in_gap place_number c.self.inside.index.items c.args.number c.in_default.field-0 (rw c.deref.ensures.value at c.in_default.ensures.absent))) ∙ there in
+    let none : false ≡ true = ap is_some (absent c.self.inside.places.items c.self.inside.index.items c.self.invariant.linked.order c.self.invariant.linked.placed c.args.number c.in_default.field-0 (rw c.deref.ensures.value at c.in_default.ensures.absent)) ∙ there in
     cc)
 
 pub returns-in_default-clause-room : goal.returns-in_default-clause-room
 returns-in_default-clause-room c = λ some. absurd (
     let there = rw (← c.self.view_is) at some in
-    let none : false ≡ true = ap is_some (absent c.self.inside.places.items c.self.inside.index.items c.self.invariant.linked.order c.self.invariant.linked.placed c.args.number (found_in_gap place_number c.self.inside.index.items c.args.number c.in_default.field-0 (rw c.deref.ensures.value at c.in_default.ensures.absent))) ∙ there in
+    let none : false ≡ true = ap is_some (absent c.self.inside.places.items c.self.inside.index.items c.self.invariant.linked.order c.self.invariant.linked.placed c.args.number c.in_default.field-0 (rw c.deref.ensures.value at c.in_default.ensures.absent)) ∙ there in
     cc)
 
 pub invariant_of-self : goal.invariant_of-self
