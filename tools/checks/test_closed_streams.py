@@ -19,6 +19,7 @@ from keystore.harness import chosen_program
 from keystore.lines import APP, PARAMS, begin, call, connect, made, named, text_of
 from keystore.runs import free_port, until
 from keystore.scratch import scratch_folder
+from keystore.store_bytes import StoreBytes
 from keystore_client import Client, ConnectionEnded, Key, ServiceError, parameters
 
 STREAMS = {0: "input", 1: "output", 2: "error"}
@@ -157,7 +158,7 @@ def left_by(program, words, folder, store, gone, closes):
     runs = folder / "runs"
     for file in [*runs.iterdir(), folder / "output", folder / "error"]:
         file.unlink(missing_ok=True)
-    (runs / "store.ks").write_bytes(store)
+    store.write(runs / "store.ks")
     serves = words[:1] == ["serve"]
     port = free_port() if serves else None
     words = [str(port) if it == "PORT" else it for it in words]
@@ -183,13 +184,13 @@ def left_by(program, words, folder, store, gone, closes):
         "calls": fault,
         "status": status,
         **told,
-        **{it.name: it.read_bytes() for it in sorted(runs.iterdir())},
+        **{it.name: StoreBytes.read(it) for it in sorted(runs.iterdir())},
     }
 
 
 def shown(value):
     text = repr(value)
-    return text if len(text) < 200 else f"{text[:200]}.. of {len(value)} bytes"
+    return text if len(text) < 200 else f"{text[:200]}.."
 
 
 def name_of(words):
@@ -218,7 +219,7 @@ class ClosedStreams(Case):
             )
             if any(json.loads(it)["code"] for it in done.stdout.splitlines()):
                 raise AssertionError(f"no store was made: {done.stdout}")
-            cls.store = (Path(folder) / "store.ks").read_bytes()
+            cls.store = StoreBytes.read(Path(folder) / "store.ks")
 
     def show(self, words, gone):
         (self.folder / "runs").mkdir()

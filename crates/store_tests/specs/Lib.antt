@@ -1,0 +1,2 @@
+pub mod Rebound
+pub mod Rebounds
