@@ -118,7 +118,7 @@ CODES = {
     -57: ("INVALID_MAC_LENGTH", "the mac or tag is shorter than the key allows"),
     -58: ("MISSING_MIN_MAC_LENGTH", "the key needs a least length of its macs or tags"),
     -59: ("UNSUPPORTED_MIN_MAC_LENGTH", "that least length is none that the digest or GCM has"),
-    -62: ("KEY_REQUIRES_UPGRADE", "no call answers it here"),
+    -62: ("KEY_REQUIRES_UPGRADE", "the system is newer than the one of the key: upgradeKey makes it work on"),
     -72: ("DEVICE_LOCKED", "the caller's user is locked"),
     -73: ("EARLY_BOOT_ENDED", "early boot has ended"),
     4: ("SYSTEM_ERROR", "a call of the disk failed; a later call tells what became of a change"),
@@ -131,7 +131,6 @@ CODES = {
     21: ("TOO_MUCH_DATA", "an input or a signature is too long"),
     1001: ("RUN_FULL", "the service's run is full, and the call added nothing: it has to be started again"),
     1002: ("STORE_FULL", "there is no place for one more key or grant, or no number for it"),
-    1003: ("JOURNAL_FULL", "the record does not fit into the journal; nothing is changed"),
     1004: ("TOKENS_FULL", "there is no place for one more triple of user, authenticator and kind"),
     1005: ("ENTROPY_FAULT", "a draw of random bytes failed; the call changed nothing"),
     1006: ("NO_TICKET", "no step is out under the ticket"),
@@ -531,6 +530,11 @@ class Client:
     def abort(self, op):
         return self.call(9, u64(op))
 
+    def upgradeKey(self, key, params=parameters()):
+        """Seals a key anew for the system that the device runs now. The reply has `blob` where the key is handed in as
+        one; `params` has the application's id and data, where the key was made for any."""
+        return self.call(24, key.spelled(), counted(params))
+
     # IKeystoreService
 
     def getKeyEntry(self, key):
@@ -918,6 +922,30 @@ def do_count(service, _):
     return service.connected().getNumberOfEntries().fields
 
 
+def names_in(service):
+    """The names of all keys of the caller."""
+    return [alias.decode(errors="surrogateescape") for alias, _ in do_list(service, None)["entries"]]
+
+
+def versions_in(data):
+    """What an encoded list says of the versions of its key's system."""
+    return [it for it in tags_in(data).split(", ") if it.startswith("OS_")]
+
+
+def do_upgrade(service, words):
+    """Upgrades a key, or all that need it, and tells which were changed."""
+    if words.all == (words.key is not None):
+        raise ValueError("a key is named, or --all is given")
+    upgraded = []
+    for alias in names_in(service) if words.all else [words.key]:
+        client, key = service.connected(), Key(alias=alias)
+        before = versions_in(client.getKeyEntry(key).list)
+        client.upgradeKey(key)
+        after = client.getKeyEntry(key)
+        upgraded += [[text_bytes(alias), after.key]] if versions_in(after.list) != before else []
+    return {"entries": upgraded}
+
+
 def do_grant(service, words):
     return service.connected().grant(Key(alias=words.key), words.grantee, words.bits).fields
 
@@ -1089,6 +1117,9 @@ def words_of(words):
     granted.add_argument("--bits", type=number(32), default=USE, help=f"what it may do ({USE}, use)")
     command("ungrant", do_ungrant, "take a grant back", "key").add_argument("grantee", type=number(32), metavar="uid")
     command("delete", do_delete, "delete a key", "key")
+    upgraded = command("upgrade", do_upgrade, "seal a key for the system that the device runs now, and tell it where it changed")
+    upgraded.add_argument("key", nargs="?")
+    upgraded.add_argument("--all", action="store_true", help="all of the caller's keys")
     command("token", do_token, "bring a token, as tools/make_token.py prints it", "file", of_system=True)
     for name, does, text in (
         ("lock", do_lock, "the device is locked for a user"),

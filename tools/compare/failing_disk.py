@@ -14,6 +14,7 @@ waits, and nowhere else.
 Then read_store.py reads the store that is left: its keys and grants are the model's, with the change that waits or
 without it. It needs a C compiler, `cc`. The exit status is 1 where a script differs."""
 import collections
+import copy
 import os
 import subprocess
 import tempfile
@@ -135,11 +136,18 @@ def served(program, maker, folder, library, seed):
     return rows, status
 
 
+def blobs_of(service):
+    return [key.blob for key in service.store.made]
+
+
 def writes(event, service):
     """Whether an event writes a record where it is admitted."""
     if event["act"] == "finish":
         operation = service.operations.get(event["op"])
         return operation is not None and operation.key is not None and operation.key.uses is not None
+    if event["act"] == "upgradeKey":
+        changed = copy.deepcopy(service)
+        return changed.reply(event)["code"] == 0 and blobs_of(changed) != blobs_of(service)
     return event["act"] in WRITING and not (
         event["act"] in ("generateKey", "importKey") and event["key"]["domain"] == 3
     )

@@ -9,14 +9,39 @@ from cryptography.exceptions import InvalidTag
 from cryptography.hazmat.primitives.ciphers.aead import AESGCM
 
 from keystore.lists import BOOL, BYTES, TAGS, ListFault, Params, read_list, write_list
-from keystore.spelling import Reader, Short, counted, optional
+from keystore.spelling import Reader, Short, counted, number, optional
 
 MAGIC = bytes.fromhex("4b534231")
-DEMO_DEVICE = b"\x01" * 32 + b"\x02" * 32 + b"\x03" * 32
+SECRETS, SYSTEM = 96, 8
+DEMO_SECRETS, DEMO_OS, DEMO_PATCH = b"\x01" * 32 + b"\x02" * 32 + b"\x03" * 32, 140000, 202406
+DEMO_DEVICE = DEMO_SECRETS + number(DEMO_OS, 4) + number(DEMO_PATCH, 4)
+VERSIONS = ("OS_VERSION", "OS_PATCHLEVEL")
 
 
 class NoBlob(Exception):
     """Bytes that are no blob of the device."""
+
+
+def device_of(data: bytes) -> bytes:
+    """The device of the bytes of a file device.key: its secrets, and the versions of its system, which are 0 where they
+    are not there."""
+    if len(data) not in (SECRETS, SECRETS + SYSTEM):
+        raise ValueError(f"{len(data)} bytes are no device, which has 96 or 104")
+    return data.ljust(SECRETS + SYSTEM, b"\0")
+
+
+def versions_of(device: bytes) -> tuple[int, int]:
+    """The versions of a device's operating system and of its patches."""
+    os, patch = (int.from_bytes(device_of(device)[place : place + 4], "big") for place in (SECRETS, SECRETS + 4))
+    return os, patch
+
+
+def with_versions(encoded: bytes, os: int, patch: int) -> bytes:
+    """A list with these versions in place of its own; a text that is no list stays as it is."""
+    try:
+        return write_list({**read_list(encoded), "OS_VERSION": [os], "OS_PATCHLEVEL": [patch]})
+    except ListFault:
+        return encoded
 
 
 def list_of(params: Iterable[tuple[str, Any]]) -> bytes:
@@ -47,7 +72,8 @@ def blob_of(
     device: bytes = DEMO_DEVICE,
 ) -> bytes:
     """The blob of a list and a material, for the device's own root of trust where none is given."""
-    return seal(device, nonce, text_of(device[64:] if root is None else root, app_id, app_data, encoded, material))
+    own = device[64:SECRETS] if root is None else root
+    return seal(device, nonce, text_of(own, app_id, app_data, encoded, material))
 
 
 def unsealed(device: bytes, blob: bytes) -> bytes:

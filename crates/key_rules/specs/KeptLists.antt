@@ -6,6 +6,8 @@ use Rattle.tags.specs.declared.param.ParamValue.TheVariants.{Number}
 use Rattle.tags.specs.declared.tag.Tag.{Tag}
 use Rattle.tags.specs.declared.tag.Tag.TheVariants as tags
 use Rattle.tags.specs.Values.{GENERATED, IMPORTED}
+use Rattle.tag_lists.specs.declared.shape.Shape.{Shape}
+use Rattle.tag_lists.specs.declared.shape.Shape.TheVariants.{Short}
 use Rattle.tag_lists.specs.Lookups.{is_of, number_of, stands, without}
 use Rattle.tag_lists.specs.Order.{with_param}
 use Rattle.key_rules.specs.declared.facts.ImportFacts.{ImportFacts}
@@ -39,10 +41,19 @@ abbrev pub origin : Option ImportFacts → ℕ
 origin None = GENERATED
 origin (Some import) = IMPORTED
 
+-- the versions of the device's system, also where they are 0
+abbrev pub with_versions : ℕ → ℕ → List Param → List Param
+with_versions os patch list = set tags.OsPatchlevel patch (set tags.OsVersion os list)
+
 -- The kept list: the caller's without the tags that are dropped, with CREATION_DATETIME and an import's KEY_SIZE where
--- the caller gave none, and with ORIGIN.
-unfoldable pub kept : Option ImportFacts → ℕ → List Param → List Param
-kept import wall list = set tags.Origin (origin import) (with_size import (set_missing tags.CreationDatetime wall (own list)))
+-- the caller gave none, with ORIGIN, and with OS_VERSION and OS_PATCHLEVEL of the device.
+unfoldable pub kept : Option ImportFacts → ℕ → ℕ → ℕ → List Param → List Param
+kept import wall os patch list = with_versions os patch (set tags.Origin (origin import) (with_size import (set_missing tags.CreationDatetime wall (own list))))
+
+-- the most bytes of a parameter with a number of this shape: four of the tag, and the number's 32 bits or a date's 64
+abbrev pub most_bytes : Shape → ℕ
+most_bytes Short = 8
+most_bytes _ = 12
 
 -- the use limit, or 0
 unfoldable pub limit : List Param → ℕ

@@ -2,7 +2,8 @@
 
 ghost use Rattle.std.specs.Prelude.{◌≡◌, ◌≤◌, ◌<◌, ◌+◌, length, IfOk, IfSome};
 ghost use Rattle.tags.specs.declared.param.ParamValue.TheVariants.{Number};
-ghost use Rattle.tag_lists.specs.Order.{Fits};
+ghost use Rattle.tag_lists.specs.Order.{Fits, shape_of};
+ghost use Rattle.tags.specs.Tag.{type_of};
 ghost use Rattle.tag_lists.specs.Spelling.{spelling};
 ghost use Rattle.key_rules.specs.KeptLists as spec;
 ghost use Rattle.tags.specs.declared.limits.TheConstants.{LIST_BYTES};
@@ -18,7 +19,7 @@ fn set(list: AuthList, tag: Tag, number: u64) -> Result<AuthList, NoMemory>
     requires room { length list < 65535 }
     ensures set { IfOk result (λ new. new ≡ spec.set tag number list) }
     ensures room { IfOk result (λ new. length new ≤ length list + 1) }
-    ensures small { IfOk result (λ new. length (spelling new) ≤ length (spelling list) + 12) }
+    ensures small { IfOk result (λ new. length (spelling new) ≤ length (spelling list) + spec.most_bytes (shape_of (type_of tag))) }
 {
     list.with(Param {
         tag,
@@ -32,7 +33,7 @@ fn set_missing(list: AuthList, tag: Tag, number: u64) -> Result<AuthList, NoMemo
     requires room { length list < 65535 }
     ensures set { IfOk result (λ new. new ≡ spec.set_missing tag number list) }
     ensures room { IfOk result (λ new. length new ≤ length list + 1) }
-    ensures small { IfOk result (λ new. length (spelling new) ≤ length (spelling list) + 12) }
+    ensures small { IfOk result (λ new. length (spelling new) ≤ length (spelling list) + spec.most_bytes (shape_of (type_of tag))) }
 {
     if list.stands(tag) {
         Ok(list)
@@ -47,7 +48,7 @@ fn with_size(list: AuthList, import: Option<ImportFacts>) -> Result<AuthList, No
     requires room { length list < 65535 }
     ensures set { IfOk result (λ new. new ≡ spec.with_size import list) }
     ensures room { IfOk result (λ new. length new ≤ length list + 1) }
-    ensures small { IfOk result (λ new. length (spelling new) ≤ length (spelling list) + 12) }
+    ensures small { IfOk result (λ new. length (spelling new) ≤ length (spelling list) + 8) }
 {
     match import {
         None => Ok(list),
@@ -80,21 +81,34 @@ fn origin(import: Option<ImportFacts>) -> u64
     }
 }
 
+/// The list with the versions of the device's system.
+fn with_versions(list: AuthList, os: u32, patch: u32) -> Result<AuthList, NoMemory>
+    requires room { length list < 65534 }
+    ensures set { IfOk result (λ new. new ≡ spec.with_versions os patch list) }
+    ensures small { IfOk result (λ new. length (spelling new) ≤ length (spelling list) + 16) }
+{
+    let versioned = set(list, Tag::OsVersion, os as u64)?;
+    set(versioned, Tag::OsPatchlevel, patch as u64)
+}
+
 /// The list that is kept with a new key.
 #[tactic(auto, unfolding(crate::specs::KeptLists::kept))]
 pub(crate) fn kept(
     list: AuthList,
     import: Option<ImportFacts>,
     wall: u64,
+    os: u32,
+    patch: u32,
 ) -> Result<AuthList, NoMemory>
     requires short { IfSome import (λ facts. facts.length ≤ 64) }
     requires few { length list ≤ LIST_BYTES }
-    ensures kept { IfOk result (λ new. new ≡ spec.kept import wall list) }
-    ensures small { IfOk result (λ new. length (spelling new) ≤ length (spelling list) + 36) }
+    ensures kept { IfOk result (λ new. new ≡ spec.kept import wall os patch list) }
+    ensures small { IfOk result (λ new. length (spelling new) ≤ length (spelling list) + 44) }
 {
     let dated = set_missing(own(list), Tag::CreationDatetime, wall)?;
     let sized = with_size(dated, import)?;
-    set(sized, Tag::Origin, origin(import))
+    let origined = set(sized, Tag::Origin, origin(import))?;
+    with_versions(origined, os, patch)
 }
 
 /// The use limit, or 0.
@@ -102,6 +116,5 @@ pub(crate) fn kept(
 pub(crate) fn limit(list: &AuthList) -> u32
     ensures { result ≡ spec.limit list.now }
 {
-    let _params = list.params();
-    list.number(Tag::UsageCountLimit).unwrap_or(0) as u32
+    list.version(Tag::UsageCountLimit)
 }

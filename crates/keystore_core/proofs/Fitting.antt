@@ -113,7 +113,7 @@ key_fits (Ok done) plan true false blob number drawn few drew = record { alias =
 generated_fits : (setup : Setup) (past : History) (caller : Caller) (key : Descriptor) (params drawn : List ℕ) → length (root_of setup past) ≡ 32
     → length drawn ≡ size_of (wanted_by_rules (GenerateKey key params) setup past caller) → Fits (sizes_of (GenerateKey key params) 0) (answer_by_rules (GenerateKey key params) setup past caller drawn)
 generated_fits setup past caller key params drawn long drew =
-    let facts : NewFacts = new_facts setup.policy caller key params None (has_early_ended setup past) in
+    let facts : NewFacts = new_facts setup.device setup.policy caller key params None (has_early_ended setup past) in
     let plan : KeyPlan = plan_of facts in
     key_fits (first_broken K (rules_of facts)) plan (has_key_place (kept setup past) (owner_of caller) key) (key.domain == domain_blob) (new_blob (device_at setup past) plan None drawn) (kept setup past).next_key drawn
     (λ through sized. let fit : IsFit facts plan = fit_if_ok facts through in blob_fits (device_at setup past) plan facts (take plan.size drawn) drawn long fit (omega (arith, take_few plan.size drawn, fit.small.drawn)) sized)
@@ -122,7 +122,7 @@ generated_fits setup past caller key params drawn long drew =
 imported_fits : (setup : Setup) (past : History) (caller : Caller) (key : Descriptor) (params : List ℕ) (format : ℕ) (material drawn : List ℕ) → length (root_of setup past) ≡ 32
     → length drawn ≡ size_of (wanted_by_rules (ImportKey key params format material) setup past caller) → Fits (sizes_of (ImportKey key params format material) 0) (answer_by_rules (ImportKey key params format material) setup past caller drawn)
 imported_fits setup past caller key params format material drawn long drew =
-    let facts : NewFacts = new_facts setup.policy caller key params (import_of format material) (has_early_ended setup past) in
+    let facts : NewFacts = new_facts setup.device setup.policy caller key params (import_of format material) (has_early_ended setup past) in
     let plan : KeyPlan = plan_of facts in
     key_fits (first_broken K (rules_of facts)) plan (has_key_place (kept setup past) (owner_of caller) key) (key.domain == domain_blob) (new_blob (device_at setup past) plan (Some material) drawn) (kept setup past).next_key drawn
     (λ through sized. let fit : IsFit facts plan = fit_if_ok facts through in blob_fits (device_at setup past) plan facts material drawn long fit fit.short sized)

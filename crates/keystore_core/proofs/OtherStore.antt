@@ -132,8 +132,8 @@ accepted_not tokens token = if_not (length (other_triples token tokens) == MOST_
 
 -- no answer by the rules is that
 rules_not : (act : Act) (setup : Setup) (past : History) (caller : Caller) (drawn : List ℕ) → is_other_store (answer_by_rules act setup past caller drawn) ≡ false
-rules_not (GenerateKey key params) setup past caller drawn = broken_not (new_key (new_facts setup.policy caller key params None (has_early_ended setup past))) (made_in (kept setup past) caller key (new_blob (device_at setup past) (planned setup.policy caller key params None) None drawn)) (made_not (kept setup past) caller key _)
-rules_not (ImportKey key params format material) setup past caller drawn = broken_not (new_key (new_facts setup.policy caller key params (import_of format material) (has_early_ended setup past))) (made_in (kept setup past) caller key (new_blob (device_at setup past) (planned setup.policy caller key params (import_of format material)) (Some material) drawn)) (made_not (kept setup past) caller key _)
+rules_not (GenerateKey key params) setup past caller drawn = broken_not (new_key (new_facts setup.device setup.policy caller key params None (has_early_ended setup past))) (made_in (kept setup past) caller key (new_blob (device_at setup past) (planned setup.device setup.policy caller key params None) None drawn)) (made_not (kept setup past) caller key _)
+rules_not (ImportKey key params format material) setup past caller drawn = broken_not (new_key (new_facts setup.device setup.policy caller key params (import_of format material) (has_early_ended setup past))) (made_in (kept setup past) caller key (new_blob (device_at setup past) (planned setup.device setup.policy caller key params (import_of format material)) (Some material) drawn)) (made_not (kept setup past) caller key _)
 rules_not (CreateOperation key params forced) setup past caller drawn = broken_not (begin_table.answer (begin_facts setup past caller key params forced)) (begun_with (count_of is_begin past + 1) (challenge_of (begin_facts setup past caller key params forced) drawn) (drawn_nonce (begin_facts setup past caller key params forced) drawn) (pruned_for setup past (owner_of caller) forced)) refl
 rules_not (EnterAad op input) setup past caller drawn = broken_not (step_table.answer (step_facts setup past caller op (brought_by (Aad input)))) (Done (record no_fields { ticket = Some (next_ticket past) })) refl
 rules_not (EnterUpdate op input) setup past caller drawn = broken_not (step_table.answer (step_facts setup past caller op (brought_by (Text input)))) (Done (record no_fields { ticket = Some (next_ticket past) })) refl

@@ -85,8 +85,8 @@ accepted_untold : (tokens : List AuthToken) (token : AuthToken) → tells_ticket
 accepted_untold tokens token = if_untold (length (other_triples token tokens) == MOST_TRIPLES) (Stopped TokensFull) (Done no_fields) refl refl
 
 rules_untold : (act : Act) (setup : Setup) (past : History) (caller : Caller) (drawn : List ℕ) → is_enter act ≡ false → tells_ticket (answer_by_rules act setup past caller drawn) ≡ false
-rules_untold (GenerateKey key params) setup past caller drawn e = broken_untold (new_key (new_facts setup.policy caller key params None (has_early_ended setup past))) (made_in (kept setup past) caller key (new_blob (device_at setup past) (planned setup.policy caller key params None) None drawn)) (made_untold (kept setup past) caller key _)
-rules_untold (ImportKey key params format material) setup past caller drawn e = broken_untold (new_key (new_facts setup.policy caller key params (import_of format material) (has_early_ended setup past))) (made_in (kept setup past) caller key (new_blob (device_at setup past) (planned setup.policy caller key params (import_of format material)) (Some material) drawn)) (made_untold (kept setup past) caller key _)
+rules_untold (GenerateKey key params) setup past caller drawn e = broken_untold (new_key (new_facts setup.device setup.policy caller key params None (has_early_ended setup past))) (made_in (kept setup past) caller key (new_blob (device_at setup past) (planned setup.device setup.policy caller key params None) None drawn)) (made_untold (kept setup past) caller key _)
+rules_untold (ImportKey key params format material) setup past caller drawn e = broken_untold (new_key (new_facts setup.device setup.policy caller key params (import_of format material) (has_early_ended setup past))) (made_in (kept setup past) caller key (new_blob (device_at setup past) (planned setup.device setup.policy caller key params (import_of format material)) (Some material) drawn)) (made_untold (kept setup past) caller key _)
 rules_untold (CreateOperation key params forced) setup past caller drawn e = broken_untold (begin_table.answer (begin_facts setup past caller key params forced)) (begun_with (count_of is_begin past + 1) (challenge_of (begin_facts setup past caller key params forced) drawn) (drawn_nonce (begin_facts setup past caller key params forced) drawn) (pruned_for setup past (owner_of caller) forced)) refl
 rules_untold (EnterAad op input) setup past caller drawn e = cc
 rules_untold (EnterUpdate op input) setup past caller drawn e = cc

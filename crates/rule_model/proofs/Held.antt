@@ -61,9 +61,9 @@ takes_mapped part change takes (Some x) = takes x
 
 change_takes : (act : Act) (device : DeviceSecrets) (policy : List PolicyRow) (part : Lasting) (opened : List Open) (caller : Caller) (drawn : List ℕ) → TakesNextIn part (change_of act device policy part opened caller drawn)
 change_takes (GenerateKey key params) device policy part opened caller drawn =
-    takes_stored device part (owner_of caller) key (planned policy caller key params None) None drawn (key.domain == domain_blob)
+    takes_stored device part (owner_of caller) key (planned device policy caller key params None) None drawn (key.domain == domain_blob)
 change_takes (ImportKey key params format material) device policy part opened caller drawn =
-    takes_stored device part (owner_of caller) key (planned policy caller key params (import_of format material)) (Some material) drawn (key.domain == domain_blob)
+    takes_stored device part (owner_of caller) key (planned device policy caller key params (import_of format material)) (Some material) drawn (key.domain == domain_blob)
 change_takes (EnterFinish op input signature) device policy part opened caller drawn = takes_mapped part changes.Use (λ id. tt) (used_key op opened)
 change_takes (DeleteKey key) device policy part opened caller drawn = takes_mapped part changes.Delete (λ id. tt) (id_by policy part caller key)
 change_takes (Grant key uid bits) device policy part opened caller drawn = takes_mapped part (granting part uid bits) (λ id. tt) (id_by policy part caller key)

@@ -113,8 +113,8 @@ short_from part is = each_as (IsStorableKey part.next_key) IsShort (λ key one. 
 
 -- the rules let a new key through
 abbrev MakesKey : Act → Setup → History → Caller → Type 0
-MakesKey (GenerateKey key params) setup past caller = is_ok (new_key (new_facts setup.policy caller key params None (has_early_ended setup past))) ≡ true
-MakesKey (ImportKey key params format material) setup past caller = is_ok (new_key (new_facts setup.policy caller key params (import_of format material) (has_early_ended setup past))) ≡ true
+MakesKey (GenerateKey key params) setup past caller = is_ok (new_key (new_facts setup.device setup.policy caller key params None (has_early_ended setup past))) ≡ true
+MakesKey (ImportKey key params format material) setup past caller = is_ok (new_key (new_facts setup.device setup.policy caller key params (import_of format material) (has_early_ended setup past))) ≡ true
 MakesKey _ setup past caller = Unit {0}
 
 short_new : (device : DeviceSecrets) (part : Lasting) (uid : ℕ) (facts : NewFacts) (import : Option (List ℕ)) (drawn : List ℕ) → is_ok (new_key facts) ≡ true → (b : Bool) → (facts.descriptor.domain == domain_blob) ≡ b
@@ -131,9 +131,9 @@ short_mapped change short (Some x) = short x
 change_short : (act : Act) (setup : Setup) (past : History) (device : DeviceSecrets) (part : Lasting) (opened : List Open) (caller : Caller) (drawn : List ℕ) → MakesKey act setup past caller
     → IsShortIn (change_of act device setup.policy part opened caller drawn)
 change_short (GenerateKey key params) setup past device part opened caller drawn through =
-    short_new device part (owner_of caller) (new_facts setup.policy caller key params None (has_early_ended setup past)) None drawn through (key.domain == domain_blob) refl
+    short_new device part (owner_of caller) (new_facts setup.device setup.policy caller key params None (has_early_ended setup past)) None drawn through (key.domain == domain_blob) refl
 change_short (ImportKey key params format material) setup past device part opened caller drawn through =
-    short_new device part (owner_of caller) (new_facts setup.policy caller key params (import_of format material) (has_early_ended setup past)) (Some material) drawn through (key.domain == domain_blob) refl
+    short_new device part (owner_of caller) (new_facts setup.device setup.policy caller key params (import_of format material) (has_early_ended setup past)) (Some material) drawn through (key.domain == domain_blob) refl
 change_short (EnterFinish op input signature) setup past device part opened caller drawn through = short_mapped changes.Use (λ id. tt) (used_key op opened)
 change_short (DeleteKey key) setup past device part opened caller drawn through = short_mapped changes.Delete (λ id. tt) (id_by setup.policy part caller key)
 change_short (Grant key uid bits) setup past device part opened caller drawn through = short_mapped (granting part uid bits) (λ id. tt) (id_by setup.policy part caller key)
@@ -145,11 +145,11 @@ change_short _ setup past device part opened caller drawn through = tt
 -- an act that is admitted
 makes_done : (act : Act) (setup : Setup) (past : History) (caller : Caller) (drawn : List ℕ) → is_done (answer_by_rules act setup past caller drawn) ≡ true → MakesKey act setup past caller
 makes_done (GenerateKey key params) setup past caller drawn e =
-    broken_done (new_key (new_facts setup.policy caller key params None (has_early_ended setup past)))
-    (made_in (kept setup past) caller key (new_blob (device_at setup past) (planned setup.policy caller key params None) None drawn)) e
+    broken_done (new_key (new_facts setup.device setup.policy caller key params None (has_early_ended setup past)))
+    (made_in (kept setup past) caller key (new_blob (device_at setup past) (planned setup.device setup.policy caller key params None) None drawn)) e
 makes_done (ImportKey key params format material) setup past caller drawn e =
-    broken_done (new_key (new_facts setup.policy caller key params (import_of format material) (has_early_ended setup past)))
-    (made_in (kept setup past) caller key (new_blob (device_at setup past) (planned setup.policy caller key params (import_of format material)) (Some material) drawn)) e
+    broken_done (new_key (new_facts setup.device setup.policy caller key params (import_of format material) (has_early_ended setup past)))
+    (made_in (kept setup past) caller key (new_blob (device_at setup past) (planned setup.device setup.policy caller key params (import_of format material)) (Some material) drawn)) e
 makes_done _ setup past caller drawn e = tt
 
 -- an answer that is no broken rule
@@ -159,11 +159,11 @@ stopped_ok (Err broken) reply code e = cc
 
 makes_stopped : (act : Act) (setup : Setup) (past : History) (caller : Caller) (drawn : List ℕ) (code : Code) → Stopped code ≡ answer_by_rules act setup past caller drawn → MakesKey act setup past caller
 makes_stopped (GenerateKey key params) setup past caller drawn code e =
-    stopped_ok (new_key (new_facts setup.policy caller key params None (has_early_ended setup past)))
-    (made_in (kept setup past) caller key (new_blob (device_at setup past) (planned setup.policy caller key params None) None drawn)) code e
+    stopped_ok (new_key (new_facts setup.device setup.policy caller key params None (has_early_ended setup past)))
+    (made_in (kept setup past) caller key (new_blob (device_at setup past) (planned setup.device setup.policy caller key params None) None drawn)) code e
 makes_stopped (ImportKey key params format material) setup past caller drawn code e =
-    stopped_ok (new_key (new_facts setup.policy caller key params (import_of format material) (has_early_ended setup past)))
-    (made_in (kept setup past) caller key (new_blob (device_at setup past) (planned setup.policy caller key params (import_of format material)) (Some material) drawn)) code e
+    stopped_ok (new_key (new_facts setup.device setup.policy caller key params (import_of format material) (has_early_ended setup past)))
+    (made_in (kept setup past) caller key (new_blob (device_at setup past) (planned setup.device setup.policy caller key params (import_of format material)) (Some material) drawn)) code e
 makes_stopped _ setup past caller drawn code e = tt
 
 both_ways : {A : Type 0} (b : Bool) → b ≡ true → b ≡ false → A

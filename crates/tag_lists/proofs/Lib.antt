@@ -8,3 +8,4 @@ pub mod Lookups
 pub mod Members
 pub mod Sizes
 pub mod ReadSizes
+mod Numbers

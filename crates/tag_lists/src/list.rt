@@ -7,10 +7,13 @@ ghost use Rattle.tags.specs.declared.param.Param.{Param};
 ghost use Rattle.tags.specs.Param.{as_number};
 ghost use Rattle.tags.specs.Values as values;
 ghost use Rattle.tags.specs.Values.{passes};
-ghost use Rattle.tag_lists.specs.Order.{Fits, IsCanonical, MayBeListed, canonical, with_param};
+ghost use Rattle.tag_lists.specs.Order.{Fits, IsCanonical, MayBeListed, canonical, shape_of, with_param};
 ghost use Rattle.tag_lists.specs.Spelling.{spelled, spelling, IsListOf};
 ghost use Rattle.tag_lists.specs.Reading.{Gives, listed};
 ghost use Rattle.tag_lists.specs.Lookups as spec;
+ghost use Rattle.tag_lists.specs.Versions as versions;
+ghost use Rattle.tag_lists.specs.declared.shape.Shape.TheVariants.{Short};
+ghost use Rattle.tags.specs.Tag.{type_of};
 
 use crate::fault::ListFault;
 use crate::shape::{is_tag, rank};
@@ -229,6 +232,29 @@ impl AuthList {
             Some(param) => param.value.as_number(),
             None => None,
         }
+    }
+
+    /// The number of the tag's first parameter, for a tag of 32 bits; 0 where the tag is not there. It takes no memory.
+    pub fn version(&self, tag: Tag) -> u32
+        requires { shape_of (type_of tag) ≡ Short }
+        ensures { result ≡ versions.version_of tag self.now }
+    {
+        let _params = self.params();
+        self.number(tag).unwrap_or(0) as u32
+    }
+
+    /// Whether neither OS_VERSION nor OS_PATCHLEVEL is greater than the system's. It takes no memory.
+    pub fn is_no_newer(&self, os: u32, patch: u32) -> bool
+        ensures { result ≡ versions.is_no_newer os patch self.now }
+    {
+        self.version(Tag::OsVersion) <= os && self.version(Tag::OsPatchlevel) <= patch
+    }
+
+    /// Whether neither OS_VERSION nor OS_PATCHLEVEL is less than the system's. It takes no memory.
+    pub fn is_no_older(&self, os: u32, patch: u32) -> bool
+        ensures { result ≡ versions.is_no_older os patch self.now }
+    {
+        os <= self.version(Tag::OsVersion) && patch <= self.version(Tag::OsPatchlevel)
     }
 
     /// The bytes of the tag's first parameter. It takes no memory.

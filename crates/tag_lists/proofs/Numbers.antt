@@ -1,11 +1,10 @@
--- The use limit has 32 bits.
+-- A number of a tag of 32 bits has 32 bits.
 use Rattle.std.proofs.Common.{◌≡◌, ◌^◌, ◌<◌, Bool, true, false, cond, List, [], ◌∷◌, Option, Some, None, refl, sym, ap, ◌∙◌, subst, arith}
 use Rattle.std.specs.Prelude.{find, IfSome, unwrap_or}
 use Rattle.std.specs.List.{AllByRecursion}
 use Rattle.std.specs.Option.{option_and_then}
 use Rattle.std.proofs.lemmas.Bool.{eqb-true}
 use Rattle.tags.specs.declared.tag.Tag.{Tag}
-use Rattle.tags.specs.declared.tag.Tag.TheVariants.{UsageCountLimit}
 use Rattle.tags.specs.declared.param.Param.{Param}
 use Rattle.tags.specs.declared.param.ParamValue.{ParamValue}
 use Rattle.tags.specs.declared.param.ParamValue.TheVariants.{Number, Flag, Raw}
@@ -13,15 +12,16 @@ use Rattle.tags.specs.Param.{as_number}
 use Rattle.tags.specs.Tag.{type_of, low_of, tag_with_low}
 use Rattle.tags.specs.TagLaws.{with_low_is}
 use Rattle.tag_lists.specs.declared.shape.Shape.TheVariants.{Short}
-use Rattle.tag_lists.specs.Lookups.{is_of, number_of, one_of}
+use Rattle.tag_lists.specs.Lookups.{is_of, one_of}
 use Rattle.tag_lists.specs.Order.{shape_of, FitsShape, Fits, IsCanonical}
+use Rattle.tag_lists.specs.Versions.{version_of}
 
 -- a tag is told by its low bits
-tag_is : (t : Tag) → low_of t ≡ 405 → UsageCountLimit ≡ t
-tag_is t e = let same : Some UsageCountLimit ≡ Some t = sym (with_low_is UsageCountLimit) ∙ ap tag_with_low (sym e) ∙ with_low_is t in cc
+tag_is : (tag t : Tag) → low_of t ≡ low_of tag → tag ≡ t
+tag_is tag t e = let same : Some tag ≡ Some t = sym (with_low_is tag) ∙ ap tag_with_low (sym e) ∙ with_low_is t in cc
 
-is_short : (t : Tag) → low_of t ≡ 405 → shape_of (type_of t) ≡ Short
-is_short t e = ap (λ tag. shape_of (type_of tag)) (sym (tag_is t e))
+is_short : (tag t : Tag) → shape_of (type_of tag) ≡ Short → low_of t ≡ low_of tag → shape_of (type_of t) ≡ Short
+is_short tag t short e = ap (λ own. shape_of (type_of own)) (sym (tag_is tag t e)) ∙ short
 
 number_small : (v : ParamValue) → FitsShape Short v → unwrap_or (as_number v) 0 < 2 ^ 32
 number_small (Number n) fits = fits
@@ -40,12 +40,12 @@ found : (P : Param → Type 0) (t : Param → Bool) (xs : List Param) → AllByR
 found P t [] h = tt
 found P t (x ∷ xs) h = found_here P t (t x) x (find t xs) refl h.0 (found P t xs h.1)
 
-limit_by : (list : List Param) (found : Option Param) → IsCanonical list → found ≡ one_of UsageCountLimit list → unwrap_or (option_and_then (λ p. as_number p.value) found) 0 < 2 ^ 32
-limit_by list None is e = omega arith
-limit_by list (Some p) is e =
-    let own : Found Fits (is_of UsageCountLimit) (Some p) = subst (Found Fits (is_of UsageCountLimit)) (sym e) (found Fits (is_of UsageCountLimit) list is.fit) in
-    let short : FitsShape Short p.value = subst (λ s. FitsShape s p.value) (is_short p.tag (eqb-true _ _ own.1)) own.0 in
-    number_small p.value short
+number_by : (tag : Tag) (list : List Param) (found : Option Param) → shape_of (type_of tag) ≡ Short → IsCanonical list → found ≡ one_of tag list → unwrap_or (option_and_then (λ p. as_number p.value) found) 0 < 2 ^ 32
+number_by tag list None short is e = omega arith
+number_by tag list (Some p) short is e =
+    let own : Found Fits (is_of tag) (Some p) = subst (Found Fits (is_of tag)) (sym e) (found Fits (is_of tag) list is.fit) in
+    let fits : FitsShape Short p.value = subst (λ s. FitsShape s p.value) (is_short tag p.tag short (eqb-true _ _ own.1)) own.0 in
+    number_small p.value fits
 
-pub limit_small : (list : List Param) → IsCanonical list → unwrap_or (number_of UsageCountLimit list) 0 < 2 ^ 32
-limit_small list is = limit_by list (one_of UsageCountLimit list) is refl
+pub version_small : (tag : Tag) (list : List Param) → shape_of (type_of tag) ≡ Short → IsCanonical list → version_of tag list < 2 ^ 32
+version_small tag list short is = number_by tag list (one_of tag list) short is refl
