@@ -3,9 +3,8 @@
 300 imports under one alias are compacted before the 237th, whose records and snapshot have known lengths; so is a
 longer run, there and back, with uses, grants and a cleared owner between, whose replies are the second model's. Each
 call of the compaction fails, fails for good, or is the last that the process makes: the change that compacted is
-answered 4 and settled as lost, and what was acknowledged is found, in the run and in the next one. So it is where
-the system lets the file not grow into area B: the process is ended there, or goes on where its caller ignores the
-signal."""
+answered 4 and settled as lost, and what was acknowledged is found, in the run and in the next one. So it is where the
+system lets the file not grow into area B: the process is ended there, or, where its caller ignores that signal, goes on."""
 import json
 import os
 import resource
@@ -120,8 +119,7 @@ class EachCall(OnAStore):
         self.ran(imports(DUE), calls)
         asked = calls.calls()
         first = next(place for place, it in enumerate(asked) if it.kind == "w" and it.place == AREAS["B"])
-        behind = AREAS["B"] + SNAPSHOT + 1
-        append = next(place for place, it in enumerate(asked) if it.kind == "w" and it.place == behind)
+        append = next(place for place, it in enumerate(asked) if it.kind == "w" and it.place == AREAS["B"] + SNAPSHOT + 1)
         check("the calls of a compaction", "".join(it.kind for it in asked[first:append]), "wps" * 3)
         for place in range(first, len(asked)):
             if how != How.HAS_NO_ROOM or asked[place].kind == "w":

@@ -4,9 +4,9 @@ A store that the last program of that format wrote is kept beside this check, wi
 domains, one with a single use left, one without a limit, one that was bound anew, an alias with a character of two
 bytes, and grants. Behind the opening the same keys, uses, grants and next numbers stand in area A, the journal is
 sealed, and a second opening changes no byte. The same is so of an empty journal, whose bytes are known, and of stores
-of changes that are drawn. Each call of the opening fails, or is the last that the process makes: the next run opens the
-same. Once a store is brought over, a front that says that it is a journal, and another selector, are told, and open as
-nothing older."""
+of changes that are drawn. Each call of the opening fails, or is the last that the process makes: the next run opens
+the same. Once a store is brought over, a front that says that it is a journal, and another selector, are told, and
+open as nothing older."""
 import json
 import os
 import random
@@ -14,7 +14,7 @@ import subprocess
 
 from keystore.cases import Case, each, needs_compiler, times
 from keystore.harness import TOOLS, check
-from keystore.lines import begin, call, connect, named
+from keystore.lines import APP, PARAMS, begin, call, connect, named
 from keystore.runs import PATIENCE, ended
 from keystore.store import (
     AREAS,
@@ -26,6 +26,7 @@ from keystore.store import (
     SELECTOR,
     SELECTS,
     Lasting,
+    areas_of,
     framed,
     journal_of,
     lasting_in,
@@ -53,8 +54,8 @@ def part_of(store):
 
 
 def brought_over(store):
-    """A store of the first format as its opening leaves it: the snapshot in area A, which is selected, and the front
-    and the first gate of the journal written over."""
+    """A store of the first format as its opening leaves it: the snapshot in area A, which is selected, and the journal's
+    front and first gate written over."""
     snapshot = lasting_in(store)[0].snapshot()
     areas = store.put(AREAS["A"], snapshot + b"\0").put(SELECTOR, SELECTS["A"])
     return areas.put(0, MAGIC + NEWEST).put(len(HEADER), SEAL)
@@ -152,12 +153,8 @@ def drawn_change(draws, lasting):
     return (kind, [*owner]) if kind == 6 else (kind, [draws.randrange(3)])
 
 
-STORES = [("the kept store", OLDER), ("an empty journal", EMPTY_JOURNAL)]
-WAYS = [How.FAILS, How.FAILS_ON, How.DIES_BEFORE, How.DIES_BEHIND]
-
-
 @needs_compiler
-@each([(f"{name} where {how.name}", store, how) for name, store in STORES for how in WAYS])
+@each([(f"{name} where {how.name}", store, how) for name, store in (("the kept store", OLDER), ("an empty journal", EMPTY_JOURNAL)) for how in (How.FAILS, How.FAILS_ON, How.DIES_BEFORE, How.DIES_BEHIND)])
 class EachCall(OnAStore):
     """Each call of the opening ends otherwise."""
 

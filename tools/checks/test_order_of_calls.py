@@ -1,14 +1,13 @@
 """What the program asks of the system for its store, in which order, and when a reply leaves: no clause says that the
 adapter of a file makes the calls that it answers for.
 
-The library `store_calls.c` notes each call that reaches the file, or syncs its folder, and each reply that is written.
-An empty store is a file that its folder names, a sync of the folder, and three writes with a sync behind each. An
-opening is a look whether the path still leads there, a sync, and reads of the front, the selector and the records. Of
-each change that is acknowledged the body is written behind the shut gate, and synced; the gate is opened, and synced;
-each time with a look at the path before the sync; and then its reply leaves. So it is in a run over every act that
-writes a record, and in a service over a port. What changes nothing makes no call. Where one of a change's calls failed,
-the next call of a client first writes again what that sync was to bring, where one failed, makes one sync and reads one
-byte, the gate."""
+The library `store_calls.c` notes each call that reaches the file, or syncs its folder, and each reply that is
+written. An empty store is a file that its folder names, a sync of the folder, and three writes with a sync behind each.
+An opening is a look whether the path still leads there, a sync, and reads of the front, the selector and the records. Of each change that is acknowledged the
+body is written behind the shut gate, and synced; the gate is opened, and synced; each time with a look at the path
+before the sync; and then its reply leaves. So it is in a run over every act that writes a record, and in a service
+over a port. What changes nothing makes no call. Where one of a change's calls failed, the next call of a client first
+writes again what that sync was to bring, where one failed, makes one sync and reads one byte, the gate."""
 import json
 import os
 import subprocess

@@ -2,10 +2,10 @@
 
     tools/ks compare damaged_stores [SEED] [COUNT] [--program PATH]
 
-Of a store that was written anew, into area B and back or not, one byte is changed, or ten; a range is made 00; or the
-file is cut. The program ends with status 0 and keeps what the reader found, or with 7 at the reader's place, and then
-every byte stays. What changes of one byte did is printed by the class of the byte: how often it was told, changed what
-the store stands for, or changed nothing."""
+Of a store that was written anew, into area B and back or not, one byte is changed, or ten; a range is made 00; or the file
+is cut. The program ends with status 0 and keeps what the reader found, or with 7 at the reader's place, and then every
+byte stays. What changes of one byte did is printed by the class of the byte: how often it was told, changed what the
+store stands for, or changed nothing."""
 import collections
 import random
 import subprocess

@@ -198,8 +198,7 @@ def ran(program, folder, lines, store=EMPTY):
     """The store that lines leave."""
     path = folder / "store.ks"
     store.write(path)
-    text = text_of(lines)
-    subprocess.run([program, "run"], input=text, cwd=folder, capture_output=True, timeout=PATIENCE, check=True)
+    subprocess.run([program, "run"], input=text_of(lines), cwd=folder, capture_output=True, timeout=PATIENCE, check=True)
     return StoreBytes.read(path)
 
 

@@ -309,7 +309,7 @@ def lasting_in(store: StoreBytes) -> tuple[Lasting, int | None]:
 
 
 def live_keys(store: StoreBytes) -> int | None:
-    """How many keys live, in one pass, or None where the bytes are no store. The needs of records are not judged."""
+    """How many keys live, in one pass, or None where the bytes are no store. The needs of the records are not judged."""
     records, _, broken = read_store(store)
     live: dict[int, tuple[int, int, bytes, int]] = {}
     numbers: dict[tuple[int, int, bytes], int] = {}

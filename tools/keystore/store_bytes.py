@@ -1,5 +1,5 @@
-"""The bytes of a store's file by its blocks, without those that are all 00: a store is longer than what stands in it,
-and most of its file is a hole."""
+"""The bytes of a store's file by its blocks, without those that are all 00: a store is longer than what stands in it, and
+most of its file is a hole."""
 from __future__ import annotations
 
 import errno
@@ -96,6 +96,5 @@ class StoreBytes:
         return hash((self.size, *sorted(self.blocks.items())))
 
     def __repr__(self) -> str:
-        pieces = sorted(self.blocks.items())
-        shown = "".join(f", {place}: {block[:48].rstrip(bytes(1)).hex()}.." for place, block in pieces)
+        shown = "".join(f", {place}: {block[:48].rstrip(bytes(1)).hex()}.." for place, block in sorted(self.blocks.items()))
         return f"<{self.size} bytes{shown}>"

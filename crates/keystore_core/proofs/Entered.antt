@@ -22,8 +22,7 @@ use Rattle.journal_records.specs.declared.change.Change.TheVariants as changes
 use Rattle.journal_records.specs.Needs.{is_met}
 use Rattle.key_database.specs.declared.database.KeyDatabase.{KeyDatabase}
 use Rattle.key_database.specs.Stands.{SameStore, lasting}
-use Rattle.key_database.proofs.Rereading.{same_holds}
-use Rattle.keystore_core.proofs.SameStores.{one_store_same}
+use Rattle.key_database.proofs.Rereading.{one_store_same, same_holds}
 use Rattle.rule_model.specs.declared.entry.Entry.TheVariants.{Acted}
 use Rattle.rule_model.specs.declared.event.Event.{Event}
 use Rattle.rule_model.specs.declared.facts.Brought.{Brought}

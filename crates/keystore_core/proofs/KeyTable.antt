@@ -18,7 +18,7 @@ use Rattle.journal_records.specs.Effects.{after}
 use Rattle.tags.specs.declared.settled.Settled.TheVariants.{Kept, Lost}
 use Rattle.key_database.specs.declared.database.KeyDatabase.{KeyDatabase}
 use Rattle.key_database.specs.Stands.{SameStore}
-use Rattle.keystore_core.proofs.SameStores.{one_store_same, same_settled, same_twice}
+use Rattle.key_database.proofs.Rereading.{one_store_same, same_settled, same_twice}
 use Rattle.rule_model.specs.declared.facts.Caller.{Caller}
 use Rattle.rule_model.specs.Access.{access_by, id_by, id_of, key_in}
 use Rattle.rule_model.specs.Changes.{grant_at, grant_number, grant_of}

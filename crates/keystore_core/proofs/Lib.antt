@@ -1,4 +1,3 @@
-pub mod SameStores
 pub mod Ready
 pub mod KeyTable
 pub mod Drawn

@@ -13,8 +13,7 @@ use Rattle.journal_records.specs.Holding.{Holding}
 use Rattle.key_database.specs.declared.database.KeyDatabase.{KeyDatabase}
 use Rattle.key_database.specs.Stands.{Holds, SameStore, lasting}
 use Rattle.key_database.specs.Store.{Between}
-use Rattle.key_database.proofs.Rereading.{same_holds}
-use Rattle.keystore_core.proofs.SameStores.{same_twice}
+use Rattle.key_database.proofs.Rereading.{same_holds, same_twice}
 use Rattle.rule_model.specs.declared.entry.Entry.TheVariants.{Acted}
 use Rattle.rule_model.specs.declared.event.Act.{Act}
 use Rattle.rule_model.specs.declared.event.Act.TheVariants.{EnterFinish}

@@ -40,8 +40,8 @@ use Rattle.journal_records.specs.contracts.record.KeyRecord as record_type
 use Rattle.journal_records.specs.contracts.change.Change as change_type
 use Rattle.grants.specs.contracts.maps.GrantMaps as grant_maps_type
 use Rattle.grants.specs.contracts.table.Grants as grants_type
-use Rattle.key_maps.specs.contracts.maps.KeyMaps as key_maps_type
-use Rattle.key_maps.specs.contracts.keys.Keys as keys_type
+use Rattle.lasting_table.specs.contracts.maps.KeyMaps as key_maps_type
+use Rattle.lasting_table.specs.contracts.keys.Keys as keys_type
 use Rattle.lasting_table.specs.contracts.part.Part as part_type
 use Rattle.lasting_table.specs.contracts.lasting.LastingTable as lasting_type
 use Rattle.record_areas.specs.contracts.area.Area as area_type

@@ -1,15 +1,8 @@
 -- What lasts of a key that is imported anew is what a store can hold.
-use Rattle.std.proofs.Common.{◌≡◌, ℕ, ◌+◌, ◌<◌, ◌≤◌, [], ◌∷◌, true, refl, subst, arith}
-use Rattle.std.specs.Str.{IsUtf8, is_utf8}
-use Rattle.std.proofs.lemmas.Str.{IsUtf8-encode, encode_ascii, is_utf8-from_IsUtf8}
-use lib.Utf8.{low_scalar}
+use Rattle.std.proofs.Common.{ℕ, ◌+◌, ◌<◌, ◌≤◌, refl, arith}
 use Rattle.journal_records.specs.Storable.{IsStorable}
 use Rattle.store_tests.specs.Rebound.{rebound}
 use Rattle.tags.specs.declared.limits.TheConstants.{NUMBERS_END}
-
--- one letter
-pub text : is_utf8 (109 ∷ []) ≡ true
-text = is_utf8-from_IsUtf8 (109 ∷ []) (subst IsUtf8 (encode_ascii 109 (omega arith)) (IsUtf8-encode 109 (low_scalar 109 (omega arith))))
 
 pub storable : (id : ℕ) → 1 ≤ id → id < NUMBERS_END → IsStorable (rebound id)
 storable id some below = record {
@@ -18,7 +11,7 @@ storable id some below = record {
       numbered = (some, omega arith);
       owner = refl;
       nspace = omega arith;
-      alias = rw text refl;
+      alias = refl;
       blob = omega arith;
       list = omega arith;
       limit = omega arith;

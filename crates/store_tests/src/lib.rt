@@ -18,6 +18,7 @@ mod journals;
 mod older;
 #[cfg(test)]
 mod openings;
+#[cfg(test)]
 mod rebound;
 #[cfg(test)]
 mod records;

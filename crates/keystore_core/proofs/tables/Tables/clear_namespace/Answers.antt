@@ -1,6 +1,6 @@
 use Rattle.std.proofs.Common.{refl, rules}
 use Rattle.journal_records.specs.declared.change.Change.TheVariants as changes
-use Rattle.keystore_core.proofs.SameStores.{one_store_same}
+use Rattle.key_database.proofs.Rereading.{one_store_same}
 use Rattle.rule_model.specs.declared.event.Act.TheVariants as acts
 use Rattle.rule_model.specs.Replies.{no_fields}
 use Rattle.keystore_core.proofs.Reading.{writes}

@@ -4,7 +4,7 @@ use Rattle.key_database.specs.Stands.{lasting}
 use Rattle.rule_model.specs.Access.{id_of}
 use Rattle.keystore_core.proofs.KeyTable.{found_live}
 use Rattle.journal_records.specs.declared.change.Change.TheVariants as changes
-use Rattle.keystore_core.proofs.SameStores.{one_store_same}
+use Rattle.key_database.proofs.Rereading.{one_store_same}
 use Rattle.rule_model.specs.declared.event.Act.TheVariants as acts
 use Rattle.rule_model.specs.Replies.{no_fields}
 use Rattle.keystore_core.proofs.Reading.{writes}
