@@ -1,7 +1,8 @@
 /* What stands before the C library while a check runs the program: each call that reaches the file `store.ks`, or syncs a folder, is
    noted, in its order, with each reply that is written between them; and one of these calls, or each from it on, ends as the check says.
 
-   The notes lie in a file that is shared with the check, whose name the variable STORE_CALLS has. */
+   The notes lie in a file that is shared with the check, whose name the variable STORE_CALLS has. Where STORE_BYTES has the name of a file,
+   the bytes of each write are put behind those that it has. */
 #include "store_file.h"
 #include <errno.h>
 #include <signal.h>
@@ -12,7 +13,7 @@
 #include <sys/socket.h>
 #include <sys/stat.h>
 
-enum { MOST_NOTES = 1 << 14 };
+enum { MOST_NOTES = 1 << 16 };
 
 /* How a call ends. */
 enum how {
@@ -54,6 +55,15 @@ static void note(char kind, uint64_t place, uint64_t count) {
     noted->note[number].kind = (unsigned char)kind;
     noted->note[number].place = place;
     noted->note[number].count = count;
+}
+
+/* Keeps the bytes of a write. */
+static void keep(const void *bytes, size_t count) {
+    static int file = -1;
+    const char *path = getenv("STORE_BYTES");
+    if (!path) return;
+    if (file < 0) file = (int)syscall(SYS_openat, AT_FDCWD, path, O_WRONLY | O_APPEND | O_CLOEXEC, 0);
+    if (syscall(SYS_write, file, bytes, count) != (long)count) stop("bytes that cannot be kept");
 }
 
 static void die(void) {
@@ -100,6 +110,7 @@ static int opened(const char *path, int flags, mode_t mode) {
 static ssize_t put(int file, const void *bytes, size_t count, off_t at) {
     if (!is_store(file)) return syscall(SYS_pwrite64, file, bytes, count, at);
     enum how how = next_call('w', (uint64_t)at, count);
+    keep(bytes, count);
     if (how == FAILS) return failed(EIO);
     if (how == HAS_NO_ROOM || how == IS_SHORT) count /= 2;
     ssize_t written = count ? syscall(SYS_pwrite64, file, bytes, count, at) : 0;

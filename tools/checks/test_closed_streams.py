@@ -19,15 +19,17 @@ from keystore.harness import chosen_program
 from keystore.lines import APP, PARAMS, begin, call, connect, made, named, text_of
 from keystore.runs import free_port, until
 from keystore.scratch import scratch_folder
+from keystore.store import AREAS
+from keystore.store_bytes import StoreBytes
 from keystore_client import Client, ConnectionEnded, Key, ServiceError, parameters
 
 STREAMS = {0: "input", 1: "output", 2: "error"}
 SETS = [set(it) for count in range(4) for it in itertools.combinations(STREAMS, count)]
 # Three streams, the port, the store, the random device and one connection.
 DESCRIPTORS = 7
-# A run that goes wrong may write without end, or read the random device for its script: it ends at so many bytes, and
-# is killed behind so many seconds.
-MOST_BYTES, PATIENCE = 1 << 20, 60
+# A run that goes wrong may write without end, or read the random device for its script: it ends at so many bytes, where
+# the second area of a store would begin, and is killed behind so many seconds.
+MOST_BYTES, PATIENCE = AREAS["B"], 60
 OWNER, OTHER, SYSTEM = 10001, 10002, 1000
 FORMS = [
     ["init"],
@@ -157,7 +159,7 @@ def left_by(program, words, folder, store, gone, closes):
     runs = folder / "runs"
     for file in [*runs.iterdir(), folder / "output", folder / "error"]:
         file.unlink(missing_ok=True)
-    (runs / "store.ks").write_bytes(store)
+    store.write(runs / "store.ks")
     serves = words[:1] == ["serve"]
     port = free_port() if serves else None
     words = [str(port) if it == "PORT" else it for it in words]
@@ -183,13 +185,13 @@ def left_by(program, words, folder, store, gone, closes):
         "calls": fault,
         "status": status,
         **told,
-        **{it.name: it.read_bytes() for it in sorted(runs.iterdir())},
+        **{it.name: StoreBytes.read(it) for it in sorted(runs.iterdir())},
     }
 
 
 def shown(value):
     text = repr(value)
-    return text if len(text) < 200 else f"{text[:200]}.. of {len(value)} bytes"
+    return text if len(text) < 200 else f"{text[:200]}.."
 
 
 def name_of(words):
@@ -218,7 +220,7 @@ class ClosedStreams(Case):
             )
             if any(json.loads(it)["code"] for it in done.stdout.splitlines()):
                 raise AssertionError(f"no store was made: {done.stdout}")
-            cls.store = (Path(folder) / "store.ks").read_bytes()
+            cls.store = StoreBytes.read(Path(folder) / "store.ks")
 
     def show(self, words, gone):
         (self.folder / "runs").mkdir()

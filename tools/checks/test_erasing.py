@@ -16,7 +16,8 @@ from keystore.harness import TOOLS, TOP, check, chosen_program
 from keystore.lines import PARAMS, call, connect, made, named, text_of
 from keystore.runs import PATIENCE
 from keystore.scratch import scratch_folder
-from keystore.store import HEADER, live_keys
+from keystore.store import EMPTY, area_of, live_keys
+from keystore.store_bytes import StoreBytes
 
 QUESTION, OTHER_QUESTION = (
     "the store of this folder has keys, 2: erase them? [y/N] ",
@@ -33,8 +34,7 @@ KEYS = [
     call(1, "deleteKey", key=named("o")),
     call(1, "deleteKey", key=named("p")),
 ]
-EMPTY = HEADER + b"\0"
-DIARY, OF_KEYS = b"my diary", "a store with keys"
+DIARY, NOTHING, OF_KEYS = StoreBytes.of(b"my diary"), StoreBytes(), "a store with keys"
 # Stores by what they are, the answer that is typed, the question that comes, and whether the store is erased.
 ANSWERS = [
     *(
@@ -45,7 +45,7 @@ ANSWERS = [
     ("a file that is no store and the answer n", DIARY, "n", OTHER_QUESTION, False),
     ("a file that is no store and the answer y", DIARY, "y", OTHER_QUESTION, True),
     ("an empty store", EMPTY, None, None, True),
-    ("an empty file", b"", None, None, True),
+    ("an empty file", NOTHING, None, None, True),
     ("no store", None, None, None, True),
 ]
 TYPED = {"init": "init", "run fresh": "run --fresh < script", "run fresh with slots": "run --fresh --slots 4 < script"}
@@ -82,21 +82,25 @@ def typed(command, folder, answers):
     return shown.decode().replace("\r\n", "\n"), os.waitstatus_to_exitcode(status)
 
 
+def is_empty(store):
+    """Whether a store has no key, whatever stands behind its records."""
+    return live_keys(store) == 0 and area_of(store) == "A"
+
+
 def check_typed(top, folder, words, store, answer, question, erased):
     """One command at a terminal."""
     where = folder / "store.ks"
     where.unlink(missing_ok=True)
     if store is not None:
-        where.write_bytes(store)
+        store.write(where)
     shown, status = typed(f"{top}/keystore2 {words}", folder, [] if answer is None else [answer])
-    what = f"{words} over {store and store[:20]}, answered {answer}"
+    what = f"{words} over {store}, answered {answer}"
     check(f"{what}, the question", shown.count("[y/N]"), 0 if question is None else 1)
     if question is not None:
         check(f"{what}, its text", shown.startswith(f"keystore2: {question}"), True)
     check(f"{what}, the end", (status, LEFT in shown), (0, False) if erased else (2, True))
-    check(
-        f"{what}, the store", where.read_bytes()[: len(EMPTY)] == EMPTY if erased else where.read_bytes() == store, True
-    )
+    left = StoreBytes.read(where)
+    check(f"{what}, the store", is_empty(left) if erased else left == store, True)
 
 
 def copy_of_top(program, folder):
@@ -121,8 +125,7 @@ class AtTheTop(Case):
             subprocess.run(
                 [chosen_program(), "run", "--fresh"], input=lines, cwd=folder, stdout=none, stderr=none, check=True
             )
-            with open(f"{folder}/store.ks", "rb") as file:
-                cls.store = file.read()
+            cls.store = StoreBytes.read(f"{folder}/store.ks")
         check("the keys of a store", live_keys(cls.store), 2)
 
     def setUp(self):
@@ -148,21 +151,21 @@ class Typed(AtTheTop):
 )
 class ErasesNothing(AtTheTop):
     def show(self, words, status):
-        (self.work / "store.ks").write_bytes(self.store)
+        self.store.write(self.work / "store.ks")
         shown, found = typed(f"{self.top}/keystore2 {words}", self.work, [])
         check(
             "the end",
-            (found, "[y/N]" in shown, (self.work / "store.ks").read_bytes() == self.store),
+            (found, "[y/N]" in shown, StoreBytes.read(self.work / "store.ks") == self.store),
             (status, False, True),
         )
 
 
 class NoTerminal(AtTheTop):
     def test_init_without_a_terminal_asks_nobody(self):
-        (self.work / "store.ks").write_bytes(self.store)
+        self.store.write(self.work / "store.ks")
         words, none = [self.top / "keystore2", "init"], subprocess.DEVNULL
         done = subprocess.run(
             words, cwd=self.work, stdin=none, capture_output=True, start_new_session=True, check=False
         )
-        left = (self.work / "store.ks").read_bytes()[: len(EMPTY)]
-        check("the end", (done.returncode, done.stdout, done.stderr, left), (0, b"", b"", EMPTY))
+        left = is_empty(StoreBytes.read(self.work / "store.ks"))
+        check("the end", (done.returncode, done.stdout, done.stderr, left), (0, b"", b"", True))

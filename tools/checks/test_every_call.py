@@ -18,6 +18,7 @@ from keystore.every_act import CONNECTS, EVERY_ACT, FAR, OTHER, OWNER, Line, fin
 from keystore.harness import check
 from keystore.lines import GRANT, begin, call, connect, named, numbered
 from keystore.runs import PATIENCE, make_store
+from keystore.store_bytes import StoreBytes
 from keystore.store_calls import How, StoreCalls
 from model.second_model import Service, reply_line
 
@@ -98,10 +99,10 @@ class EachCall(Case):
     def show(self, name, way):
         self.calls, self.opened = StoreCalls(self.folder), set()
         make_store(self.program, self.folder)
-        self.empty = (self.folder / "store.ks").read_bytes()
+        self.empty = self.store()
         self.lines = text_of(SCRIPTS[name])
         self.whole = self.ran(0, How.GOES_WELL).stdout
-        self.size, calls = len(self.store()), self.calls.calls()
+        self.size, calls = self.store().size, self.calls.calls()
         first = next(number for number, it in enumerate(calls) if it.kind == "w")
         for number, it in enumerate(calls):
             if way not in ONLY or (it.kind == "w" and it.size >= ONLY[way]):
@@ -110,7 +111,7 @@ class EachCall(Case):
 
     def ran(self, number, way):
         """How a run over the script on an empty store ended, and what it answered."""
-        (self.folder / "store.ks").write_bytes(self.empty)
+        self.empty.write(self.folder / "store.ks")
         self.calls.begin(number, way)
         return subprocess.run(
             [self.program, "run"],
@@ -123,7 +124,7 @@ class EachCall(Case):
         )
 
     def store(self):
-        return (self.folder / "store.ks").read_bytes()
+        return StoreBytes.read(self.folder / "store.ks")
 
     def show_call(self, number, way, is_open):
         """The run in which this call ends so; `is_open` says whether it comes behind the opening."""
@@ -139,7 +140,7 @@ class EachCall(Case):
         if way == How.IS_SHORT:
             check(
                 "what was answered, and the size of what is left",
-                (done.stdout, len(self.store())),
+                (done.stdout, self.store().size),
                 (self.whole, self.size),
             )
         service, fault = compare(answered, SLOTS)

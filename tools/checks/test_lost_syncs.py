@@ -27,13 +27,18 @@ from keystore.cases import each, needs_compiler, times
 from keystore.harness import TOOLS, chosen_program
 from keystore.lines import APP, GRANT, KEY_ID, PARAMS, begin, call, connect, made, named, numbered
 from keystore.scratch import scratch_folder
-from keystore.store import HEADER, Lasting, read_journal
+from keystore.store import AREAS, EMPTY, SELECTOR, Lasting, read_store
+from keystore.store_bytes import BLOCK, StoreBytes
 
 SOURCE = TOOLS / "checks/lost_syncs.c"
 # The file that is shared with the library: numbers, what each call does, what each call was, the disk's bytes, and
 # marks.
-MOST_CALLS, MOST_BYTES, NUMBERS = 4096, 1 << 20, struct.Struct("QQQQ")
-KINDS = NUMBERS.size + MOST_CALLS
+MOST_CALLS, MOST_BYTES, NUMBERS = 4096, 1 << 18, struct.Struct("QQQQ")
+# The ranges of a store that the disk has: its front, its selector, and what stands first in its areas.
+RANGES = [(0, BLOCK), (SELECTOR, BLOCK), *((place, 1 << 16) for place in AREAS.values())]
+RANGE = struct.Struct("QQ")
+DOES = NUMBERS.size + len(RANGES) * RANGE.size
+KINDS = DOES + MOST_CALLS
 DISK = KINDS + MOST_CALLS
 SHARED = DISK + 2 * MOST_BYTES
 NAMES = {"r": "read", "w": "write", "s": "sync", "c": "cut", "d": "letting go"}
@@ -41,7 +46,6 @@ FAILS, FAILS_WITH_NOTHING, MOST = 1, 2, 255
 DISK_FAULT = 6
 # How many sets of calls are drawn for each script. No run takes as many seconds as the other.
 DRAWN, PATIENCE = 200, 300
-EMPTY = HEADER + b"\0"
 # A client sends a line again at most so often.
 MOST_TIMES = 4
 UNSETTLING = {"leave", "disconnect"}
@@ -184,7 +188,7 @@ def kept_in(changes):
 
 def changes_in(store):
     """The changes of a store's bytes, or None where the bytes stand for none."""
-    records, _, broken = read_journal(store)
+    records, _, broken = read_store(store)
     changes = tuple(outline(kind, values) for _, kind, values in records)
     return None if broken is not None or lasting_of(changes) is None else changes
 
@@ -256,16 +260,22 @@ class Disk:
 
     def begin(self, store, does):
         """Has these bytes, and no call so far; `does` says of some calls that they fail, and how."""
-        calls, size, end, _ = NUMBERS.unpack(self.shared[: NUMBERS.size])
-        self.shared[DISK : DISK + max(size, len(store))] = store + bytes(max(size - len(store), 0))
-        self.shared[DISK + MOST_BYTES : DISK + MOST_BYTES + end] = bytes(end)
-        self.shared[NUMBERS.size : DISK] = bytes(2 * MOST_CALLS)
-        self.shared[: NUMBERS.size] = NUMBERS.pack(0, len(store), 0, 0)
+        at = DISK
+        for place, count in RANGES:
+            self.shared[at : at + count] = store.padded(place, count)
+            at += count
+        self.shared[DISK + MOST_BYTES :] = bytes(MOST_BYTES)
+        self.shared[DOES:DISK] = bytes(2 * MOST_CALLS)
+        self.shared[:DOES] = NUMBERS.pack(0, store.size, 0, 0) + b"".join(RANGE.pack(*it) for it in RANGES)
         for call_number, how in does.items():
-            self.shared[NUMBERS.size + call_number] = how
+            self.shared[DOES + call_number] = how
 
     def bytes(self):
-        return self.shared[DISK : DISK + NUMBERS.unpack(self.shared[: NUMBERS.size])[1]]
+        store, at, size = StoreBytes(), DISK, NUMBERS.unpack(self.shared[: NUMBERS.size])[1]
+        for place, count in RANGES:
+            store = store.put(place, self.shared[at : at + count])
+            at += count
+        return store.cut(size)
 
     def kinds(self):
         """What each call was by now."""
@@ -358,7 +368,7 @@ class Book:
         if self.shown != (store, self.possible()):
             changes = changes_in(store)
             if changes is None:
-                raise Lost(f"what the disk has stands for no store: {store.hex()}")
+                raise Lost(f"what the disk has stands for no store: {store}")
             self.found = next((it for it in self.possible() if kept_in(it) == kept_in(changes)), None)
             if self.found is None:
                 raise Lost(
@@ -492,11 +502,11 @@ class Place:
     def open_store(self, store, changes):
         """The program over the bytes of a store tells its keys; once for stores that have the same changes and the
         same end."""
-        outlined = (changes, store[-1:])
+        outlined = (changes, store.take(store.size - 1, 1))
         if outlined in self.opened:
             return
         self.opened.add(outlined)
-        (self.other / "store.ks").write_bytes(store)
+        store.write(self.other / "store.ks")
         uids = sorted({uid for uid, _ in ASKED})
         lines = [connect(uid) for uid in uids] + [look(uids.index(uid) + 1, alias) for uid, alias in ASKED]
         text = "".join(json.dumps(line) + "\n" for line in lines).encode()
@@ -511,7 +521,7 @@ class Place:
 
     def play(self, runs, does, again=False):
         """The runs of a script on an empty store, with calls that fail; gives what each call was."""
-        (self.folder / "store.ks").write_bytes(EMPTY)
+        EMPTY.write(self.folder / "store.ks")
         self.disk.begin(EMPTY, does)
         self.replies, self.does = [], does
         book = Book(self, again)

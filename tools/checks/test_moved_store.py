@@ -10,14 +10,14 @@ from keystore.cases import Case, each
 from keystore.harness import check
 from keystore.lines import APP, ASKED, PARAMS, begin, call, connect, made, named
 from keystore.runs import Run
-from keystore.store import HEADER, read_journal
+from keystore.store import EMPTY, read_store
+from keystore.store_bytes import StoreBytes
 
 OWNER, OTHER, SYSTEM = 10001, 10002, 1000
 HI_THERE = "4869205468657265"
 MAC = "b0344c61d8db38535ca8afceaf0bf12b881dc200c9833da726e9376c2e32cff7"
 OK, FAULT = {"code": 0}, {"code": 4}
 RESTART = {"t": [0, 1000], "do": "restart"}
-OTHER_STORE = HEADER + b"\0"
 LIMITED = [*PARAMS, ["USAGE_COUNT_LIMIT", 2]]
 
 # A client, the system, a key without a limit, one with two uses that is granted, and an operation on each.
@@ -73,7 +73,7 @@ def renamed(folder):
 
 
 def replaced(folder):
-    (folder / "other.ks").write_bytes(OTHER_STORE)
+    EMPTY.write(folder / "other.ks")
     renamed(folder)
     (folder / "other.ks").rename(folder / "store.ks")
 
@@ -88,13 +88,13 @@ MOVES = [removed, renamed, replaced, overlaid]
 
 
 def records_of(file):
-    records, _, broken = read_journal(file.read_bytes())
+    records, _, broken = read_store(StoreBytes.read(file))
     return records if broken is None else f"broken at {broken}"
 
 
 def left_in(folder):
     """What stands in a folder: the changes of the file that was the run's, and the other names with what they hold."""
-    files = {it.name: b"" if it.is_dir() else it.read_bytes() for it in folder.iterdir()}
+    files = {it.name: None if it.is_dir() else StoreBytes.read(it) for it in folder.iterdir()}
     moved = files.pop("moved.ks", None)
     return None if moved is None else records_of(folder / "moved.ks"), files
 

@@ -1,13 +1,14 @@
 """What the program asks of the system for its store, in which order, and when a reply leaves: no clause says that the
 adapter of a file makes the calls that it answers for.
 
-The library `store_calls.c` notes each call that reaches the file, or syncs its folder, and each reply that is
-written. An empty store is a file that its folder names, a sync of the folder, the bytes and their sync. An opening is
-a look whether the path still leads there, a sync, and reads of the whole. Of each change that is acknowledged the
-body is written behind the shut gate, and synced; the gate is opened, and synced; each time with a look at the path
-before the sync; and then its reply leaves. So it is in a run over every act that writes a record, and in a service
-over a port. What changes nothing makes no call. Where one of a change's calls failed, the next call of a client first
-writes again what that sync was to bring, where one failed, makes one sync and reads one byte, the gate."""
+The library `store_calls.c` notes each call that reaches the file, or syncs its folder, and each reply that is written.
+An empty store is a file that its folder names, a sync of the folder, and three writes with a sync behind each. An
+opening is a look whether the path still leads there, a sync, and reads of the front, the selector and the records. Of
+each change that is acknowledged the body is written behind the shut gate, and synced; the gate is opened, and synced;
+each time with a look at the path before the sync; and then its reply leaves. So it is in a run over every act that
+writes a record, and in a service over a port. What changes nothing makes no call. Where one of a change's calls failed,
+the next call of a client first writes again what that sync was to bring, where one failed, makes one sync and reads one
+byte, the gate."""
 import json
 import os
 import subprocess
@@ -17,7 +18,8 @@ from keystore.every_act import EVERY_ACT, Line
 from keystore.harness import check
 from keystore.lines import call
 from keystore.runs import PATIENCE, once_it_listens, service
-from keystore.store import HEADER, read_journal
+from keystore.store import AREAS, EMPTY, HEADER, MAGIC, NEWEST, SEAL, SELECTOR, read_store
+from keystore.store_bytes import StoreBytes
 from keystore.store_calls import How, Note, StoreCalls
 from keystore_client import Client, Key, ServiceError, parameters
 
@@ -25,7 +27,6 @@ OPENING = ["opening", "length", "lock"]
 SYNC = ["look at the path", "sync"]
 # What an opening reads at once.
 PIECE = 65_536
-EMPTY = len(HEADER) + 1
 MAC = {"PURPOSE": [2, 3], "ALGORITHM": 128, "DIGEST": [4], "MIN_MAC_LENGTH": 64, "NO_AUTH_REQUIRED": True}
 SIGNING = parameters(PURPOSE=[2], MAC_LENGTH=256)
 CONNECT, IMPORT = EVERY_ACT[0], EVERY_ACT[4]
@@ -45,11 +46,11 @@ def write(place, count):
 
 
 def reading(size):
-    """The calls by which a store of a size is read, where its records are less than a piece: the header, and the piece
-    behind it, whose end two reads that give nothing show, one for what of the piece is not there and one for what
-    might follow the last gate."""
-    records = len(HEADER)
-    reads = [(0, records), (records, PIECE), (size, PIECE - (size - records)), (size, PIECE)]
+    """The calls by which a store of a size is read, where its records are less than a piece: the front, the selector,
+    and the piece from its first area on, whose end two reads that give nothing show, one for what of the piece is not
+    there and one for what might follow the last gate."""
+    records = AREAS["A"]
+    reads = [(0, len(HEADER)), (SELECTOR, 1), (records, PIECE), (size, PIECE - (size - records)), (size, PIECE)]
     return [*SYNC, *(str(Note("r", *it)) for it in reads)]
 
 
@@ -60,7 +61,7 @@ def change(gate, end):
 
 def changes_in(store):
     """The places of a store's records, each with where it ends."""
-    records, end, _ = read_journal(store)
+    records, end, _ = read_store(store)
     places = [gate for gate, *_ in records] + [end]
     return list(zip(places, places[1:]))
 
@@ -85,7 +86,7 @@ class OverTheCalls(Case):
         return done.stdout.splitlines()
 
     def store(self):
-        return (self.folder / "store.ks").read_bytes()
+        return StoreBytes.read(self.folder / "store.ks")
 
 
 class InARun(OverTheCalls):
@@ -94,7 +95,10 @@ class InARun(OverTheCalls):
         check(
             "the calls",
             told(self.calls.notes()),
-            ["opening", "look at the path", *OPENING, "sync of the folder", write(0, EMPTY), *SYNC],
+            [
+                *["opening", "look at the path", *OPENING, "sync of the folder"],
+                *[write(AREAS["A"], 1), *SYNC, write(SELECTOR, 1), *SYNC, write(0, len(MAGIC + NEWEST + SEAL)), *SYNC],
+            ],
         )
 
     def test_each_reply_leaves_behind_its_change(self):
@@ -102,7 +106,7 @@ class InARun(OverTheCalls):
         self.calls.begin()
         replies = self.ran("run", script=text_of(EVERY_ACT))
         check("the replies", {json.loads(it)["code"] for it in replies}, {0, 7})
-        changes, size = iter(changes_in(self.store())), EMPTY
+        changes, size = iter(changes_in(self.store())), EMPTY.size
         wanted = [*OPENING, *reading(size)]
         for line in EVERY_ACT:
             if line.writes:
@@ -134,7 +138,7 @@ class Settling(OverTheCalls):
         [(gate, end)] = changes_in(self.store())
         calls = change(gate, end)
         self.ran("init")
-        before = [*OPENING, *reading(EMPTY)]
+        before = [*OPENING, *reading(EMPTY.size)]
         self.calls.begin(len(before) + place, How.FAILS)
         kept = place > 3
         codes = [it.get("code", it.get("settled")) for it in map(json.loads, self.ran("run", script=text_of(lines)))]
@@ -163,7 +167,7 @@ class InAService(OverTheCalls):
         made, limited, used, deleted = (change(*it) for it in changes_in(self.store()))
         wanted = [
             *OPENING,
-            *reading(EMPTY),
+            *reading(EMPTY.size),
             "reply",
             *made,
             "reply",

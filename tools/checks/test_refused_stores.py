@@ -1,13 +1,28 @@
 """Stores whose bytes stand for nothing are refused at their place, and one that is changed beside a run at a restart.
 
-Each need of a change is broken alone, and met at its bound; one key and one grant too many; and a store of three
-records has each of its bytes changed, and is cut at each byte. `keystore/store.py` reads them all besides. Then a
-run whose store is changed beside it: a restart reads it again, so it is answered 8 over other bytes, which leaves
-all as it was, and goes through once they are back."""
+Each need of a change is broken alone, and met at its bound, in a journal of the first format and in both areas; one
+key and one grant too many; and a store of three records has each of its bytes changed, and is cut at each byte, its
+marks as its records. `keystore/store.py` reads them all besides. A store that is refused keeps its bytes. Then a run
+whose store is changed beside it: a restart reads it again, so it is answered 8 over another lasting part and over a
+journal, which leaves all as it was, and goes through once the bytes are back, or others that stand for the same."""
 from keystore.cases import Case, each
 from keystore.harness import check
 from keystore.runs import Run, ended as ended_run
-from keystore.store import HEADER, THREE, Lasting, framed, read_journal
+from keystore.store import (
+    AREAS,
+    EMPTY,
+    HEADER,
+    MAGIC,
+    SEAL,
+    SELECTOR,
+    SELECTS,
+    THREE,
+    areas_of,
+    framed,
+    journal_of,
+    lasting_in,
+)
+from keystore.store_bytes import StoreBytes
 
 MOST = 65_536
 
@@ -35,8 +50,8 @@ HMAC_KEY = [["PURPOSE", 2], ["ALGORITHM", 128], ["DIGEST", 4], ["MIN_MAC_LENGTH"
 KEY = new_key()
 OTHER_KEY = new_key(2, alias=b"n", limit=0)
 
-# Stores by what they show, their records, and the offset of the gate whose record's need is not met, or none. The gates
-# behind a key stand at 53, and behind a grant of it at 83.
+# Stores by what they show, their records, and the offset of the gate whose record's need is not met, or none, in a
+# journal. The gates behind a key stand at 53 there, and behind a grant of it at 83.
 STORES = [
     ("no record", [], None),
     ("a key, a grant of it and both its uses", [KEY, grant(), use(), use()], None),
@@ -87,30 +102,39 @@ def crowds():
     yield "one grant too many", crowd(1, 1, MOST + 1), 8 + length + MOST * other
 
 
-def damaged():
-    """A store of three records with each byte changed to 00, 4b and ff, and cut at each byte."""
-    store = HEADER + b"".join(framed(*it) for it in THREE) + b"\0"
-    for byte in (0x00, 0x4B, 0xFF):
-        for at in range(len(store)):
-            yield store[:at] + bytes([byte]) + store[at + 1 :]
-    for size in range(len(store) + 1):
-        yield store[:size]
+# The ways in which a store has records: where they begin, and the store.
+FORMATS = {
+    "a journal": (len(HEADER), journal_of),
+    "area A": (AREAS["A"], areas_of),
+    "area B": (AREAS["B"], lambda records: areas_of(records, "B")),
+}
+RECORDS = b"".join(framed(*it) for it in THREE)
 
 
-def told(store):
-    """Where the other reader finds that the bytes stand for nothing, or None."""
-    records, _, broken = read_journal(store)
-    lasting = Lasting()
-    unmet = (at for at, kind, values in records if not lasting.apply(kind, values))
-    return next(unmet, None) if broken is None else broken
+def places(start):
+    """The places of a store that a reader looks at: those of its marks, and of its records from a place on."""
+    marks = [] if start == len(HEADER) else [SELECTOR]
+    return [*range(len(HEADER)), *marks, *range(start, start + len(RECORDS) + 1)]
+
+
+def damaged(start, store):
+    """A store of three records with each byte changed to 00, 31, 4b and ff, and cut at each byte."""
+    for at in places(start):
+        for byte in (0x00, 0x31, 0x4B, 0xFF):
+            yield f"{byte:02x} at {at}", store.put(at, bytes([byte]))
+    for size in [*places(start), store.size]:
+        yield f"cut at {size}", store.cut(size)
 
 
 def opened(program, store, folder):
-    """Where the program finds that, and None where it opens the store."""
-    (folder / "store.ks").write_bytes(store)
+    """Where the program finds that the bytes stand for nothing, which it then leaves alone; None where it opens the
+    store."""
+    path = folder / "store.ks"
+    store.write(path)
     status, said, fault = ended_run(program, ["run"], folder)
     if (status, said, fault) == (0, b"", []):
         return None
+    check("a store that is refused", StoreBytes.read(path), store)
     text, _, offset = (fault or [b""])[0].rpartition(b" ")
     return int(offset) if (status, text) == (7, b"keystore2: store corrupted at") else f"status {status}: {fault}"
 
@@ -139,26 +163,43 @@ IS_THERE, IS_ANOTHER, IS_AGAIN, IS_GONE = {"code": 0, "count": 1}, {"code": 8}, 
 
 # Stores that are not the one of a run.
 OTHERS = [
-    ("no store", lambda store: b"X" + store[1:]),
-    ("one that is cut in its record", lambda store: store[:-2]),
-    ("an empty one", lambda store: HEADER + b"\0"),
-    ("one with another key", lambda store: HEADER + KEY + b"\0"),
+    ("no store", lambda store: store.put(0, b"X")),
+    ("one without a selector", lambda store: store.cut(SELECTOR)),
+    ("one that is cut in its record", lambda store: store.cut(store.size - 2)),
+    ("an empty one", lambda store: EMPTY),
+    ("one with another key", lambda store: areas_of(KEY)),
+    ("one of the first format", lambda store: journal_of(records_of(store))),
+    ("one whose other area was sealed", lambda store: store.put(AREAS["B"], SEAL).put(SELECTOR, SELECTS["B"])),
 ]
+# Stores that are another's bytes and stand for the same.
+SAME = [
+    ("another eighth byte", lambda store: store.put(len(MAGIC), b"X")),
+    ("the other area", lambda store: areas_of(records_of(store), "B")),
+    ("its snapshot", lambda store: areas_of(lasting_in(store)[0].snapshot())),
+    ("its snapshot in the other area", lambda store: areas_of(lasting_in(store)[0].snapshot(), "B")),
+]
+
+
+def records_of(store):
+    """The bytes of the records in area A, which has no more behind them than the byte that closes them."""
+    return store.take(AREAS["A"], store.size - AREAS["A"] - 1)
 
 
 class OfTheProgram(Case):
     def check_store(self, store, wanted):
-        check(f"the place in {store[:400].hex()}", opened(self.program, store, self.folder), wanted)
+        check(f"the place in {store}", opened(self.program, store, self.folder), wanted)
 
 
-@each(STORES)
+@each([(f"{name} in {form}", form, records, wanted) for name, records, wanted in STORES for form in FORMATS])
 class Needs(OfTheProgram):
     """A store is refused where the need of a change is not met."""
 
-    def show(self, records, wanted):
-        store = HEADER + b"".join(records) + b"\0"
+    def show(self, form, records, wanted):
+        start, store_of = FORMATS[form]
+        store = store_of(b"".join(records))
+        wanted = None if wanted is None else wanted - len(HEADER) + start
         self.check_store(store, wanted)
-        check("the place by the other reader", told(store), wanted)
+        check("the place by the other reader", lasting_in(store)[1], wanted)
 
 
 @each([(name, name) for name, *_ in crowds()])
@@ -167,26 +208,38 @@ class Bounds(OfTheProgram):
 
     def show(self, name):
         records, wanted = next(it[1:] for it in crowds() if it[0] == name)
-        self.check_store(HEADER + b"".join(records) + b"\0", wanted)
+        self.check_store(journal_of(b"".join(records)), wanted)
 
 
+@each([(form, form) for form in FORMATS])
 class Damaged(OfTheProgram):
-    def test_each_byte_changed_and_a_cut_at_each_byte(self):
-        for store in damaged():
-            with self.subTest(store=store.hex()):
-                self.check_store(store, told(store))
+    """Each byte is changed, and a cut made at each byte."""
+
+    def show(self, form):
+        start, store_of = FORMATS[form]
+        for what, store in damaged(start, store_of(RECORDS)):
+            with self.subTest(what):
+                self.check_store(store, lasting_in(store)[1])
 
 
-@each(OTHERS)
+@each([*((*row, IS_ANOTHER) for row in OTHERS), *((*row, IS_AGAIN) for row in SAME)])
 class ChangedBesideARun(Case):
-    def show(self, other):
+    def show(self, other, wanted):
         with Run(self.program, self.folder, "--fresh") as run:
             for line in MADE:
                 run.reply(at(line))
             path = self.folder / "store.ks"
-            store = path.read_bytes()
-            path.write_bytes(other(store))
-            run.check("over another store", [(at({"do": "restart"}), IS_ANOTHER), (at(COUNTED), IS_THERE)])
-            path.write_bytes(store)
-            run.check("over its own store", [(at({"do": "restart"}), IS_AGAIN), (at(COUNTED), IS_GONE)])
+            store = StoreBytes.read(path)
+            other(store).write(path)
+            goes_on = wanted == IS_AGAIN
+            run.check(
+                "over other bytes", [(at({"do": "restart"}), wanted), (at(COUNTED), IS_GONE if goes_on else IS_THERE)]
+            )
+            if goes_on:
+                for line in MADE:
+                    run.reply(at(line))
+                check("the lasting part", len(lasting_in(StoreBytes.read(path))[0].keys), 1)
+            else:
+                store.write(path)
+                run.check("over its own store", [(at({"do": "restart"}), IS_AGAIN), (at(COUNTED), IS_GONE)])
             run.end("the run")

@@ -7,6 +7,8 @@ import json
 from keystore.cases import Case, each
 from keystore.harness import TOP, check
 from keystore.runs import Run, ended, make_store
+from keystore.store import EMPTY
+from keystore.store_bytes import StoreBytes
 
 CONNECT, IMPORT, BEGIN, FINISH = (TOP / "examples/hmac.jsonl").read_bytes().splitlines(keepends=True)
 REPLIES = (TOP / "examples/hmac.expected").read_bytes().splitlines(keepends=True)
@@ -33,9 +35,9 @@ class Second(OnAStore):
 
     def show(self, words):
         first = self.first()
-        store = (self.folder / "store.ks").read_bytes()
+        store = StoreBytes.read(self.folder / "store.ks")
         check(" ".join(words), ended(self.program, words, self.folder, CONNECT), (6, b"", DISK_FAULT))
-        check("the store", (self.folder / "store.ks").read_bytes(), store)
+        check("the store", StoreBytes.read(self.folder / "store.ks"), store)
         first.end("the first run")
 
 
@@ -46,7 +48,7 @@ class InTurn(OnAStore):
 
     def test_init_makes_an_empty_store(self):
         make_store(self.program, self.folder)
-        check("the empty store", (self.folder / "store.ks").read_bytes(), b"KSJRNL01\0")
+        check("the empty store", StoreBytes.read(self.folder / "store.ks"), EMPTY)
 
     def test_the_next_run_finds_the_key(self):
         self.first().end("the first run")

@@ -12,12 +12,13 @@ from pathlib import Path
 from keystore.cases import Case, each
 from keystore.harness import TOP, check
 from keystore.scratch import scratch_folder
+from keystore.store import HEADER, MAGIC, NEWEST, SELECTOR
 
 NOBODY = 65534
 CONNECT = '{"t":[0,1000],"do":"connect","uid":10001}\n'
 IMPORT = (TOP / "examples/hmac.jsonl").read_text(encoding="utf-8").splitlines(keepends=True)[1]
 CLIENT, KEY, L1 = '{"client":1,"code":0}\n', '{"code":0,"key":1}\n', '{"code":20,"rule":"L1"}\n'
-EMPTY = b"KSJRNL01\0"
+JOURNAL = HEADER + b"\0"
 DEMO = "device.key: it is not in this folder; the demo device is taken, which protects nothing: anybody knows its keys"
 NO_STORE = "store.ks: it is not in this folder; 'keystore2 init' makes an empty one"
 NO_BEGIN = "store.ks: it does not begin as a store does"
@@ -163,7 +164,13 @@ def rows_of_runs():
     yield Row(
         "an empty file for a store", "run", 7, told=["store corrupted at 0", NO_BEGIN, DEMO], files={"store.ks": b""}
     )
-    yield Row("a store that is cut", "run", 7, told=["store corrupted at 8", DEMO], files={"store.ks": EMPTY[:8]})
+    for what, bytes_, offset in (
+        ("before its version", MAGIC, len(MAGIC)),
+        ("before its selector", MAGIC + NEWEST, SELECTOR),
+        ("of the first format behind its header", HEADER, len(HEADER)),
+    ):
+        told = [f"store corrupted at {offset}", DEMO]
+        yield Row(f"a store that is cut {what}", "run", 7, told=told, files={"store.ks": bytes_})
     for words in ("run", "run --fresh"):
         yield Row(
             f"a folder for a store: {words}",
@@ -255,7 +262,7 @@ def rows():
         "run",
         6,
         told=["disk fault", f"store.ks: {DENIED}", DEMO],
-        files={"store.ks": EMPTY},
+        files={"store.ks": JOURNAL},
         as_nobody=True,
     )
     yield Row("a folder for reading alone: init", "init", 6, told=["disk fault", f"store.ks: {DENIED}"], as_nobody=True)

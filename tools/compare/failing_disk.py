@@ -23,7 +23,8 @@ from pathlib import Path
 from dialog import Told
 from keystore.harness import add_program, parser_of
 from compare.random_scripts import MOST_SECONDS, shown
-from keystore.store import Lasting, read_journal
+from keystore.store import lasting_in
+from keystore.store_bytes import StoreBytes
 from keystore.scratch import scratch_folder
 from keystore.script_events import Malformed, event_of
 from make.script_maker import Maker, without_drawn
@@ -204,9 +205,8 @@ def kept_in(store):
 
 def left_in(store):
     """The keys and grants that the bytes of a store stand for, or None where they stand for none."""
-    records, _, broken = read_journal(store)
-    lasting = Lasting()
-    if broken is not None or not all(lasting.apply(kind, values) for _, kind, values in records):
+    lasting, wrong = lasting_in(store)
+    if wrong is not None:
         return None
     keys = {key["id"]: (key["domain"], key["nspace"], key["alias"], key["left"]) for key in lasting.keys}
     return keys, {row["grant"]: (row["key"], row["uid"], row["bits"]) for row in lasting.grants}
@@ -228,7 +228,7 @@ def main():
             with scratch_folder() as folder:
                 rows, status = served(program, maker, folder, library, words.seed * 1000 + number)
                 service, fault = compare(rows, maker.slots)
-                left = left_in((Path(folder) / "store.ks").read_bytes())
+                left = left_in(StoreBytes.read(Path(folder) / "store.ks"))
             stores = [kept_in(store) for store in (service.store, service.waiting) if store is not None]
             if fault is None and status != 0:
                 fault = f"status {status}"

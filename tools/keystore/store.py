@@ -1,15 +1,28 @@
-"""The journal of a store, by docs/FORMATS.md ("Journal"), beside the program and without its code: the records of
-its bytes, where they end or are broken off, and what lasts behind them. It reads an area of records too."""
+"""A store, by docs/FORMATS.md ("Store"), beside the program and without its code: the records of its bytes, where they
+end or are broken off, and what lasts behind them."""
 from __future__ import annotations
 
 from collections.abc import Callable
 from typing import Any
 
 from keystore.spelling import Reader, Short, counted, number
+from keystore.store_bytes import StoreBytes
 
-HEADER = b"KSJRNL01"
-END = 268_435_456
+# What a store begins with: seven bytes, and the version, which is that of a journal or of a store of areas.
+MAGIC, JOURNAL, NEWEST = b"KSJRNL0", b"1", b"2"
+HEADER = MAGIC + JOURNAL
+# The place behind a journal's last, where a store of areas has its selector; and where the areas begin.
+SELECTOR = 268_435_456
+AREAS = {"A": 268_439_552, "B": 1_342_181_376}
+AREA_BYTES = 1_073_741_824
+SELECTS = {"A": b"A", "B": b"B"}
+# What stands over the first gate of an area that is left, or behind the front of a store of areas.
+SEAL = b"\x4b\xff\xff\xff\xff"
 GATE = 0x4B
+# How many bytes of an area are read at once.
+PIECE = 65_536
+# Beside twice its snapshot, so many bytes of records a store may have before it is written anew.
+SLACK = 65_536
 MOST_KEYS = MOST_GRANTS = 65_536
 # Numbers of keys and grants stay below it.
 NUMBERS_END = 2**63
@@ -19,7 +32,7 @@ COUNTED = 0
 Fields = list[tuple[str, int]]
 NAMED: Fields = [("id", 8), ("domain", 1), ("nspace", 8), ("alias", COUNTED), ("blob", COUNTED), ("list", COUNTED)]
 GRANTED: Fields = [("grant", 8), ("key", 8), ("uid", 4), ("bits", 4)]
-# The kinds of changes, which alone stand in a journal, and those of the rows of a snapshot.
+# The kinds of changes that a journal has; those of the rows of a snapshot; and the change that stands in areas alone.
 KINDS: dict[int, tuple[str, Fields]] = {
     1: ("Create", [*NAMED, ("limit", 4)]),
     2: ("Delete", [("id", 8)]),
@@ -34,7 +47,8 @@ ROWS: dict[int, tuple[str, Fields]] = {
     9: ("Held", [*NAMED, ("limit", 4), ("left", 4)]),
     10: ("HeldGrant", GRANTED),
 }
-AREA_KINDS = {**KINDS, **ROWS}
+UPGRADE = 11
+AREA_KINDS = {**KINDS, **ROWS, UPGRADE: ("Upgrade", [("id", 8), ("blob", COUNTED), ("list", COUNTED)])}
 
 
 def spelled_body(kind: int, values: list[Any]) -> bytes:
@@ -65,32 +79,74 @@ def read_body(body: bytes, kinds: dict[int, tuple[str, Fields]]) -> tuple[int, l
 Record = tuple[int, int, list[Any]]
 
 
-def read_records(
-    store: bytes, start: int, limit: int, kinds: dict[int, tuple[str, Fields]]
-) -> tuple[list[Record], int | None, int | None]:
-    """The records of these kinds from a place on, with the places of their gates, and where they end before a limit; or
-    the place where they are broken off."""
-    store = store[:limit]
-    at = start
-    records: list[Record] = []
-    while at < len(store) and store[at] == GATE:
-        length = int.from_bytes(store[at + 1 : at + 5], "big")
-        body = store[at + 5 : at + 5 + length]
-        record = read_body(body, kinds) if at + 5 + length <= len(store) else None
+# The records of bytes, and where they end, or the place where they are broken off.
+Read = tuple[list[Record], int | None, int | None]
+
+
+def read_records(store: StoreBytes, start: int, limit: int, kinds: dict[int, tuple[str, Fields]]) -> Read:
+    """The records of these kinds from a place on that stand before a limit."""
+    end = min(limit, store.size)
+    at = piece_at = start
+    piece, records = b"", []
+
+    def take(place: int, count: int) -> bytes:
+        nonlocal piece_at, piece
+        if place + count > piece_at + len(piece):
+            piece_at, piece = place, store.take(place, min(max(count, PIECE), end - place))
+        return piece[place - piece_at : place - piece_at + count]
+
+    while at < end and take(at, 1)[0] == GATE:
+        length = int.from_bytes(take(at + 1, 4), "big")
+        record = read_body(take(at + 5, length), kinds) if at + 5 + length <= end else None
         if record is None:
             return records, None, at
         records.append((at, *record))
         at += 5 + length
-    if at >= len(store):
-        return records, None, at
-    return records, at, None
+    return (records, at, None) if at < end else (records, None, at)
 
 
-def read_journal(store: bytes) -> tuple[list[Record], int | None, int | None]:
-    """The same of a journal."""
-    if store[: len(HEADER)] != HEADER:
+def read_journal(store: bytes) -> Read:
+    """The same of a store of the first format, a journal."""
+    return read_store(StoreBytes.of(store)) if store[: len(HEADER)] == HEADER else ([], None, 0)
+
+
+def area_of(store: StoreBytes) -> str | None:
+    """Which area of a store is selected, or None where it is a journal."""
+    if store.take(len(MAGIC), 1) == JOURNAL:
+        return None
+    return "A" if store.take(SELECTOR, 1) == SELECTS["A"] else "B"
+
+
+def read_area(store: StoreBytes, area: str) -> Read:
+    return read_records(store, AREAS[area], AREAS[area] + AREA_BYTES, AREA_KINDS)
+
+
+def read_store(store: StoreBytes) -> Read:
+    """The records of a journal, or of the area that is selected."""
+    if store.take(0, len(MAGIC)) != MAGIC:
         return [], None, 0
-    return read_records(store, len(HEADER), END, KINDS)
+    if store.size == len(MAGIC):
+        return [], None, len(MAGIC)
+    area = area_of(store)
+    if area is None:
+        return read_records(store, len(HEADER), SELECTOR, KINDS)
+    if store.size <= SELECTOR:
+        return [], None, SELECTOR
+    return read_area(store, area)
+
+
+def journal_of(records: bytes) -> StoreBytes:
+    """A store of the first format with these records."""
+    return StoreBytes.of(HEADER + records + b"\0")
+
+
+def areas_of(records: bytes, area: str = "A") -> StoreBytes:
+    """A store of two areas of which one is selected, with these records."""
+    front = StoreBytes.of(MAGIC + NEWEST + SEAL).put(SELECTOR, SELECTS[area])
+    return front.put(AREAS[area], records + b"\0")
+
+
+EMPTY = areas_of(b"")
 
 
 # A key or a grant, its fields by name.
@@ -109,7 +165,12 @@ def may_be_key(key: Row) -> bool:
     except UnicodeDecodeError:
         return False
     owner: bool = key["domain"] == 2 or (key["domain"] == 0 and key["nspace"] < 2**32)
-    return owner and 1 <= len(key["alias"]) <= 256 and len(key["blob"]) <= 6327 and len(key["list"]) <= 4140
+    return owner and 1 <= len(key["alias"]) <= 256 and are_short(key["blob"], key["list"])
+
+
+def are_short(blob: bytes, list: bytes) -> bool:
+    """Whether a blob and a list are no longer than those of a key may be."""
+    return len(blob) <= 6327 and len(list) <= 4140
 
 
 class Lasting:
@@ -120,6 +181,14 @@ class Lasting:
         self.grants: list[Row] = []
         self.next_key, self.next_grant = 1, 1
         self.rows, self.changed = 0, False
+
+    def snapshot(self) -> bytes:
+        """The rows that stand for the same."""
+        rows = [(8, [self.next_key, self.next_grant])]
+        for kind, held, number in ((9, self.keys, "id"), (10, self.grants, "grant")):
+            names = [name for name, _ in ROWS[kind][1]]
+            rows += [(kind, [row[name] for name in names]) for row in sorted(held, key=lambda row: row[number])]
+        return b"".join(framed(kind, values) for kind, values in rows)
 
     def drop_keys(self, ends: Callable[[Row], object]) -> None:
         ended = {key["id"] for key in self.keys if ends(key)}
@@ -223,11 +292,25 @@ class Lasting:
         self.drop_keys(lambda key: key["domain"] == 0 and key["nspace"] // 100000 == user)
         return True
 
+    def upgrade(self, id: int, blob: bytes, list: bytes) -> bool:
+        key = self.key(id)
+        if key is None or not are_short(blob, list):
+            return False
+        key["blob"], key["list"] = blob, list
+        return True
 
-def live_keys(store: bytes) -> int | None:
-    """How many keys live, in one pass, or None where the bytes are no journal. The needs of the changes are not
-    judged."""
-    records, _, broken = read_journal(store)
+
+def lasting_in(store: StoreBytes) -> tuple[Lasting, int | None]:
+    """What the records of a store leave, and the place of what is wrong first, or None where they stand for it."""
+    records, _, broken = read_store(store)
+    lasting = Lasting()
+    unmet = next((at for at, kind, values in records if not lasting.apply(kind, values)), None)
+    return lasting, unmet if broken is None else broken
+
+
+def live_keys(store: StoreBytes) -> int | None:
+    """How many keys live, in one pass, or None where the bytes are no store. The needs of records are not judged."""
+    records, _, broken = read_store(store)
     live: dict[int, tuple[int, int, bytes, int]] = {}
     numbers: dict[tuple[int, int, bytes], int] = {}
 
@@ -237,10 +320,10 @@ def live_keys(store: bytes) -> int | None:
             del numbers[key[:3]]
 
     for _, kind, values in records:
-        if kind == 1:
-            number, domain, nspace, alias, *_, limit = values
+        if kind in (1, 9):
+            number, domain, nspace, alias, *_ = values
             end(numbers.get((domain, nspace, alias)))
-            live[number], numbers[domain, nspace, alias] = (domain, nspace, alias, limit), number
+            live[number], numbers[domain, nspace, alias] = (domain, nspace, alias, values[-1]), number
         elif kind == 2:
             end(values[0])
         elif kind == 3 and values[0] in live:

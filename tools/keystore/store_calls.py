@@ -13,7 +13,7 @@ from typing import NamedTuple
 from keystore.harness import TOOLS
 
 SOURCE = TOOLS / "checks/store_calls.c"
-NUMBERS, NOTE, MOST_NOTES = struct.Struct("4Q"), struct.Struct("3Q"), 1 << 14
+NUMBERS, NOTE, MOST_NOTES = struct.Struct("4Q"), struct.Struct("3Q"), 1 << 16
 NO_CALL = (1 << 64) - 1
 NAMES = {
     "o": "opening",
@@ -57,7 +57,7 @@ class StoreCalls:
     """The library over a file of notes, in a folder."""
 
     def __init__(self, folder: Path) -> None:
-        self.library, self.path = folder / "store_calls.so", folder / "notes"
+        self.library, self.path, self.kept = folder / "store_calls.so", folder / "notes", folder / "bytes"
         subprocess.run(["cc", "-shared", "-fPIC", "-O1", "-o", self.library, SOURCE], check=True)
         self.path.write_bytes(bytes(NUMBERS.size + MOST_NOTES * NOTE.size))
         with open(self.path, "r+b") as file:
@@ -65,11 +65,12 @@ class StoreCalls:
 
     def environment(self) -> dict[str, str]:
         """What a process that is to be noted has besides."""
-        return {"LD_PRELOAD": str(self.library), "STORE_CALLS": str(self.path)}
+        return {"LD_PRELOAD": str(self.library), "STORE_CALLS": str(self.path), "STORE_BYTES": str(self.kept)}
 
     def begin(self, at: int = NO_CALL, how: How = How.GOES_WELL) -> None:
         """Has noted nothing; the call of this number, from 0, is to end so."""
         self.shared[: NUMBERS.size] = NUMBERS.pack(0, 0, at, how)
+        self.kept.write_bytes(b"")
 
     def count(self) -> int:
         """How many calls reached the store by now."""
@@ -80,6 +81,16 @@ class StoreCalls:
         notes = NUMBERS.unpack(self.shared[: NUMBERS.size])[1]
         rows = self.shared[NUMBERS.size : NUMBERS.size + notes * NOTE.size]
         return [Note(chr(kind), place, count) for kind, place, count in NOTE.iter_unpack(rows)]
+
+    def written(self) -> list[bytes]:
+        """The bytes of each write."""
+        kept, at = self.kept.read_bytes(), 0
+        pieces = []
+        for it in self.notes():
+            if it.kind == "w":
+                pieces.append(kept[at : at + it.size])
+                at += it.size
+        return pieces
 
     def calls(self) -> list[Note]:
         return [it for it in self.notes() if it.kind != "a"]

@@ -2,10 +2,23 @@
 
     tools/ks make stores --stores    prints the digest of 1,000 stores
     tools/ks make stores --damage    prints the tables of damaged stores
-    tools/ks make stores --records   prints a record of each kind
-    tools/ks make stores --needs     prints records behind others, and whether their needs are met"""
+    tools/ks make stores --records   prints a record of each kind of change
+    tools/ks make stores --needs     prints records behind others, and whether their needs are met
+    tools/ks make stores --snapshots prints the digest of 1,000 snapshots"""
 from keystore.harness import parser_of
-from keystore.store import AREA_KINDS, COUNTED, HEADER, KINDS, NUMBERS_END, THREE, Lasting, framed, read_journal
+from keystore.store import (
+    AREA_KINDS,
+    COUNTED,
+    HEADER,
+    KINDS,
+    NUMBERS_END,
+    ROWS,
+    THREE,
+    UPGRADE,
+    Lasting,
+    framed,
+    read_journal,
+)
 
 
 class Draws:
@@ -55,6 +68,39 @@ def random_stores(count=1000):
     return state
 
 
+# What a drawn table is made of.
+DRAWN_OWNERS = [(0, 10001), (0, 10002), (0, 110001), (2, 100)]
+DRAWN_ALIASES = [b"m", b"n", "ö".encode(), b"key key key key"]
+DRAWN_KINDS = [1, 1, 1, 1, 1, 3, 4, 11, 2, 5]
+
+
+def drawn_change(draws, lasting):
+    """A change whose need may not be met."""
+    kind = DRAWN_KINDS[draws.next() % 10]
+    if kind == 1:
+        owner, alias = DRAWN_OWNERS[draws.next() % 4], DRAWN_ALIASES[draws.next() % 4]
+        blob, params = draws.value(COUNTED), draws.value(COUNTED)
+        return kind, [lasting.next_key, *owner, alias, blob, params, draws.next() % 3]
+    if kind == 4:
+        key = 1 + draws.next() % lasting.next_key
+        return kind, [lasting.next_grant, key, 10002 + draws.next() % 2, 256]
+    if kind == 5:
+        return kind, [1 + draws.next() % lasting.next_grant]
+    key = 1 + draws.next() % lasting.next_key
+    return kind, [key, draws.value(COUNTED), draws.value(COUNTED)] if kind == 11 else [key]
+
+
+def random_snapshots(count=1000):
+    """The digest of the snapshots of so many tables of drawn changes, of which those are made whose need is met."""
+    draws, state = Draws(3), 0xCBF29CE484222325
+    for _ in range(count):
+        lasting = Lasting()
+        for _ in range(draws.next() % 24):
+            lasting.apply(*drawn_change(draws, lasting))
+        state = digest(lasting.snapshot(), state)
+    return state
+
+
 def letter(store, gates):
     """'.' for a journal, 'h' where the header is not there, and else the letter of the gate where it is broken off."""
     _, end, broken = read_journal(store)
@@ -76,9 +122,10 @@ def print_damage():
 
 
 # The records of an area: its next numbers; key 2 of uid 10001, m, with two uses left of three; grant 3 of it to uid
-# 10002; and a use of it.
+# 10002; a use of it; the new key 5, n, of the same owner; and the end of key 2.
 KEY = [2, 0, 10001, b"m", b"\xaa", b"", 3, 2]
-FRONT = [(8, [5, 9]), (9, KEY), (10, [3, 2, 10002, 256]), (3, [2])]
+NEW_KEY = [5, 0, 10001, b"n", b"\xaa", b"", 0]
+FRONT = [(8, [5, 9]), (9, KEY), (10, [3, 2, 10002, 256]), (3, [2]), (1, NEW_KEY), (2, [2])]
 
 
 def key_with(**fields):
@@ -112,6 +159,9 @@ NEEDS = [
     (4, (10, [4, 2, 10003, 256])),
     # a change stands behind any of them
     *((count, (3, [2])) for count in (0, 1, 2, 3, 4)),
+    # another blob and list: of a live key, behind the rows of a snapshot and behind a new key
+    *((count, (UPGRADE, [2, b"\xbb\xcc", b"\0"])) for count in (0, 1, 2, 3, 4, 5, 6)),
+    *((count, (UPGRADE, [5, b"", b""])) for count in (4, 5, 6)),
 ]
 
 
@@ -130,15 +180,20 @@ def main():
     ways.add_argument("--stores", action="store_true", help="print the digest of 1,000 stores")
     ways.add_argument("--damage", action="store_true", help="print the tables of damaged stores")
     ways.add_argument("--records", action="store_true", help="print a record of each kind")
+    ways.add_argument("--snapshots", action="store_true", help="print the digest of 1,000 snapshots")
     ways.add_argument("--needs", action="store_true", help="print records behind others, and whether they may stand")
     given = parser.parse_args()
     if given.needs:
         print_needs()
     elif given.stores:
         print(f"{random_stores():016x}")
+    elif given.snapshots:
+        print(f"{random_snapshots():016x}")
     elif given.damage:
         print_damage()
     else:
         draws = Draws(7)
-        for kind, (name, fields) in KINDS.items():
+        for kind, (name, fields) in AREA_KINDS.items():
+            if kind in ROWS:
+                continue
             print(name, framed(kind, [draws.value(form) for _, form in fields]).hex())

@@ -65,7 +65,7 @@ def main():
     with tempfile.TemporaryDirectory(prefix="cipher-speed-") as place:
         program, _ = run_over(CRATES, __file__, {"src/main.rt": "main.rt.in"}, place)
         if not os.access(program, os.X_OK):
-            sys.exit("cipher_speed.py: the program was not built: run `rt check` in the crates that it copies")
+            sys.exit("cipher_speed.py: the program was not built")
         for part, words, size in ROWS:
             pairs = [(ours(program, part), theirs(words, size)) for _ in range(rounds)]
             ratios = sorted(a / b for a, b in pairs)

@@ -9,7 +9,7 @@ import build
 
 def run_over(used, tool, files, folder):
     """Runs the program of a tool, whose sources stand in the folder of the tool's name beside it, in a folder, over the
-    crates that it uses and those below, with what earlier checks kept of them.
+    crates that it uses and those below, with what a `rt ci` kept of them on this machine.
 
     `tool` is the tool's file. `files` says for each file of the program's crate which file of its sources it is, or
     None where it is empty. What comes back is the path of the program, which is there where it was built, and what
@@ -17,7 +17,7 @@ def run_over(used, tool, files, folder):
     sources = pathlib.Path(tool).with_suffix("")
     name, below = sources.name, build.libraries()
     needed = {it for one in used for it in build.needed(below, one)}
-    build.copy_crates([it for it in below if it in needed], folder)
+    build.make_repository([it for it in below if it in needed], folder)
     with open(f"{folder}/crates.txt", "a", encoding="utf-8") as lines:
         lines.write(f"{name}: {' '.join(used)}\n")
     crate = f"{folder}/crates/{name}"
@@ -28,7 +28,11 @@ def run_over(used, tool, files, folder):
             shutil.copy(sources / source, place)
         else:
             place.touch()
-    said = subprocess.run(
-        ["rt", "run"], cwd=crate, stdin=subprocess.DEVNULL, capture_output=True, text=True, check=False
-    )
-    return f"{crate}/out/{name}", said
+    program = f"{crate}/out/{name}"
+    said = run(["rt", "ci"], folder)
+    return program, run([program], folder) if pathlib.Path(program).exists() else said
+
+
+def run(words, folder):
+    """Runs words in a folder, and gives what they said."""
+    return subprocess.run(words, cwd=folder, stdin=subprocess.DEVNULL, capture_output=True, text=True, check=False)

@@ -84,7 +84,7 @@ def look_times(folder):
     rows = [line.split() for line in said.stdout.splitlines()]
     times = [[int(row[1]) / 1e9 for row in rows if row[0] == taken] for taken in ("2", str(MOST))]
     if not all(times):
-        sys.exit("slot_speed.py: the program was not built: run `rt check` in crates/operation_slots")
+        sys.exit("slot_speed.py: the program was not built")
     return [min(rounds) for rounds in times]
 
 

@@ -3,7 +3,7 @@ each part, and their ratio.
 
 The look-ups, a use, a rebinding and an opening go over a disk in memory that keeps no write, and count the least time
 of a round. `open_walk` is the part of an opening that reads the records, and `open_ordered` an opening of keys whose
-aliases come in their order. `open_KiB` is an opening of 64 keys in 5,193 bytes and in 1,024 times as many, for each
+aliases come in their order; `open_older` brings an older store to areas. `open_KiB` is an opening of 64 keys in 5,193 bytes and in 1,024 times as many, for each
 KiB. `use_synced` and `rebind_synced` are changes with their disk, over two files in FOLDER (else where temporary files
 stand), by turns; they count the middle time.
 
@@ -16,7 +16,7 @@ import tempfile
 from keystore.harness import folder_at, parser_of
 from measure.own_program import run_over
 
-USED = ["ks_outside", "disk_calls", "tags", "grants", "journal_records", "use_journal", "lasting_table", "key_database"]
+USED = ["ks_outside", "disk_calls", "file_disk", "tags", "grants", "journal_records", "journal_compact", "lasting_table", "key_database"]
 FILES = {"src/main.rt": "main.rt.in", "specs/Lib.antt": None, "proofs/Lib.antt": None}
 PARTS = (
     "by_name",
@@ -28,6 +28,7 @@ PARTS = (
     "open",
     "open_walk",
     "open_ordered",
+    "open_older",
     "open_KiB",
     "use_synced",
     "rebind_synced",
@@ -48,7 +49,7 @@ def main():
         if len(row) == 4 and row[0] in ("64", "65536"):
             times.setdefault((row[1], row[0]), []).append(int(row[2]))
     if not times:
-        sys.exit("store_speed.py: the program was not built: run `rt check` in crates/key_database")
+        sys.exit("store_speed.py: the program was not built")
     for part in PARTS:
         few, many = (statistics.median(times[part, keys]) for keys in ("64", "65536"))
         print(f"{part:<14} {few:9.0f} {many:9.0f} {many / few:6.2f}")

@@ -125,7 +125,7 @@ nothing_waits areas idle waits = or_from (is_turning areas) (lower.is_waiting (a
 
 module _ {D : Type 0} (g : Ghosts D) where
   -- records that stand in the selected area, of a store of one frame
-  settled_with : (areas : Areas) (disk : D) (frame : Frame) (past : List Record) → turn_of areas ≡ Idle → IsFrameOf (selected_of areas) frame → lower.is_waiting (area_of areas) ≡ false
+  pub settled_with : (areas : Areas) (disk : D) (frame : Frame) (past : List Record) → turn_of areas ≡ Idle → IsFrameOf (selected_of areas) frame → lower.is_waiting (area_of areas) ≡ false
       → lower.start_of (area_of areas) ≡ start_of (selected_of areas) → lower.limit_of (area_of areas) ≡ limit_of (selected_of areas) → lower.end_of (area_of areas) ≡ start_of (selected_of areas) + length (spelled past)
       → AreRecords area_kinds past → AllImages g disk (IsStore frame past) → IsSettledOn g areas disk frame past
   settled_with areas disk frame past idle of waits start limit end records images = record {

@@ -1,6 +1,9 @@
 pub mod Adding
+pub mod Comings
 pub mod Formed
 pub mod Kept
+pub mod Olders
+pub mod OneFormat
 pub mod Single
 pub mod Telling
 pub mod Turns

@@ -10,6 +10,7 @@ use Rattle.journal_records.specs.declared.record.Record.{Record}
 use Rattle.journal_records.specs.declared.fault.StoreFault.{StoreFault}
 use Rattle.journal_records.specs.declared.fault.StoreFault.TheVariants as faults
 use Rattle.journal_records.specs.Spelling.{spelled}
+use Rattle.journal_records.specs.Storable.{area_kinds}
 use Rattle.record_areas.specs.Frames.{Frame, HasRecords, IsBrokenAt, IsMarked, IsStore}
 use Rattle.record_areas.specs.Holding.{FindsRecords, ReadsArea}
 use Rattle.journal_compact.specs.declared.places.Selected.{Selected}
@@ -24,7 +25,7 @@ use Rattle.journal_compact.specs.Stores.{AreAreaRecords, IsAreas, IsAreasFrame, 
 by_selector : (selected : Selected) (frame : Frame) (of : IsFrameOf selected frame) → frame ≡ frame_of (selected_by of.selector) of.version of.selector
 by_selector selected frame of = of.is ∙ sym (ap (λ (s : Selected). frame_of s of.version of.selector) of.selects)
 
-front_of : (selected : Selected) (frame : Frame) (of : IsFrameOf selected frame) (image : List ℕ) → IsMarked frame image → HoldsAt 0 (front of.version) image
+pub front_of : (selected : Selected) (frame : Frame) (of : IsFrameOf selected frame) (image : List ℕ) → IsMarked frame image → HoldsAt 0 (front of.version) image
 front_of selected frame of image marked = (subst (λ (f : Frame). IsMarked f image) of.is marked).0
 
 selector_of : (selected : Selected) (frame : Frame) (of : IsFrameOf selected frame) (image : List ℕ) → IsMarked frame image → HoldsAt SELECTOR (of.selector ∷ []) image
@@ -64,17 +65,17 @@ module _ (one_list : (start limit kinds : ℕ) (past later : List Record) (image
   pub one_past : (past later : List Record) (image : List ℕ) → AreAreaRecords past → AreAreaRecords later → IsAreas past image → IsAreas later image → past ≡ later
   one_past past later image first second is is' =
       let same = one_frame is.frame is'.frame image is.is_frame is'.is_frame is.store.marked is'.store.marked in
-      one_list is.frame.start is.frame.limit 10 past later image first second is.store.records (subst (λ (f : Frame). HasRecords f.start f.limit later image) (sym same) is'.store.records)
+      one_list is.frame.start is.frame.limit area_kinds past later image first second is.store.records (subst (λ (f : Frame). HasRecords f.start f.limit later image) (sym same) is'.store.records)
 
-kinds_are : (frame : Frame) (is : IsAreasFrame frame) → frame.kinds ≡ 10
+kinds_are : (frame : Frame) (is : IsAreasFrame frame) → frame.kinds ≡ area_kinds
 kinds_are frame is = ap (λ (f : Frame). f.kinds) is.of.is
 
-pub sound : ((start limit kinds : ℕ) (past : List Record) (offset : ℕ) (image : List ℕ) → AreAreaRecords past → HasRecords start limit past image → IsBrokenAt start limit 10 image offset → ⊥)
+pub sound : ((start limit kinds : ℕ) (past : List Record) (offset : ℕ) (image : List ℕ) → AreAreaRecords past → HasRecords start limit past image → IsBrokenAt start limit area_kinds image offset → ⊥)
     → (past : List Record) (offset : ℕ) (image : List ℕ) → AreAreaRecords past → IsAreas past image → IsCorrupted image offset → ⊥
 sound law past offset image records is (inl unmarked) = not_unmarked is.frame image offset is.is_frame is.store.marked unmarked
 sound law past offset image records is (inr broken) =
     let same = one_frame broken.frame is.frame image broken.is_frame is.is_frame broken.marked is.store.marked in
-    law is.frame.start is.frame.limit 10 past offset image records is.store.records
+    law is.frame.start is.frame.limit area_kinds past offset image records is.store.records
     (subst (λ (k : ℕ). IsBrokenAt is.frame.start is.frame.limit k image offset) (kinds_are is.frame is.is_frame) (subst (λ (f : Frame). IsBrokenAt f.start f.limit f.kinds image offset) same broken.broken))
 
 pub one_place : ((start limit kinds : ℕ) (offset other : ℕ) (image : List ℕ) → IsBrokenAt start limit kinds image offset → IsBrokenAt start limit kinds image other → offset ≡ other)
@@ -115,7 +116,7 @@ quiet frame past image other is store agree =
 
 -- the records that are read between the marks of a store are its own
 pub read_within : (frame : Frame) (start limit : ℕ) (image : List ℕ) (fault : StoreFault) → IsAreasFrame frame → frame.start ≡ start → frame.limit ≡ limit → IsMarked frame image
-    → ReadsArea start limit 10 image (Err fault) → ReadsAreas image (Err fault)
+    → ReadsArea start limit area_kinds image (Err fault) → ReadsAreas image (Err fault)
 read_within frame start limit image faults.Device is begins ends marked reads = tt
 read_within frame start limit image (faults.Corrupted offset) is begins ends marked reads = inr (record {
   frame = frame;
@@ -123,7 +124,7 @@ read_within frame start limit image (faults.Corrupted offset) is begins ends mar
   marked = marked;
   broken =
       subst (λ (k : ℕ). IsBrokenAt frame.start frame.limit k image offset) (sym (kinds_are frame is))
-      (subst (λ (k : ℕ). IsBrokenAt frame.start k 10 image offset) (sym ends) (subst (λ (k : ℕ). IsBrokenAt k limit 10 image offset) (sym begins) reads));
+      (subst (λ (k : ℕ). IsBrokenAt frame.start k area_kinds image offset) (sym ends) (subst (λ (k : ℕ). IsBrokenAt k limit area_kinds image offset) (sym begins) reads));
 })
 read_within frame start limit image faults.Memory is begins ends marked reads = tt
 

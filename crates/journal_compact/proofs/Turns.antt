@@ -22,7 +22,7 @@ use Rattle.journal_compact.specs.Turning.{IsBoth, IsEither}
 some_gate : (records : List ℕ) (gate : ℕ) → 0 < length (records ++ gate ∷ [])
 some_gate records gate = omega (arith, length-append records (gate ∷ []))
 
-records_above : (start limit at n : ℕ) (past : List Record) (old new : List ℕ) → at + n ≤ start → Torn at n old new → HasRecords start limit past old → HasRecords start limit past new
+pub records_above : (start limit at n : ℕ) (past : List Record) (old new : List ℕ) → at + n ≤ start → Torn at n old new → HasRecords start limit past old → HasRecords start limit past new
 records_above start limit at n past old new above torn is = record {
   area = record {
     gate = is.area.gate;
@@ -32,7 +32,7 @@ records_above start limit at n past old new above torn is = record {
   within = is.within;
 }
 
-records_below : (start limit at n : ℕ) (past : List Record) (old new : List ℕ) → limit ≤ at → Torn at n old new → HasRecords start limit past old → HasRecords start limit past new
+pub records_below : (start limit at n : ℕ) (past : List Record) (old new : List ℕ) → limit ≤ at → Torn at n old new → HasRecords start limit past old → HasRecords start limit past new
 records_below start limit at n past old new below torn is = record {
   area = record {
     gate = is.area.gate;

@@ -1,6 +1,9 @@
+pub mod Adopting
+pub mod Formats
 pub mod Gathering
 pub mod Holding
 pub mod Missing
+pub mod Older
 pub mod Quiet
 pub mod Stores
 pub mod Turning

@@ -1,4 +1,4 @@
--- Why the marks of a store of areas were not found on some bytes: they are not there, and the place tells what is wrong first; or a call failed.
+-- Why the marks of a store were not found on some bytes: they are not there, and the place tells what is wrong first; or a call failed.
 use Rattle.std.specs.Prelude.{◌≡◌, ◌⊎◌, ℕ, List, None, slice_get, ⊤}
 use Rattle.gated_records.specs.Areas.{HoldsAt}
 use Rattle.journal_records.specs.declared.fault.StoreFault.{StoreFault}
@@ -6,7 +6,16 @@ use Rattle.journal_records.specs.declared.fault.StoreFault.TheVariants as faults
 use Rattle.journal_compact.specs.declared.places.TheConstants.{SELECTOR}
 use Rattle.journal_compact.specs.Stores.{IsNoVersion, IsUnmarked, magic}
 
--- the store begins with other bytes, or has no version but that of a journal
+-- the store begins with other bytes, or has no version
+abbrev pub HasNoFront : List ℕ → ℕ → Type 0
+HasNoFront image offset = ((HoldsAt 0 magic image → ⊥) × (offset ≡ 0)) ⊎ (HoldsAt 0 magic image × ((slice_get image 7 ≡ None) × (offset ≡ 7)))
+
+abbrev pub MissesFront : List ℕ → StoreFault → Type 0
+MissesFront image faults.Device = ⊤
+MissesFront image (faults.Corrupted offset) = HasNoFront image offset
+MissesFront image faults.Memory = ⊥
+
+-- or none but that of a journal
 abbrev pub HasNoVersion : List ℕ → ℕ → Type 0
 HasNoVersion image offset = ((HoldsAt 0 magic image → ⊥) × (offset ≡ 0)) ⊎ (HoldsAt 0 magic image × (IsNoVersion (slice_get image 7) × (offset ≡ 7)))
 

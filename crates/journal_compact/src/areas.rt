@@ -10,24 +10,24 @@ ghost use Rattle.journal_records.specs.declared.record.Record.{Record};
 ghost use Rattle.journal_records.specs.Commits.{open_failed};
 ghost use Rattle.journal_records.specs.Spelling.{record_closed, IsRecord};
 ghost use Rattle.journal_records.specs.Storable.{IsStorable, area_kinds, snapshot, snapshot_length};
-ghost use Rattle.record_areas.specs.Frames.{Frame, past_of, placed};
+ghost use Rattle.record_areas.specs.Frames.{Frame, IsMarked, past_of, placed};
 ghost use Rattle.record_areas.specs.Holding as lower;
 ghost use Rattle.record_areas.specs.Holding.{end_after, end_settled, pending_after};
 ghost use Rattle.record_areas.specs.Readings as readings;
-ghost use Rattle.record_areas.specs.Readings.{IsBehind, IsWhole};
 ghost use Rattle.journal_compact.specs.Waiting.{is_turn, next_of};
 ghost use Rattle.journal_compact.specs.Stores.{AreAreaRecords, IsAreas, limit_of, other, selected_in, start_of};
 ghost use Rattle.journal_compact.specs.declared.areas.Turn.TheVariants.{Copying, Idle, Selecting};
 ghost use Rattle.journal_compact.specs.declared.places.TheConstants.{AREA_BYTES};
 ghost use Rattle.journal_compact.specs.Turning.{seal};
 
+use crate::older::{put_beside_journal, turn_journal};
 use crate::opening::find_marks;
-use crate::places::{AREA_A, KINDS, SELECTOR, SELECTS_A, Selected};
+use crate::places::{AREA_A, SELECTOR, SELECTS_A, Selected};
 use crate::turning::{put_beside, turn_from};
 use disk_calls::{read_synced_byte, sync_ahead, write_synced};
 use gated_records::CLOSED;
 use held_rows::Held;
-use journal_records::{AppendFault, StoreFault, storable_law};
+use journal_records::{AREA_KINDS, AppendFault, StoreFault, storable_law};
 use ks_outside::{Disk, Failed};
 use record_areas::{Area, Reading, Records};
 use std::alloc::Global;
@@ -69,8 +69,12 @@ const FRESH: [u8; 13] = [
 
 impl Areas {
     ghost use Rattle.journal_compact.specs.Holding.{area_of, end_of, end_with, is_turning, is_waiting, record_bytes, selected_of, turn_of, SameTurn};
-    ghost use Rattle.journal_compact.specs.Holding.{Appends, Compacts, FindsAreas, IsMarkedOn, IsSettledIn, IsSettledOn, IsTurningOn, IsUnsettledOn, ReadsAreas, ReformedFrom, SettlesTo, SettlesTurn, write_state};
-    ghost use Rattle.journal_compact.specs.Missing.{MissesMarks};
+    ghost use Rattle.journal_compact.specs.Holding.{Appends, Compacts, FindsAreas, IsSettledIn, IsSettledOn, IsTurningOn, IsUnsettledOn, ReadsAreas, ReformedFrom, SettlesTo, SettlesTurn, write_state};
+    ghost use Rattle.journal_compact.specs.Adopting.{Adopts, Comes};
+    ghost use Rattle.journal_compact.specs.Older.{new_frame};
+    ghost use Rattle.journal_compact.specs.declared.places.Selected.TheVariants.{A};
+    ghost use Rattle.journal_compact.specs.declared.places.TheConstants.{JOURNAL_RECORDS};
+    ghost use Rattle.use_journal.specs.Journal.{IsJournal};
 
     /// Writes an empty store, a sync behind each write: area A is emptied and selected before the front of the store is written. So a crash
     /// leaves the store that was, or the empty one. It takes no memory.
@@ -87,22 +91,6 @@ impl Areas {
             return Err(Failed);
         };
         write_synced(disk, 0, &FRESH)
-    }
-
-    /// Syncs, and finds the store of areas that the disk holds: which area is selected, and the reading of its records, none of which was read
-    /// yet. Corrupted has the place of what is wrong with the marks first. It takes no memory.
-    pub fn read<D: Disk>(alloc: Global, disk: &mut D) -> Result<(Selected, Reading), StoreFault>
-        ensures whole { IfOk result (λ found. IsWhole found.1) }
-        ensures still { OnOk result (IsStill D.Disk disk.new) }
-        ensures begins { IfOk result (λ found. IsBehind D.Disk found.1 disk.new (start_of found.0) (limit_of found.0) area_kinds []) }
-        ensures marked { IfOk result (λ found. IsMarkedOn D.Disk disk.new found.0) }
-        ensures missing { IfErr result (λ fault. AllImages D.Disk disk.new (λ image. MissesMarks image fault)) }
-        ensures goes { Reads D.Disk disk.old disk.new (open_failed result) }
-    {
-        let marks = find_marks(disk)?;
-        let selected = Selected::by(marks.selector);
-        let reading = Reading::at(alloc, selected.start(), selected.limit(), KINDS);
-        Ok((selected, reading))
     }
 
     /// The areas whose selected one a reading has come to the end of. It takes no memory.
@@ -136,7 +124,7 @@ impl Areas {
     {
         let marks = find_marks(disk)?;
         let selected = Selected::by(marks.selector);
-        match Area::read(alloc, disk, selected.start(), selected.limit(), KINDS) {
+        match Area::read(alloc, disk, selected.start(), selected.limit(), AREA_KINDS) {
             Ok((area, records)) => Ok((
                 Areas {
                     selected,
@@ -227,6 +215,37 @@ impl Areas {
             turn: Turn::Idle,
         };
         Ok(())
+    }
+
+    /// Brings a journal to areas: writes the snapshot of what a table holds, which is what the journal's records leave, into area A and
+    /// selects it, and syncs; writes the version of a store of areas, and syncs; seals the journal, and syncs. At each moment each image is the
+    /// journal, or a store of areas with the snapshot. It takes no memory.
+    pub fn adopt<D: Disk, K: Held>(disk: &mut D, keys: &K) -> Result<Areas, Failed>
+        requires { IsStorable (K.part keys.now) }
+        ensures adopts { (past : List Record) → AllImages D.Disk disk.old (IsJournal past)
+            → Adopts D.Disk disk.old disk.new past (reverse (snapshot (K.part keys.now))) result }
+        ensures marked { (past : List Record) → AllImages D.Disk disk.old (IsJournal past) → OnOk result (AllImages D.Disk disk.new (IsMarked new_frame)) }
+        ensures selected { IfOk result (λ areas. selected_of areas ≡ A) }
+        ensures bytes { IfOk result (λ areas. record_bytes areas ≡ snapshot_length (K.part keys.now)) }
+        ensures idle { IfOk result (λ areas. is_waiting areas ≡ false) }
+        ensures sealed { OnOk result (AllImages D.Disk disk.new (HoldsAt JOURNAL_RECORDS seal)) }
+        ensures comes { Comes D.Disk disk.old disk.new }
+        ensures goes { Goes D.Disk disk.old disk.new (is_err result) }
+    {
+        storable_law();
+        let Ok(end) = put_beside_journal(disk, keys) else {
+            return Err(Failed);
+        };
+        let selected = Selected::A;
+        let area = Area::at(selected.start(), selected.limit(), end);
+        let Ok(()) = turn_journal(disk) else {
+            return Err(Failed);
+        };
+        Ok(Areas {
+            selected,
+            area,
+            turn: Turn::Idle,
+        })
     }
 
     /// The areas once the selector was read behind a compaction that failed.

@@ -8,7 +8,9 @@
 //! `Areas::compact` each image has the records before, or the snapshot; after a failed call the areas are unsettled, and `Areas::settle`
 //! answers `Kept` exactly where a record is in the bytes that the disk then has on all images, and `Lost` of each compaction.
 //! `Areas::open` gives the records of the selected area, or the place of what is wrong first; bytes stand for one thing (`one_reading`),
-//! whatever stands elsewhere (`quiet_law`). The needs of the records are not tested here. The format is the service's own.
+//! whatever stands elsewhere (`quiet_law`). `find_store` finds a store of areas, or a journal, which is the older format (`one_format`);
+//! `Areas::adopt` brings a journal to areas, which at each moment is the journal or a store of areas with its snapshot (`older_law`). The needs
+//! of the records are not tested here. The formats are the service's own.
 //!
 //! ```rust
 //! use journal_compact::Areas;
@@ -21,14 +23,17 @@
 #![tactic(auto)]
 
 mod areas;
+mod format;
 mod gathering;
 mod law;
+mod older;
 mod opening;
 mod places;
 mod snapshot;
 mod turning;
 
 pub use areas::Areas;
-pub use law::{one_reading, quiet_law};
+pub use format::{Format, find_store};
+pub use law::{older_law, one_format, one_reading, quiet_law};
 pub use places::{AREA_BYTES, Selected};
 pub use snapshot::write_snapshot;

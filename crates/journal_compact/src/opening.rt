@@ -6,7 +6,7 @@ ghost use Rattle.disk_calls.specs.Still.{IsStill};
 ghost use Rattle.gated_records.specs.Areas.{HoldsAt};
 ghost use Rattle.journal_records.specs.Commits.{open_failed};
 ghost use Rattle.record_areas.specs.Frames.{IsMarked};
-ghost use Rattle.journal_compact.specs.Missing.{MissesMarks, MissesSelector, MissesVersion};
+ghost use Rattle.journal_compact.specs.Missing.{MissesFront, MissesMarks, MissesSelector, MissesVersion};
 ghost use Rattle.journal_compact.specs.Stores.{frame_of, front, selected_by};
 
 use crate::places::{JOURNAL, MAGIC, MAGIC_BYTES, SELECTOR};
@@ -21,12 +21,11 @@ pub(crate) struct Marks {
     pub(crate) selector: u8,
 }
 
-/// Syncs, and finds the front of a store of areas; answers its version.
-fn find_version<D: Disk>(disk: &mut D) -> Result<u8, StoreFault>
+/// Syncs, and finds the front of a store; answers its version.
+pub(crate) fn find_front<D: Disk>(disk: &mut D) -> Result<u8, StoreFault>
     ensures still { OnOk result (IsStill D.Disk disk.new) }
-    ensures newer { IfOk result (λ version. version ≢ JOURNAL) }
     ensures front { IfOk result (λ version. AllImages D.Disk disk.new (HoldsAt 0 (front version))) }
-    ensures missing { IfErr result (λ fault. AllImages D.Disk disk.new (λ image. MissesVersion image fault)) }
+    ensures missing { IfErr result (λ fault. AllImages D.Disk disk.new (λ image. MissesFront image fault)) }
     ensures goes { Reads D.Disk disk.old disk.new (open_failed result) }
 {
     let Ok(()) = sync_still(disk) else {
@@ -39,8 +38,24 @@ fn find_version<D: Disk>(disk: &mut D) -> Result<u8, StoreFault>
     if &bytes[..count.min(MAGIC_BYTES)] != MAGIC.as_slice() {
         return Err(StoreFault::Corrupted { offset: 0 });
     }
-    let version = bytes[MAGIC_BYTES];
-    if count == MAGIC_BYTES || version == JOURNAL {
+    if count == MAGIC_BYTES {
+        return Err(StoreFault::Corrupted {
+            offset: MAGIC_BYTES as u64,
+        });
+    }
+    Ok(bytes[MAGIC_BYTES])
+}
+
+/// Syncs, and finds the front of a store of areas; answers its version.
+fn find_version<D: Disk>(disk: &mut D) -> Result<u8, StoreFault>
+    ensures still { OnOk result (IsStill D.Disk disk.new) }
+    ensures newer { IfOk result (λ version. version ≢ JOURNAL) }
+    ensures front { IfOk result (λ version. AllImages D.Disk disk.new (HoldsAt 0 (front version))) }
+    ensures missing { IfErr result (λ fault. AllImages D.Disk disk.new (λ image. MissesVersion image fault)) }
+    ensures goes { Reads D.Disk disk.old disk.new (open_failed result) }
+{
+    let version = find_front(disk)?;
+    if version == JOURNAL {
         return Err(StoreFault::Corrupted {
             offset: MAGIC_BYTES as u64,
         });
@@ -49,7 +64,7 @@ fn find_version<D: Disk>(disk: &mut D) -> Result<u8, StoreFault>
 }
 
 /// Finds the selector of a still disk.
-fn find_selector<D: Disk>(disk: &mut D) -> Result<u8, StoreFault>
+pub(crate) fn find_selector<D: Disk>(disk: &mut D) -> Result<u8, StoreFault>
     requires still { IsStill D.Disk disk.old }
     ensures still { IsStill D.Disk disk.new }
     ensures selector { IfOk result (λ selector. AllImages D.Disk disk.new (HoldsAt SELECTOR (selector ∷ []))) }

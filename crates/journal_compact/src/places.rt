@@ -14,6 +14,12 @@ pub(crate) const MAGIC_BYTES: usize = 7;
 /// The version of a journal, which no store of areas has.
 pub(crate) const JOURNAL: u8 = 0x31;
 
+/// Where the records of a journal begin.
+pub(crate) const JOURNAL_RECORDS: u64 = 8;
+
+/// The version that is written. Every one but that of a journal is a store of areas.
+pub(crate) const VERSION: u8 = 0x32;
+
 /// The place of the byte that selects an area: where a journal would end.
 pub(crate) const SELECTOR: u64 = JOURNAL_BYTES;
 
@@ -24,9 +30,6 @@ pub(crate) const SELECTS_B: u8 = 0x42;
 
 /// How many bytes an area has.
 pub const AREA_BYTES: u64 = 1_073_741_824;
-
-/// The greatest kind of a record of an area.
-pub(crate) const KINDS: u8 = 10;
 
 /// Where area A begins, and where area B does, behind it.
 pub(crate) const AREA_A: u64 = 268_439_552;

@@ -1,5 +1,5 @@
 -- Each kind of body: what was read is spelled so, and what is spelled is read again.
-use Rattle.std.proofs.Common.{◌≡◌, ⊎_elim, ℕ, ◌≤◌, true, false, ltb, leb, List, ◌∷◌, ◌++◌, length, drop, get_or, Option, Some, None, refl, sym, ap, subst, ◌∙◌, append_assoc, arith}
+use Rattle.std.proofs.Common.{◌≡◌, ⊎_elim, ℕ, ◌≤◌, true, false, leb, List, ◌∷◌, ◌++◌, length, drop, get_or, Option, Some, None, refl, sym, ap, subst, ◌∙◌, append_assoc, arith}
 use Rattle.std.specs.Option.{option_and_then}
 use Rattle.std.proofs.lemmas.Bool.{leb-true, le-leb}
 use Rattle.byteorder.specs.Endian.{big_bytes}
@@ -9,12 +9,13 @@ use Rattle.byte_strings.specs.Codecs.{IsBytes, Takes, IsRead, IsAgain}
 use Rattle.byte_strings.proofs.Fields.{bind_some, some_is, chosen, byte_codec, u32_codec, u64_codec, counted_u32_codec, counted_parts, counted_again, wide4}
 use Rattle.byte_strings.proofs.Rows.{field_read, last_read, field_again, last_again, rows_read, whole_takes, whole_again}
 use Rattle.journal_records.specs.declared.change.Change.{Change}
-use Rattle.journal_records.specs.declared.change.Change.TheVariants.{Create, Delete, Use, Grant, Ungrant, Clear, Removed}
+use Rattle.journal_records.specs.declared.change.Change.TheVariants.{Create, Delete, Use, Grant, Ungrant, Clear, Removed, Upgrade}
+use Rattle.journal_records.specs.declared.record.TheConstants.{AREA_KINDS}
 use Rattle.journal_records.specs.declared.record.KeyRecord.{KeyRecord}
 use Rattle.journal_records.specs.declared.record.Record.{Record}
 use Rattle.journal_records.specs.declared.record.Record.TheVariants as records
 use Rattle.journal_records.specs.Spelling.{counted, body_of, tail_of, record_body, record_tail, kind_of, AreFields, IsChange, AreRecordFields, IsShortRecord, IsRecord}
-use Rattle.journal_records.specs.Reading.{created_at, deleted_at, used_at, granted_at, ungranted_at, cleared_at, removed_at, kinds, next_at, held_at, held_grant_at, rows, changed_at, fields_of, fields_within, body_at, body_in, record_at, change_of, only, change_at}
+use Rattle.journal_records.specs.Reading.{created_at, deleted_at, used_at, granted_at, ungranted_at, cleared_at, removed_at, upgraded_at, kinds, next_at, held_at, held_grant_at, rows, is_row, changed_at, fields_of, fields_within, body_at, body_in, record_at, change_of, only, change_at}
 
 -- ---- what was read is spelled so
 
@@ -54,10 +55,15 @@ cleared_read = field_read byte_codec (λ domain d. last_read u64_codec _ (λ nsp
 removed_read : IsKind 7 removed_at
 removed_read = last_read u32_codec _ (λ user u. (refl, u))
 
+upgraded_read : IsKind 11 upgraded_at
+unfolding upgraded_at
+upgraded_read =
+    field_read u64_codec (λ id i. field_read counted_u32_codec (λ blob b. last_read counted_u32_codec _ (λ list l. (refl, (i, b, l)))))
+
 kinds_read : (kind : ℕ) → IsRead (row_of kind kinds) (λ text change. IsBody (kind ∷ text) change)
 kinds_read kind =
     rows_read IsBody kinds kind
-    (created_read, (deleted_read, (used_read, (granted_read, (ungranted_read, (cleared_read, (removed_read, tt)))))))
+    (created_read, (deleted_read, (used_read, (granted_read, (ungranted_read, (cleared_read, (removed_read, (upgraded_read, tt))))))))
 
 -- the text is the body of the record
 abbrev IsRecordBody : List ℕ → Record → Type 0
@@ -103,10 +109,10 @@ held_grant_read =
 fields_read : (kind : ℕ) → IsRowKind kind (fields_of kind)
 fields_read kind = record {
   takes = λ bytes it rest fits e. ⊎_elim
-      (λ (p : (ltb kind 8 ≡ true) × (changed_at kind bytes ≡ Some (it, rest))). (changed_read kind).takes bytes it rest fits p.1)
-      (λ (p : (ltb kind 8 ≡ false) × (row_of kind rows bytes ≡ Some (it, rest))).
+      (λ (p : (is_row kind ≡ true) × (row_of kind rows bytes ≡ Some (it, rest))).
       (rows_read IsRecordBody rows kind (next_read, (held_read, (held_grant_read, tt)))).takes bytes it rest fits p.1)
-      (chosen (ltb kind 8) (changed_at kind bytes) (row_of kind rows bytes) (Some (it, rest)) e);
+      (λ (p : (is_row kind ≡ false) × (changed_at kind bytes ≡ Some (it, rest))). (changed_read kind).takes bytes it rest fits p.1)
+      (chosen (is_row kind) (row_of kind rows bytes) (changed_at kind bytes) (Some (it, rest)) e);
 }
 
 -- the kind is not greater than the greatest
@@ -155,10 +161,10 @@ pub change_takes : (bytes : List ℕ) (change : Change) (left : List ℕ) → Is
     → (bytes ≡ tail_of change ++ left) × IsChange change
 unfolding change_at
 change_takes bytes change left fits e =
-    let b = bind_some (λ (x : Record × List ℕ). only (change_of x.0) x.1) (record_at 7 bytes) (change, left) e in
-    let t = record_takes 7 bytes b.0.0 b.0.1 fits b.1 in
+    let b = bind_some (λ (x : Record × List ℕ). only (change_of x.0) x.1) (record_at AREA_KINDS bytes) (change, left) e in
+    let t = record_takes AREA_KINDS bytes b.0.0 b.0.1 fits b.1 in
     let is = only_change b.0.0 b.0.1 left change b.2 in
-    let whole = subst (λ (it : Record). (bytes ≡ record_tail it ++ b.0.1) × IsRecord 7 it) is.0 t in
+    let whole = subst (λ (it : Record). (bytes ≡ record_tail it ++ b.0.1) × IsRecord AREA_KINDS it) is.0 t in
     (whole.0 ∙ ap (λ (l : List ℕ). tail_of change ++ l) is.1, (whole.1.0, whole.1.1))
 
 -- ---- what is spelled is read again
@@ -181,6 +187,10 @@ granted_again row h =
 
 cleared_again : (domain nspace : ℕ) → AreFields (Clear domain nspace) → IsReadAgain cleared_at (Clear domain nspace)
 cleared_again domain nspace h = field_again byte_codec _ domain h.0 (last_again u64_codec _ nspace h.1)
+
+upgraded_again : (id : ℕ) (blob list : List ℕ) → AreFields (Upgrade id blob list) → IsReadAgain upgraded_at (Upgrade id blob list)
+unfolding upgraded_at
+upgraded_again id blob list h = field_again u64_codec _ id h.0 (field_again counted_u32_codec _ blob h.1 (last_again counted_u32_codec _ list h.2))
 
 held_again : (key : KeyRecord) → AreRecordFields (records.Held key) → IsAgain held_at (drop 1 (record_body (records.Held key))) (records.Held key)
 unfolding held_at
@@ -219,6 +229,7 @@ body_again greatest (records.Change (Grant row)) h less = within_again greatest 
 body_again greatest (records.Change (Ungrant grant)) h less = within_again greatest 5 _ _ less (changed_again ungranted_at _ _ (last_again u64_codec (λ a. Ungrant a) grant h))
 body_again greatest (records.Change (Clear domain nspace)) h less = within_again greatest 6 _ _ less (changed_again cleared_at _ _ (cleared_again domain nspace h))
 body_again greatest (records.Change (Removed user)) h less = within_again greatest 7 _ _ less (changed_again removed_at _ _ (last_again u32_codec (λ a. Removed a) user h))
+body_again greatest (records.Change (Upgrade id blob list)) h less = within_again greatest 11 _ _ less (changed_again upgraded_at _ _ (upgraded_again id blob list h))
 body_again greatest (records.Next key grant) h less = within_again greatest 8 _ _ less (next_again key grant h)
 body_again greatest (records.Held key) h less = within_again greatest 9 _ _ less (held_again key h)
 body_again greatest (records.HeldGrant row) h less = within_again greatest 10 _ _ less (held_grant_again row h)
@@ -227,8 +238,8 @@ pub record_again : (greatest : ℕ) (it : Record) (left : List ℕ) → IsRecord
 unfolding record_at record_tail
 record_again greatest it left h = rw (counted_again 4 (record_body it) left h.1, whole_again (body_again greatest it h.0 h.2)) refl
 
--- the kinds of changes
-pub change_kind : (change : Change) → kind_of (records.Change change) ≤ 7
+-- an area may hold each kind of change
+pub change_kind : (change : Change) → kind_of (records.Change change) ≤ AREA_KINDS
 change_kind (Create id domain nspace alias blob list limit) = omega arith
 change_kind (Delete id) = omega arith
 change_kind (Use id) = omega arith
@@ -236,7 +247,8 @@ change_kind (Grant row) = omega arith
 change_kind (Ungrant grant) = omega arith
 change_kind (Clear domain nspace) = omega arith
 change_kind (Removed user) = omega arith
+change_kind (Upgrade id blob list) = omega arith
 
 pub change_again : (change : Change) (left : List ℕ) → IsChange change → change_at (tail_of change ++ left) ≡ Some (change, left)
 unfolding change_at
-change_again change left h = rw (record_again 7 (records.Change change) left (h.0, h.1, change_kind change)) refl
+change_again change left h = rw (record_again AREA_KINDS (records.Change change) left (h.0, h.1, change_kind change)) refl

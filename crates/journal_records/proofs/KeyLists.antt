@@ -1,15 +1,15 @@
 -- Keys that differ, and grants of live keys: behind the others, taken out, and used.
-use Rattle.std.proofs.Common.{◌≡◌, ℕ, zero, suc, ◌+◌, ◌-◌, ◌<◌, ◌≤◌, Bool, true, false, cond, not, ◌==◌, ◌&&◌, ◌||◌, if◌then◌else◌, List, [], ◌∷◌, ◌++◌, refl, sym, ap, ◌∙◌, subst, arith, inl, inr}
+use Rattle.std.proofs.Common.{◌≡◌, ℕ, Bool, true, false, cond, not, ◌==◌, ◌||◌, List, [], ◌∷◌, ◌++◌, refl, sym, subst, inl, inr}
 use Rattle.std.specs.Prelude.{map}
-use Rattle.std.specs.List.{AllByRecursion, filter, list_any}
+use Rattle.std.specs.List.{AllByRecursion, filter}
 use Rattle.std.specs.Str.{bytes_eq}
-use Rattle.std.proofs.lemmas.Bool.{cases_Bool, both_ways, and_from, and_parts, or_cases, or_from, or_left, or_parts, or_right, eqb-true, eq-eqb, false_from_ne_true}
+use Rattle.std.proofs.lemmas.Bool.{cases_Bool, both_ways, and_from, and_parts, or_cases, or_left, or_parts, or_right, eqb-true, eq-eqb, false_from_ne_true}
 use Rattle.std.proofs.lemmas.Slice.Eq.{bytes_eq-Decides}
 use Rattle.grants.specs.declared.row.GrantRow.{GrantRow}
 use Rattle.grants.specs.Rows.{is_for}
-use Rattle.grants.proofs.Finding.{all_more, all_push, all_filter}
+use Rattle.grants.proofs.Finding.{all_push, all_filter}
 use Rattle.journal_records.specs.declared.record.KeyRecord.{KeyRecord}
-use Rattle.journal_records.specs.Effects.{is_last_use, with_use}
+use Rattle.journal_records.specs.Effects.{with_blob, with_use}
 use Rattle.journal_records.specs.LastingPart.{has_id, is_named, is_owned, some_has_id}
 use Rattle.journal_records.specs.Storable.{AreKeys, IsKeyBefore}
 use Rattle.journal_records.proofs.Lists.{all_mid}
@@ -53,20 +53,28 @@ pub keys_before : (keys : List KeyRecord) (key : KeyRecord) (later : List KeyRec
 keys_before [] key later t = tt
 keys_before (first ∷ keys) key later t = (all_mid (IsKeyBefore first) keys key later t.0, keys_before keys key later t.1)
 
--- a use changes neither a key's number nor its name
-use_before : (id : ℕ) (key later : KeyRecord) → IsKeyBefore key later → IsKeyBefore (with_use id key) (with_use id later)
-use_before id key later before = elim (cases_Bool (has_id id key)) [
-  | inl one ↦ elim (cases_Bool (has_id id later)) [ inl two ↦ rw (one, two) before | inr none ↦ rw (one, none) before ]
-  | inr other ↦ elim (cases_Bool (has_id id later)) [ inl two ↦ rw (other, two) before | inr none ↦ rw (other, none) before ]
-]
+-- a key changes in its blob, its list and its uses left alone
+abbrev pub KeepsNames : (KeyRecord → KeyRecord) → Type 0
+KeepsNames f = (key : KeyRecord) → f key ≡ record key { blob = (f key).blob; list = (f key).list; left = (f key).left }
 
-all_used : (id : ℕ) (key : KeyRecord) (keys : List KeyRecord) → AllByRecursion (IsKeyBefore key) keys → AllByRecursion (IsKeyBefore (with_use id key)) (map (with_use id) keys)
-all_used id key [] a = tt
-all_used id key (later ∷ keys) a = (use_before id key later a.0, all_used id key keys a.1)
+pub use_names : (id : ℕ) → KeepsNames (with_use id)
+use_names id key = elim (cases_Bool (has_id id key)) [ inl one ↦ rw one refl | inr other ↦ rw other refl ]
 
-pub keys_used : (id : ℕ) (keys : List KeyRecord) → AreKeys keys → AreKeys (map (with_use id) keys)
-keys_used id [] t = tt
-keys_used id (key ∷ keys) t = (all_used id key keys t.0, keys_used id keys t.1)
+pub blob_names : (id : ℕ) (blob list : List ℕ) → KeepsNames (with_blob id blob list)
+blob_names id blob list key = elim (cases_Bool (has_id id key)) [ inl one ↦ rw one refl | inr other ↦ rw other refl ]
+
+names_before : (f : KeyRecord → KeyRecord) → KeepsNames f → (key later : KeyRecord) → IsKeyBefore key later → IsKeyBefore (f key) (f later)
+names_before f same key later before =
+    subst (λ (first : KeyRecord). IsKeyBefore first (f later)) (sym (same key))
+    (subst (λ (second : KeyRecord). IsKeyBefore (record key { blob = (f key).blob; list = (f key).list; left = (f key).left }) second) (sym (same later)) before)
+
+all_named : (f : KeyRecord → KeyRecord) → KeepsNames f → (key : KeyRecord) (keys : List KeyRecord) → AllByRecursion (IsKeyBefore key) keys → AllByRecursion (IsKeyBefore (f key)) (map f keys)
+all_named f same key [] a = tt
+all_named f same key (later ∷ keys) a = (names_before f same key later a.0, all_named f same key keys a.1)
+
+pub keys_named : (f : KeyRecord → KeyRecord) → KeepsNames f → (keys : List KeyRecord) → AreKeys keys → AreKeys (map f keys)
+keys_named f same [] t = tt
+keys_named f same (key ∷ keys) t = (all_named f same key keys t.0, keys_named f same keys t.1)
 
 -- ---- live keys
 
@@ -95,9 +103,9 @@ live_left id ends (key ∷ keys) live none = elim (cases_Bool (ends key)) [
       ])
 ]
 
-pub live_used : (id used : ℕ) (keys : List KeyRecord) → some_has_id id (map (with_use used) keys) ≡ some_has_id id keys
-live_used id used [] = refl
-live_used id used (key ∷ keys) = elim (cases_Bool (has_id used key)) [ inl one ↦ rw (one, live_used id used keys) refl | inr other ↦ rw (other, live_used id used keys) refl ]
+pub live_named : (f : KeyRecord → KeyRecord) → KeepsNames f → (id : ℕ) (keys : List KeyRecord) → some_has_id id (map f keys) ≡ some_has_id id keys
+live_named f same id [] = refl
+live_named f same id (key ∷ keys) = (λ i. has_id id (same key i) || live_named f same id keys i)
 
 -- the number of a live key is one of theirs
 pub live_has : (P : ℕ → Type 0) (id : ℕ) (keys : List KeyRecord) → AllByRecursion (λ (key : KeyRecord). P key.id) keys → some_has_id id keys ≡ true → P id

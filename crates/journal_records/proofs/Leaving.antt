@@ -1,27 +1,27 @@
 -- What records leave is what a store can hold: each change and each row keeps it so.
-use Rattle.std.proofs.Common.{◌≡◌, ℕ, zero, suc, ◌+◌, ◌-◌, ◌<◌, ◌≤◌, ◌^◌, Bool, true, false, cond, not, ltb, leb, ◌==◌, ◌&&◌, ◌||◌, if◌then◌else◌, List, [], ◌∷◌, ◌++◌, length, Option, Some, None, refl, sym, ap, ◌∙◌, subst, arith, inl, inr}
+use Rattle.std.proofs.Common.{◌≡◌, ℕ, zero, suc, ◌+◌, ◌-◌, ◌<◌, ◌≤◌, ◌^◌, Bool, true, false, not, ◌==◌, ◌&&◌, ◌||◌, if◌then◌else◌, List, [], ◌∷◌, ◌++◌, length, Option, Some, None, refl, sym, ap, ◌∙◌, subst, arith, inl, inr}
 use Rattle.std.specs.Prelude.{map, find, nat_lt, nat_le}
 use Rattle.std.specs.List.{AllByRecursion, filter, list_all, list_any}
-use Rattle.std.proofs.lemmas.Bool.{cases_Bool, and_parts, eqb-true, leb-true, ltb-true, not-true, or_cases}
+use Rattle.std.proofs.lemmas.Bool.{and_parts, eqb-true, leb-true, ltb-true, not-true, or_cases}
 use Rattle.tags.specs.Descriptor.{is_alias}
 use Rattle.tags.specs.declared.limits.TheConstants.{BLOB_BYTES, KEPT_LIST_BYTES, MOST_GRANTS, MOST_KEYS, NUMBERS_END}
 use Rattle.grants.specs.declared.row.GrantRow.{GrantRow}
-use Rattle.grants.specs.Rows.{IsBefore, IsTable, is_for, is_numbered, with_bits}
+use Rattle.grants.specs.Rows.{IsBefore, is_for, is_numbered, with_bits}
 use Rattle.grants.proofs.Finding.{all_from_none, all_filter, all_more, all_push, keeps_all}
 use Rattle.grants.proofs.Ordered.{table_bits, table_filter, table_more}
 use Rattle.byte_strings.proofs.Fields.{bind_some}
 use Rattle.journal_records.specs.declared.change.Change.{Change}
-use Rattle.journal_records.specs.declared.change.Change.TheVariants.{Create, Delete, Use, Grant, Ungrant, Clear, Removed}
+use Rattle.journal_records.specs.declared.change.Change.TheVariants.{Create, Delete, Use, Grant, Ungrant, Clear, Removed, Upgrade}
 use Rattle.journal_records.specs.declared.record.KeyRecord.{KeyRecord}
 use Rattle.journal_records.specs.declared.record.Record.{Record}
 use Rattle.journal_records.specs.declared.record.Record.TheVariants as records
 use Rattle.journal_records.specs.LastingPart.{Lasting, empty_lasting, has_id, is_named, is_of_user, is_owned, some_has_id, without_keys}
 use Rattle.journal_records.specs.Needs.{has_place_for, is_grant_numbered, is_met, is_number_left, is_owner}
-use Rattle.journal_records.specs.Effects.{after, granted, is_last_use, used, with_key, with_use}
-use Rattle.journal_records.specs.Spelling.{AreFields, IsChange, IsRecord}
-use Rattle.journal_records.specs.States.{AmongChanges, AmongRows, AtStart, Phase, ReadState, after_in, has_uses_within, is_at_start, is_given, is_next_number, making, may_hold, may_hold_grant, met_in, state_of, stepped, takes_rows}
-use Rattle.journal_records.specs.Storable.{AreKeys, IsKeyBefore, IsStorable, IsStorableGrant, IsStorableKey, area_kinds}
-use Rattle.journal_records.proofs.KeyLists.{keys_filter, keys_more, keys_used, live_left, live_more, live_used, other_name, other_pair}
+use Rattle.journal_records.specs.Effects.{after, granted, is_last_use, upgraded, used, with_blob, with_key, with_use}
+use Rattle.journal_records.specs.Spelling.{AreFields, IsRecord}
+use Rattle.journal_records.specs.States.{AtStart, ReadState, after_in, has_uses_within, is_at_start, is_given, is_next_number, making, may_hold, may_hold_grant, met_in, state_of, stepped, takes_rows}
+use Rattle.journal_records.specs.Storable.{IsKeyBefore, IsStorable, IsStorableGrant, IsStorableKey, area_kinds}
+use Rattle.journal_records.proofs.KeyLists.{KeepsNames, blob_names, keys_filter, keys_more, keys_named, live_left, live_more, live_named, other_name, other_pair, use_names}
 use Rattle.journal_records.proofs.Lists.{all_from_test, all_map, all_passing, as_many, both_all, fewer_pass, none_from_test, one_longer}
 
 -- ---- keys that end
@@ -166,22 +166,51 @@ used_key next id key is stays = by_number (has_id id key) stays where
   }
   by_number false more = is
 
+-- keys that change in place, each keeping its number and its name
+storable_named : (f : KeyRecord → KeyRecord) → KeepsNames f → (part : Lasting) → IsStorable part → AllByRecursion (IsStorableKey part.next_key) (map f part.keys)
+    → IsStorable (record part { keys = map f part.keys })
+storable_named f same part is each = record {
+  keys = each;
+  keys_differ = keys_named f same part.keys is.keys_differ;
+  key_count = omega (arith, as_many f part.keys, is.key_count);
+  grants = all_more (IsStorableGrant part.next_grant part.keys) (IsStorableGrant part.next_grant (map f part.keys))
+      (λ row old. grant_live part.next_grant part.keys (map f part.keys) row (λ live. live_named f same row.key part.keys ∙ live) old) part.grants is.grants;
+  grants_differ = is.grants_differ;
+  grant_count = is.grant_count;
+  next_key = is.next_key;
+  next_grant = is.next_grant;
+}
+
 storable_used : (id : ℕ) (part : Lasting) → IsStorable part → IsStorable (used id part)
 storable_used id part is =
     let rest = without_keys (is_last_use id) part in
-    let left = storable_without (is_last_use id) part is in
-    record {
-      keys = all_map (λ key. IsStorableKey part.next_key key × (not (is_last_use id key) ≡ true)) (IsStorableKey part.next_key) (with_use id) (λ key both. used_key part.next_key id key both.0 both.1) rest.keys
-          (all_passing (IsStorableKey part.next_key) (λ key. IsStorableKey part.next_key key × (not (is_last_use id key) ≡ true)) (λ key. not (is_last_use id key)) (λ key old stays. (old, stays)) part.keys is.keys);
-      keys_differ = keys_used id rest.keys left.keys_differ;
-      key_count = omega (arith, as_many (with_use id) rest.keys, left.key_count);
-      grants = all_more (IsStorableGrant part.next_grant rest.keys) (IsStorableGrant part.next_grant (map (with_use id) rest.keys))
-          (λ row old. grant_live part.next_grant rest.keys (map (with_use id) rest.keys) row (λ live. live_used row.key id rest.keys ∙ live) old) rest.grants left.grants;
-      grants_differ = left.grants_differ;
-      grant_count = left.grant_count;
-      next_key = left.next_key;
-      next_grant = left.next_grant;
-    }
+    storable_named (with_use id) (use_names id) rest (storable_without (is_last_use id) part is)
+    (all_map (λ key. IsStorableKey part.next_key key × (not (is_last_use id key) ≡ true)) (IsStorableKey part.next_key) (with_use id) (λ key both. used_key part.next_key id key both.0 both.1) rest.keys
+    (all_passing (IsStorableKey part.next_key) (λ key. IsStorableKey part.next_key key × (not (is_last_use id key) ≡ true)) (λ key. not (is_last_use id key)) (λ key old stays. (old, stays)) part.keys is.keys))
+
+upgraded_key : (next id : ℕ) (blob list : List ℕ) → length blob ≤ BLOB_BYTES → length list ≤ KEPT_LIST_BYTES → (key : KeyRecord) → IsStorableKey next key → IsStorableKey next (with_blob id blob list key)
+upgraded_key next id blob list small short key is = by_number (has_id id key) where
+  by_number : (b : Bool) → IsStorableKey next (if b then record key { blob = blob; list = list } else key)
+  by_number true = record {
+    numbered = is.numbered;
+    owner = is.owner;
+    nspace = is.nspace;
+    alias = is.alias;
+    blob = small;
+    list = short;
+    limit = is.limit;
+    uses = is.uses;
+  }
+  by_number false = is
+
+storable_upgraded : (id : ℕ) (blob list : List ℕ) (part : Lasting) → is_met part (Upgrade id blob list) ≡ true → IsStorable part → IsStorable (upgraded id blob list part)
+storable_upgraded id blob list part met is =
+    let small = nat_le (length blob) BLOB_BYTES in
+    let short = nat_le (length list) KEPT_LIST_BYTES in
+    let sizes = and_parts small short (and_parts (some_has_id id part.keys) (small && short) met).1 in
+    storable_named (with_blob id blob list) (blob_names id blob list) part is
+    (all_map (IsStorableKey part.next_key) (IsStorableKey part.next_key) (with_blob id blob list)
+    (upgraded_key part.next_key id blob list (leb-true (length blob) BLOB_BYTES sizes.0) (leb-true (length list) KEPT_LIST_BYTES sizes.1)) part.keys is.keys)
 
 rebit : (key uid bits next : ℕ) (keys : List KeyRecord) (row : GrantRow) → bits < 2 ^ 32 → IsStorableGrant next keys row → IsStorableGrant next keys (with_bits key uid bits row)
 rebit key uid bits next keys row small is = by_pair (is_for key uid row) where
@@ -245,6 +274,7 @@ storable_after part (Grant row) fits met is = storable_granted part row fits met
 storable_after part (Ungrant grant) fits met is = storable_ungranted grant part is
 storable_after part (Clear domain nspace) fits met is = storable_without (is_owned domain nspace) part is
 storable_after part (Removed user) fits met is = storable_without (is_of_user user) part is
+storable_after part (Upgrade id blob list) fits met is = storable_upgraded id blob list part met is
 
 -- ---- each row
 

@@ -1,5 +1,5 @@
 -- The snapshot of what a store can hold is records, and how many bytes they have.
-use Rattle.std.proofs.Common.{◌≡◌, ℕ, ◌+◌, ◌*◌, ◌<◌, ◌≤◌, ◌^◌, true, ◌==◌, ◌&&◌, ◌||◌, List, [], ◌∷◌, ◌++◌, length, length-append, refl, sym, ap, ◌∙◌, subst, arith, inl, inr, append_assoc}
+use Rattle.std.proofs.Common.{◌≡◌, ℕ, ◌+◌, ◌*◌, ◌<◌, ◌≤◌, ◌^◌, true, ◌==◌, ◌&&◌, List, [], ◌∷◌, ◌++◌, length, length-append, refl, sym, ap, ◌∙◌, arith, inl, inr, append_assoc}
 use Rattle.std.specs.Prelude.{map, reverse, nat_le, nat_lt}
 use Rattle.std.specs.List.{AllByRecursion}
 use Rattle.std.proofs.lemmas.Bool.{and_parts, eqb-true, leb-true, or_cases}
@@ -7,9 +7,8 @@ use Rattle.std.specs.Str.{is_utf8}
 use Rattle.byteorder.specs.Endian.{big_bytes}
 use Rattle.byteorder.specs.Numbers.{length-bytes_high_first}
 use Rattle.tags.specs.Descriptor.{is_alias}
-use Rattle.tags.specs.declared.limits.TheConstants.{ALIAS_BYTES, BLOB_BYTES, KEPT_LIST_BYTES, NUMBERS_END}
+use Rattle.tags.specs.declared.limits.TheConstants.{ALIAS_BYTES, NUMBERS_END}
 use Rattle.grants.specs.declared.row.GrantRow.{GrantRow}
-use Rattle.grants.proofs.Finding.{all_more}
 use Rattle.journal_records.specs.declared.record.HeldNumbers.{HeldNumbers}
 use Rattle.journal_records.specs.declared.record.KeyRecord.{KeyRecord}
 use Rattle.journal_records.specs.declared.record.Record.{Record}
@@ -17,8 +16,7 @@ use Rattle.journal_records.specs.declared.record.Record.TheVariants as records
 use Rattle.journal_records.specs.LastingPart.{Lasting}
 use Rattle.journal_records.specs.Needs.{is_owner}
 use Rattle.journal_records.specs.Spelling.{IsRecord, counted, key_fields, key_of, grant_fields, numbers_of, record_body, record_closed, record_framed, record_tail, spelled}
-use Rattle.journal_records.specs.Storable.{IsStorable, IsStorableGrant, IsStorableKey, area_kinds, held_grant, held_key, key_row_length, key_rows_length, snapshot, snapshot_length}
-use Rattle.journal_records.proofs.KeyLists.{live_has}
+use Rattle.journal_records.specs.Storable.{IsStorable, IsStorableGrant, IsStorableKey, area_kinds, held_grant, held_key, key_rows_length, snapshot, snapshot_length}
 use Rattle.journal_records.proofs.Lists.{all_append, all_map, all_reverse, last_is}
 
 -- ---- lengths

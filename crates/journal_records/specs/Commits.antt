@@ -21,7 +21,6 @@ append_state (Err appends.Full) = NotBegun
 abbrev pub apply_state : {T : Type 0} → Result T ApplyFault → CommitState
 apply_state (Ok done) = Committed
 apply_state (Err applies.Device) = InDoubt
-apply_state (Err applies.Full) = NotBegun
 apply_state (Err applies.Memory) = NotBegun
 
 abbrev pub is_in_doubt : CommitState → Bool

@@ -4,7 +4,7 @@ use Rattle.std.specs.Option.{option_and_then}
 use Rattle.grants.specs.declared.row.GrantRow.{GrantRow}
 use Rattle.grants.specs.Rows.{is_numbered, is_for, with_bits}
 use Rattle.journal_records.specs.declared.change.Change.{Change}
-use Rattle.journal_records.specs.declared.change.Change.TheVariants.{Create, Delete, Use, Grant, Ungrant, Clear, Removed}
+use Rattle.journal_records.specs.declared.change.Change.TheVariants.{Create, Delete, Use, Grant, Ungrant, Clear, Removed, Upgrade}
 use Rattle.journal_records.specs.declared.record.KeyRecord.{KeyRecord}
 use Rattle.journal_records.specs.LastingPart.{Lasting, empty_lasting, has_id, is_owned, is_named, is_of_user, without_keys}
 use Rattle.journal_records.specs.Needs.{is_met}
@@ -33,6 +33,14 @@ abbrev pub granted : Option GrantRow → GrantRow → Lasting → Lasting
 granted (Some held) row part = record part { grants = map (with_bits row.key row.uid row.bits) part.grants }
 granted None row part = record part { grants = part.grants ++ row ∷ []; next_grant = row.grant + 1 }
 
+-- the key of a number has this blob and this list
+abbrev pub with_blob : ℕ → List ℕ → List ℕ → KeyRecord → KeyRecord
+with_blob id blob list key = if has_id id key then record key { blob = blob; list = list } else key
+
+-- the key of a number has another blob and another list, and stays the same in all else
+abbrev pub upgraded : ℕ → List ℕ → List ℕ → Lasting → Lasting
+upgraded id blob list part = record part { keys = map (with_blob id blob list) part.keys }
+
 -- the lasting part after a change
 abbrev pub after : Lasting → Change → Lasting
 after part (Create id domain nspace alias blob list limit) = with_key (record {
@@ -51,6 +59,7 @@ after part (Grant row) = granted (find (is_for row.key row.uid) part.grants) row
 after part (Ungrant grant) = record part { grants = filter (λ row. not (is_numbered grant row)) part.grants }
 after part (Clear domain nspace) = without_keys (is_owned domain nspace) part
 after part (Removed user) = without_keys (is_of_user user) part
+after part (Upgrade id blob list) = upgraded id blob list part
 
 -- the lasting part after one change more, where its need is met
 abbrev pub changed : Lasting → Change → Option Lasting

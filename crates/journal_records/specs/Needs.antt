@@ -5,7 +5,7 @@ use Rattle.tags.specs.Descriptor.{is_alias}
 use Rattle.grants.specs.declared.row.GrantRow.{GrantRow}
 use Rattle.grants.specs.Rows.{is_numbered, is_for}
 use Rattle.journal_records.specs.declared.change.Change.{Change}
-use Rattle.journal_records.specs.declared.change.Change.TheVariants.{Create, Delete, Use, Grant, Ungrant, Clear, Removed}
+use Rattle.journal_records.specs.declared.change.Change.TheVariants.{Create, Delete, Use, Grant, Ungrant, Clear, Removed, Upgrade}
 use Rattle.journal_records.specs.declared.record.KeyRecord.{KeyRecord}
 use Rattle.journal_records.specs.LastingPart.{Lasting, has_id, some_has_id, is_named, without_keys}
 use Rattle.tags.specs.declared.limits.TheConstants.{BLOB_BYTES, KEPT_LIST_BYTES, MOST_GRANTS, MOST_KEYS, MOST_USER, NUMBERS_END}
@@ -49,3 +49,5 @@ is_met part (Grant row) =
 is_met part (Ungrant grant) = list_any (is_numbered grant) part.grants
 is_met part (Clear domain nspace) = (domain == 0) || (domain == 2)
 is_met part (Removed user) = nat_le user MOST_USER
+is_met part (Upgrade id blob list) =
+    some_has_id id part.keys && (nat_le (length blob) BLOB_BYTES && nat_le (length list) KEPT_LIST_BYTES)

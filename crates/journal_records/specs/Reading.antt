@@ -1,9 +1,10 @@
 -- Reading a record from left to right.
-use Rattle.std.specs.Prelude.{◌≡◌, ℕ, nat_lt, nat_le, List, [], ◌∷◌, Option, Some, None, Result, Ok, Err, ◌==◌, if◌then◌else◌}
+use Rattle.std.specs.Prelude.{◌≡◌, ℕ, Bool, ◌&&◌, nat_le, List, [], ◌∷◌, Option, Some, None, Result, Ok, Err, ◌==◌, if◌then◌else◌}
 use Rattle.std.specs.Option.{option_and_then}
 use Rattle.byte_strings.specs.Readers.{Reader, byte_at, number_at, counted_at, ◌>>=◌, done, row_of, ended}
 use Rattle.journal_records.specs.declared.change.Change.{Change}
-use Rattle.journal_records.specs.declared.change.Change.TheVariants.{Create, Delete, Use, Grant, Ungrant, Clear, Removed}
+use Rattle.journal_records.specs.declared.change.Change.TheVariants.{Create, Delete, Use, Grant, Ungrant, Clear, Removed, Upgrade}
+use Rattle.journal_records.specs.declared.record.TheConstants.{AREA_KINDS}
 use Rattle.journal_records.specs.declared.record.Record.{Record}
 use Rattle.journal_records.specs.declared.record.Record.TheVariants as records
 use Rattle.journal_records.specs.declared.fault.RecordFault.{RecordFault}
@@ -62,10 +63,17 @@ removed_at = do
   user ← number_at 4
   done (Removed user)
 
--- the kinds of change, by their numbers
+unfoldable pub upgraded_at : Reader Change
+upgraded_at = do
+  id ← number_at 8
+  blob ← counted_at 4
+  list ← counted_at 4
+  done (Upgrade id blob list)
+
+-- the kinds of change, by their numbers; a journal has those up to 7
 abbrev pub kinds : List (ℕ × Reader Change)
 kinds =
-    (1, created_at) ∷ (2, deleted_at) ∷ (3, used_at) ∷ (4, granted_at) ∷ (5, ungranted_at) ∷ (6, cleared_at) ∷ (7, removed_at) ∷ []
+    (1, created_at) ∷ (2, deleted_at) ∷ (3, used_at) ∷ (4, granted_at) ∷ (5, ungranted_at) ∷ (6, cleared_at) ∷ (7, removed_at) ∷ (11, upgraded_at) ∷ []
 
 -- ---- the rows of a snapshot
 
@@ -95,7 +103,7 @@ held_grant_at = do
   bits ← number_at 4
   done (records.HeldGrant (record { grant = grant; key = key; uid = uid; bits = bits }))
 
--- the rows, by their numbers, which stand behind those of the changes
+-- the rows, by their numbers
 abbrev pub rows : List (ℕ × Reader Record)
 rows = (8, next_at) ∷ (9, held_at) ∷ (10, held_grant_at) ∷ []
 
@@ -107,9 +115,13 @@ changed_at kind = do
   change ← row_of kind kinds
   done (records.Change change)
 
+-- whether a kind is that of a row of a snapshot
+abbrev pub is_row : ℕ → Bool
+is_row kind = nat_le 8 kind && nat_le kind 10
+
 -- the fields of a body, by its kind
 abbrev pub fields_of : ℕ → Reader Record
-fields_of kind bytes = if nat_lt kind 8 then changed_at kind bytes else row_of kind rows bytes
+fields_of kind bytes = if is_row kind then row_of kind rows bytes else changed_at kind bytes
 
 -- the same, up to the greatest kind that may stand there
 abbrev pub fields_within : ℕ → ℕ → Reader Record
@@ -147,7 +159,7 @@ only (Some x) bytes = Some (x, bytes)
 -- the change whose record stands at the front, behind its gate, and the bytes after it
 unfoldable pub change_at : Reader Change
 change_at = do
-  it ← record_at 7
+  it ← record_at AREA_KINDS
   only (change_of it)
 
 -- the change that these bytes are the record of

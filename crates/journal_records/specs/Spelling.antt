@@ -4,7 +4,7 @@ use Rattle.byteorder.specs.Endian.{big_bytes}
 use Rattle.byte_strings.specs.Fields as fields
 use Rattle.gated_records.specs.Areas.{closed_by, opened_before}
 use Rattle.journal_records.specs.declared.change.Change.{Change}
-use Rattle.journal_records.specs.declared.change.Change.TheVariants.{Create, Delete, Use, Grant, Ungrant, Clear, Removed}
+use Rattle.journal_records.specs.declared.change.Change.TheVariants.{Create, Delete, Use, Grant, Ungrant, Clear, Removed, Upgrade}
 use Rattle.grants.specs.declared.row.GrantRow.{GrantRow}
 use Rattle.journal_records.specs.declared.record.HeldNumbers.{HeldNumbers}
 use Rattle.journal_records.specs.declared.record.KeyRecord.{KeyRecord}
@@ -34,6 +34,7 @@ body_of (Grant row) = 4 ∷ grant_fields row
 body_of (Ungrant grant) = 5 ∷ big_bytes 8 grant
 body_of (Clear domain nspace) = 6 ∷ (domain ∷ big_bytes 8 nspace)
 body_of (Removed user) = 7 ∷ big_bytes 4 user
+body_of (Upgrade id blob list) = 11 ∷ (big_bytes 8 id ++ (counted blob ++ counted list))
 
 -- the numbers of a key
 abbrev pub numbers_of : KeyRecord → HeldNumbers
@@ -101,6 +102,7 @@ AreFields (Grant row) = (row.grant < 2 ^ 64) × (row.key < 2 ^ 64) × (row.uid <
 AreFields (Ungrant grant) = grant < 2 ^ 64
 AreFields (Clear domain nspace) = (domain < 2 ^ 8) × (nspace < 2 ^ 64)
 AreFields (Removed user) = user < 2 ^ 32
+AreFields (Upgrade id blob list) = (id < 2 ^ 64) × (length blob < 2 ^ 32) × (length list < 2 ^ 32)
 
 -- the body's length has four bytes
 abbrev pub IsShort : Change → Type 0

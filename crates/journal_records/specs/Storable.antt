@@ -4,6 +4,7 @@ use Rattle.std.specs.List.{AllByRecursion}
 use Rattle.tags.specs.Descriptor.{is_alias}
 use Rattle.grants.specs.declared.row.GrantRow.{GrantRow}
 use Rattle.grants.specs.Rows.{IsTable}
+use Rattle.journal_records.specs.declared.record.TheConstants.{AREA_KINDS}
 use Rattle.journal_records.specs.declared.record.KeyRecord.{KeyRecord}
 use Rattle.journal_records.specs.declared.record.Record.{Record}
 use Rattle.journal_records.specs.declared.record.Record.TheVariants as records
@@ -82,7 +83,7 @@ pub record IsStorable (part : Lasting) : Type 0 where
 
 -- the greatest kind of record that an area may hold
 abbrev pub area_kinds : ℕ
-area_kinds = 10
+area_kinds = AREA_KINDS
 
 -- what records leave, each with its need met, is what a store can hold
 abbrev pub LeavesStorable : Type 0

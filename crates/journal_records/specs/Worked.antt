@@ -2,7 +2,7 @@
 use Rattle.std.specs.Prelude.{◌≡◌, ℕ, ◌+◌, ◌^◌, List, [], ◌∷◌, reverse, replicate, Option, None, Some}
 use Rattle.grants.specs.declared.row.GrantRow.{GrantRow}
 use Rattle.journal_records.specs.declared.change.Change.{Change}
-use Rattle.journal_records.specs.declared.change.Change.TheVariants.{Create, Delete, Use, Grant, Ungrant, Clear, Removed}
+use Rattle.journal_records.specs.declared.change.Change.TheVariants.{Create, Delete, Use, Grant, Ungrant, Clear, Removed, Upgrade}
 use Rattle.journal_records.specs.declared.record.KeyRecord.{KeyRecord}
 use Rattle.journal_records.specs.declared.record.Record.{Record}
 use Rattle.journal_records.specs.declared.record.Record.TheVariants as records
@@ -27,6 +27,13 @@ key id limit left = record {
   limit = limit;
   left = left;
 }
+
+-- another blob and another list of a key
+abbrev pub upgrade : ℕ → Change
+upgrade id = Upgrade id (187 ∷ 204 ∷ []) (0 ∷ 1 ∷ 2 ∷ [])
+
+abbrev pub renewed : KeyRecord → KeyRecord
+renewed held = record held { blob = 187 ∷ 204 ∷ []; list = 0 ∷ 1 ∷ 2 ∷ [] }
 
 -- a grant of key 1 to uid 10002
 abbrev pub grant_row : ℕ → ℕ → GrantRow
@@ -60,6 +67,15 @@ pub record WorkedExamples : Type 0 where
   pub user_removed : lasting_of (Removed 0 ∷ Grant (grant_row 1 256) ∷ create 1 2 ∷ []) ≡ left_by [] [] 2 2
   pub other_removed : lasting_of (Removed 1 ∷ create 1 2 ∷ []) ≡ left_by (key 1 2 2 ∷ []) [] 2 1
   pub no_such_user : lasting_of (Removed 42950 ∷ []) ≡ None
+  -- another blob and list: uses, alias and grants stay
+  pub upgraded : lasting_of (upgrade 1 ∷ Use 1 ∷ Grant (grant_row 1 256) ∷ create 1 2 ∷ [])
+      ≡ left_by (renewed (key 1 2 1) ∷ []) (grant_row 1 256 ∷ []) 2 2
+  pub other_upgraded : lasting_of (upgrade 2 ∷ create 1 2 ∷ []) ≡ None
+  pub ended_upgraded : lasting_of (upgrade 1 ∷ Delete 1 ∷ create 1 2 ∷ []) ≡ None
+  pub longest : lasting_of (Upgrade 1 (replicate 6327 187) (replicate 4140 0) ∷ create 1 2 ∷ [])
+      ≡ left_by (record (key 1 2 2) { blob = replicate 6327 187; list = replicate 4140 0 } ∷ []) [] 2 1
+  pub long_blob : lasting_of (Upgrade 1 (replicate 6328 187) [] ∷ create 1 2 ∷ []) ≡ None
+  pub long_list : lasting_of (Upgrade 1 [] (replicate 4141 0) ∷ create 1 2 ∷ []) ≡ None
   -- grants
   pub granted : lasting_of (Grant (grant_row 1 256) ∷ create 1 2 ∷ []) ≡ left_by (key 1 2 2 ∷ []) (grant_row 1 256 ∷ []) 2 2
   pub granted_again : lasting_of (Grant (grant_row 1 260) ∷ Grant (grant_row 1 256) ∷ create 1 2 ∷ [])
@@ -108,6 +124,8 @@ pub record WorkedAreas : Type 0 where
       ≡ state_with (key 2 2 1 ∷ []) (record { grant = 3; key = 2; uid = 10002; bits = 256 } ∷ []) AmongChanges
   pub made_behind : state_of (records.Change (create 5 2) ∷ held 2 2 2 ∷ next 5 4 ∷ [])
       ≡ Some (record { part = record { keys = key 5 2 2 ∷ []; grants = []; next_key = 6; next_grant = 4 }; phase = AmongChanges })
+  pub upgraded_behind : state_of (records.Change (upgrade 2) ∷ held_grant 3 2 ∷ held 2 2 1 ∷ next 5 4 ∷ [])
+      ≡ state_with (renewed (key 2 2 1) ∷ []) (record { grant = 3; key = 2; uid = 10002; bits = 256 } ∷ []) AmongChanges
   -- the next numbers
   pub next_not_first : state_of (next 5 4 ∷ next 5 4 ∷ []) ≡ None
   pub next_behind_change : state_of (next 5 4 ∷ records.Change (create 1 2) ∷ []) ≡ None
@@ -141,6 +159,9 @@ pub record WorkedAreas : Type 0 where
   pub granted_twice : state_of (held_grant 3 2 ∷ held_grant 2 2 ∷ held 2 2 1 ∷ next 5 4 ∷ []) ≡ None
   pub no_key_granted : state_of (held_grant 3 4 ∷ held 2 2 1 ∷ next 5 4 ∷ []) ≡ None
   pub grant_behind_change : state_of (held_grant 3 2 ∷ records.Change (Use 2) ∷ held 2 2 2 ∷ next 5 4 ∷ []) ≡ None
+  -- a key's other blob and list in bytes: the kind 11, the number, and both behind their lengths
+  pub upgrade_bytes : spelled (records.Change (upgrade 2) ∷ [])
+      ≡ 75 ∷ 0 ∷ 0 ∷ 0 ∷ 22 ∷ 11 ∷ 0 ∷ 0 ∷ 0 ∷ 0 ∷ 0 ∷ 0 ∷ 0 ∷ 2 ∷ 0 ∷ 0 ∷ 0 ∷ 2 ∷ 187 ∷ 204 ∷ 0 ∷ 0 ∷ 0 ∷ 3 ∷ 0 ∷ 1 ∷ 2 ∷ []
   -- the snapshot of nothing in bytes: 4b, a length of 17, the kind 8 and both numbers
   pub empty_bytes : spelled (next 1 1 ∷ [])
       ≡ 75 ∷ 0 ∷ 0 ∷ 0 ∷ 17 ∷ 8 ∷ 0 ∷ 0 ∷ 0 ∷ 0 ∷ 0 ∷ 0 ∷ 0 ∷ 1 ∷ 0 ∷ 0 ∷ 0 ∷ 0 ∷ 0 ∷ 0 ∷ 0 ∷ 1 ∷ []

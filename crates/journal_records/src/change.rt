@@ -48,4 +48,12 @@ pub enum Change {
     Removed {
         user: u32,
     },
+    /// Another blob and another list of a key, which stays the same in all else. Its record stands in areas alone.
+    Upgrade {
+        id: u64,
+        /// the sealed key, at most 6,327 bytes
+        blob: Bytes,
+        /// the authorization list, encoded, at most 4,140 bytes
+        list: Bytes,
+    },
 }

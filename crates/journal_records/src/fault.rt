@@ -66,8 +66,6 @@ pub enum AppendFault {
 pub enum ApplyFault {
     /// A call of the disk failed.
     Device,
-    /// The record and its closing byte would pass the store's end.
-    Full,
     /// Memory was wanting.
     Memory,
 }
@@ -114,7 +112,6 @@ impl fmt::Display for ApplyFault {
     fn fmt<W: fmt::Write>(&self, f: &mut fmt::Formatter<W>) -> fmt::Result {
         match self {
             ApplyFault::Device => f.write_str(DEVICE),
-            ApplyFault::Full => f.write_str(FULL),
             ApplyFault::Memory => f.write_str(MEMORY),
         }
     }

@@ -20,7 +20,7 @@ pub use changes::Changes;
 pub use fault::{AppendFault, ApplyFault, RecordFault, StoreFault};
 pub use law::storable_law;
 pub use reading::{parse, read_change, read_record};
-pub use record::{HeldNumbers, KeyRecord, Record};
+pub use record::{AREA_KINDS, HeldNumbers, KeyRecord, Record};
 pub use writing::{
     GRANT_ROW, KEY_ROW, NEXT_ROW, frame, frame_grant_into, frame_into, frame_key_into,
     frame_next_into, frame_record_into, framed_length, record_length,

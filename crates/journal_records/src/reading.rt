@@ -10,7 +10,7 @@ ghost use Rattle.journal_records.specs.Spelling.{record_tail, tail_of, framed, I
 
 use crate::change::Change;
 use crate::fault::RecordFault;
-use crate::record::{KeyRecord, Record};
+use crate::record::{AREA_KINDS, KeyRecord, Record};
 use byte_strings::{counted_u32_at, u8_at, u32_at, u64_at};
 use gated_records::OPEN;
 use grants::GrantRow;
@@ -18,10 +18,10 @@ use key_domains::Permissions;
 use std::alloc::Global;
 use tags::Bytes;
 
-/// The first kind that is no change, but a row of a snapshot.
+/// The first kind that is no change, but a row of a snapshot, and the last one.
 const FIRST_ROW: u8 = 8;
-/// The greatest kind of a change.
-const LAST_CHANGE: u8 = 7;
+
+const LAST_ROW: u8 = 10;
 
 /// What was read, where nothing stands behind it.
 fn ended<T: Drop>(read: T, rest: &[u8]) -> Result<T, RecordFault>
@@ -74,6 +74,21 @@ fn granted_at(bytes: &[u8]) -> Result<(Change, &[u8]), RecordFault>
     Ok((Change::Grant { row }, rest))
 }
 
+#[tactic(auto, unfolding(crate::specs::Reading::upgraded_at))]
+fn upgraded_at(alloc: Global, bytes: &[u8]) -> Result<(Change, &[u8]), RecordFault>
+    ensures { Says (λ x. (x.0, x.1.now)) result (spec.upgraded_at bytes.now) }
+{
+    let (id, rest) = u64_at(bytes)?;
+    let (blob, rest) = counted_u32_at(rest)?;
+    let (list, rest) = counted_u32_at(rest)?;
+    let change = Change::Upgrade {
+        id,
+        blob: Bytes::copy_of(alloc, blob)?,
+        list: Bytes::copy_of(alloc, list)?,
+    };
+    Ok((change, rest))
+}
+
 /// The fields of a change, by its kind.
 fn change_fields(alloc: Global, kind: u8, bytes: &[u8]) -> Result<(Change, &[u8]), RecordFault>
     ensures { Says (λ x. (x.0, x.1.now)) result (readers.row_of kind spec.kinds bytes.now) }
@@ -102,6 +117,7 @@ fn change_fields(alloc: Global, kind: u8, bytes: &[u8]) -> Result<(Change, &[u8]
             let (user, rest) = u32_at(bytes)?;
             Ok((Change::Removed { user }, rest))
         }
+        11 => upgraded_at(alloc, bytes),
         _ => Err(RecordFault::Bad),
     }
 }
@@ -170,15 +186,22 @@ fn row_at(alloc: Global, kind: u8, bytes: &[u8]) -> Result<(Record, &[u8]), Reco
     }
 }
 
+/// Whether a kind is that of a row of a snapshot.
+fn is_row(kind: u8) -> bool
+    ensures { result ≡ spec.is_row kind }
+{
+    FIRST_ROW <= kind && kind <= LAST_ROW
+}
+
 /// The fields of a body, by its kind.
 fn fields_of(alloc: Global, kind: u8, bytes: &[u8]) -> Result<(Record, &[u8]), RecordFault>
     ensures { Says (λ x. (x.0, x.1.now)) result (spec.fields_of kind bytes.now) }
 {
-    if kind < FIRST_ROW {
-        let (change, rest) = change_fields(alloc, kind, bytes)?;
-        return Ok((Record::Change { change }, rest));
+    if is_row(kind) {
+        return row_at(alloc, kind, bytes);
     }
-    row_at(alloc, kind, bytes)
+    let (change, rest) = change_fields(alloc, kind, bytes)?;
+    Ok((Record::Change { change }, rest))
 }
 
 /// What a body spells whose kind is not greater than this.
@@ -205,7 +228,7 @@ fn record_at(alloc: Global, kinds: u8, bytes: &[u8]) -> Result<(Record, &[u8]), 
 }
 
 /// The record that stands at the front, behind its gate, and the bytes after it. `kinds` is the greatest kind that may
-/// stand there: 7 where changes alone do, 10 with the rows of a snapshot. Bad comes exactly where no record of these
+/// stand there: 7 in a journal, and `AREA_KINDS` in an area. Bad comes exactly where no record of these
 /// kinds stands there.
 pub fn read_record(alloc: Global, kinds: u8, bytes: &[u8]) -> Result<(Record, &[u8]), RecordFault>
     ensures exact { Says (λ x. (x.0, x.1.now)) result (spec.record_at kinds bytes.now) }
@@ -234,7 +257,7 @@ fn change_of(it: Record) -> Result<Change, RecordFault>
 fn change_at(alloc: Global, bytes: &[u8]) -> Result<(Change, &[u8]), RecordFault>
     ensures { Says (λ x. (x.0, x.1.now)) result (spec.change_at bytes.now) }
 {
-    let (it, rest) = record_at(alloc, LAST_CHANGE, bytes)?;
+    let (it, rest) = record_at(alloc, AREA_KINDS, bytes)?;
     let change = change_of(it)?;
     Ok((change, rest))
 }

@@ -4,6 +4,9 @@ use crate::change::Change;
 use grants::GrantRow;
 use tags::Bytes;
 
+/// The greatest kind of a record that an area may hold.
+pub const AREA_KINDS: u8 = 11;
+
 /// A key of the lasting part.
 #[derive(Debug, Drop)]
 pub struct KeyRecord {

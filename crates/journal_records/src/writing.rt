@@ -40,6 +40,7 @@ fn body_length(change: &Change) -> usize
         Change::Ungrant { .. } => 9,
         Change::Clear { .. } => 10,
         Change::Removed { .. } => 5,
+        Change::Upgrade { blob, list, .. } => 17 + blob.len() + list.len(),
     }
 }
 
@@ -143,6 +144,12 @@ fn put_body(out: &mut [u8], at: usize, change: &Change) -> usize
         Change::Removed { user } => {
             let at = place_bytes(out, at, &[7]);
             place_u32(out, at, *user)
+        }
+        Change::Upgrade { id, blob, list } => {
+            let at = place_bytes(out, at, &[11]);
+            let at = place_u64(out, at, *id);
+            let at = place_counted_u32(out, at, blob.as_slice());
+            place_counted_u32(out, at, list.as_slice())
         }
     }
 }

@@ -1,8 +1,12 @@
+pub mod Adopted
 pub mod Sizes
 pub mod RecordKinds
 pub mod Applied
+pub mod Compacted
+pub mod Extents
 pub mod OneStore
 pub mod Opened
 pub mod Replayed
 pub mod Rereading
 pub mod Storables
+pub mod Waiting

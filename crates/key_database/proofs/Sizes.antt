@@ -7,8 +7,8 @@ use Rattle.byteorder.specs.Numbers.{length-bytes_high_first}
 use Rattle.tags.specs.Descriptor.{is_alias}
 use Rattle.std.proofs.lemmas.Bool.{and_parts, leb-true}
 use Rattle.journal_records.specs.declared.change.Change.{Change}
-use Rattle.journal_records.specs.declared.change.Change.TheVariants.{Create, Delete, Use, Grant, Ungrant, Clear, Removed}
-use Rattle.journal_records.specs.LastingPart.{Lasting}
+use Rattle.journal_records.specs.declared.change.Change.TheVariants.{Create, Delete, Use, Grant, Ungrant, Clear, Removed, Upgrade}
+use Rattle.journal_records.specs.LastingPart.{Lasting, some_has_id}
 use Rattle.journal_records.specs.Needs.{is_met, is_number_left, is_owner, has_place_for}
 use Rattle.journal_records.specs.Spelling.{counted, body_of, record_tail, closed_of}
 use Rattle.tags.specs.declared.limits.TheConstants.{ALIAS_BYTES, BLOB_BYTES, KEPT_LIST_BYTES, RECORD_BYTES}
@@ -59,6 +59,20 @@ small_body part (Grant row) met =
 small_body part (Ungrant grant) met = omega (arith, length-bytes_high_first 8 grant)
 small_body part (Clear domain nspace) met = omega (arith, length-bytes_high_first 8 nspace)
 small_body part (Removed user) met = omega (arith, length-bytes_high_first 4 user)
+small_body part (Upgrade id blob list) met =
+    let small = nat_le (length blob) BLOB_BYTES in
+    let short = nat_le (length list) KEPT_LIST_BYTES in
+    let sizes = and_parts small short (and_parts (some_has_id id part.keys) (small && short) met).1 in
+    omega (
+      arith,
+      length-bytes_high_first 8 id,
+      length_counted blob,
+      length_counted list,
+      length-append (big_bytes 8 id) (counted blob ++ counted list),
+      length-append (counted blob) (counted list),
+      leb-true (length blob) BLOB_BYTES sizes.0,
+      leb-true (length list) KEPT_LIST_BYTES sizes.1,
+    )
 
 pub small_record : (part : Lasting) (change : Change) → is_met part change ≡ true → length (closed_of change) ≤ RECORD_BYTES
 unfolding record_tail

@@ -1,3 +1,4 @@
+pub mod Compacting
 pub mod Frames
 pub mod Stands
 pub mod Store

@@ -27,10 +27,6 @@ pub record StandsFor (part : Lasting) (image : List ℕ) : Type 0 where
   pub store : IsStore frame past image
   pub lasting : left_by past ≡ Some part
 
--- how many bytes it has up to the gate behind its records
-abbrev pub stored_length : (part : Lasting) (image : List ℕ) → StandsFor part image → ℕ
-stored_length part image stands = stands.frame.start + length (spelled stands.past)
-
 -- of records that begin here, this is the place of the gate of the first one whose need is not met
 pub record IsUnmetIn (start : ℕ) (past : List Record) (offset : ℕ) : Type 0 where
   pub before : List Record

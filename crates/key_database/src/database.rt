@@ -1,47 +1,51 @@
-//! The lasting part over a journal.
+//! The lasting part over a store of two areas.
 
-ghost use Rattle.std.specs.Prelude.{◌≡◌, ◌⊎◌, ◌<◌, ◌≤◌, ◌+◌, ◌-◌, ℕ, List, length, true, false, None, Some, IsErrOf, OnOk, OnErr, IfOk, is_err, not, ◌↔◌};
-ghost use Rattle.std.specs.Option.{ForSome, option_map};
-ghost use Rattle.ks_outside.specs.Images.{AllImages, Goes, Passes, Reads, TornFrom, tells};
+ghost use Rattle.std.specs.Prelude.{◌≡◌, ◌≤◌, ◌+◌, ◌-◌, ℕ, List, [], true, false, None, Some, is_some, IsErrOf, OnOk, OnErr, IfOk, is_err, not};
+ghost use Rattle.std.specs.Option.{ForSome};
+ghost use Rattle.ks_outside.specs.Images.{AllImages, Goes, Passes, Reads, tells};
+ghost use Rattle.tags.specs.declared.settled.Settled.TheVariants.{Lost};
 ghost use Rattle.journal_records.specs.declared.change.Change.{Change};
-ghost use Rattle.journal_records.specs.Commits.{append_failed, append_state, apply_failed, apply_state, open_failed};
+ghost use Rattle.journal_records.specs.Commits.{apply_failed, apply_state, open_failed};
 ghost use Rattle.journal_records.specs.LastingPart.{Lasting, empty_lasting};
 ghost use Rattle.journal_records.specs.Needs.{is_met};
 ghost use Rattle.journal_records.specs.Holding.{Holding, Sure, after_settle};
-ghost use Rattle.journal_records.specs.Spelling.{closed_of};
-ghost use Rattle.journal_records.specs.Storable.{IsStorable};
-ghost use Rattle.use_journal.specs.Holding.{end_of, end_with, is_waiting};
+ghost use Rattle.journal_records.specs.Storable.{IsStorable, snapshot_length};
+ghost use Rattle.journal_compact.specs.Formats.{IsOlder};
+ghost use Rattle.journal_compact.specs.Holding.{ReformedFrom, is_turning, is_waiting, record_bytes, write_state};
 ghost use Rattle.lasting_table.specs.TableView.{CanMake, HasRoomForGrant, HasRoomForKey, KeepsRoom, takes_memory};
+ghost use Rattle.key_database.specs.Compacting.{ExtentAfter, extent_of, is_due, most_bytes};
 ghost use Rattle.key_database.specs.Store.{MayBe, StandsFor};
-ghost use Rattle.tags.specs.declared.limits.TheConstants.{JOURNAL_BYTES};
 
-use crate::appending::append_change;
+use crate::adopting::to_areas;
+use crate::appending::write_change;
 use crate::law::one_store;
-use crate::opening::read_store;
-use journal_records::{AppendFault, ApplyFault, Change, StoreFault};
+use crate::opening::{Found, read_store};
+use journal_compact::{Areas, one_format};
+use journal_records::{ApplyFault, Change, StoreFault};
 use ks_outside::{Disk, Failed};
 use lasting_table::LastingTable;
-use record_areas::one_reading;
 use std::alloc::Global;
 use tags::{NoMemory, Settled};
-use use_journal::Journal;
 
-/// The keys and grants that last, and the journal that they lie in. While a change whose writing failed waits to be
+/// The keys and grants that last, and the areas that they lie in. While a change whose writing failed waits to be
 /// settled, also that change, with the room for it.
 #[derive(Drop)]
 pub struct KeyDatabase {
-    pub(crate) journal: Journal,
+    pub(crate) areas: Areas,
     pub(crate) table: LastingTable,
     pending: Option<Change>,
-    ghost same: { end_with journal ≡ option_map (λ change. end_of journal + (length (closed_of change) - 1)) pending },
-    ghost waits: { ForSome pending (λ change. CanMake table change) },
+    ghost waits: { is_waiting areas ≡ is_some pending },
+    ghost can: { ForSome pending (λ change. CanMake table change) },
 }
 
 impl KeyDatabase {
-    ghost use Rattle.key_database.specs.Stands.{lasting, part_after, table_of, is_unsettled, pending_of, waiting_after, Commits, SettledBy, store_bytes, change_bytes, bytes_after, Holds, IsReadAgain, Rereads, SameStore, ReadsStore, FindsStore};
+    ghost use Rattle.key_database.specs.Stands.{areas_of, change_bytes, lasting, part_after, table_of, is_unsettled, pending_of, waiting_after, Commits, SamePart, SettledBy, Holds, IsReadAgain, Rereads, SameStore, TakesOver, ReadsStore, FindsStore, StaysFor, WhereRefused, Brings};
 
     /// Syncs, reads the store that the disk holds, record by record, and tests the need of each. Corrupted has the place of what
-    /// is wrong first: of what is no journal, and where it is one of the first record whose need is not met.
+    /// is wrong first: of what is no store, and where it is one of the first record whose need is not met.
+    ///
+    /// A journal, which is the older format, is then brought to areas: at each moment each image stands for what all stood for at the start.
+    /// Nothing is written to a store of areas, to one that is refused, and where memory is wanting.
     pub fn open<D: Disk>(alloc: Global, disk: &mut D) -> Result<KeyDatabase, StoreFault>
         ensures holds { IfOk result (λ database. Holds D.Disk database disk.new (Sure (lasting database))) }
         ensures idle { IfOk result (λ database. pending_of database ≡ None) }
@@ -49,19 +53,29 @@ impl KeyDatabase {
         ensures reads { AllImages D.Disk disk.new (λ image. ReadsStore image result) }
         ensures stands { (part : Lasting) → AllImages D.Disk disk.old (StandsFor part)
             → tells D.Disk disk.old ≡ true → FindsStore part result }
-        ensures goes { Reads D.Disk disk.old disk.new (open_failed result) }
+        ensures stays { (part : Lasting) → AllImages D.Disk disk.old (StandsFor part) → StaysFor D.Disk disk.old disk.new part }
+        ensures brings { Brings D.Disk disk.old disk.new }
+        ensures newer { AllImages D.Disk disk.old (λ image. IsOlder image → ⊥) → Reads D.Disk disk.old disk.new (open_failed result) }
+        ensures refused { WhereRefused result (Reads D.Disk disk.old disk.new false) }
+        ensures goes { Goes D.Disk disk.old disk.new (open_failed result) }
     {
         one_store();
-        match read_store(alloc, disk) {
-            Ok((journal, table)) => {
-                table.storable();
-                Ok(KeyDatabase {
-                    journal,
-                    table,
-                    pending: None,
-                })
+        one_format();
+        let (found, table) = match read_store(alloc, disk) {
+            Ok(read) => read,
+            Err(fault) => return Err(fault),
+        };
+        table.storable();
+        match to_areas(disk, found, &table) {
+            Ok(areas) => Ok(KeyDatabase {
+                areas,
+                table,
+                pending: None,
+            }),
+            Err(Failed) => {
+                drop(table);
+                Err(StoreFault::Device)
             }
-            Err(fault) => Err(fault),
         }
     }
 
@@ -72,29 +86,21 @@ impl KeyDatabase {
         &self.table
     }
 
-    /// How many bytes the store's header and records have.
-    pub fn store_bytes(&self) -> u64
-        ensures { result ≡ store_bytes self.now }
-    {
-        self.journal.end()
-    }
-
     /// Whether no change waits to be settled. It takes no memory.
     pub fn is_settled(&self) -> bool
         ensures { result ≡ not (is_unsettled self.now) }
     {
-        self.journal.is_settled()
+        self.areas.is_settled()
     }
 
-    /// Writes an empty store, and syncs. It takes no memory.
+    /// Writes an empty store, a sync behind each write: a crash leaves the store that was, or the empty one. It takes no memory.
     pub fn format<D: Disk>(disk: &mut D) -> Result<(), Failed>
         ensures formatted { OnOk result (AllImages D.Disk disk.new (StandsFor empty_lasting)) }
-        ensures passes { Passes D.Disk disk.old disk.new (TornFrom D.Disk disk.old 0 9) }
-        ensures torn { AllImages D.Disk disk.new (TornFrom D.Disk disk.old 0 9) }
-        ensures nothing { D.is_sure disk.old → OnErr result (AllImages D.Disk disk.new (D.images disk.old)) }
+        ensures passes { Passes D.Disk disk.old disk.new (ReformedFrom D.Disk disk.old) }
+        ensures torn { AllImages D.Disk disk.new (ReformedFrom D.Disk disk.old) }
         ensures goes { Goes D.Disk disk.old disk.new (is_err result) }
     {
-        Journal::format(disk)
+        Areas::format(disk)
     }
 
     /// Makes room for one more key, so that `commit` of one takes no memory.
@@ -118,31 +124,31 @@ impl KeyDatabase {
     /// Makes a change on the disk, and then here; there is room for it. At each moment each image stands for the lasting
     /// part before, or for that with the change. It takes no memory.
     ///
-    /// Full comes where the record and its closing byte would pass the journal's end, and no call is made then. After
-    /// Device the database is unsettled, and tells what it told before.
-    pub fn commit<D: Disk>(&mut self, disk: &mut D, change: Change) -> Result<(), AppendFault>
+    /// The store is written anew before the change where that is due, and after Ok its records have at most 65,536 bytes,
+    /// twice the snapshot before the change, and this record. After a failure the database is unsettled, and tells what it
+    /// told before.
+    pub fn commit<D: Disk>(&mut self, disk: &mut D, change: Change) -> Result<(), Failed>
         requires settled { is_unsettled self.old ≡ false }
         requires can { CanMake (table_of self.old) change }
         ensures commits { (before : Holding) → Holds D.Disk self.old disk.old before
-            → Commits D.Disk self.new disk.old disk.new change (append_state result) before }
-        ensures made { lasting self.new ≡ part_after change (append_state result) (lasting self.old) }
-        ensures waiting { is_unsettled self.new ≡ append_failed result }
-        ensures bytes { store_bytes self.new ≡ bytes_after change (append_state result) (store_bytes self.old) }
-        ensures pending { pending_of self.new ≡ waiting_after change (append_state result) }
-        ensures full { IsErrOf result AppendFault.Full ↔ (JOURNAL_BYTES < store_bytes self.old + change_bytes change) }
-        ensures same { IsErrOf result AppendFault.Full → (disk.new ≡ disk.old) × SameStore self.old self.new }
-        ensures goes { Goes D.Disk disk.old disk.new (append_failed result) }
+            → Commits D.Disk self.new disk.old disk.new change (write_state result) before }
+        ensures made { lasting self.new ≡ part_after change (write_state result) (lasting self.old) }
+        ensures waiting { is_unsettled self.new ≡ is_err result }
+        ensures pending { pending_of self.new ≡ waiting_after change (write_state result) }
+        ensures compacts { ExtentAfter (is_due (record_bytes (areas_of self.old)) (snapshot_length (lasting self.old)) (change_bytes change))
+            (snapshot_length (lasting self.old)) (change_bytes change) (extent_of (areas_of self.old)) (extent_of (areas_of self.new)) (write_state result) }
+        ensures bounded { OnOk result (record_bytes (areas_of self.new) ≤ most_bytes (snapshot_length (lasting self.old)) + (change_bytes change - 1)) }
+        ensures goes { Goes D.Disk disk.old disk.new (is_err result) }
     {
-        match append_change(&mut self.journal, disk, &change) {
+        match write_change(&mut self.areas, disk, &self.table, &change) {
             Ok(()) => {
                 self.table.make(change);
                 Ok(())
             }
-            Err(AppendFault::Device) => {
+            Err(Failed) => {
                 self.pending = Some(change);
-                Err(AppendFault::Device)
+                Err(Failed)
             }
-            Err(AppendFault::Full) => Err(AppendFault::Full),
         }
     }
 
@@ -156,13 +162,11 @@ impl KeyDatabase {
             → Commits D.Disk self.new disk.old disk.new change (apply_state result) before }
         ensures made { lasting self.new ≡ part_after change (apply_state result) (lasting self.old) }
         ensures waiting { is_unsettled self.new ≡ apply_failed result }
-        ensures bytes { store_bytes self.new ≡ bytes_after change (apply_state result) (store_bytes self.old) }
         ensures pending { pending_of self.new ≡ waiting_after change (apply_state result) }
+        ensures compacts { ExtentAfter (is_due (record_bytes (areas_of self.old)) (snapshot_length (lasting self.old)) (change_bytes change))
+            (snapshot_length (lasting self.old)) (change_bytes change) (extent_of (areas_of self.old)) (extent_of (areas_of self.new)) (apply_state result) }
+        ensures bounded { OnOk result (record_bytes (areas_of self.new) ≤ most_bytes (snapshot_length (lasting self.old)) + (change_bytes change - 1)) }
         ensures memory { IsErrOf result ApplyFault.Memory → (takes_memory change ≡ true) × (disk.new ≡ disk.old) }
-        ensures full { IsErrOf result ApplyFault.Full
-            → (JOURNAL_BYTES < store_bytes self.old + change_bytes change) × (disk.new ≡ disk.old) }
-        ensures past { JOURNAL_BYTES < store_bytes self.old + change_bytes change
-            → IsErrOf result ApplyFault.Full ⊎ IsErrOf result ApplyFault.Memory }
         ensures goes { Goes D.Disk disk.old disk.new (apply_failed result) }
     {
         let Ok(()) = self.table.reserve(&change) else {
@@ -170,40 +174,47 @@ impl KeyDatabase {
         };
         match self.commit(disk, change) {
             Ok(()) => Ok(()),
-            Err(AppendFault::Device) => Err(ApplyFault::Device),
-            Err(AppendFault::Full) => Err(ApplyFault::Full),
+            Err(Failed) => Err(ApplyFault::Device),
         }
     }
 
-    /// Whether both hold the same lasting part, in as many bytes.
-    fn same_store(&self, other: &KeyDatabase) -> bool
-        ensures yes { result ≡ true → lasting self.now ≡ lasting other.now }
-        ensures no { lasting self.now ≡ lasting other.now → store_bytes self.now ≡ store_bytes other.now → result ≡ true }
-    {
-        self.journal.end() == other.journal.end() && self.table.same(&other.table)
-    }
-
-    /// Reads the store again, and tells whether it is the same lasting part in as many bytes. Over a disk that tells its
-    /// bytes it answers neither false nor Corrupted.
-    pub fn read_again<D: Disk>(&self, alloc: Global, disk: &mut D) -> Result<bool, StoreFault>
-        requires { is_unsettled self.now ≡ false }
-        ensures holds { (held : Holding) → Holds D.Disk self.now disk.old held → Holds D.Disk self.now disk.new held }
-        ensures passes { (held : Holding) → Holds D.Disk self.now disk.old held
+    /// Reads the store again, and tells whether it is the same lasting part; where it is, also where its records end now. It writes nothing.
+    /// Over a disk that tells its bytes it answers neither false nor Corrupted.
+    pub fn read_again<D: Disk>(&mut self, alloc: Global, disk: &mut D) -> Result<bool, StoreFault>
+        requires { is_unsettled self.old ≡ false }
+        ensures holds { (held : Holding) → Holds D.Disk self.old disk.old held → Holds D.Disk self.new disk.new held }
+        ensures passes { (held : Holding) → Holds D.Disk self.old disk.old held
             → Passes D.Disk disk.old disk.new (MayBe held) }
-        ensures same { (held : Holding) → Holds D.Disk self.now disk.old held → tells D.Disk disk.old ≡ true
+        ensures same { (held : Holding) → Holds D.Disk self.old disk.old held → tells D.Disk disk.old ≡ true
             → IsReadAgain result }
-        ensures reads { AllImages D.Disk disk.new (λ image. Rereads (lasting self.now) image result) }
+        ensures reads { AllImages D.Disk disk.new (λ image. Rereads (lasting self.old) image result) }
+        ensures settled { is_unsettled self.new ≡ false }
+        ensures part { SamePart self.old self.new }
+        ensures taken { TakesOver D.Disk self.old self.new disk.new result }
         ensures goes { Reads D.Disk disk.old disk.new (open_failed result) }
     {
-        one_reading();
-        match KeyDatabase::open(alloc, disk) {
-            Ok(read) => Ok(self.same_store(&read)),
+        one_store();
+        one_format();
+        match read_store(alloc, disk) {
+            Ok((Found::Areas(areas), table)) => {
+                let same = self.table.same(&table);
+                drop(table);
+                if !same {
+                    return Ok(false);
+                }
+                self.areas = areas;
+                Ok(true)
+            }
+            Ok((Found::Journal, table)) => {
+                drop(table);
+                Ok(false)
+            }
             Err(fault) => Err(fault),
         }
     }
 
     /// Finds out what became of a change that waits, and makes it here where the disk has it. Where a call of the disk fails,
-    /// the database stays unsettled. It takes no memory.
+    /// the database stays unsettled. A change before which the store was to be written anew is lost. It takes no memory.
     pub fn settle<D: Disk>(&mut self, disk: &mut D) -> Result<Settled, Failed>
         requires { is_unsettled self.old ≡ true }
         ensures holds { (before : Holding) → Holds D.Disk self.old disk.old before
@@ -212,14 +223,16 @@ impl KeyDatabase {
             → Passes D.Disk disk.old disk.new (MayBe before) }
         ensures kept { OnErr result (SameStore self.old self.new) }
         ensures settled { (change : Change) → pending_of self.old ≡ Some change → SettledBy change result self.old self.new }
+        ensures lost { is_turning (areas_of self.old) ≡ true → IfOk result (λ settled. settled ≡ Lost) }
         ensures waiting { is_unsettled self.new ≡ is_err result }
         ensures goes { Reads D.Disk disk.old disk.new (is_err result) }
     {
-        match self.journal.settle(disk) {
+        match self.areas.settle(disk) {
             Ok(Settled::Kept) => {
-                if let Some(change) = self.pending.take() {
-                    self.table.make(change);
-                }
+                let Some(change) = self.pending.take() else {
+                    unreachable!()
+                };
+                self.table.make(change);
                 Ok(Settled::Kept)
             }
             Ok(Settled::Lost) => {

@@ -1,20 +1,20 @@
 //! Reading a store: its records one by one, each with its need tested, and made in a table.
 
-ghost use Rattle.std.specs.Prelude.{◌≡◌, ℕ, List, [], false, IfOk};
+ghost use Rattle.std.specs.Prelude.{◌≡◌, ◌≤◌, ◌<◌, ℕ, List, [], IfOk};
 ghost use Rattle.ks_outside.specs.Images.{Reads};
 ghost use Rattle.disk_calls.specs.Still.{IsStill};
 ghost use Rattle.journal_records.specs.declared.record.Record.{Record};
 ghost use Rattle.journal_records.specs.Commits.{open_failed};
-ghost use Rattle.record_areas.specs.Readings.{IsBehind, IsWhole};
-ghost use Rattle.use_journal.specs.Holding.{is_waiting};
-ghost use Rattle.key_database.specs.Stands.{FindsRest, ReadsKept, Replays};
+ghost use Rattle.record_areas.specs.Readings.{IsBehind, IsWhole, limit_of, place_of, start_of};
+ghost use Rattle.journal_compact.specs.Formats.{limit_in, start_in};
+ghost use Rattle.key_database.specs.Stands.{FindsRest, IsFoundAt, IsIdle, ReadsKept, Replays};
 
+use journal_compact::{Areas, Format, find_store};
 use journal_records::StoreFault;
 use ks_outside::Disk;
 use lasting_table::{LastingTable, TableReplay};
 use record_areas::Reading;
 use std::alloc::Global;
-use use_journal::Journal;
 
 /// Reads on to the gate that is shut.
 fn read_rest<D: Disk>(alloc: Global, disk: &mut D, reading: &mut Reading) -> Result<(), StoreFault>
@@ -60,17 +60,43 @@ fn replay<D: Disk>(
     Ok(table.into_table())
 }
 
-/// Syncs, and reads the store that the disk holds, as its journal and the table that its records leave. It holds one record and a piece of
-/// the disk beside that table.
+/// What a store was found to be, behind its records.
+#[derive(Drop)]
+pub(crate) enum Found {
+    /// A journal, which is the older format.
+    Journal,
+    /// Two areas.
+    Areas(Areas),
+}
+
+/// The store of a format whose records a reading has come to the end of.
+fn found_at(format: Format, reading: Reading) -> Found
+    requires start { start_of reading ≡ start_in format }
+    requires limit { limit_of reading ≡ limit_in format }
+    requires begins { start_of reading ≤ place_of reading }
+    requires within { place_of reading < limit_of reading }
+    ensures { IsFoundAt format reading result }
+{
+    match format {
+        Format::Journal => {
+            drop(reading);
+            Found::Journal
+        }
+        Format::Areas(selected) => Found::Areas(Areas::of(selected, reading)),
+    }
+}
+
+/// Syncs, and reads the store that the disk holds, of either format, and the table that its records leave. It holds one record and a piece of
+/// the disk beside that table, and it writes nothing.
 pub(crate) fn read_store<D: Disk>(
     alloc: Global,
     disk: &mut D,
-) -> Result<(Journal, LastingTable), StoreFault>
+) -> Result<(Found, LastingTable), StoreFault>
     ensures reads { ReadsKept D.Disk disk.new result }
-    ensures idle { IfOk result (λ opened. is_waiting opened.0 ≡ false) }
+    ensures idle { IfOk result (λ opened. IsIdle opened.0) }
     ensures goes { Reads D.Disk disk.old disk.new (open_failed result) }
 {
-    let mut reading = Journal::read(alloc, disk)?;
+    let (format, mut reading) = find_store(alloc, disk)?;
     let table = replay(alloc, disk, &mut reading)?;
-    Ok((Journal::of(reading), table))
+    Ok((found_at(format, reading), table))
 }

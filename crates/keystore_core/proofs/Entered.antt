@@ -3,7 +3,7 @@ use Rattle.std.proofs.Common.{◌≡◌, ℕ, ◌+◌, ◌≤◌, Bool, true, fa
 use Rattle.std.specs.Option.{option_and_then, option_or}
 use Rattle.std.proofs.lemmas.Bool.{eqb-true, eq-eqb}
 use Rattle.tags.specs.declared.code.Code.{Code}
-use Rattle.tags.specs.declared.code.Code.TheVariants.{JournalFull, SystemError}
+use Rattle.tags.specs.declared.code.Code.TheVariants.{SystemError}
 use Rattle.tags.specs.declared.limits.TheConstants.{OPERATION_BYTES}
 use Rattle.ks_outside.specs.declared.disk.Disk.{Ghosts}
 use Rattle.step_rules.specs.declared.facts.StepFacts.{StepFacts}
@@ -22,7 +22,8 @@ use Rattle.journal_records.specs.declared.change.Change.TheVariants as changes
 use Rattle.journal_records.specs.Needs.{is_met}
 use Rattle.key_database.specs.declared.database.KeyDatabase.{KeyDatabase}
 use Rattle.key_database.specs.Stands.{SameStore, lasting}
-use Rattle.key_database.proofs.Rereading.{one_store_same, same_holds}
+use Rattle.key_database.proofs.Rereading.{same_holds}
+use Rattle.keystore_core.proofs.SameStores.{one_store_same}
 use Rattle.rule_model.specs.declared.entry.Entry.TheVariants.{Acted}
 use Rattle.rule_model.specs.declared.event.Event.{Event}
 use Rattle.rule_model.specs.declared.facts.Brought.{Brought}
@@ -40,14 +41,14 @@ use Rattle.rule_model.specs.Entries.{History, admits, count_of, is_done}
 use Rattle.rule_model.specs.Jobs.{IsJobOn, IsJobOut, Stays}
 use Rattle.rule_model.specs.Kept.{is_live, open_of, operation_at, operation_change}
 use Rattle.rule_model.specs.Legal.{MayFollow}
-use Rattle.rule_model.specs.declared.entry_change.OperationChange.TheVariants.{Closes, Enters as EntersOne, SameOperations}
+use Rattle.rule_model.specs.declared.entry_change.OperationChange.TheVariants.{Closes, Enters as EntersOne}
 use Rattle.rule_model.specs.declared.operation.Open.{Open}
 use Rattle.rule_model.specs.Operations.{as_entered, has_number, is_busy, limited_key, open_after, step_of}
 use Rattle.rule_model.specs.Replies.{broken_or, no_fields}
 use Rattle.rule_model.specs.Settling.{is_disk_fault, is_unsettled as waits}
 use Rattle.rule_model.specs.Setup.{Setup}
 use Rattle.rule_model.specs.StepFacts.{brought_by, facts_of, has_ended, input_of, step_facts}
-use Rattle.rule_model.specs.Stored.{change_by, stored_bytes, where_stored}
+use Rattle.rule_model.specs.Stored.{change_by}
 use Rattle.rule_model.specs.declared.operation.Entered.{Entered}
 use Rattle.rule_model.specs.declared.entry_change.TicketChange.TheVariants.{GoesOut, SameTickets as NoTickets}
 use Rattle.rule_model.specs.Tickets.{next_ticket, ticket_after, ticket_at, ticket_change}
@@ -68,12 +69,12 @@ use Rattle.keystore_core.specs.Stepping.{ClosesIf, IsRoomAt, SendsJob, entering,
 use Rattle.keystore_core.specs.Tables.{AnswersAfter, IsCaller, IsLegal, TablesStand, event_by, row_at}
 use Rattle.live_tables.specs.Tickets as out
 use Rattle.live_tables.specs.Tickets.{BusyWith, IsOut, SameOut, tickets_given}
-use Rattle.keystore_core.specs.Writing.{Full, IsWrittenIf, Made, StoreGoes, Torn, change_for, used_of}
+use Rattle.keystore_core.specs.Writing.{IsWrittenIf, Made, StoreGoes, Torn, change_for, used_of}
 use Rattle.live_tables.proofs.Alike.{alike_change}
 use Rattle.keystore_core.proofs.Booted.{boot_stays}
 use Rattle.keystore_core.proofs.KeyTable.{keys_stay}
-use Rattle.keystore_core.proofs.Opened.{found_apart, found_changed, is_other, stays_by, stays_same}
-use Rattle.keystore_core.proofs.Standing.{busy_after, called, clients_stay, count_grows, denied_tables, quiet, rows_after, same_but_keys, slots_after, uncounted}
+use Rattle.keystore_core.proofs.Opened.{found_apart, found_changed, is_other, stays_by}
+use Rattle.keystore_core.proofs.Standing.{busy_after, called, clients_stay, count_grows, quiet, rows_after, slots_after, uncounted}
 use Rattle.keystore_core.proofs.Stepped.{closed_tables, enter_begins, enter_boot, enter_change, enter_clients, enter_connects, enter_enters, enter_ticket, facts_at, is_idle, job_on, row_found, row_named, slot_found, slot_named}
 use Rattle.keystore_core.proofs.Written.{told_follows, told_keys}
 
@@ -138,14 +139,12 @@ use_met setup past tables caller op (Last input signature) id stands legal used 
 pub is_told : (old new : KeyDatabase) (used : Option Change) (fields : Fields) (reply : Reply) → IsWrittenIf old new used fields reply → is_done reply ≡ true → reply ≡ Done fields
 is_told old new None fields reply written done = written.1
 is_told old new (Some change) fields reply (Made made e) done = e
-is_told old new (Some change) fields reply (Full same room e) done = let no : is_done (Stopped JournalFull) ≡ true = subst (λ r. is_done r ≡ true) e done in cc
 is_told old new (Some change) fields reply (Torn torn e) done = let no : is_done (Stopped SystemError) ≡ true = subst (λ r. is_done r ≡ true) e done in cc
 
 -- no draw failed
 pub no_draw : (old new : KeyDatabase) (used : Option Change) (fields : Fields) (reply : Reply) → IsWrittenIf old new used fields reply → is_entropy_fault reply ≡ false
 no_draw old new None fields reply written = subst (λ r. is_entropy_fault r ≡ false) (sym written.1) refl
 no_draw old new (Some change) fields reply (Made made e) = subst (λ r. is_entropy_fault r ≡ false) (sym e) refl
-no_draw old new (Some change) fields reply (Full same room e) = subst (λ r. is_entropy_fault r ≡ false) (sym e) refl
 no_draw old new (Some change) fields reply (Torn torn e) = subst (λ r. is_entropy_fault r ≡ false) (sym e) refl
 
 -- ---- a work that goes out
@@ -211,13 +210,12 @@ module _ (setup : Setup) (past : History) (start : Tables) (keys : KeyDatabase) 
     by_work (Text input) = refl
     by_work (Last input signature) = ap (option_map changes.Use) (sym (same_used (row_at start op) (operation_at setup past op) (row_found setup past start op now)))
 
-  told : (fields : Fields) → model.entering setup past (caller_of past Entering) op work ≡ Done fields → answer setup past Entering [] ≡ where_stored (stored_bytes setup past) Used (Done fields)
-  told fields ruled = by_work work ruled ∙ ap (λ c. where_stored (stored_bytes setup past) c (Done fields)) used_is where
-    by_work : (w : Work) → model.entering setup past (caller_of past (event_by caller (entering op w))) op w ≡ Done fields
-        → answer setup past (event_by caller (entering op w)) [] ≡ where_stored (stored_bytes setup past) (change_by setup past (event_by caller (entering op w)) []) (Done fields)
+  told : (fields : Fields) → model.entering setup past (caller_of past Entering) op work ≡ Done fields → answer setup past Entering [] ≡ Done fields
+  told fields ruled = by_work work ruled where
+    by_work : (w : Work) → model.entering setup past (caller_of past (event_by caller (entering op w))) op w ≡ Done fields → answer setup past (event_by caller (entering op w)) [] ≡ Done fields
     by_work (Aad input) e = e
     by_work (Text input) e = e
-    by_work (Last input signature) e = ap (where_stored (stored_bytes setup past) (change_by setup past (event_by caller (entering op (Last input signature))) [])) e
+    by_work (Last input signature) e = e
 
   ruled : (ticket : ℕ) → step_table.answer Facts ≡ Ok tt → ticket ≡ next_ticket past → model.entering setup past (caller_of past Entering) op work ≡ Done (Told ticket)
   ruled ticket let_through next =
@@ -316,23 +314,6 @@ module _ (setup : Setup) (past : History) (start : Tables) (keys : KeyDatabase) 
   stopped_tickets code (Text input) = refl
   stopped_tickets code (Last input signature) = refl
 
-  -- its record has no room in the store
-  full_after : (new : Tables) (ticket : ℕ) → step_table.answer Facts ≡ Ok tt → ticket ≡ next_ticket past → IsWrittenIf start.keys keys Used (Told ticket) (Stopped JournalFull) → SameStore start.keys keys → new ≡ Spent
-      → AnswersAfter setup past new Entering (record { reply = Stopped JournalFull; job = None; drawn = [] })
-  full_after new ticket let_through first written same is =
-      let none : operation_change setup past Entering [] (Stopped JournalFull) ≡ SameOperations = by_work work in
-      record {
-        follows = λ ready. follows ticket (Stopped JournalFull) let_through first written;
-        stands = subst (λ t. TablesStand setup t (Acted Entering [] (Stopped JournalFull) ∷ past)) (sym is)
-            (denied_tables setup past Entering [] (Stopped JournalFull) start Spent now (same_but_keys start keys same) refl refl none (stopped_tickets JournalFull work));
-        has_job = refl;
-        stays = stays_same setup past Entering [] (Stopped JournalFull) none;
-      } where
-        by_work : (w : Work) → operation_change setup past (event_by caller (entering op w)) [] (Stopped JournalFull) ≡ SameOperations
-        by_work (Aad input) = refl
-        by_work (Text input) = refl
-        by_work (Last input signature) = refl
-
   -- a device call failed: the operation is closed
   torn_after : (new : Tables) (ticket : ℕ) → step_table.answer Facts ≡ Ok tt → Facts.busy ≡ false → ticket ≡ next_ticket past → (change : Change) → Used ≡ Some change → IsWrittenIf start.keys keys Used (Told ticket) (Stopped SystemError) → ClosesOne op Spent new
       → AnswersAfter setup past new Entering (record { reply = Stopped SystemError; job = None; drawn = [] })
@@ -360,9 +341,6 @@ module _ (setup : Setup) (past : History) (start : Tables) (keys : KeyDatabase) 
     by_used : (used : Option Change) → Used ≡ used → IsWrittenIf start.keys keys used (Told ticket) reply → AnswersAfter setup past new Entering (record { reply = reply; job = None; drawn = [] })
     by_used None e w = let no : is_done (Done (Told ticket)) ≡ false = subst (λ r. is_done r ≡ false) w.1 denied in cc
     by_used (Some change) e (Made made is) = let no : is_done (Done (Told ticket)) ≡ false = subst (λ r. is_done r ≡ false) is denied in cc
-    by_used (Some change) e (Full same room is) =
-        subst (λ r. AnswersAfter setup past new Entering (record { reply = r; job = None; drawn = [] })) (sym is)
-        (full_after new ticket let_through first (subst (IsWrittenIf start.keys keys Used (Told ticket)) is written) same (subst (λ r. ClosesIf (is_disk_fault r) op Spent new) is closes))
     by_used (Some change) e (Torn torn is) =
         subst (λ r. AnswersAfter setup past new Entering (record { reply = r; job = None; drawn = [] })) (sym is)
         (torn_after new ticket let_through idle first change e (subst (IsWrittenIf start.keys keys Used (Told ticket)) is written) (subst (λ r. ClosesIf (is_disk_fault r) op Spent new) is closes))
@@ -373,6 +351,11 @@ closed_store true op old new closed = closed.keys.store_is
 closed_store false op old new same = subst (λ t. SameStore old.keys t.keys) (sym same) (one_store_same old.keys)
 
 -- what is known of the disk stays where the keys and grants are moved
+-- the store of tables in which an operation is closed, or of none
+pub closes_store : (b : Bool) (op : ℕ) (old new : Tables) → ClosesIf b op old new → SameStore old.keys new.keys
+closes_store true op old new closes = closes.keys.store_is
+closes_store false op old new same = subst (λ (t : Tables). SameStore old.keys t.keys) (sym same) (one_store_same old.keys)
+
 pub goes_into : {D : Type 0} (g : Ghosts D) (old middle new : KeyDatabase) (disk later : D) (restarts : Bool) (change : Option Change) (reply : Reply) → SameStore middle new → StoreGoes g old middle disk later restarts change reply
     → StoreGoes g old new disk later restarts change reply
 goes_into g old middle new disk later restarts change reply same goes = record {

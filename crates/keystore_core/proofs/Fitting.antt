@@ -4,7 +4,7 @@ use Rattle.std.specs.Ordering.{is_gt}
 use Rattle.std.specs.Prelude.{IfOk, IfSome, All}
 use Rattle.std.proofs.lemmas.List.Elements.{All-cons, All-nil}
 use Rattle.tags.specs.declared.code.Code.{Code}
-use Rattle.tags.specs.declared.code.Code.TheVariants.{JournalFull, StoreFull, TokensFull}
+use Rattle.tags.specs.declared.code.Code.TheVariants.{StoreFull, TokensFull}
 use Rattle.tags.specs.declared.descriptor.Descriptor.{Descriptor}
 use Rattle.tags.specs.declared.param.Param.{Param}
 use Rattle.tags.specs.declared.rule.Rule.{Rule}
@@ -31,7 +31,6 @@ use Rattle.use_rules.specs.Table.{asked_of, key_of}
 use Rattle.step_rules.specs.Table as step_table
 use Rattle.cipher_ops.specs.declared.room.Work.{Work}
 use Rattle.cipher_ops.specs.declared.room.Work.TheVariants.{Aad, Text, Last}
-use Rattle.journal_records.specs.declared.change.Change.{Change}
 use Rattle.journal_records.specs.declared.record.KeyRecord.{KeyRecord}
 use Rattle.journal_records.specs.LastingPart.{Lasting, has_id}
 use Rattle.journal_records.specs.Lookups.{alias_cmp, is_listed, least, lesser, next_key}
@@ -43,18 +42,18 @@ use Rattle.rule_model.specs.declared.event.Event.{Event}
 use Rattle.rule_model.specs.declared.facts.Caller.{Caller}
 use Rattle.rule_model.specs.declared.field_sizes.FieldSizes.{FieldSizes}
 use Rattle.rule_model.specs.declared.reply.Reply.{Reply}
-use Rattle.rule_model.specs.declared.reply.Reply.TheVariants.{Done, Broken, Stopped}
+use Rattle.rule_model.specs.declared.reply.Reply.TheVariants.{Done, Stopped}
 use Rattle.rule_model.specs.Access.{id_by, key_in, owner_of}
 use Rattle.rule_model.specs.Acts.{fixed_for, is_begin}
 use Rattle.rule_model.specs.Answer.{answer_by_rules, begun_with, drawn_nonce, given_or, leaving}
 use Rattle.rule_model.specs.Blobs.{device_at, kept_as, root_of}
 use Rattle.rule_model.specs.Boot.{has_early_ended, last_tokens, other_triples}
 use Rattle.rule_model.specs.Calls.{accepted_in, add_auth_token_ruling, clear_namespace_ruling, counted_in, delete_key_ruling, disconnect_ruling, early_boot_ended_ruling, get_key_entry_ruling, grant_ruling, granted_in, key_entry, listed_in, listing_ruling, ungrant_ruling, user_call_ruling}
-use Rattle.rule_model.specs.Changes.{change_of, grant_number, new_blob, owner_for}
+use Rattle.rule_model.specs.Changes.{grant_number, new_blob, owner_for}
 use Rattle.rule_model.specs.Clients.{caller_of}
 use Rattle.rule_model.specs.Drawn.{no_pieces, size_of, wanted_by_key, wanted_by_rules}
 use Rattle.rule_model.specs.Entries.{History, count_of}
-use Rattle.rule_model.specs.Kept.{access_at, has_busy, kept, key_found, open_of, operation_at}
+use Rattle.rule_model.specs.Kept.{access_at, has_busy, kept, key_found, operation_at}
 use Rattle.rule_model.specs.Legal.{Legal, MayFollow, MayStep, Answered, WithoutMemory, WithoutEntropy, Faulted, NotSettled, NotRestarted}
 use Rattle.rule_model.specs.Listing.{listed_from}
 use Rattle.rule_model.specs.NewFacts.{import_of, new_facts}
@@ -65,7 +64,6 @@ use Rattle.rule_model.specs.ReplyRooms.{Fits, IsWithin, NONCE, no_sizes, sizes_o
 use Rattle.rule_model.specs.Setup.{Setup}
 use Rattle.rule_model.specs.Slots.{begin_facts, pruned_for}
 use Rattle.rule_model.specs.StepFacts.{brought_by, brought_by_abort, step_facts}
-use Rattle.rule_model.specs.Stored.{has_record_room, stored_bytes, where_stored}
 use Rattle.rule_model.specs.declared.operation.Entered.{Entered}
 use Rattle.rule_model.specs.Tickets.{next_ticket, ticket_at}
 use Rattle.rule_model.specs.Tokens.{token_of}
@@ -83,12 +81,6 @@ broken_fits sizes (Err (rule, code)) reply fits = tt
 if_fits : (sizes : FieldSizes) (b : Bool) (first second : Reply) → Fits sizes first → Fits sizes second → Fits sizes (if b then first else second)
 if_fits sizes true first second e f = e
 if_fits sizes false first second e f = f
-
-stored_fits : (sizes : FieldSizes) (bytes : ℕ) (change : Option Change) (reply : Reply) → Fits sizes reply → Fits sizes (where_stored bytes change reply)
-stored_fits sizes bytes None reply fits = fits
-stored_fits sizes bytes (Some change) (Done fields) fits = if_fits sizes (has_record_room bytes change) (Done fields) (Stopped JournalFull) fits tt
-stored_fits sizes bytes (Some change) (Broken rule code) fits = tt
-stored_fits sizes bytes (Some change) (Stopped code) fits = tt
 
 -- ---- a new key
 
@@ -274,8 +266,7 @@ follow_fits : (setup : Setup) (past : History) (event : Event) (drawn : List ℕ
     → MayFollow setup past event drawn reply → Fits (sizes_of event.act out) reply
 follow_fits setup past event drawn reply out short long room (Answered is) =
     subst (Fits (sizes_of event.act out)) (sym is.is_answer)
-    (stored_fits (sizes_of event.act out) (stored_bytes setup past) (change_of event.act (device_at setup past) setup.policy (kept setup past) (open_of setup past) (caller_of past event) drawn)
-    (answer_by_rules event.act setup past (caller_of past event) drawn) (rules_fit event.act setup past (caller_of past event) drawn out short long is.drew room))
+    (rules_fit event.act setup past (caller_of past event) drawn out short long is.drew room)
 follow_fits setup past event drawn reply out short long room (WithoutMemory is) = subst (Fits (sizes_of event.act out)) (sym is.is_want) tt
 follow_fits setup past event drawn reply out short long room (WithoutEntropy is) = subst (Fits (sizes_of event.act out)) (sym is.is_fault) tt
 follow_fits setup past event drawn reply out short long room (Faulted is) = subst (Fits (sizes_of event.act out)) (sym is.is_fault) tt

@@ -1,5 +1,5 @@
 -- The keys and grants: what a step leaves of their relation to a history, and that the needs of a change are met.
-use Rattle.std.proofs.Common.{◌≡◌, ℕ, ◌+◌, Bool, true, false, ◌&&◌, ◌||◌, if◌then◌else◌, List, [], ◌∷◌, Option, Some, None, length, find, refl, sym, ap, subst, ◌∙◌}
+use Rattle.std.proofs.Common.{◌≡◌, ℕ, Bool, true, false, ◌&&◌, ◌||◌, if◌then◌else◌, List, [], ◌∷◌, Option, Some, None, length, find, refl, sym, ap, subst, ◌∙◌}
 use Rattle.std.specs.Prelude.{nat_lt}
 use Rattle.std.specs.List.{list_any}
 use Rattle.std.specs.Option.{option_map}
@@ -18,7 +18,7 @@ use Rattle.journal_records.specs.Effects.{after}
 use Rattle.tags.specs.declared.settled.Settled.TheVariants.{Kept, Lost}
 use Rattle.key_database.specs.declared.database.KeyDatabase.{KeyDatabase}
 use Rattle.key_database.specs.Stands.{SameStore}
-use Rattle.key_database.proofs.Rereading.{one_store_same, same_bytes, same_settled, same_twice}
+use Rattle.keystore_core.proofs.SameStores.{one_store_same, same_settled, same_twice}
 use Rattle.rule_model.specs.declared.facts.Caller.{Caller}
 use Rattle.rule_model.specs.Access.{access_by, id_by, id_of, key_in}
 use Rattle.rule_model.specs.Changes.{grant_at, grant_number, grant_of}
@@ -27,7 +27,6 @@ use Rattle.rule_model.specs.Entries.{History}
 use Rattle.rule_model.proofs.Kept.{SameStored}
 use Rattle.rule_model.specs.Settling.{is_unsettled as waits}
 use Rattle.rule_model.specs.Setup.{Setup}
-use Rattle.rule_model.specs.Stored.{record_bytes}
 use Rattle.keystore_core.specs.declared.tables.Tables.{Tables}
 use Rattle.keystore_core.specs.Keys.{KeysStand, SameKeys, WaitsFor}
 use Rattle.tags.specs.declared.limits.TheConstants.{MOST_GRANTS}
@@ -52,9 +51,7 @@ waits_still : (setup : Setup) (past later : History) (old new : KeyDatabase) (ch
 waits_still setup past later old new change same is waiting before = record {
   pending_is = same.pending_is ∙ before.pending_is;
   made_is = ap (λ part. after part change) same.lasting_is ∙ before.made_is ∙ sym (is.waiting_kept Kept waiting);
-  made_bytes = ap (λ bytes. bytes + record_bytes change) (same_bytes old new same) ∙ before.made_bytes ∙ sym (is.waiting_bytes Kept waiting);
   lost_is = same.lasting_is ∙ before.lost_is ∙ sym (is.waiting_kept Lost waiting);
-  lost_bytes = same_bytes old new same ∙ before.lost_bytes ∙ sym (is.waiting_bytes Lost waiting);
 }
 
 -- an entry that leaves the keys and grants as they are
@@ -64,7 +61,6 @@ keys_stay setup past later old new stands same is = record {
   device_is = same.device_is ∙ stands.device_is ∙ sym is.device_is;
   policy_is = same.policy_is ∙ stands.policy_is;
   lasting_is = same.store_is.lasting_is ∙ stands.lasting_is ∙ sym is.kept_is;
-  bytes_are = same_bytes old.keys new.keys same.store_is ∙ stands.bytes_are ∙ sym is.bytes_are;
   settled_is = same_settled old.keys new.keys same.store_is ∙ stands.settled_is ∙ sym is.settled_is;
   waiting = λ later_waits.
       let waiting : waits past ≡ true = sym is.settled_is ∙ later_waits in

@@ -1,3 +1,4 @@
+pub mod SameStores
 pub mod Ready
 pub mod KeyTable
 pub mod Drawn
@@ -22,3 +23,4 @@ pub mod Fitting
 pub mod Untold
 pub mod PutsOut
 pub mod Steps
+pub mod Brought

@@ -36,7 +36,7 @@ use Rattle.rule_model.specs.declared.event.Event.{Event}
 use Rattle.rule_model.specs.declared.reply.Fields.{Fields}
 use Rattle.rule_model.specs.Access.{owner_of}
 use Rattle.rule_model.specs.Acts.{is_begin, is_connect, is_enter, is_restart}
-use Rattle.rule_model.specs.Answer.{answer, answer_by_rules, answer_stored, made_in}
+use Rattle.rule_model.specs.Answer.{answer, answer_by_rules, made_in}
 use Rattle.rule_model.specs.Replies.{broken_or, no_fields}
 use Rattle.rule_model.specs.Blobs.{device_at, root_given}
 use Rattle.rule_model.specs.Changes.{alias_of, change_of, new_blob, owner_for}
@@ -51,8 +51,8 @@ use Rattle.rule_model.specs.NewFacts.{new_facts}
 use Rattle.rule_model.specs.declared.entry_change.OperationChange.TheVariants.{SameOperations}
 use Rattle.rule_model.specs.Places.{has_key_place}
 use Rattle.rule_model.specs.Settling.{is_disk_fault, is_unsettled}
-use Rattle.rule_model.specs.Stored.{change_by, stored_bytes, where_stored}
-use Rattle.rule_model.proofs.Kept.{denied_stands, no_fault_unfaulted}
+use Rattle.rule_model.specs.Stored.{change_by}
+use Rattle.rule_model.proofs.Kept.{no_fault_unfaulted}
 use Rattle.rule_model.specs.Setup.{Setup}
 use Rattle.rule_model.specs.declared.entry_change.TicketChange.TheVariants.{SameTickets as NoTickets}
 use Rattle.rule_model.specs.Tickets.{ticket_change}
@@ -252,13 +252,13 @@ module _ (setup : Setup) (past : History) (tables : Tables) (caller : Caller) (k
   pub place_is : has_key_place (lasting tables.keys) (owner_of caller) key ≡ HasPlace
   place_is = ap (λ part. has_key_place part (owner_of caller) key) stands.keys.lasting_is
 
-  built_is : (i : Option Import) (drawn : List ℕ) (reply : Reply) → reply ≡ answer_stored (making key params i) setup past (caller_of past (event_by caller (making key params i))) drawn
+  built_is : (i : Option Import) (drawn : List ℕ) (reply : Reply) → reply ≡ answer_by_rules (making key params i) setup past (caller_of past (event_by caller (making key params i))) drawn
       → reply ≡ answer setup past (event_by caller (making key params i)) drawn
   built_is None drawn reply is = is
   built_is (Some i) drawn reply is = is
 
-  told_as : (drawn : List ℕ) (reply : Reply) → reply ≡ answer_stored (making key params import) setup past caller drawn → reply ≡ answer setup past Making drawn
-  told_as drawn reply is = built_is import drawn reply (is ∙ ap (λ c. answer_stored (making key params import) setup past c drawn) same)
+  told_as : (drawn : List ℕ) (reply : Reply) → reply ≡ answer_by_rules (making key params import) setup past caller drawn → reply ≡ answer setup past Making drawn
+  told_as drawn reply is = built_is import drawn reply (is ∙ ap (λ c. answer_by_rules (making key params import) setup past c drawn) same)
 
   drew_is : (i : Option Import) (drawn : List ℕ) → length drawn ≡ size_of (wanted_by_rules (making key params i) setup past (caller_of past (event_by caller (making key params i))))
       → length drawn ≡ size_of (wanted setup past (event_by caller (making key params i)))
@@ -272,11 +272,10 @@ module _ (setup : Setup) (past : History) (tables : Tables) (caller : Caller) (k
   answered : (drawn : List ℕ) (reply : Reply) → is_done reply ≡ false → length drawn ≡ size_of (wanted_by_rules (making key params import) setup past caller)
       → reply ≡ answer_by_rules (making key params import) setup past caller drawn → IsTrue (is_ready past (making key params import)) → MayFollow setup past Making drawn reply
   answered drawn reply denied drew is ready =
-      let change : Option Change = change_of (making key params import) (device_at setup past) setup.policy (kept setup past) (open_of setup past) caller drawn in
       Answered (record {
         ready = ready;
         drew = drew_as drawn drew;
-        is_answer = told_as drawn reply (sym (denied_stands (stored_bytes setup past) change reply denied) ∙ ap (where_stored (stored_bytes setup past) change) is);
+        is_answer = told_as drawn reply is;
       })
 
   undrawn_is : (i : Option Import) (drawn : List ℕ) → length drawn < size_of (wanted_by_rules (making key params i) setup past (caller_of past (event_by caller (making key params i))))
@@ -393,16 +392,7 @@ module _ (setup : Setup) (past : History) (tables : Tables) (caller : Caller) (k
       ap (λ b. Done (kept_fields (kept setup past) key b)) (made_blob plan drawn is)
       ∙ sym (answer_is (Ok (plan_of Facts)) drawn is.holds ∙ ap (λ p. if p then Done (kept_fields (kept setup past) key (Blob drawn)) else Stopped StoreFull) place)
 
-  told : (change : Option Change) (fields : Fields) (drawn : List ℕ) → change_by setup past Making drawn ≡ change → Done fields ≡ answer_by_rules (making key params import) setup past caller drawn
-      → answer setup past Making drawn ≡ where_stored (stored_bytes setup past) change (Done fields)
-  told change fields drawn by is =
-      let own : change_of (making key params import) (device_at setup past) setup.policy (kept setup past) (open_of setup past) caller drawn ≡ change =
-      ap (λ c. change_of (making key params import) (device_at setup past) setup.policy (kept setup past) (open_of setup past) c drawn) same ∙ by in
-      sym (told_as drawn (where_stored (stored_bytes setup past) change (Done fields))
-      (ap (λ c. where_stored (stored_bytes setup past) c (Done fields)) (sym own)
-      ∙ ap (where_stored (stored_bytes setup past) (change_of (making key params import) (device_at setup past) setup.policy (kept setup past) (open_of setup past) caller drawn)) is))
-
-  -- a key that is made where its record has room
+  -- a key that is made
   pub made : (middle : Tables) (new : KeyDatabase) (plan : NewKey) (drawn : List ℕ) (reply : Reply) → planned Facts ≡ Ok plan → HasPlace ≡ true
       → length drawn ≡ plan.plan.size + 12 → SameTables tables middle → AreSettled tables
       → IsWrittenIf middle.keys new (Change_of (lasting middle.keys) plan drawn) (Fields_of (lasting middle.keys) plan drawn) reply
@@ -416,12 +406,12 @@ module _ (setup : Setup) (past : History) (tables : Tables) (caller : Caller) (k
       let rules : Done fields ≡ answer_by_rules (making key params import) setup past caller drawn = ap (λ part. Done (Fields_of part plan drawn)) before ∙ ruled plan drawn is place in
       record {
         follows = λ ready. told_follows setup past tables middle.keys new Making drawn fields stands.keys still.keys.store_is settled (restarts_none import) (roots_none import) change reply by
-            (drew_as drawn (long ∙ sym (planned_wanted plan is place))) (told change fields drawn by rules) written;
+            (drew_as drawn (long ∙ sym (planned_wanted plan is place))) (sym (told_as drawn (Done fields) rules)) written;
         stands = record {
           clients = clients_stay setup past Making drawn reply tables.clients middle.clients stands.clients still.clients (same_clients Making reply (moves_none key params import)) (quiet is_connect past Making drawn reply (connects_none key params import));
           keys =
               let own = told_keys setup past tables middle.keys new Making drawn fields stands.keys still.keys.store_is settled (restarts_none import) (roots_none import) change reply by written in
-              record { device_is = still.keys.device_is ∙ own.device_is; policy_is = still.keys.policy_is ∙ own.policy_is; lasting_is = own.lasting_is; bytes_are = own.bytes_are; settled_is = own.settled_is; waiting = own.waiting };
+              record { device_is = still.keys.device_is ∙ own.device_is; policy_is = still.keys.policy_is ∙ own.policy_is; lasting_is = own.lasting_is; settled_is = own.settled_is; waiting = own.waiting };
           operations = operations_stay setup past Making drawn reply tables.operations middle.operations stands.operations still.operations (none drawn reply) (quiet is_begin past Making drawn reply (begins_none key params import));
           slots = slots_stay setup past Making drawn reply tables.slots middle.slots stands.slots still.slots (none drawn reply);
           tickets = tickets_stay setup past Making drawn reply tables.tickets middle.tickets stands.tickets still.tickets (unticketed reply) (quiet is_enter past Making drawn reply (enters_none key params import)) (stays_same setup past Making drawn reply (none drawn reply));

@@ -24,13 +24,12 @@ use Rattle.auth_tokens.specs.declared.token.AuthToken.{AuthToken}
 use Rattle.key_domains.specs.Domains.{domain_blob}
 use Rattle.tags.specs.declared.plan.Plan.TheVariants.{Ecb, Cbc, Ctr, Gcm, HmacSign, HmacVerify}
 use Rattle.tags.specs.declared.rule.Rule.{Rule}
-use Rattle.tags.specs.declared.code.Code.TheVariants.{JournalFull, StoreFull, TokensFull, VerificationFailed}
+use Rattle.tags.specs.declared.code.Code.TheVariants.{StoreFull, TokensFull, VerificationFailed}
 use Rattle.block_modes.specs.declared.fault.ModeFault.{ModeFault}
 use Rattle.block_modes.specs.declared.fault.ModeFault.TheVariants.{Length, Padding}
 use Rattle.cipher_ops.specs.declared.room.Work.{Work}
 use Rattle.cipher_ops.specs.declared.room.Work.TheVariants.{Aad, Text, Last}
 use Rattle.cipher_ops.specs.Output.{behind, coded, is_signature, verified, whole}
-use Rattle.journal_records.specs.declared.change.Change.{Change}
 use Rattle.journal_records.specs.declared.record.KeyRecord.{KeyRecord}
 use Rattle.journal_records.specs.LastingPart.{Lasting}
 use Rattle.rule_model.specs.declared.event.Act.{Act}
@@ -38,7 +37,7 @@ use Rattle.rule_model.specs.declared.event.Act.TheVariants.{GenerateKey, ImportK
 use Rattle.rule_model.specs.declared.event.Event.{Event}
 use Rattle.rule_model.specs.declared.facts.Caller.{Caller}
 use Rattle.rule_model.specs.declared.reply.Reply.{Reply}
-use Rattle.rule_model.specs.declared.reply.Reply.TheVariants.{Done, Broken, Stopped}
+use Rattle.rule_model.specs.declared.reply.Reply.TheVariants.{Done, Stopped}
 use Rattle.rule_model.specs.Acts.{is_restart}
 use Rattle.rule_model.specs.Answer.{answer_by_rules, begun_with, drawn_nonce, given_or, leaving, made_in}
 use Rattle.rule_model.specs.Access.{owner_of}
@@ -53,7 +52,6 @@ use Rattle.rule_model.specs.Operations.{output_of}
 use Rattle.rule_model.specs.Places.{has_grant_place, has_key_place}
 use Rattle.rule_model.specs.Replies.{broken_or, no_fields}
 use Rattle.rule_model.specs.Setup.{Setup}
-use Rattle.rule_model.specs.Stored.{has_record_room, where_stored}
 use Rattle.rule_model.specs.declared.operation.Entered.{Entered}
 use Rattle.rule_model.specs.Tickets.{ticket_at}
 use Rattle.rule_model.specs.Tokens.{token_of}
@@ -67,12 +65,6 @@ broken_not (Err (rule, code)) reply e = refl
 if_not : (b : Bool) (first second : Reply) → is_other_store first ≡ false → is_other_store second ≡ false → is_other_store (if b then first else second) ≡ false
 if_not true first second e f = e
 if_not false first second e f = f
-
-stored_not : (bytes : ℕ) (change : Option Change) (reply : Reply) → is_other_store reply ≡ false → is_other_store (where_stored bytes change reply) ≡ false
-stored_not bytes None reply e = e
-stored_not bytes (Some change) (Done fields) e = if_not (has_record_room bytes change) (Done fields) (Stopped JournalFull) refl refl
-stored_not bytes (Some change) (Broken rule code) e = refl
-stored_not bytes (Some change) (Stopped code) e = e
 
 -- no output is refused with that code
 abbrev is_other : Result (List ℕ) Code → Bool
@@ -166,7 +158,7 @@ rules_not _ setup past caller drawn = refl
 -- so an entry that is, is of a restart
 pub other_not : (setup : Setup) (past : History) (event : Event) (drawn : List ℕ) (reply : Reply) → is_restart event.act ≡ false → MayFollow setup past event drawn reply → is_other_store reply ≡ false
 other_not setup past event drawn reply no_restart (Answered is) =
-    subst (λ r. is_other_store r ≡ false) (sym is.is_answer) (stored_not _ _ _ (rules_not event.act setup past _ drawn))
+    subst (λ r. is_other_store r ≡ false) (sym is.is_answer) (rules_not event.act setup past _ drawn)
 other_not setup past event drawn reply no_restart (WithoutMemory is) = subst (λ r. is_other_store r ≡ false) (sym is.is_want) refl
 other_not setup past event drawn reply no_restart (WithoutEntropy is) = subst (λ r. is_other_store r ≡ false) (sym is.is_fault) refl
 other_not setup past event drawn reply no_restart (Faulted is) = subst (λ r. is_other_store r ≡ false) (sym is.is_fault) refl

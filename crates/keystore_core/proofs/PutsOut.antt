@@ -33,7 +33,7 @@ use Rattle.rule_model.specs.Setup.{Setup}
 use Rattle.rule_model.specs.StepFacts.{brought_by, facts_of}
 use Rattle.rule_model.specs.declared.operation.Entered.{Entered}
 use Rattle.rule_model.specs.Tickets.{goes_out, ticket_after, ticket_at}
-use Rattle.rule_model.proofs.Admitted.{admitted_by_rules, answered_done, broken_done}
+use Rattle.rule_model.proofs.Admitted.{answered_done, broken_done}
 use Rattle.live_tables.specs.declared.operations.OperationRow.{OperationRow as Row}
 use Rattle.keystore_core.specs.declared.tables.Tables.{Tables}
 use Rattle.live_tables.specs.Alike.{BothFound}
@@ -150,7 +150,7 @@ module _ (setup : Setup) (past : History) (tables : Tables) (settled : Option Se
   ruled : (act : Act) → MayFollow setup Mid (By act) drawn (Done fields) → is_done (answer_by_rules act setup Mid (caller_of Mid (By act)) drawn) ≡ true
   ruled act may =
       let is : IsAnswered setup Mid (By act) drawn (Done fields) = answered_done setup Mid (By act) drawn fields may in
-      admitted_by_rules setup Mid (By act) drawn (subst (λ r. is_done r ≡ true) is.is_answer refl)
+      subst (λ r. is_done r ≡ true) is.is_answer refl
 
   row_is : (op : ℕ) (o : Open) → operation_at setup Mid op ≡ Some o → BothFound IsRow (row_at tables op) (Some o)
   row_is op o found = subst (BothFound IsRow (row_at tables op)) (sym (same_open setup past settled op) ∙ found) (row_found setup past tables op stands)

@@ -1,5 +1,5 @@
 -- A call that opens, enters and closes no operation, and moves no client: its answer by the rules, and the tables after it.
-use Rattle.std.proofs.Common.{◌≡◌, ℕ, Bool, true, false, IsTrue, if◌then◌else◌, List, [], ◌∷◌, Option, None, Some, refl, sym, ap, ◌∙◌}
+use Rattle.std.proofs.Common.{◌≡◌, ℕ, Bool, true, false, IsTrue, if◌then◌else◌, List, [], ◌∷◌, None, Some, refl, sym, ap, ◌∙◌}
 use Rattle.journal_records.specs.declared.change.Change.{Change}
 use Rattle.key_database.specs.declared.database.KeyDatabase.{KeyDatabase}
 use Rattle.key_database.specs.Stands.{SameStore}
@@ -11,7 +11,7 @@ use Rattle.rule_model.specs.declared.reply.Fields.{Fields}
 use Rattle.rule_model.specs.declared.reply.Reply.{Reply}
 use Rattle.rule_model.specs.declared.reply.Reply.TheVariants.{Done}
 use Rattle.rule_model.specs.Acts.{fixed_for, is_begin, is_connect, is_enter, is_restart}
-use Rattle.rule_model.specs.Answer.{answer, answer_by_rules, answer_stored}
+use Rattle.rule_model.specs.Answer.{answer, answer_by_rules}
 use Rattle.rule_model.specs.Changes.{change_of}
 use Rattle.rule_model.specs.Clients.{caller_of}
 use Rattle.rule_model.specs.Drawn.{no_pieces, size_of, wanted, wanted_by_rules}
@@ -21,11 +21,11 @@ use Rattle.rule_model.specs.Kept.{kept, open_of}
 use Rattle.rule_model.specs.Legal.{Answered, MayFollow, is_ready}
 use Rattle.rule_model.specs.Blobs.{device_at, root_given}
 use Rattle.rule_model.specs.Settling.{is_disk_fault}
-use Rattle.rule_model.specs.Stored.{change_by, stored_bytes, where_stored}
+use Rattle.rule_model.specs.Stored.{change_by}
 use Rattle.rule_model.specs.Setup.{Setup}
 use Rattle.rule_model.proofs.Boot.{moves_boot, same_boot as same_boot_after}
 use Rattle.rule_model.proofs.Clients.{moves_clients, none_connects, same_clients}
-use Rattle.rule_model.proofs.Kept.{changes_kept, denied_stands, denied_stored, none_changed, quiet_stored}
+use Rattle.rule_model.proofs.Kept.{changes_kept, denied_stored, quiet_stored}
 use Rattle.rule_model.proofs.Operations.{moves_operations, none_begins, same_operations}
 use Rattle.rule_model.proofs.Tickets.{moves_tickets, none_enters, same_tickets}
 use Rattle.keystore_core.specs.declared.tables.Tables.{Tables}
@@ -80,8 +80,8 @@ module _ (setup : Setup) (past : History) (tables : Tables) (caller : Caller) (a
   drew : 0 ≡ size_of (wanted setup past Calling)
   drew = drawn_none (fixed_for act).draws setup past act (caller_of past Calling) call.draws
 
-  answered_as : (reply : Reply) → reply ≡ answer_stored act setup past caller [] → reply ≡ answer setup past Calling []
-  answered_as reply is = is ∙ ap (λ c. answer_stored act setup past c []) same
+  answered_as : (reply : Reply) → reply ≡ answer_by_rules act setup past caller [] → reply ≡ answer setup past Calling []
+  answered_as reply is = is ∙ ap (λ c. answer_by_rules act setup past c []) same
 
   answers_call : (new : KeyDatabase) (reply : Reply) → KeysStand setup (record tables { keys = new }) (Acted Calling [] reply ∷ past) → (IsTrue (is_ready past act) → MayFollow setup past Calling [] reply)
       → HasJob setup (Acted Calling [] reply ∷ past) reply None → AnswersAfter setup past (record tables { keys = new }) Calling (record { reply = reply; job = None; drawn = [] })
@@ -96,10 +96,9 @@ module _ (setup : Setup) (past : History) (tables : Tables) (caller : Caller) (a
   pub denies : (new : KeyDatabase) (reply : Reply) → SameStore tables.keys new → is_done reply ≡ false → is_disk_fault reply ≡ false → reply ≡ answer_by_rules act setup past caller []
       → HasJob setup (Acted Calling [] reply ∷ past) reply None → AnswersAfter setup past (record tables { keys = new }) Calling (record { reply = reply; job = None; drawn = [] })
   denies new reply still denied no_fault is no_job =
-      let change : Option Change = change_of act (device_at setup past) setup.policy (kept setup past) (open_of setup past) caller [] in
       answers_call new reply
       (keys_stay setup past (Acted Calling [] reply ∷ past) tables (record tables { keys = new }) stands.keys (record { device_is = refl; policy_is = refl; store_is = still }) (denied_stored setup past Calling [] reply denied no_fault))
-      (λ ready. Answered (record { ready = ready; drew = drew; is_answer = answered_as reply (sym (denied_stands (stored_bytes setup past) change reply denied) ∙ ap (where_stored (stored_bytes setup past) change) is) })) no_job
+      (λ ready. Answered (record { ready = ready; drew = drew; is_answer = answered_as reply is })) no_job
 
   -- an act that changes nothing
   pub reads : (reply : Reply) → changes_kept act ≡ false → is_disk_fault reply ≡ false → reply ≡ answer_by_rules act setup past caller [] → HasJob setup (Acted Calling [] reply ∷ past) reply None
@@ -109,18 +108,16 @@ module _ (setup : Setup) (past : History) (tables : Tables) (caller : Caller) (a
       (λ ready. Answered (record {
         ready = ready;
         drew = drew;
-        is_answer = answered_as reply (is ∙ sym (ap (λ c. where_stored (stored_bytes setup past) c (answer_by_rules act setup past caller [])) (none_changed act (device_at setup past) setup.policy (kept setup past) (open_of setup past) caller [] quiet_act)));
+        is_answer = answered_as reply is;
       })) no_job
 
-  -- an act that is admitted with this change of the keys and grants, where its record has room
+  -- an act that is admitted with this change of the keys and grants
   pub writes : (middle new : KeyDatabase) (fields : Fields) (change : Change) (reply : Reply) → SameStore tables.keys middle → AreSettled tables → change_of act (device_at setup past) setup.policy (kept setup past) (open_of setup past) caller [] ≡ Some change
       → IsWritten middle new change fields reply → Done fields ≡ answer_by_rules act setup past caller [] → HasJob setup (Acted Calling [] (Done fields) ∷ past) (Done fields) None
       → AnswersAfter setup past (record tables { keys = new }) Calling (record { reply = reply; job = None; drawn = [] })
   writes middle new fields change reply still settled is_change written is no_job =
       let by : change_by setup past Calling [] ≡ Some change = ap (λ c. change_of act (device_at setup past) setup.policy (kept setup past) (open_of setup past) c []) (sym same) ∙ is_change in
-      let told : where_stored (stored_bytes setup past) (Some change) (Done fields) ≡ answer_stored act setup past caller [] =
-      ap (λ c. where_stored (stored_bytes setup past) c (Done fields)) (sym is_change) ∙ ap (where_stored (stored_bytes setup past) (change_of act (device_at setup past) setup.policy (kept setup past) (open_of setup past) caller [])) is in
       answers_call new reply
       (written_keys setup past tables middle new Calling [] change fields stands.keys still settled call.restarts call.root by reply written)
-      (λ ready. written_follows setup past tables middle new Calling [] change fields stands.keys still settled call.restarts call.root by reply drew (sym (answered_as (where_stored (stored_bytes setup past) (Some change) (Done fields)) told)) written)
+      (λ ready. written_follows setup past tables middle new Calling [] change fields stands.keys still settled call.restarts call.root by reply drew (sym (answered_as (Done fields) is)) written)
       (written_job setup past tables middle new Calling [] change fields stands.keys still settled call.restarts call.root by reply no_job written)

@@ -6,9 +6,11 @@ use Rattle.tags.specs.declared.code.Code.TheVariants.{SystemError, ValueCorrupte
 use Rattle.ks_outside.specs.declared.disk.Disk.{Ghosts}
 use Rattle.ks_outside.specs.Images.{Goes, Passes}
 use Rattle.ks_outside.proofs.Joins.{passes_as}
+use Rattle.journal_records.specs.Effects.{after}
 use Rattle.journal_records.specs.Holding.{Holding}
+use Rattle.journal_records.specs.LastingPart.{Lasting}
 use Rattle.key_database.specs.declared.database.KeyDatabase.{KeyDatabase}
-use Rattle.key_database.specs.Stands.{Holds, is_unsettled, lasting, store_bytes}
+use Rattle.key_database.specs.Stands.{Holds, SamePart, SameStore, is_unsettled, lasting}
 use Rattle.key_database.specs.Store.{Between, MayBe}
 use Rattle.cipher_ops.specs.declared.state.CipherState.{CipherState}
 use Rattle.operation_slots.specs.Table.{SlotTable, held, operations_of}
@@ -29,7 +31,7 @@ use Rattle.rule_model.specs.Stored.{after_reply}
 use Rattle.rule_model.proofs.Kept.{SameStored, denied_stored, unfaulted_stored}
 use Rattle.keystore_core.specs.declared.tables.Tables.{Tables}
 use Rattle.keystore_core.specs.Restarting.{Forgets}
-use Rattle.keystore_core.specs.Tables.{AnswersAfter, TablesStand, event_by}
+use Rattle.keystore_core.specs.Tables.{AnswersAfter, SameTables, TablesStand, event_by}
 use Rattle.keystore_core.specs.Writing.{StoreGoes}
 use Rattle.keystore_core.proofs.Ready.{ready_settled}
 use Rattle.keystore_core.proofs.Booted.{boot_after, boot_stays, same_boot}
@@ -39,6 +41,45 @@ use Rattle.keystore_core.proofs.Standing.{clients_stay, operations_stay, same_ta
 
 none_held : (slots : SlotTable CipherState) (number : ℕ) → operations_of slots ≡ [] → held slots number ≡ None
 none_held slots number e = rw e refl
+
+-- the same keys and grants, whose records may end elsewhere
+pub read_stands : (setup : Setup) (past : History) (old : Tables) (keys : KeyDatabase) → SamePart old.keys keys → is_unsettled keys ≡ is_unsettled old.keys → TablesStand setup old past
+    → TablesStand setup (record old { keys = keys }) past
+read_stands setup past old keys same settled stands = record {
+  clients = stands.clients;
+  keys = record {
+    device_is = stands.keys.device_is;
+    policy_is = stands.keys.policy_is;
+    lasting_is = same.lasting_is ∙ stands.keys.lasting_is;
+    settled_is = settled ∙ stands.keys.settled_is;
+    waiting = λ waits_is.
+        let waiting = stands.keys.waiting waits_is in (
+          waiting.0,
+          record {
+            pending_is = same.pending_is ∙ waiting.1.pending_is;
+            made_is = ap (λ (part : Lasting). after part waiting.0) same.lasting_is ∙ waiting.1.made_is;
+            lost_is = same.lasting_is ∙ waiting.1.lost_is;
+          },
+        );
+  };
+  operations = stands.operations;
+  slots = stands.slots;
+  tickets = stands.tickets;
+  boot = stands.boot;
+}
+
+-- the same tables over the same store
+pub unread_tables : (old : Tables) (keys : KeyDatabase) → SameStore old.keys keys → SameTables old (record old { keys = keys })
+unread_tables old keys same =
+    let still = same_tables old in
+    record {
+      clients = still.clients;
+      keys = record { device_is = refl; policy_is = refl; store_is = same };
+      operations = still.operations;
+      slots = refl;
+      tickets = still.tickets;
+      boot = still.boot;
+    }
 
 module _ (setup : Setup) (past : History) (old : Tables) (caller : Caller) (root : Option (List ℕ)) (stands : TablesStand setup old past) where
   abbrev Restarting : Event
@@ -53,7 +94,6 @@ module _ (setup : Setup) (past : History) (old : Tables) (caller : Caller) (root
         device_is = forgets.device_is ∙ ap (λ (d : DeviceSecrets). record d { root = root_given (Restart root) d.root }) stands.keys.device_is;
         policy_is = forgets.policy_is ∙ stands.keys.policy_is;
         lasting_is = ap lasting forgets.keys_are ∙ stands.keys.lasting_is;
-        bytes_are = ap store_bytes forgets.keys_are ∙ stands.keys.bytes_are;
         settled_is = ap is_unsettled forgets.keys_are ∙ stands.keys.settled_is;
         waiting = none_waits (Acted Restarting [] (Done no_fields) ∷ past) idle;
       };
@@ -112,10 +152,10 @@ restart_stays (Stopped code) held = by_code (is_system_error code) where
   by_code true = refl
   by_code false = refl
 
-pub restart_goes : {D : Type 0} (g : Ghosts D) (old new : KeyDatabase) (disk later : D) (reply : Reply) → new ≡ old → ((held : Holding) → Holds g old disk held → Holds g old later held)
+pub restart_goes : {D : Type 0} (g : Ghosts D) (old new : KeyDatabase) (disk later : D) (reply : Reply) → ((held : Holding) → Holds g old disk held → Holds g new later held)
     → ((held : Holding) → Holds g old disk held → Passes g disk later (MayBe held)) → Goes g disk later (is_disk_fault reply) → StoreGoes g old new disk later true None reply
-restart_goes g old new disk later reply same holds passes goes = record {
-  holds = λ held h. subst (λ k. Holds g new later k) (sym (restart_stays reply held)) (subst (λ k. Holds g k later held) (sym same) (holds held h));
+restart_goes g old new disk later reply holds passes goes = record {
+  holds = λ held h. subst (λ k. Holds g new later k) (sym (restart_stays reply held)) (holds held h);
   passes = λ held h. passes_as g disk later (MayBe held) (Between held (after_reply true None reply held)) (passes held h) (λ c may. inl may);
   goes = goes;
 }

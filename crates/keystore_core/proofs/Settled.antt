@@ -1,18 +1,16 @@
 -- The tables after a settling.
-use Rattle.std.proofs.Common.{◌≡◌, ◌+◌, false, ◌∷◌, Ok, ◌∙◌, arith}
+use Rattle.std.proofs.Common.{◌≡◌, false, ◌∷◌, Ok, ◌∙◌, arith}
 use Rattle.tags.specs.declared.settled.Settled.{Settled}
 use Rattle.tags.specs.declared.settled.Settled.TheVariants.{Kept, Lost}
 use Rattle.journal_records.specs.declared.change.Change.{Change}
 use Rattle.key_database.specs.declared.database.KeyDatabase.{KeyDatabase}
-use Rattle.key_database.specs.Stands.{SettledBy, is_unsettled, store_bytes}
+use Rattle.key_database.specs.Stands.{SettledBy, is_unsettled}
 use Rattle.rule_model.specs.declared.entry.Entry.TheVariants.{Settling}
 use Rattle.rule_model.specs.Entries.{History}
 use Rattle.rule_model.specs.Setup.{Setup}
-use Rattle.rule_model.specs.Stored.{record_bytes}
 use Rattle.keystore_core.specs.declared.tables.Tables.{Tables}
 use Rattle.keystore_core.specs.Keys.{KeysStand, WaitsFor}
 use Rattle.keystore_core.specs.Tables.{TablesStand}
-use Rattle.keystore_core.proofs.Written.{closed_length}
 
 settled_keys : (setup : Setup) (past : History) (old : Tables) (keys : KeyDatabase) (settled : Settled) (change : Change) → KeysStand setup old past → WaitsFor setup old.keys past change
     → SettledBy change (Ok settled) old.keys keys → is_unsettled keys ≡ false → KeysStand setup (record old { keys = keys }) (Settling settled ∷ past)
@@ -20,7 +18,6 @@ settled_keys setup past old keys Kept change stands waits by idle = record {
   device_is = stands.device_is;
   policy_is = stands.policy_is;
   lasting_is = by.0 ∙ waits.made_is;
-  bytes_are = (let bytes : store_bytes keys ≡ store_bytes old.keys + record_bytes change = omega (arith, by.1, closed_length change) in bytes) ∙ waits.made_bytes;
   settled_is = idle;
   waiting = λ e. absurd cc;
 }
@@ -28,7 +25,6 @@ settled_keys setup past old keys Lost change stands waits by idle = record {
   device_is = stands.device_is;
   policy_is = stands.policy_is;
   lasting_is = by.0 ∙ waits.lost_is;
-  bytes_are = by.1 ∙ waits.lost_bytes;
   settled_is = idle;
   waiting = λ e. absurd cc;
 }

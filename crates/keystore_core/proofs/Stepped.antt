@@ -1,5 +1,5 @@
 -- A step of an open operation: that its work may go out, its answer, and the tables after it.
-use Rattle.std.proofs.Common.{◌≡◌, ◌&&◌, ℕ, Bool, true, false, not, ◌==◌, if◌then◌else◌, List, [], ◌∷◌, length, Option, Some, None, option_map, Ok, Err, is_some, IsTrue, refl, sym, ap, ◌∙◌, subst, arith, length-append}
+use Rattle.std.proofs.Common.{◌≡◌, ◌&&◌, ℕ, Bool, true, false, not, ◌==◌, if◌then◌else◌, List, [], ◌∷◌, length, Option, Some, None, Ok, Err, is_some, IsTrue, refl, sym, ap, ◌∙◌, subst, arith, length-append}
 use Rattle.std.proofs.Math.Bridge.{le_prop}
 use Rattle.std.proofs.Props.{props}
 use mathlib.Core.Logic.{∥∥₁_prop}
@@ -21,7 +21,6 @@ use Rattle.cipher_ops.specs.Running.{GoesOn, IsRoom, MayCome}
 use Rattle.operation_slots.specs.declared.operation.SlotOperation.{SlotOperation as Slot}
 use Rattle.operation_slots.specs.Table as table
 use Rattle.operation_slots.specs.Table.{FindsWithout, SlotTable, held, idle_value, operations_of}
-use Rattle.journal_records.specs.declared.change.Change.TheVariants as changes
 use Rattle.key_database.specs.declared.database.KeyDatabase.{KeyDatabase}
 use Rattle.rule_model.specs.declared.entry.Entry.TheVariants.{Acted}
 use Rattle.rule_model.specs.declared.event.Act.{Act}
@@ -44,13 +43,12 @@ use Rattle.rule_model.specs.Boot.{boot_change}
 use Rattle.rule_model.specs.Legal.{MayFollow, Answered, is_ready}
 use Rattle.rule_model.specs.declared.entry_change.OperationChange.TheVariants.{Closes, Enters as EntersOne, SameOperations}
 use Rattle.rule_model.specs.declared.operation.Open.{Open}
-use Rattle.rule_model.specs.Operations.{closes, has_number, is_busy, operation_of, used_key}
+use Rattle.rule_model.specs.Operations.{closes, has_number, is_busy, operation_of}
 use Rattle.rule_model.specs.Setup.{Setup}
 use Rattle.rule_model.specs.StepFacts.{brought_by, brought_by_abort, facts_of, has_ended, step_facts}
 use Rattle.rule_model.specs.declared.entry_change.TicketChange.TheVariants.{GoesOut, SameTickets as NoTickets}
 use Rattle.rule_model.specs.Tickets.{next_ticket, ticket_change}
-use Rattle.rule_model.specs.Stored.{stored_bytes, where_stored}
-use Rattle.rule_model.proofs.Kept.{denied_stands, denied_stored, quiet_stored}
+use Rattle.rule_model.proofs.Kept.{denied_stored, quiet_stored}
 use Rattle.live_tables.specs.declared.operations.OperationRow.{OperationRow as Row}
 use Rattle.keystore_core.specs.declared.tables.Tables.{Tables}
 use Rattle.live_tables.specs.Alike.{BothFound}
@@ -243,8 +241,7 @@ enter_follows : (setup : Setup) (past : History) (caller : Caller) (op : ℕ) (w
     → reply ≡ Rattle.rule_model.specs.Answer.entering setup past (caller_of past (event_by caller (entering op work))) op work → MayFollow setup past (event_by caller (entering op work)) [] reply
 enter_follows setup past caller op (Aad input) reply ready denied is = Answered (record { ready = ready; drew = refl; is_answer = is })
 enter_follows setup past caller op (Text input) reply ready denied is = Answered (record { ready = ready; drew = refl; is_answer = is })
-enter_follows setup past caller op (Last input signature) reply ready denied is =
-    Answered (record { ready = ready; drew = refl; is_answer = sym (denied_stands (stored_bytes setup past) (option_map changes.Use (used_key op (open_of setup past))) reply denied) ∙ ap (where_stored (stored_bytes setup past) (option_map changes.Use (used_key op (open_of setup past)))) is })
+enter_follows setup past caller op (Last input signature) reply ready denied is = Answered (record { ready = ready; drew = refl; is_answer = is })
 
 pub enter_clients : (caller : Caller) (op : ℕ) (work : Work) (reply : Reply) → client_change (event_by caller (entering op work)) reply ≡ NoClients
 enter_clients caller op (Aad input) (Done fields) = refl

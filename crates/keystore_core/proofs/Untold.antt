@@ -1,7 +1,7 @@
 -- A reply gives a ticket to an enter alone.
 use Rattle.std.proofs.Common.{◌≡◌, ℕ, ◌+◌, Bool, true, false, ◌==◌, if◌then◌else◌, List, length, Option, Some, None, Result, Ok, Err, is_some, refl, sym, subst}
 use Rattle.tags.specs.declared.code.Code.{Code}
-use Rattle.tags.specs.declared.code.Code.TheVariants.{JournalFull, StoreFull, TokensFull}
+use Rattle.tags.specs.declared.code.Code.TheVariants.{StoreFull, TokensFull}
 use Rattle.tags.specs.declared.descriptor.Descriptor.{Descriptor}
 use Rattle.tags.specs.declared.rule.Rule.{Rule}
 use Rattle.auth_tokens.specs.declared.token.AuthToken.{AuthToken}
@@ -10,7 +10,6 @@ use Rattle.key_rules.specs.Creation.{new_key}
 use Rattle.use_rules.specs.Table as begin_table
 use Rattle.step_rules.specs.Table as step_table
 use Rattle.cipher_ops.specs.declared.room.Work.{Work}
-use Rattle.journal_records.specs.declared.change.Change.{Change}
 use Rattle.journal_records.specs.declared.record.KeyRecord.{KeyRecord}
 use Rattle.journal_records.specs.LastingPart.{Lasting}
 use Rattle.rule_model.specs.declared.event.Act.{Act}
@@ -26,10 +25,10 @@ use Rattle.rule_model.specs.Answer.{answer_by_rules, begun_with, drawn_nonce, gi
 use Rattle.rule_model.specs.Blobs.{device_at}
 use Rattle.rule_model.specs.Boot.{has_early_ended, last_tokens, other_triples}
 use Rattle.rule_model.specs.Calls.{accepted_in, add_auth_token_ruling, clear_namespace_ruling, counted_in, delete_key_ruling, disconnect_ruling, early_boot_ended_ruling, get_key_entry_ruling, grant_ruling, granted_in, key_entry, listed_in, listing_ruling, ungrant_ruling, user_call_ruling}
-use Rattle.rule_model.specs.Changes.{change_of, grant_number, new_blob, owner_for, planned}
+use Rattle.rule_model.specs.Changes.{grant_number, new_blob, owner_for, planned}
 use Rattle.rule_model.specs.Clients.{caller_of}
 use Rattle.rule_model.specs.Entries.{History, count_of}
-use Rattle.rule_model.specs.Kept.{has_busy, kept, key_found, open_of, operation_at}
+use Rattle.rule_model.specs.Kept.{has_busy, kept, key_found, operation_at}
 use Rattle.rule_model.specs.Legal.{IsAnswered, MayFollow}
 use Rattle.rule_model.specs.NewFacts.{import_of, new_facts}
 use Rattle.rule_model.specs.Operations.{challenge_of, output_of}
@@ -38,7 +37,6 @@ use Rattle.rule_model.specs.Replies.{broken_or, no_fields}
 use Rattle.rule_model.specs.Setup.{Setup}
 use Rattle.rule_model.specs.Slots.{begin_facts, pruned_for}
 use Rattle.rule_model.specs.StepFacts.{brought_by_abort, step_facts}
-use Rattle.rule_model.specs.Stored.{has_record_room, stored_bytes, where_stored}
 use Rattle.rule_model.specs.declared.operation.Entered.{Entered}
 use Rattle.rule_model.specs.Tickets.{ticket_at}
 use Rattle.rule_model.specs.Tokens.{token_of}
@@ -57,12 +55,6 @@ broken_untold (Err (rule, code)) reply e = refl
 if_untold : (b : Bool) (first second : Reply) → tells_ticket first ≡ false → tells_ticket second ≡ false → tells_ticket (if b then first else second) ≡ false
 if_untold true first second e f = e
 if_untold false first second e f = f
-
-stored_untold : (bytes : ℕ) (change : Option Change) (reply : Reply) → tells_ticket reply ≡ false → tells_ticket (where_stored bytes change reply) ≡ false
-stored_untold bytes None reply e = e
-stored_untold bytes (Some change) (Done fields) e = if_untold (has_record_room bytes change) (Done fields) (Stopped JournalFull) e refl
-stored_untold bytes (Some change) (Broken rule code) e = refl
-stored_untold bytes (Some change) (Stopped code) e = refl
 
 given_untold : (work : Work) (result : Result (List ℕ) Code) → tells_ticket (given_or work result) ≡ false
 given_untold work (Ok bytes) = refl
@@ -125,5 +117,4 @@ untold setup past event drawn fields e may =
     let is : IsAnswered setup past event drawn (Done fields) = answered_done setup past event drawn fields may in
     no_ticket fields.ticket
     (subst (λ r. tells_ticket r ≡ false) (sym is.is_answer)
-    (stored_untold (stored_bytes setup past) (change_of event.act (device_at setup past) setup.policy (kept setup past) (open_of setup past) (caller_of past event) drawn)
-    (answer_by_rules event.act setup past (caller_of past event) drawn) (rules_untold event.act setup past (caller_of past event) drawn e)))
+    (rules_untold event.act setup past (caller_of past event) drawn e))

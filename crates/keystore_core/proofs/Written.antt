@@ -1,22 +1,20 @@
 -- What an act does to the store: the keys after it, and how what is known of the disk goes on.
-use Rattle.std.proofs.Common.{◌≡◌, inl, inr, ℕ, ◌+◌, ◌-◌, ◌<◌, Bool, true, false, if◌then◌else◌, List, [], ◌∷◌, length, Option, Some, None, refl, sym, ap, ◌∙◌, subst, arith}
+use Rattle.std.proofs.Common.{◌≡◌, ℕ, Bool, false, List, [], ◌∷◌, length, Option, Some, None, refl, sym, ap, ◌∙◌, subst}
 use Rattle.std.specs.Prelude.{is_some}
-use Rattle.std.proofs.lemmas.Bool.{cases_lt, le-leb, leb-true}
-use Rattle.std.proofs.lemmas.List.{length-append}
 use Rattle.tags.specs.declared.code.Code.{Code}
-use Rattle.tags.specs.declared.code.Code.TheVariants.{JournalFull, SystemError}
+use Rattle.tags.specs.declared.code.Code.TheVariants.{SystemError}
 use Rattle.ks_outside.specs.declared.disk.Disk.{Ghosts}
 use Rattle.ks_outside.specs.Images.{Goes}
 use Rattle.ks_outside.proofs.Goings.{goes_none}
 use Rattle.ks_outside.proofs.Joins.{passes_none}
 use Rattle.journal_records.specs.declared.change.Change.{Change}
 use Rattle.journal_records.specs.Effects.{after}
-use Rattle.journal_records.specs.Spelling.{tail_of}
 use Rattle.journal_records.specs.Holding.{Holding}
 use Rattle.key_database.specs.declared.database.KeyDatabase.{KeyDatabase}
-use Rattle.key_database.specs.Stands.{Holds, SameStore, change_bytes, is_unsettled, lasting, store_bytes}
+use Rattle.key_database.specs.Stands.{Holds, SameStore, lasting}
 use Rattle.key_database.specs.Store.{Between}
-use Rattle.key_database.proofs.Rereading.{same_bytes, same_holds, same_settled, same_twice}
+use Rattle.key_database.proofs.Rereading.{same_holds}
+use Rattle.keystore_core.proofs.SameStores.{same_twice}
 use Rattle.rule_model.specs.declared.entry.Entry.TheVariants.{Acted}
 use Rattle.rule_model.specs.declared.event.Act.{Act}
 use Rattle.rule_model.specs.declared.event.Act.TheVariants.{EnterFinish}
@@ -34,71 +32,29 @@ use Rattle.rule_model.specs.Legal.{MayFollow, Answered as AnsweredBy, Faulted}
 use Rattle.rule_model.specs.Blobs.{root_given}
 use Rattle.rule_model.specs.Settling.{is_disk_fault, is_system_error, is_unsettled as waits}
 use Rattle.rule_model.specs.Setup.{Setup}
-use Rattle.rule_model.specs.Stored.{after_reply, change_by, has_record_room, record_bytes, stored_bytes, where_stored}
-use Rattle.rule_model.proofs.Kept.{changes_kept, denied_stored, made_stored, none_changed, torn_stored, unchanged_stored}
+use Rattle.rule_model.specs.Stored.{after_reply, change_by}
+use Rattle.rule_model.proofs.Kept.{changes_kept, made_stored, none_changed, torn_stored, unchanged_stored}
 use Rattle.keystore_core.specs.declared.answered.Answered.{Answered}
 use Rattle.keystore_core.specs.declared.tables.Tables.{Tables}
 use Rattle.keystore_core.specs.Keys.{AreSettled, KeysStand}
 use Rattle.keystore_core.proofs.KeyTable.{keys_stay, none_waits}
 use Rattle.keystore_core.proofs.Ready.{idle_ready, idle_settled}
-use Rattle.keystore_core.specs.Writing.{Full, HasMade, IsTorn, IsWritten, IsWrittenIf, LeavesStore, Made, StoreGoes, StoreGoesFor, Torn, change_for, use_by}
-use Rattle.tags.specs.declared.limits.TheConstants.{JOURNAL_BYTES}
+use Rattle.keystore_core.specs.Writing.{HasMade, IsTorn, IsWritten, IsWrittenIf, LeavesStore, Made, StoreGoes, StoreGoesFor, Torn, change_for, use_by}
 
--- ---- a change that is written
-
-pub closed_length : (change : Change) → change_bytes change ≡ record_bytes change + 1
-closed_length change = omega (arith, length-append (tail_of change) (0 ∷ []))
-
-pub room_left : (bytes : ℕ) (change : Change) → (JOURNAL_BYTES < bytes + change_bytes change → ⊥) → has_record_room bytes change ≡ true
-room_left bytes change fits =
-    elim (cases_lt JOURNAL_BYTES (bytes + change_bytes change)) [
-      | inl over ↦ absurd (fits over)
-      | inr within ↦ le-leb (bytes + record_bytes change + 1) JOURNAL_BYTES (omega (arith, closed_length change, within))
-    ]
-
-pub room_none : (bytes : ℕ) (change : Change) → JOURNAL_BYTES < bytes + change_bytes change → has_record_room bytes change ≡ false
-room_none bytes change over = by_test (has_record_room bytes change) refl where
-  by_test : (b : Bool) → has_record_room bytes change ≡ b → b ≡ false
-  by_test true e = absurd (omega (arith, closed_length change, over, leb-true (bytes + record_bytes change + 1) JOURNAL_BYTES e))
-  by_test false e = refl
-
-pub has_made : (old new : KeyDatabase) (change : Change) → lasting new ≡ after (lasting old) change → store_bytes new ≡ store_bytes old + (change_bytes change - 1) → is_unsettled new ≡ false
-    → (JOURNAL_BYTES < store_bytes old + change_bytes change → ⊥) → HasMade old new change
-has_made old new change made bytes settled fits = record {
-  lasting_is = made;
-  bytes_are = omega (arith, bytes, closed_length change);
-  settled = settled;
-  room = room_left (store_bytes old) change fits;
-}
-
--- ---- the keys, and the answer
+-- ---- the keys, and the answer of a change that is written
 
 module _ (setup : Setup) (past : History) (tables : Tables) (middle new : KeyDatabase) (event : Event) (drawn : List ℕ) (change : Change) (fields : Fields) (stands : KeysStand setup tables past)
     (still : SameStore tables.keys middle) (settled : AreSettled tables) (no_restart : is_restart event.act ≡ false) (no_root : (before : List ℕ) → root_given event.act before ≡ before) (is : change_by setup past event drawn ≡ Some change) where
   idle : waits past ≡ false
   idle = sym stands.settled_is ∙ settled
 
-  bytes_before : store_bytes middle ≡ stored_bytes setup past
-  bytes_before = same_bytes tables.keys middle still ∙ stands.bytes_are
-
   made_keys : HasMade middle new change → KeysStand setup (record tables { keys = new }) (Acted event drawn (Done fields) ∷ past)
   made_keys made = let later = made_stored setup past event drawn fields change no_root is in record {
     policy_is = stands.policy_is;
     device_is = stands.device_is ∙ sym later.device_is;
     lasting_is = made.lasting_is ∙ ap (λ part. after part change) (still.lasting_is ∙ stands.lasting_is) ∙ sym later.kept_is;
-    bytes_are = made.bytes_are ∙ ap (λ n. n + record_bytes change) bytes_before ∙ sym later.bytes_are;
     settled_is = made.settled ∙ sym (later.settled_is ∙ idle);
     waiting = none_waits (Acted event drawn (Done fields) ∷ past) (later.settled_is ∙ idle);
-  }
-
-  full_keys : SameStore middle new → KeysStand setup (record tables { keys = new }) (Acted event drawn (Stopped JournalFull) ∷ past)
-  full_keys same = let later = denied_stored setup past event drawn (Stopped JournalFull) refl refl in record {
-    policy_is = stands.policy_is;
-    device_is = stands.device_is ∙ sym later.device_is;
-    lasting_is = same.lasting_is ∙ still.lasting_is ∙ stands.lasting_is ∙ sym later.kept_is;
-    bytes_are = same_bytes middle new same ∙ bytes_before ∙ sym later.bytes_are;
-    settled_is = same_settled middle new same ∙ same_settled tables.keys middle still ∙ stands.settled_is ∙ sym later.settled_is;
-    waiting = none_waits (Acted event drawn (Stopped JournalFull) ∷ past) (later.settled_is ∙ idle);
   }
 
   torn_keys : IsTorn middle new change → KeysStand setup (record tables { keys = new }) (Acted event drawn (Stopped SystemError) ∷ past)
@@ -106,39 +62,30 @@ module _ (setup : Setup) (past : History) (tables : Tables) (middle new : KeyDat
     policy_is = stands.policy_is;
     device_is = stands.device_is ∙ sym later.device_is;
     lasting_is = torn.lasting_is ∙ still.lasting_is ∙ stands.lasting_is ∙ sym later.kept_is;
-    bytes_are = torn.bytes_are ∙ bytes_before ∙ sym later.bytes_are;
     settled_is = torn.waits ∙ sym later.waits;
     waiting = λ waiting. (
       change,
       record {
         pending_is = torn.pending_is;
         made_is = ap (λ part. after part change) (torn.lasting_is ∙ still.lasting_is ∙ stands.lasting_is) ∙ sym later.made_kept;
-        made_bytes = ap (λ bytes. bytes + record_bytes change) (torn.bytes_are ∙ bytes_before) ∙ sym later.made_bytes;
         lost_is = torn.lasting_is ∙ still.lasting_is ∙ stands.lasting_is ∙ sym later.lost_kept;
-        lost_bytes = torn.bytes_are ∙ bytes_before ∙ sym later.lost_bytes;
       },
     );
   }
 
   pub written_keys : (reply : Reply) → IsWritten middle new change fields reply → KeysStand setup (record tables { keys = new }) (Acted event drawn reply ∷ past)
   written_keys reply (Made made e) = subst (λ r. KeysStand setup (record tables { keys = new }) (Acted event drawn r ∷ past)) (sym e) (made_keys made)
-  written_keys reply (Full same room e) = subst (λ r. KeysStand setup (record tables { keys = new }) (Acted event drawn r ∷ past)) (sym e) (full_keys same)
   written_keys reply (Torn torn e) = subst (λ r. KeysStand setup (record tables { keys = new }) (Acted event drawn r ∷ past)) (sym e) (torn_keys torn)
 
-  room_is : (b : Bool) → has_record_room (store_bytes middle) change ≡ b → has_record_room (stored_bytes setup past) change ≡ b
-  room_is b e = ap (λ n. has_record_room n change) (sym bytes_before) ∙ e
-
-  pub written_follows : (reply : Reply) → length drawn ≡ size_of (wanted setup past event) → answer setup past event drawn ≡ where_stored (stored_bytes setup past) (Some change) (Done fields)
+  pub written_follows : (reply : Reply) → length drawn ≡ size_of (wanted setup past event) → answer setup past event drawn ≡ Done fields
       → IsWritten middle new change fields reply → MayFollow setup past event drawn reply
   written_follows reply drew told (Made made e) =
-      AnsweredBy (record { ready = idle_ready past event.act idle; drew = drew; is_answer = e ∙ sym (told ∙ ap (λ b. if b then Done fields else Stopped JournalFull) (room_is true made.room)) })
-  written_follows reply drew told (Full same room e) =
-      AnsweredBy (record { ready = idle_ready past event.act idle; drew = drew; is_answer = e ∙ sym (told ∙ ap (λ b. if b then Done fields else Stopped JournalFull) (room_is false room)) })
+      AnsweredBy (record { ready = idle_ready past event.act idle; drew = drew; is_answer = e ∙ sym told })
   written_follows reply drew told (Torn torn e) =
       Faulted (record {
         ready = idle_settled past idle;
         drew = drew;
-        admitted = ap is_done (told ∙ ap (λ b. if b then Done fields else Stopped JournalFull) (room_is true torn.room));
+        admitted = ap is_done told;
         writes = ap is_some is;
         is_fault = e;
       })
@@ -146,7 +93,6 @@ module _ (setup : Setup) (past : History) (tables : Tables) (middle new : KeyDat
   pub written_job : (reply : Reply) → HasJob setup (Acted event drawn (Done fields) ∷ past) (Done fields) None → IsWritten middle new change fields reply
       → HasJob setup (Acted event drawn reply ∷ past) reply None
   written_job reply job (Made made e) = subst (λ r. HasJob setup (Acted event drawn r ∷ past) r None) (sym e) job
-  written_job reply job (Full same room e) = subst (λ r. HasJob setup (Acted event drawn r ∷ past) r None) (sym e) refl
   written_job reply job (Torn torn e) = subst (λ r. HasJob setup (Acted event drawn r ∷ past) r None) (sym e) refl
 
 -- the same where there may be no change
@@ -160,7 +106,7 @@ module _ (setup : Setup) (past : History) (tables : Tables) (middle new : KeyDat
   told_keys (Some change) reply is written = written_keys setup past tables middle new event drawn change fields stands still settled no_restart no_root is reply written
 
   pub told_follows : (change : Option Change) (reply : Reply) → change_by setup past event drawn ≡ change → length drawn ≡ size_of (wanted setup past event)
-      → answer setup past event drawn ≡ where_stored (stored_bytes setup past) change (Done fields) → IsWrittenIf middle new change fields reply → MayFollow setup past event drawn reply
+      → answer setup past event drawn ≡ Done fields → IsWrittenIf middle new change fields reply → MayFollow setup past event drawn reply
   told_follows None reply is drew told written = AnsweredBy (record { ready = idle_ready past event.act (sym stands.settled_is ∙ settled); drew = drew; is_answer = written.1 ∙ sym told })
   told_follows (Some change) reply is drew told written = written_follows setup past tables middle new event drawn change fields stands still settled no_restart no_root is reply drew told written
 

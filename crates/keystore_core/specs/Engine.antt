@@ -11,7 +11,7 @@ use Rattle.journal_records.specs.declared.fault.StoreFault.{StoreFault}
 use Rattle.journal_records.specs.declared.fault.StoreFault.TheVariants as faults
 use Rattle.journal_records.specs.Storable.{IsStorable}
 use Rattle.key_database.specs.declared.database.KeyDatabase.{KeyDatabase}
-use Rattle.key_database.specs.Stands.{Holds, lasting, store_bytes}
+use Rattle.key_database.specs.Stands.{Holds, lasting}
 use Rattle.key_database.specs.Store.{IsBadStore, MayBe, StandsFor}
 use Rattle.rule_model.specs.Stored.{holding_of}
 use Rattle.rule_model.specs.Setup.{Setup}
@@ -25,17 +25,13 @@ use Rattle.rule_model.specs.Jobs.{HasDone}
 -- what is fixed where the tables of a device begin over a store, under a policy and with so many slots
 pub record IsOver (setup : Setup) (device : DeviceSecrets) (policy : List PolicyRow) (slots : ℕ) (keys : KeyDatabase) : Type 0 where
   pub start : setup.start ≡ lasting keys
-  pub bytes : setup.bytes ≡ store_bytes keys
   pub device_is : setup.device ≡ device
   pub policy_is : setup.policy ≡ policy
   pub slots_are : setup.slots ≡ slots
 
--- the lasting part of an engine, and how many bytes its store has
+-- the lasting part of an engine
 abbrev pub lasting_of : Engine → Lasting
 lasting_of engine = lasting engine.tables.keys
-
-abbrev pub bytes_of : Engine → ℕ
-bytes_of engine = store_bytes engine.tables.keys
 
 -- what is fixed where an engine was opened for a device, under a policy and with so many slots
 abbrev pub IsOpened : Setup → DeviceSecrets → List PolicyRow → ℕ → Engine → Type 0

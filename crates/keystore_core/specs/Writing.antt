@@ -1,8 +1,8 @@
 -- What an act does to the store.
-use Rattle.std.specs.Prelude.{◌≡◌, ℕ, ◌+◌, Bool, true, false, [], Option, Some, None, option_map, if◌then◌else◌, Result, Ok, Err}
+use Rattle.std.specs.Prelude.{◌≡◌, ℕ, Bool, true, false, [], Option, Some, None, option_map, if◌then◌else◌, Result, Ok, Err}
 use Rattle.std.specs.Option.{option_or}
 use Rattle.tags.specs.declared.bytes.NoMemory.{NoMemory}
-use Rattle.tags.specs.declared.code.Code.TheVariants.{JournalFull, MemoryAllocationFailed, SystemError}
+use Rattle.tags.specs.declared.code.Code.TheVariants.{MemoryAllocationFailed, SystemError}
 use Rattle.ks_outside.specs.declared.disk.Disk.{Ghosts}
 use Rattle.ks_outside.specs.Images.{Goes, Passes}
 use Rattle.journal_records.specs.declared.change.Change.{Change}
@@ -10,7 +10,7 @@ use Rattle.journal_records.specs.declared.change.Change.TheVariants as changes
 use Rattle.journal_records.specs.Effects.{after}
 use Rattle.journal_records.specs.Holding.{Holding}
 use Rattle.key_database.specs.declared.database.KeyDatabase.{KeyDatabase}
-use Rattle.key_database.specs.Stands.{Holds, SameStore, is_unsettled, lasting, pending_of, store_bytes}
+use Rattle.key_database.specs.Stands.{Holds, SameStore, is_unsettled, lasting, pending_of}
 use Rattle.key_database.specs.Store.{Between}
 use Rattle.rule_model.specs.declared.event.Act.{Act}
 use Rattle.rule_model.specs.declared.event.Act.TheVariants.{EnterFinish}
@@ -22,7 +22,7 @@ use Rattle.rule_model.specs.declared.reply.Reply.TheVariants.{Done, Stopped}
 use Rattle.rule_model.specs.Acts.{is_restart}
 use Rattle.rule_model.specs.Changes.{change_of}
 use Rattle.rule_model.specs.Settling.{is_disk_fault}
-use Rattle.rule_model.specs.Stored.{after_reply, has_record_room, record_bytes}
+use Rattle.rule_model.specs.Stored.{after_reply}
 use Rattle.keystore_core.specs.declared.answered.Answered.{Answered}
 use Rattle.keystore_core.specs.declared.tables.Tables.{Tables}
 use Rattle.live_tables.specs.declared.operations.OperationRow.{OperationRow}
@@ -33,22 +33,17 @@ use Rattle.keystore_core.specs.Keys.{SameKeys}
 -- a change was made, in the store and in what is held
 pub record HasMade (old new : KeyDatabase) (change : Change) : Type 0 where
   pub lasting_is : lasting new ≡ after (lasting old) change
-  pub bytes_are : store_bytes new ≡ store_bytes old + record_bytes change
   pub settled : is_unsettled new ≡ false
-  pub room : has_record_room (store_bytes old) change ≡ true
 
 -- a device call of a change failed: what is held stays, and the change waits to be settled
 pub record IsTorn (old new : KeyDatabase) (change : Change) : Type 0 where
   pub lasting_is : lasting new ≡ lasting old
-  pub bytes_are : store_bytes new ≡ store_bytes old
   pub waits : is_unsettled new ≡ true
   pub pending_is : pending_of new ≡ Some change
-  pub room : has_record_room (store_bytes old) change ≡ true
 
--- what became of a change, by its reply: it was made, and the fields are told; its record has no room; or a device call failed
+-- what became of a change, by its reply: it was made, and the fields are told; or a device call failed
 pub data IsWritten (old new : KeyDatabase) (change : Change) (fields : Fields) (reply : Reply) : Type 0 where
   Made : HasMade old new change → reply ≡ Done fields → IsWritten old new change fields reply
-  Full : SameStore old new → has_record_room (store_bytes old) change ≡ false → reply ≡ Stopped JournalFull → IsWritten old new change fields reply
   Torn : IsTorn old new change → reply ≡ Stopped SystemError → IsWritten old new change fields reply
 
 -- the same where there may be no change: the store stays then, and the fields are told

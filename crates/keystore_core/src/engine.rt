@@ -13,13 +13,15 @@ ghost use Rattle.rule_model.specs.Legal.{MayStep};
 ghost use Rattle.rule_model.specs.ReplyRooms.{Fits, sizes_of};
 ghost use Rattle.rule_model.specs.Setup.{Setup};
 ghost use Rattle.rule_model.specs.Settling.{is_disk_fault};
+ghost use Rattle.journal_compact.specs.Holding.{ReformedFrom};
 ghost use Rattle.journal_records.specs.LastingPart.{Lasting, empty_lasting};
 ghost use Rattle.key_database.specs.Store.{StandsFor};
-ghost use Rattle.ks_outside.specs.Images.{AllImages, Goes, Passes, Reads, TornFrom, tells};
+ghost use Rattle.ks_outside.specs.Images.{AllImages, Goes, Passes, tells};
 ghost use Rattle.journal_records.specs.Commits.{open_failed};
 ghost use Rattle.keystore_core.specs.Complete.{GivesAnswer, HasNoFault};
 ghost use Rattle.keystore_core.specs.Restarting.{HasRead, is_other_store};
 ghost use Rattle.keystore_core.specs.Engine.{entries_made as made_by};
+ghost use Rattle.keystore_core.specs.Opening.{IsBrought, LeavesRefused};
 ghost use Rattle.keystore_core.specs.Outputs.{HasOutRoom};
 ghost use Rattle.keystore_core.specs.Tables.{IsTables};
 ghost use Rattle.tags.specs.declared.limits.TheConstants.{MOST_SLOTS};
@@ -76,10 +78,10 @@ fn root_is_whole(device: &DeviceSecrets)
 impl Engine {
     ghost use Rattle.keystore_core.specs.Engine.{IsOpened, MayHoldEither, MayTake, OpensFor, OpensStore, Stands, StandsAtFirst, StandsForSome, StoreStands, entries_made, entries_of, lasting_of, tickets_of};
 
-    /// Writes an empty store, and syncs. It takes no memory.
+    /// Writes an empty store, a sync behind each write: a crash leaves the store that was, or the empty one. It takes no memory.
     pub fn format<D: Disk>(disk: &mut D) -> Result<(), Failed>
         ensures formatted { OnOk result (AllImages D.Disk disk.new (StandsFor empty_lasting)) }
-        ensures passes { Passes D.Disk disk.old disk.new (TornFrom D.Disk disk.old 0 9) }
+        ensures passes { Passes D.Disk disk.old disk.new (ReformedFrom D.Disk disk.old) }
         ensures goes { Goes D.Disk disk.old disk.new (is_err result) }
     {
         KeyDatabase::format(disk)
@@ -88,6 +90,9 @@ impl Engine {
     /// Reads the store that the disk holds, for an engine under a policy, without clients and operations, with 1 to `MOST_SLOTS`
     /// slots: it stands for the empty history over the lasting part that the bytes stand for. Corrupted has the place of
     /// what is wrong first in them.
+    ///
+    /// A store of the older format is brought to areas: at each moment each image stands for what all stood for at the start. Nothing
+    /// is written to a store of areas, nor to one that is refused.
     pub fn open<D: Disk>(
         alloc: Global,
         device: &DeviceSecrets,
@@ -104,7 +109,9 @@ impl Engine {
         ensures reads { AllImages D.Disk disk.new (λ image. OpensStore image result) }
         ensures finds { (part : Lasting) → AllImages D.Disk disk.old (StandsFor part) → tells D.Disk disk.old ≡ true → OpensFor part result }
         ensures entries { IfOk result (λ engine. entries_of engine ≡ 0) }
-        ensures goes { Reads D.Disk disk.old disk.new (open_failed result) }
+        ensures brought { IsBrought D.Disk disk.old disk.new }
+        ensures refused { LeavesRefused D.Disk disk.old disk.new result }
+        ensures goes { Goes D.Disk disk.old disk.new (open_failed result) }
     {
         let Ok(policy) = copied(alloc, policy) else {
             return Err(StoreFault::Memory);

@@ -5,14 +5,14 @@ ghost use Rattle.lasting_table.specs.TableView.{CanMake};
 ghost use Rattle.key_database.specs.Stands.{is_unsettled, table_of};
 ghost use Rattle.keystore_core.specs.Writing.{IsWritten, StoreGoes};
 
-use journal_records::{AppendFault, Change};
+use journal_records::Change;
 use key_database::KeyDatabase;
-use ks_outside::Disk;
+use ks_outside::{Disk, Failed};
 use rule_model::{Fields, Reply};
 use tags::Code;
 
 /// Makes a change whose need is met and for which there is room, on the disk and then in memory, and answers with these
-/// fields; where its record has no room in the journal, or a device call failed, with that. It takes no memory.
+/// fields; where a device call failed, with that. It takes no memory.
 pub fn write_change<D: Disk>(
     keys: &mut KeyDatabase,
     disk: &mut D,
@@ -26,13 +26,7 @@ pub fn write_change<D: Disk>(
 {
     match keys.commit(disk, change) {
         Ok(()) => Reply::Done(fields),
-        Err(AppendFault::Full) => {
-            drop(fields);
-            Reply::Stopped {
-                code: Code::JournalFull,
-            }
-        }
-        Err(AppendFault::Device) => {
+        Err(Failed) => {
             drop(fields);
             Reply::Stopped {
                 code: Code::SystemError,

@@ -196,7 +196,7 @@ module _ {S K D N : Type 0} (s : SourceGhosts S) (k : SinkGhosts K) (d : DiskGho
     fresh_completes : (status : Status) → start ≡ empty_lasting → tells d old.disk ≡ true → RunsFresh s k d n g old new status → Completes s k d n g true start bytes old new status
     fresh_completes status nothing tells_disk (Formatted formatted is (Opened opened runs)) =
         opened_completes g true start bytes old new told few short fine runs.setup opened status runs.is (formatted, opened, is, runs.read) (runs.read.finds empty_lasting is.empty (is.telling ∙ tells_disk) ∙ sym nothing)
-        (runs.read.unwritten.telling ∙ is.telling ∙ tells_disk) (runs.read.unwritten.count ∙ is.count) runs.ends
+        (runs.read.leaves.telling ∙ is.telling ∙ tells_disk) (runs.read.leaves.count ∙ is.count) runs.ends
     fresh_completes status nothing tells_disk (Formatted formatted is (Refused untouched refused)) =
         refused_completes g true start bytes old new told few short fine formatted status (subst (λ (part : Lasting). AllImages d formatted (IsStoreOf part)) (sym nothing) is.empty) (is.telling ∙ tells_disk) is.count refused
     fresh_completes status nothing tells_disk (Unformatted untouched torn) = absurd (none_rose _ _ fine.disk torn.rises)

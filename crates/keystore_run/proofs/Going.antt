@@ -9,10 +9,9 @@ use Rattle.ks_outside.specs.declared.entropy.Entropy.{Ghosts as EntropyGhosts}
 use Rattle.ks_outside.specs.declared.sink.Sink.{Ghosts as SinkGhosts}
 use Rattle.ks_outside.specs.declared.source.Source.{Ghosts as SourceGhosts}
 use Rattle.ks_outside.proofs.Shown.{put_none, put_on, took_none, took_on}
-use Rattle.key_database.specs.Stands.{held_images}
 use Rattle.rule_model.specs.Entries.{History}
 use Rattle.rule_model.specs.Setup.{Setup}
-use Rattle.keystore_core.specs.Opening.{IsUnwritten}
+use Rattle.keystore_core.specs.Opening.{IsOpenedFrom, store_images}
 use Rattle.keystore_run.specs.declared.session.Session.{Session}
 use Rattle.keystore_run.specs.declared.serve.Halt.{Halt}
 use Rattle.keystore_run.specs.declared.serve.Halt.TheVariants as halts
@@ -27,7 +26,7 @@ use Rattle.line_members.specs.LineFeeds.{IsFree, ended, lines_of}
 use Rattle.keystore_run.specs.Lines.{AreLines}
 use Rattle.keystore_run.specs.Serving.{IsServed, IsServedInPart, IsUnserved, ServesLine}
 use Rattle.keystore_run.specs.KeptStores.{Keeps}
-use Rattle.keystore_run.specs.Session.{GoesOn, StandsFor, devices}
+use Rattle.keystore_run.specs.Session.{GoesOn, StandsFor, devices, engine_of}
 use Rattle.keystore_run.specs.Written.{Adds, written_of}
 use Rattle.keystore_run.specs.Window.{HasNoFeedBelow, IsFirstFeed}
 use Rattle.keystore_run.proofs.Adding.{adds_nothing, written_on}
@@ -80,13 +79,13 @@ module _ {S K D N : Type 0} (s : SourceGhosts S) (k : SinkGhosts K) (d : DiskGho
 
   -- what the run leaves of the disk
   kept : {written : Written} {setup : Setup} {old now : Outside S K D N} {session : Session} {held : List ℕ} {taken served : ℕ} {failed : Bool} (going : Going written setup old now session held taken served failed) → Keeps d setup old.disk now.disk going.past
-  kept {setup = setup} {old = old} {now = now} going = keeps_all d setup only_now old.disk now.disk going.past going.since (held_images d _ now.disk _ going.stands.store)
+  kept {setup = setup} {old = old} {now = now} {session = session} going = keeps_all d setup only_now old.disk now.disk going.past going.since (store_images d setup (engine_of session) now.disk going.past going.stands.store)
 
   -- and what it leaves after one line more
   kept_more : (setup : Setup) (old now : Outside S K D N) (disk : D) (entropy : N) (past : History) (session : Session) (line : List ℕ) (later : History) (text : List ℕ) → KeptSince d setup old.disk now.disk past
       → GoesOn d n setup past session line (devices now.disk now.entropy) (devices disk entropy) later text → Keeps d setup old.disk disk later
   kept_more setup old now disk entropy past session line later text since goes =
-      keeps_all d setup only_now old.disk disk later (since_on d setup old.disk now.disk disk past later goes.failed since goes.keeps) (held_images d _ disk _ goes.stands.store)
+      keeps_all d setup only_now old.disk disk later (since_on d setup old.disk now.disk disk past later goes.failed since goes.keeps) (store_images d setup (engine_of session) disk later goes.stands.store)
 
   -- nothing is written of nothing
   put_nothing : (written : Written) (sink : K) → Put k sink sink (written_of written [] []) false
@@ -100,16 +99,16 @@ module _ {S K D N : Type 0} (s : SourceGhosts S) (k : SinkGhosts K) (d : DiskGho
       subst (λ (bytes : List ℕ). Put k old sink' bytes false) (sym (written_on written past later text more added adds)) (put_on k old sink sink' (written_of written past text) added false false so_far put)
 
   -- nothing was taken yet
-  pub begins : (written : Written) (setup : Setup) (begin : D) (now : Outside S K D N) (session : Session) (held : List ℕ) (taken : ℕ) → StandsFor d setup session now.disk [] → IsUnwritten d begin now.disk → held ≡ [] → taken ≡ 0
+  pub begins : (written : Written) (setup : Setup) (begin : D) (now : Outside S K D N) (session : Session) (held : List ℕ) (taken : ℕ) → StandsFor d setup session now.disk [] → IsOpenedFrom d begin now.disk → held ≡ [] → taken ≡ 0
       → Going written setup (record now { disk = begin }) now session held taken 0 false
-  begins written setup begin now session held taken for unwritten nothing none = record {
+  begins written setup begin now session held taken for leaves nothing none = record {
     lines = [];
     past = [];
     text = [];
     stands = for;
     follows = (refl, refl);
     drew = drew_none n now.entropy;
-    since = since_none d setup begin now.disk unwritten;
+    since = since_none d setup begin now.disk leaves;
     put = put_nothing written now.sink;
     took = rw nothing (took_none s now.source);
     short = tt;

@@ -6,6 +6,7 @@ use Rattle.ks_outside.specs.Faults.{CountsFaults}
 use Rattle.ks_outside.specs.Images.{AllImages, Passes, tells}
 use Rattle.ks_outside.specs.declared.disk.Disk.{Ghosts}
 use Rattle.tags.specs.declared.settled.Settled.{Settled}
+use Rattle.key_database.specs.Store.{StandsFor}
 use Rattle.rule_model.specs.declared.entry.Entry.TheVariants.{Acted, Settling}
 use Rattle.rule_model.specs.declared.event.Event.{Event}
 use Rattle.rule_model.specs.declared.reply.Reply.{Reply}
@@ -13,7 +14,7 @@ use Rattle.rule_model.specs.Entries.{History, after_settling, after_step}
 use Rattle.rule_model.specs.Settling.{is_disk_fault}
 use Rattle.rule_model.specs.Setup.{Setup}
 use Rattle.keystore_core.specs.Engine.{MayHold, MayHoldEither}
-use Rattle.keystore_core.specs.Opening.{IsUnwritten}
+use Rattle.keystore_core.specs.Opening.{IsOpenedFrom}
 use Rattle.keystore_core.specs.Restarting.{is_other_store}
 use Rattle.keystore_run.specs.KeptStores.{AtSome, AtSomeSince, IsFront, Keeps, KeepsMore, estranged_of, failed_of}
 use Rattle.keystore_run.proofs.DrawLemmas.{counted, unchanged}
@@ -111,22 +112,19 @@ module _ {D : Type 0} (d : Ghosts D) (setup : Setup) where
 
   -- ---- since the beginning
 
-  -- each image that came stands for what may be kept after some front, or was there at the beginning
-  abbrev Came : D → History → List ℕ → Type 0
-  Came begin past c = d.images begin c ⊎ AtSome setup past c
-
-  -- what is known of the disk since a moment
+  -- what is known of the disk since a moment; where all images stood for the start then, each that came stands for what may be kept after
+  -- some front
   pub record KeptSince (begin now : D) (past : History) : Type 0 where
-    pub passes : Passes d begin now (Came begin past)
+    pub passes : AllImages d begin (StandsFor setup.start) → Passes d begin now (AtSome setup past)
     pub faults : d.fault_count now < 2 ^ 64 - 1 → failed_of past + d.fault_count begin ≤ d.fault_count now
     pub none : failed_of past ≡ 0 → d.fault_count now ≡ d.fault_count begin
     pub later : d.fault_count begin ≤ d.fault_count now
     pub telling : tells d now ≡ tells d begin
     pub same : tells d begin ≡ true → estranged_of past ≡ 0
 
-  pub since_none : (begin now : D) → IsUnwritten d begin now → KeptSince begin now []
+  pub since_none : (begin now : D) → IsOpenedFrom d begin now → KeptSince begin now []
   since_none begin now is = record {
-    passes = passes_as d begin now (d.images begin) (Came begin []) is.passes (λ c image. inl image);
+    passes = λ stood. passes_as d begin now (StandsFor setup.start) (AtSome setup []) (is.brought.stays setup.start stood).passes (λ c stands. ([], front_none [], stands));
     faults = λ few. omega (arith, is.count);
     none = λ none. is.count;
     later = omega (arith, is.count);
@@ -136,8 +134,8 @@ module _ {D : Type 0} (d : Ghosts D) (setup : Setup) where
 
   pub since_on : (begin mid new : D) (past later : History) (failed : Bool) → KeptSince begin mid past → KeepsMore d setup mid new past later failed → KeptSince begin new later
   since_on begin mid new past later failed since more = record {
-    passes = passes_on d begin mid new (Came begin past) (AtSomeSince setup past later) (Came begin later) since.passes more.passes
-        (λ c came. ⊎_elim (λ image. inl image) (λ held. inr (some_on setup past later c more.front held)) came) (λ c held. inr (since_any setup past later c held));
+    passes = λ stood. passes_on d begin mid new (AtSome setup past) (AtSomeSince setup past later) (AtSome setup later) (since.passes stood) more.passes
+        (λ c held. some_on setup past later c more.front held) (λ c held. since_any setup past later c held);
     faults = counted failed (failed_of past) (failed_of later) (d.fault_count begin) (d.fault_count mid) (d.fault_count new) since.faults more.failures more.faults.later more.faults.rises;
     none = unchanged failed (failed_of past) (failed_of later) (d.fault_count begin) (d.fault_count mid) (d.fault_count new) since.none more.failures more.faults.same;
     later = omega (arith, since.later, more.faults.later);
@@ -151,9 +149,7 @@ module _ {D : Type 0} (d : Ghosts D) (setup : Setup) where
   keeps_all only_now begin new past since holds = record {
     holds = holds;
     moments = λ stood.
-        let at_start : (c : List ℕ) → d.images begin c → AtSome setup past c = λ c image. ([], front_none past, stood c image) in
-        each_moment d only_now begin new (AtSome setup past) at_start
-        (passes_as d begin new (Came begin past) (AtSome setup past) since.passes (λ c came. ⊎_elim (λ image. at_start c image) (λ held. held) came));
+        each_moment d only_now begin new (AtSome setup past) (λ c image. ([], front_none past, stood c image)) (since.passes stood);
     faults = since.faults;
     none = since.none;
     later = since.later;

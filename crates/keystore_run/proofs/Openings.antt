@@ -1,13 +1,12 @@
 -- A store that was opened, and the run over it.
 use Rattle.std.proofs.Common.{◌≡◌, ℕ, ◌≤◌, Bool, true, false, [], Option, Some, None, Err, refl, sym, ◌∙◌, subst, arith}
 use Rattle.ks_outside.specs.Faults.{Rises}
-use Rattle.ks_outside.specs.Images.{AllImages, Reads, tells}
+use Rattle.ks_outside.specs.Images.{AllImages, Goes, tells}
 use Rattle.ks_outside.specs.Shown.{Outside}
 use Rattle.ks_outside.specs.declared.disk.Disk.{Ghosts as DiskGhosts}
 use Rattle.ks_outside.specs.declared.entropy.Entropy.{Ghosts as EntropyGhosts}
 use Rattle.ks_outside.specs.declared.sink.Sink.{Ghosts as SinkGhosts}
 use Rattle.ks_outside.specs.declared.source.Source.{Ghosts as SourceGhosts}
-use Rattle.ks_outside.proofs.Joins.{passes_none}
 use Rattle.journal_records.specs.Commits.{open_failed}
 use Rattle.journal_records.specs.LastingPart.{Lasting}
 use Rattle.key_database.specs.Store.{StandsFor as IsStoreOf}
@@ -16,7 +15,7 @@ use Rattle.keystore_core.specs.declared.engine.Engine.{Engine}
 use Rattle.journal_records.specs.declared.fault.StoreFault.{StoreFault}
 use Rattle.journal_records.specs.declared.fault.StoreFault.TheVariants as faults
 use Rattle.keystore_core.specs.Engine.{OpensFor, OpensStore, Stands, StoreStands}
-use Rattle.keystore_core.specs.Opening.{IsRead, IsUnwritten}
+use Rattle.keystore_core.specs.Opening.{IsBrought, IsOpenedFrom, IsRead, LeavesRefused, brought_none}
 use Rattle.keystore_run.specs.declared.session.Session.{Session}
 use Rattle.keystore_run.specs.declared.status.Status.{Status}
 use Rattle.keystore_run.specs.declared.written.Written.{Written}
@@ -36,21 +35,21 @@ session_stands d setup engine session disk same stands store held = record {
 }
 
 module _ {D : Type 0} (d : DiskGhosts D) where
-  pub unwritten_none : (disk : D) → IsUnwritten d disk disk
-  unwritten_none disk = record { passes = passes_none d disk (d.images disk); count = refl; telling = refl }
+  pub opened_none : (disk : D) → IsOpenedFrom d disk disk
+  opened_none disk = record { brought = brought_none d disk; count = refl; telling = refl }
 
   -- a run whose store was not opened, by why it was not
-  pub refused : (old new : D) (fault : StoreFault) → Reads d old new (open_failed {T = Engine} (Err fault))
+  pub refused : (old new : D) (fault : StoreFault) → IsBrought d old new → LeavesRefused d old new (Err fault) → Goes d old new (open_failed {T = Engine} (Err fault))
       → AllImages d new (λ image. OpensStore image (Err fault)) → ((part : Lasting) → AllImages d old (IsStoreOf part) → tells d old ≡ true → OpensFor part (Err fault))
       → IsRefused d old new (refusal_of fault)
-  refused old new faults.Device only reads finds = record { images = only.images; passes = only.passes; later = only.goes.cause.later; refuses = only.goes.cause.rises refl }
-  refused old new (faults.Corrupted offset) only reads finds =
-      record { images = only.images; passes = only.passes; later = only.goes.cause.later; refuses = record { bad = reads; same = only.goes.cause.same refl; no_store = finds } }
-  refused old new faults.Memory only reads finds = record { images = only.images; passes = only.passes; later = only.goes.cause.later; refuses = only.goes.cause.same refl }
+  refused old new faults.Device brought left goes reads finds = record { brought = brought; later = goes.cause.later; refuses = goes.cause.rises refl }
+  refused old new (faults.Corrupted offset) brought left goes reads finds =
+      record { brought = brought; later = goes.cause.later; refuses = record { bad = reads; same = goes.cause.same refl; unwritten = left; no_store = finds } }
+  refused old new faults.Memory brought left goes reads finds = record { brought = brought; later = goes.cause.later; refuses = goes.cause.same refl }
 
   -- one that found no memory before it called the disk
   pub refused_early : (disk : D) → IsRefused d disk disk statuses.Memory
-  refused_early disk = record { images = λ c image. image; passes = passes_none d disk (d.images disk); later = omega arith; refuses = refl }
+  refused_early disk = record { brought = brought_none d disk; later = omega arith; refuses = refl }
 
 -- ---- what a status tells of the disk's faults
 
@@ -107,7 +106,7 @@ module _ {S K D N : Type 0} (s : SourceGhosts S) (k : SinkGhosts K) (d : DiskGho
 
   pub fresh_cause : (g : Given) (old new : Outside S K D N) (status : Status) → RunsFresh s k d n g old new status → IsCause (d.fault_count old.disk) (d.fault_count new.disk) (disk_told status)
   fresh_cause g old new status (Formatted formatted is runs) =
-      cause_since (disk_told status) is.count (runs_cause g (λ opened. opened) (record old { disk = formatted }) new status (λ setup opened read. read.unwritten.count) runs)
+      cause_since (disk_told status) is.count (runs_cause g (λ opened. opened) (record old { disk = formatted }) new status (λ setup opened read. read.leaves.count) runs)
   fresh_cause g old new status (Unformatted untouched torn) =
       subst (λ x. IsCause (d.fault_count old.disk) (d.fault_count new.disk) (disk_told x)) (sym torn.is_fault) (failing torn.later torn.rises)
 

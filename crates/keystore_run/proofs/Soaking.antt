@@ -1,7 +1,7 @@
 -- The lines of a load, served one after another over an empty store.
 use Rattle.std.proofs.Common.{◌≡◌, ℕ, ℤ, zero, suc, ◌+◌, ◌≤◌, ◌<◌, inl, inr, Bool, true, false, ◌||◌, List, [], ◌∷◌, ◌++◌, length, drop, max, take, replicate, Option, Some, None, Ok, is_some, refl, sym, ap, ◌∙◌, subst, arith, append_assoc, append-nil, length-append, length-drop, length-take}
 use Rattle.ks_outside.specs.Draws.{Draws}
-use Rattle.ks_outside.specs.Images.{AllImages, Passes, TornFrom, tells}
+use Rattle.ks_outside.specs.Images.{AllImages, tells}
 use Rattle.ks_outside.specs.Seeded.{bytes_from}
 use Rattle.ks_outside.specs.Shown.{Put}
 use Rattle.ks_outside.specs.declared.disk.Disk.{Ghosts as DiskGhosts}
@@ -15,14 +15,12 @@ use Rattle.tags.specs.declared.policy.PolicyRow.{PolicyRow}
 use Rattle.tags.specs.declared.secrets.DeviceSecrets.{DeviceSecrets}
 use Rattle.tags.specs.declared.settled.Settled.{Settled}
 use Rattle.journal_records.specs.LastingPart.{empty_lasting}
-use Rattle.journal_records.specs.Spelling.{spelled}
-use Rattle.key_database.specs.Frames.{start_is}
 use Rattle.key_database.specs.Store.{StandsFor as IsStoreOf}
 use Rattle.rule_model.specs.declared.reply.Reply.{Reply}
 use Rattle.rule_model.specs.Drawn.{drawn_of}
 use Rattle.rule_model.specs.Entries.{History}
 use Rattle.rule_model.specs.Setup.{Setup}
-use Rattle.keystore_core.specs.Opening.{IsStart, opened_images, setup_of}
+use Rattle.keystore_core.specs.Opening.{setup_of}
 use Rattle.keystore_core.specs.declared.engine.Engine.{Engine}
 use Rattle.keystore_core.specs.Engine.{Stands, StoreStands, lasting_of}
 use Rattle.script_lines.specs.Replies.{line_of}
@@ -146,56 +144,22 @@ no_image calls image none is = subst (λ (made : List DiskCall). IsImage made im
 pub no_moment : (calls : List DiskCall) (t : ℕ) (image : List ℕ) → calls ≡ [] → WasImage calls t image → image ≡ []
 no_moment calls t image none was = (subst (λ (made : List DiskCall). WasImage made t image) none was).1
 
-told : (content : Option (List ℕ)) → is_some content ≡ true → (image : List ℕ) × (content ≡ Some image)
-told (Some image) e = (image, refl)
-told None e = absurd (let no = e in cc)
-
--- what a torn write of nine bytes at the front of nothing leaves
-nine_at_most : (before after : List ℕ) → before ≡ [] → length after ≤ max (length before) 9 → length after ≤ 9
-nine_at_most before after nothing most = subst (λ (bytes : List ℕ). length after ≤ max (length bytes) 9) nothing most
-
-area_within : (start : ℕ) (records image : List ℕ) (gate : ℕ) → take (length (records ++ gate ∷ [])) (drop start image) ≡ records ++ gate ∷ [] → start + length records < length image
-area_within start records image gate is = omega (arith, ap length is, length-take (length (records ++ gate ∷ [])) (drop start image), length-drop start image, length-append records (gate ∷ []))
-
 pub demo_is : (device : DeviceSecrets) → device.seal ≡ replicate 32 1 → device.token ≡ replicate 32 2 → device.root ≡ replicate 32 3 → device ≡ demo_device
 demo_is device seal token root =
     subst (λ (bytes : List ℕ). device ≡ record { seal = bytes; token = replicate 32 2; root = replicate 32 3 }) seal
     (subst (λ (bytes : List ℕ). device ≡ record { seal = device.seal; token = bytes; root = replicate 32 3 }) token
     (subst (λ (bytes : List ℕ). device ≡ record { seal = device.seal; token = device.token; root = bytes }) root refl))
 
-module _ {D : Type 0} (d : DiskGhosts D) (content_is_image : (disk : D) (c : List ℕ) → d.content disk ≡ Some c → d.images disk c)
-    (counts_now : (disk : D) (t : ℕ) (c : List ℕ) → t ≤ d.moment disk → d.images disk c → d.images_since disk t c) where
-  -- a store that was formatted on an empty disk has its header alone
-  empty_bytes : (fresh formatted opened : D) (setup : Setup) → IsEmptyDisk d fresh → Passes d fresh formatted (TornFrom d fresh 0 9)
-      → AllImages d opened (d.images formatted) → AllImages d opened (IsStart setup) → tells d opened ≡ true → setup.bytes ≡ 8
-  empty_bytes fresh formatted opened setup empty passes images starts telling =
-      let content = told (d.content opened) telling in
-      let image = content.0 in
-      let is = content_is_image opened image content.1 in
-      let start = starts image is in
-      let small : length image ≤ 9 = elim (passes.since (d.moment formatted) image (counts_now formatted (d.moment formatted) image (omega arith) (images image is))) [
-        | inl was ↦ (let none : length image ≡ 0 = ap length (empty.moments (d.moment formatted) image was) in omega (arith, none))
-        | inr torn ↦ nine_at_most torn.0 image (empty.images torn.0 torn.1) torn.2.no_longer
-      ] in
-      let stands = start.stands in
-      omega (
-        arith,
-        small,
-        start.bytes,
-        start_is stands.frame stands.is_frame,
-        area_within stands.frame.start (spelled stands.past) image stands.store.records.area.gate stands.store.records.area.is,
-      )
-
+module _ {D : Type 0} (d : DiskGhosts D) where
   -- the session over it
   pub load_session : (fresh formatted opened : D) (device : DeviceSecrets) (policy : List PolicyRow) (engine : Engine) (session : Session)
       → IsEmptyDisk d fresh → device ≡ demo_device → policy ≡ demo_policy
-      → AllImages d formatted (IsStoreOf empty_lasting) → Passes d fresh formatted (TornFrom d fresh 0 9) → tells d formatted ≡ tells d fresh
+      → AllImages d formatted (IsStoreOf empty_lasting) → tells d formatted ≡ tells d fresh
       → Stands (setup_of device policy 16 engine) engine [] → StoreStands d (setup_of device policy 16 engine) engine opened []
       → (AllImages d formatted (IsStoreOf empty_lasting) → tells d formatted ≡ true → lasting_of engine ≡ empty_lasting)
-      → AllImages d opened (d.images formatted) → tells d opened ≡ tells d formatted
       → engine_of session ≡ engine → JobsStand (setup_of device policy 16 engine) (jobs_of session) []
       → IsLoadSession d opened session
-  load_session fresh formatted opened device policy engine session empty device_is policy_is stores passes telling stands holds finds images telling' same jobs =
+  load_session fresh formatted opened device policy engine session empty device_is policy_is stores telling stands holds finds same jobs =
       let setup : Setup = setup_of device policy 16 engine in
       let formatted_tells : tells d formatted ≡ true = telling ∙ empty.telling in
       record {
@@ -205,7 +169,6 @@ module _ {D : Type 0} (d : DiskGhosts D) (content_is_image : (disk : D) (c : Lis
           policy_is = policy_is;
           slots_are = refl;
           empty = finds stores formatted_tells;
-          bytes = empty_bytes fresh formatted opened setup empty passes images (opened_images d device policy 16 engine opened holds) (telling' ∙ formatted_tells);
         };
         stands = session_stands d setup engine session opened same stands holds jobs;
       }

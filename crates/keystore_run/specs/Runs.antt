@@ -1,7 +1,7 @@
 -- What the words of a command line do: how a store is made and opened, and how the run over it ends.
 use Rattle.std.specs.Prelude.{◌≡◌, ℕ, ◌≤◌, Bool, true, false, List, Option, Some, None, Result, Ok, Err}
 use Rattle.ks_outside.specs.Faults.{Rises}
-use Rattle.ks_outside.specs.Images.{AllImages, Passes, tells}
+use Rattle.ks_outside.specs.Images.{AllImages, tells}
 use Rattle.ks_outside.specs.Shown.{Outside}
 use Rattle.ks_outside.specs.declared.disk.Disk.{Ghosts as DiskGhosts}
 use Rattle.ks_outside.specs.declared.entropy.Entropy.{Ghosts as EntropyGhosts}
@@ -14,7 +14,7 @@ use Rattle.key_database.specs.Store.{IsBadStore, StandsFor}
 use Rattle.rule_model.specs.Setup.{Setup}
 use Rattle.journal_records.specs.declared.fault.StoreFault.{StoreFault}
 use Rattle.journal_records.specs.declared.fault.StoreFault.TheVariants as faults
-use Rattle.keystore_core.specs.Opening.{IsRead, IsSetup}
+use Rattle.keystore_core.specs.Opening.{IsBrought, IsRead, IsSetup, IsUnwritten}
 use Rattle.keystore_run.specs.declared.status.Status.{Status}
 use Rattle.keystore_run.specs.declared.status.Status.TheVariants as statuses
 use Rattle.keystore_run.specs.declared.written.Written.{Written}
@@ -65,11 +65,12 @@ module _ {D : Type 0} (d : DiskGhosts D) where
     pub count : d.fault_count new ≡ d.fault_count old
     pub telling : tells d new ≡ tells d old
 
-  -- each image has this wrong, at this place, and no call failed; this comes over no disk that tells its content where all images
-  -- stood for one lasting part
+  -- Each image has this wrong, at this place, no call failed, and nothing was written; this comes over no disk that tells its content where all
+  -- images stood for one lasting part.
   pub record IsBad (old new : D) (offset : ℕ) : Type 0 where
     pub bad : AllImages d new (λ image. IsBadStore image offset)
     pub same : d.fault_count new ≡ d.fault_count old
+    pub unwritten : IsUnwritten d old new
     pub no_store : (part : Lasting) → AllImages d old (StandsFor part) → tells d old ≡ true → ⊥
 
   -- why a store was not opened: want of memory, a failed device call, or bytes that are no store
@@ -79,10 +80,10 @@ module _ {D : Type 0} (d : DiskGhosts D) where
   Refuses old new (statuses.Corrupted offset) = IsBad old new offset
   Refuses old new _ = ⊥
 
-  -- the store was not opened, and nothing was written: each image, at each moment, is one of those before
+  -- The store was not opened. What it stood for it stands for at each moment, and nothing was written where it was no store; one of the older
+  -- format may have been brought to areas.
   pub record IsRefused (old new : D) (status : Status) : Type 0 where
-    pub images : AllImages d new (d.images old)
-    pub passes : Passes d old new (d.images old)
+    pub brought : IsBrought d old new
     pub later : d.fault_count old ≤ d.fault_count new
     pub refuses : Refuses old new status
 

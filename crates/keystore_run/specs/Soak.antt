@@ -68,7 +68,6 @@ pub record IsLoadSetup (setup : Setup) : Type 0 where
   pub policy_is : setup.policy ≡ demo_policy
   pub slots_are : setup.slots ≡ 16
   pub empty : setup.start ≡ empty_lasting
-  pub bytes : setup.bytes ≡ 8
 
 -- The text is the summary of a load: a legal history over an empty store follows all its lines with the lines of these replies, the
 -- newest first, and draws the bytes of its second generator.

@@ -6,7 +6,7 @@ ghost use Rattle.journal_records.specs.LastingPart.{Lasting};
 ghost use Rattle.rule_model.specs.Setup.{Setup};
 ghost use Rattle.keystore_run.specs.Complete.{AreFaultless, Completes, IsReady};
 ghost use Rattle.keystore_run.specs.Ends.{Ends, given_back, is_read_fault, is_write_fault, lent, outside};
-ghost use Rattle.keystore_core.specs.Opening.{IsUnwritten};
+ghost use Rattle.keystore_core.specs.Opening.{IsOpenedFrom};
 ghost use Rattle.keystore_run.specs.Runs.{Does, Formats, IsCause, Runs, RunsFresh, disk_told, formatted_as, given, refusal_of};
 ghost use Rattle.keystore_run.specs.Session.{StandsFor, entries_in};
 ghost use Rattle.keystore_run.specs.Words.{form_of as form_said};
@@ -36,7 +36,7 @@ fn serve_script<S: Source, K: Sink, D: Disk, N: Entropy>(
     requires nothing { reader.old.bytes ≡ [] }
     requires untaken { reader.old.taken ≡ 0 }
     requires fresh { entries_in session.old ≡ 0 }
-    ensures ends { (setup : Setup) (begin : D) → StandsFor D.Disk setup session.old handed.entry.disk.now [] → IsUnwritten D.Disk begin handed.entry.disk.now →
+    ensures ends { (setup : Setup) (begin : D) → StandsFor D.Disk setup session.old handed.entry.disk.now [] → IsOpenedFrom D.Disk begin handed.entry.disk.now →
         Ends S.Source K.Sink D.Disk N.Entropy written setup (outside handed.entry.source.now handed.entry.sink.now begin handed.entry.entropy.now) (given_back handed.exit) result }
     ensures source_faults { CountsFaults (S.fault_count handed.entry.source.now) (S.fault_count handed.exit.0.now) (is_read_fault result) }
     ensures sink_faults { CountsFaults (K.fault_count handed.entry.sink.now) (K.fault_count handed.exit.1.0.now) (is_write_fault result) }

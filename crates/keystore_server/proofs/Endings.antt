@@ -9,14 +9,13 @@ use Rattle.ks_outside.specs.declared.entropy.Entropy.{Ghosts as EntropyGhosts}
 use Rattle.ks_outside.specs.declared.link.Link.{Ghosts as LinkGhosts}
 use Rattle.ks_outside.specs.declared.listener.Listener.{Ghosts as ListenerGhosts}
 use Rattle.journal_records.specs.LastingPart.{Lasting}
-use Rattle.key_database.specs.Stands.{held_images}
 use Rattle.key_database.specs.Store.{StandsFor}
 use Rattle.rule_model.specs.Legal.{Legal}
 use Rattle.rule_model.specs.Setup.{Setup}
 use Rattle.keystore_core.specs.declared.engine.Engine.{Engine}
 use Rattle.journal_records.specs.declared.fault.StoreFault.{StoreFault}
 use Rattle.journal_records.specs.declared.fault.StoreFault.TheVariants as faults
-use Rattle.keystore_core.specs.Engine.{MayHold, StoreStands}
+use Rattle.keystore_core.specs.Engine.{MayHold}
 use Rattle.rule_model.specs.Entries.{History}
 use Rattle.service_book.specs.declared.entry.BookEntry.{BookEntry}
 use Rattle.service_book.specs.Book.{AreLater, Counts, IsCaused, counts_after, history_of, log_of}
@@ -33,11 +32,6 @@ use Rattle.keystore_server.specs.declared.end.ServeStatus.{ServeStatus}
 use Rattle.keystore_server.specs.declared.end.ServeStatus.TheVariants as statuses
 use Rattle.keystore_server.specs.declared.words.ServeForm.{ServeForm}
 use Rattle.keystore_server.specs.Ends.{Attended, HasWorked, IsCompleted, IsRefused, ServesOn, Wanting, counts_of, is_listen_fault, refusal_of, status_of}
-
--- ---- what is on the disk
-
-pub store_images : {D : Type 0} (d : DiskGhosts D) (setup : Setup) (engine : Engine) (disk : D) (past : History) → StoreStands d setup engine disk past → AllImages d disk (MayHold setup past)
-store_images d setup engine disk past store = held_images d _ disk _ store
 
 -- ---- the end
 
@@ -117,7 +111,7 @@ refused_usage (faults.Corrupted offset) e = cc
 refused_usage faults.Memory e = cc
 
 pub refused_disk : {D : Type 0} (d : DiskGhosts D) (old new : D) (fault : StoreFault) → IsRefused d old new fault → refusal_of fault ≡ statuses.DiskFault → Rises (d.fault_count old) (d.fault_count new)
-refused_disk d old new faults.Device is e = is.goes.goes.cause.rises refl
+refused_disk d old new faults.Device is e = is.goes.cause.rises refl
 refused_disk d old new (faults.Corrupted offset) is e = absurd (cc)
 refused_disk d old new faults.Memory is e = absurd (cc)
 

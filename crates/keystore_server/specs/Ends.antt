@@ -1,6 +1,6 @@
 -- How a service over a listener ends: what was opened, what was served, what its book says, and what is on the disk.
 use Rattle.std.specs.Prelude.{◌≡◌, ◌<◌, ℕ, All, Bool, true, false, List, [], length, ◌≤◌, Option, Some, None, Err}
-use Rattle.ks_outside.specs.Images.{AllImages, Reads, tells}
+use Rattle.ks_outside.specs.Images.{AllImages, Goes, tells}
 use Rattle.ks_outside.specs.declared.clock.Reading.{Reading}
 use Rattle.ks_outside.specs.declared.disk.Disk.{Ghosts as DiskGhosts}
 use Rattle.ks_outside.specs.declared.entropy.Entropy.{Ghosts as EntropyGhosts}
@@ -19,7 +19,7 @@ use Rattle.journal_records.specs.declared.fault.StoreFault.{StoreFault}
 use Rattle.journal_records.specs.declared.fault.StoreFault.TheVariants as faults
 use Rattle.keystore_core.specs.declared.engine.Engine.{Engine}
 use Rattle.keystore_core.specs.Engine.{MayHold, OpensFor, OpensStore}
-use Rattle.keystore_core.specs.Opening.{IsRead, IsSetup}
+use Rattle.keystore_core.specs.Opening.{IsBrought, IsRead, IsSetup, LeavesRefused}
 use Rattle.service_book.specs.declared.entry.BookEntry.{BookEntry}
 use Rattle.service_book.specs.Book.{AreLater, Counts, IsCaused, counts_after, history_of, log_of}
 use Rattle.connection_workers.specs.declared.serving.Attendance.{Attendance}
@@ -64,10 +64,13 @@ IsCompleted _ = Unit {0}
 -- ---- a store that is opened
 
 module _ {D : Type 0} (d : DiskGhosts D) where
-  -- The store was not opened, and nothing was written: each image, at each moment, is one of those before, and has wrong what the fault
-  -- says; over a disk that tells its content where all images stood for one lasting part nothing is wrong.
+  -- The store was not opened. What it stood for it stands for at each moment, and nothing was written where it was no store, of which each image
+  -- has wrong what the fault says; one of the older format may have been brought to areas. Over a disk that tells its content where all images
+  -- stood for one lasting part nothing is wrong.
   pub record IsRefused (old new : D) (fault : StoreFault) : Type 0 where
-    pub goes : Reads d old new (open_failed {T = Engine} (Err fault))
+    pub goes : Goes d old new (open_failed {T = Engine} (Err fault))
+    pub brought : IsBrought d old new
+    pub refused : LeavesRefused d old new (Err fault)
     pub reads : AllImages d new (λ image. OpensStore image (Err fault))
     pub finds : (part : Lasting) → AllImages d old (StandsFor part) → tells d old ≡ true → OpensFor part (Err fault)
 

@@ -13,11 +13,12 @@ use Rattle.grants.specs.Rows.{is_of}
 use Rattle.journal_records.specs.declared.record.KeyRecord.{KeyRecord}
 use Rattle.journal_records.specs.LastingPart.{Lasting, has_id, some_has_id, is_owned, is_named, without_keys}
 use Rattle.journal_records.specs.Needs.{has_uses, has_place_for}
-use Rattle.journal_records.specs.Effects.{with_use, with_key, is_last_use, used}
-use Rattle.lasting_table.specs.Rows.{AreRows, IsBefore, IsFit, NonePass, AreBelow}
-use Rattle.lasting_table.specs.Names.{name_of, is_at_name}
-use Rattle.lasting_table.proofs.KeyRows.{later_id, rows_filter, rows_more, name_without, use_keeps_all, id_from_found, find_with_use}
-use Rattle.lasting_table.proofs.Whole.{none_out, named_is, owned_parts, found_short}
+use Rattle.journal_records.specs.Effects.{with_blob, with_use, with_key, is_last_use, used}
+use Rattle.key_maps.specs.Rows.{AreRows, IsBefore, IsFit, NonePass, AreBelow}
+use Rattle.key_maps.specs.Names.{name_of, is_at_name}
+use Rattle.key_maps.proofs.KeyRows.{later_id, rows_filter, rows_more, name_without, blob_changes, changes_none, use_changes, id_from_found, find_changed}
+use Rattle.key_maps.proofs.Tests.{any_is_found}
+use Rattle.key_maps.proofs.Whole.{none_out, named_is, owned_parts, found_short}
 use Rattle.tags.specs.declared.limits.TheConstants.{ALIAS_BYTES, MOST_KEYS}
 
 -- ---- lists
@@ -33,10 +34,6 @@ filter_twice p q r h (x ∷ xs) =
       | inl kept ↦ rw (kept, filter_twice p q r h xs) refl
       | inr out ↦ rw (out, filter_twice p q r h xs) refl
     ])
-
-pub any_is_found : {X : Type 0} (p : X → Bool) (xs : List X) → list_any p xs ≡ is_some (find p xs)
-any_is_found p [] = refl
-any_is_found p (x ∷ xs) = elim (cases_Bool (p x)) [ inl passes ↦ rw passes refl | inr fails ↦ rw fails (any_is_found p xs) ]
 
 -- ---- what holds of the key of a number
 
@@ -168,7 +165,7 @@ last_use id part key t found one =
     let ends : without_keys (has_id id) part ≡ without_keys (is_last_use id) part =
     one_alone (is_last_use id) id part (of_number (λ other. is_last_use id other ≡ true) id part.keys key t found (and_from (has_id id key) (key.left == 1) (found_passes (has_id id) part.keys key found) (eq-eqb key.left 1 one)))
     (last_left id left (no_id_left id part.keys)) in
-    sym (ap (λ keys. record (without_keys (has_id id) part) { keys = keys }) (use_keeps_all id left (no_id_left id part.keys))) ∙ ap (with_uses id) ends
+    sym (ap (λ keys. record (without_keys (has_id id) part) { keys = keys }) (changes_none id (with_use id) (use_changes id) left (no_id_left id part.keys))) ∙ ap (with_uses id) ends
 
 pub one_use : (id : ℕ) (part : Lasting) (key : KeyRecord) → AreRows part.keys → find (has_id id) part.keys ≡ Some key → (key.left ≡ 1 → ⊥) → record part { keys = map (with_use id) part.keys } ≡ used id part
 one_use id part key t found more =
@@ -273,7 +270,11 @@ pub below_filter : (p : KeyRecord → Bool) (number : ℕ) (rows : List KeyRecor
 below_filter p number rows below = λ id le. find_none (has_id id) (filter p rows) (all_filter (λ key. has_id id key ≡ false) p rows (all_from_none (has_id id) rows (below id le)))
 
 pub below_use : (used_id number : ℕ) (rows : List KeyRecord) → AreBelow number rows → AreBelow number (map (with_use used_id) rows)
-below_use used_id number rows below = λ id le. find_with_use used_id (has_id id) (λ key left. refl) rows ∙ ap (option_map (with_use used_id)) (below id le)
+below_use used_id number rows below = λ id le. find_changed (with_use used_id) (has_id id) (use_changes used_id).names (λ key blob list left. refl) rows ∙ ap (option_map (with_use used_id)) (below id le)
+
+pub below_upgraded : (upgraded_id : ℕ) (blob list : List ℕ) (number : ℕ) (rows : List KeyRecord) → AreBelow number rows → AreBelow number (map (with_blob upgraded_id blob list) rows)
+below_upgraded upgraded_id blob list number rows below = λ id le.
+    find_changed (with_blob upgraded_id blob list) (has_id id) (blob_changes upgraded_id blob list).names (λ key b l left. refl) rows ∙ ap (option_map (with_blob upgraded_id blob list)) (below id le)
 
 -- ---- a key that is put behind the others
 
@@ -369,10 +370,6 @@ any_of_number q id (key ∷ rows) t found e =
     none_pass : (rows : List KeyRecord) → NonePass (has_id id) rows → list_any (λ key. has_id id key && q key) rows ≡ false
     none_pass [] a = refl
     none_pass (other ∷ rows) a = rw (a.0, none_pass rows a.1) refl
-
-pub copied_some : {X : Type 0} (o : Option (Bor X)) → is_some (option_copied o) ≡ is_some o
-copied_some None = refl
-copied_some (Some x) = refl
 
 -- the key under a name ends, or there is none
 pub end_of_none : (domain nspace : ℕ) (alias : List ℕ) (part : Lasting) → find (is_named domain nspace alias) part.keys ≡ None → part ≡ without_keys (is_named domain nspace alias) part

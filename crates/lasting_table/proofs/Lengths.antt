@@ -1,9 +1,8 @@
--- How many bytes the rows of keys have, where one is put behind the others, where one ends, and where one is used.
-use Rattle.std.proofs.Common.{◌≡◌, ℕ, ◌+◌, ◌-◌, ◌*◌, ◌<◌, ◌≤◌, ◌^◌, ◌&&◌, ◌==◌, not, List, [], ◌∷◌, ◌++◌, length, Bool, true, false, Option, Some, None, Bor, refl, ap, arith, inl, inr}
-use Rattle.std.specs.Prelude.{find, map, nat_le, nat_lt, is_some}
-use Rattle.std.specs.Option.{option_copied}
+-- How many bytes the rows of keys have, where one is put behind the others, where one ends, and where one changes in place.
+use Rattle.std.proofs.Common.{◌≡◌, ℕ, ◌+◌, ◌-◌, ◌*◌, ◌<◌, ◌≤◌, ◌^◌, ◌&&◌, ◌==◌, not, List, [], ◌∷◌, ◌++◌, length, Bool, true, false, Some, refl, ap, arith, inl, inr}
+use Rattle.std.specs.Prelude.{find, map, nat_le, nat_lt, is_some, IsSome}
 use Rattle.std.specs.List.{AllByRecursion, filter, list_all}
-use Rattle.std.proofs.lemmas.Bool.{and_parts, cases_Bool, cases_lt, eqb-true, le-ltb, leb-true, lt-ltb, or_cases}
+use Rattle.std.proofs.lemmas.Bool.{and_parts, cases_Bool, eqb-true, leb-true, or_cases}
 use Rattle.std.proofs.lemmas.Option.{none-some, same_Some}
 use Rattle.grants.specs.declared.row.GrantRow.{GrantRow}
 use Rattle.grants.specs.Rows as grant_rows
@@ -13,13 +12,14 @@ use Rattle.tags.specs.declared.limits.TheConstants.{ALIAS_BYTES}
 use Rattle.journal_records.specs.declared.record.KeyRecord.{KeyRecord}
 use Rattle.journal_records.specs.LastingPart.{Lasting, has_id}
 use Rattle.journal_records.specs.Needs.{is_owner}
-use Rattle.journal_records.specs.Effects.{with_use}
+use Rattle.journal_records.specs.Effects.{with_blob, with_use}
 use Rattle.journal_records.specs.Storable.{IsStorable, IsStorableKey, key_row_length, key_rows_length, snapshot_length}
 use Rattle.std.specs.Str.{is_utf8}
-use Rattle.lasting_table.specs.Parts.{row_bytes}
-use Rattle.lasting_table.specs.Rows.{AreRows, IsBefore, NonePass, is_past}
-use Rattle.lasting_table.proofs.KeyRows.{later_id}
-use Rattle.lasting_table.proofs.Whole.{none_out}
+use Rattle.lasting_table.specs.Parts.{parts_bytes, row_bytes}
+use Rattle.key_maps.specs.Rows.{AreRows, IsBefore, NonePass}
+use Rattle.key_maps.proofs.KeyRows.{blob_changes, changes_none, later_id}
+use Rattle.key_maps.proofs.Tests.{below_test}
+use Rattle.key_maps.proofs.Whole.{none_out}
 
 pub bytes_push : (rows : List KeyRecord) (key : KeyRecord) → key_rows_length (rows ++ key ∷ []) ≡ key_rows_length rows + key_row_length key
 bytes_push [] key = omega arith
@@ -58,6 +58,30 @@ pub bytes_use : (id : ℕ) (rows : List KeyRecord) → key_rows_length (map (wit
 bytes_use id [] = refl
 bytes_use id (key ∷ rows) = omega (arith, use_length id key, bytes_use id rows)
 
+-- another blob and another list
+bytes_upgraded_none : (id : ℕ) (blob list : List ℕ) (key : KeyRecord) (rows : List KeyRecord) → has_id id key ≡ true → AllByRecursion (IsBefore key) rows → map (with_blob id blob list) rows ≡ rows
+bytes_upgraded_none id blob list key rows here a =
+    changes_none id (with_blob id blob list) (blob_changes id blob list) rows
+    (all_more (IsBefore key) (λ later. has_id id later ≡ false) (λ later before. later_id id key later here before) rows a)
+
+pub bytes_upgraded : (id : ℕ) (blob list : List ℕ) (rows : List KeyRecord) → AreRows rows → IsSome (find (has_id id) rows)
+    → key_rows_length (map (with_blob id blob list) rows) + parts_bytes (find (has_id id) rows) ≡ key_rows_length rows + (length blob + length list)
+bytes_upgraded id blob list [] t some = absurd (cc)
+bytes_upgraded id blob list (key ∷ rows) t some = elim (cases_Bool (has_id id key)) [
+  | inl here ↦ rw (here, bytes_upgraded_none id blob list key rows here t.1) (omega arith)
+  | inr there ↦
+      let found : IsSome (find (has_id id) rows) = rw there at some in
+      rw there (omega (arith, bytes_upgraded id blob list rows t.2 found))
+]
+
+-- the blob and the list of a key are part of its row
+pub parts_found : (id : ℕ) (rows : List KeyRecord) → parts_bytes (find (has_id id) rows) ≤ key_rows_length rows
+parts_found id [] = omega arith
+parts_found id (key ∷ rows) = elim (cases_Bool (has_id id key)) [
+  | inl here ↦ rw here (omega arith)
+  | inr there ↦ rw there (omega (arith, parts_found id rows))
+]
+
 -- ---- what a store can hold is short
 
 pub alias_long : (alias : List ℕ) → is_alias alias ≡ true → length alias ≤ ALIAS_BYTES
@@ -79,26 +103,6 @@ pub snapshot_small : (part : Lasting) → IsStorable part → snapshot_length pa
 snapshot_small part is = omega (arith, keys_short part.next_key part.keys is.keys, is.key_count, is.grant_count)
 
 -- ---- numbers below one
-
--- whether nothing is found
-pub none_test : {X : Type 0} (found : Option (Bor X)) (none : Bool) → is_some found ≡ not none → none ≡ not (is_some (option_copied found))
-none_test None true e = refl
-none_test None false e = absurd (cc)
-none_test (Some x) true e = absurd (cc)
-none_test (Some x) false e = refl
-
-below_test : (number held : ℕ) → 1 ≤ number → nat_lt held number ≡ not (nat_lt (number - 1) held)
-below_test number held some = elim (cases_lt held number) [
-  | inl less ↦ rw (lt-ltb held number less, le-ltb (number - 1) held (omega (arith, less))) refl
-  | inr more ↦ rw (le-ltb held number more, lt-ltb (number - 1) held (omega (arith, more, some))) refl
-]
-
-pub keys_below : (id : ℕ) (rows : List KeyRecord) → 1 ≤ id → list_all (λ key. nat_lt key.id id) rows ≡ not (is_some (find (is_past (Some (id - 1))) rows))
-keys_below id [] some = refl
-keys_below id (key ∷ rows) some = elim (cases_Bool (nat_lt (id - 1) key.id)) [
-  | inl past ↦ rw (past, below_test id key.id some, past) refl
-  | inr below ↦ rw (below, below_test id key.id some, below) (keys_below id rows some)
-]
 
 pub grants_below : (number : ℕ) (rows : List GrantRow) → 1 ≤ number → list_all (λ row. nat_lt row.grant number) rows ≡ not (is_some (find (grant_rows.is_past (Some (number - 1))) rows))
 grants_below number [] some = refl

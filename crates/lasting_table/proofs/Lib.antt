@@ -1,14 +1,6 @@
-pub mod NameOrder
-pub mod KeyRows
-pub mod Counting
-pub mod Entries
-pub mod Indexing
-pub mod Firsts
-pub mod Whole
-pub mod Nexts
 pub mod Ends
-pub mod Lockstep
-pub mod Afters
-pub mod Listing
 pub mod Lengths
+pub mod Listing
+pub mod Lockstep
+pub mod Rising
 pub mod Storing

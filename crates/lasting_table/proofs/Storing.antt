@@ -22,9 +22,9 @@ use Rattle.journal_records.proofs.Lists.{all_from_test, none_from_test}
 use Rattle.journal_records.proofs.Restoring.{restores_storable}
 use Rattle.journal_records.proofs.SnapshotBytes.{held_grant_long, held_long, next_long, snapshot_records}
 use Rattle.lasting_table.specs.Parts.{may_be}
-use Rattle.lasting_table.specs.Rows.{AreBelow, AreRows, IsFit, NonePass}
+use Rattle.key_maps.specs.Rows.{AreBelow, AreRows, IsFit, NonePass}
 use Rattle.lasting_table.proofs.Ends.{before_new, below_push}
-use Rattle.lasting_table.proofs.KeyRows.{rows_more}
+use Rattle.key_maps.proofs.KeyRows.{rows_more}
 use Rattle.lasting_table.proofs.Lengths.{alias_long, owner_small}
 
 -- ---- what the tests say

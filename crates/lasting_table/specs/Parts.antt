@@ -1,5 +1,5 @@
 -- The lasting part that the inside of a table holds, and its room.
-use Rattle.std.specs.Prelude.{ℕ, Bool, ◌&&◌, nat_le, List, Option, None, Some}
+use Rattle.std.specs.Prelude.{ℕ, ◌+◌, Bool, ◌&&◌, nat_le, List, length, Option, None, Some}
 use Rattle.tags.specs.Descriptor.{is_alias}
 use Rattle.tags.specs.declared.limits.TheConstants.{BLOB_BYTES, KEPT_LIST_BYTES}
 use Rattle.journal_records.specs.declared.record.KeyRecord.{KeyRecord}
@@ -21,6 +21,11 @@ held_of part = record { part = part_of part; key_places = part.keys.spare; grant
 abbrev pub may_be : ℕ → ℕ → List ℕ → ℕ → ℕ → Lasting → Bool
 may_be domain nspace alias blob list part =
     is_owner domain nspace && (is_alias alias && (nat_le blob BLOB_BYTES && (nat_le list KEPT_LIST_BYTES && has_place_for domain nspace alias part)))
+
+-- how many bytes the blob and the list of a key have, where one is found
+abbrev pub parts_bytes : Option KeyRecord → ℕ
+parts_bytes None = 0
+parts_bytes (Some key) = length key.blob + length key.list
 
 -- how many bytes the row of a key has, where one is found
 abbrev pub row_bytes : Option KeyRecord → ℕ

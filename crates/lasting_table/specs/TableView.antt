@@ -1,7 +1,7 @@
 -- The table of what lasts as its callers see it: the lasting part, and the room that a change of it needs.
 use Rattle.std.specs.Prelude.{◌≡◌, ◌<◌, ◌≤◌, ℕ, Bool, true, false, ◌||◌}
 use Rattle.journal_records.specs.declared.change.Change.{Change}
-use Rattle.journal_records.specs.declared.change.Change.TheVariants.{Create, Delete, Use, Grant, Ungrant, Clear, Removed}
+use Rattle.journal_records.specs.declared.change.Change.TheVariants.{Create, Delete, Use, Grant, Ungrant, Clear, Removed, Upgrade}
 use Rattle.journal_records.specs.LastingPart.{Lasting}
 use Rattle.journal_records.specs.Needs.{is_met}
 
@@ -36,6 +36,7 @@ makes_key (Grant row) = false
 makes_key (Ungrant grant) = false
 makes_key (Clear domain nspace) = false
 makes_key (Removed user) = false
+makes_key (Upgrade id blob list) = false
 
 -- whether it makes a grant, or gives one other bits
 abbrev pub makes_grant : Change → Bool
@@ -46,6 +47,7 @@ makes_grant (Grant row) = true
 makes_grant (Ungrant grant) = false
 makes_grant (Clear domain nspace) = false
 makes_grant (Removed user) = false
+makes_grant (Upgrade id blob list) = false
 
 -- whether a change takes memory before it is made
 abbrev pub takes_memory : Change → Bool

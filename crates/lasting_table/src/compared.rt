@@ -3,10 +3,10 @@
 ghost use Rattle.std.specs.Prelude.{◌≡◌, ℕ, true};
 ghost use Rattle.lasting_table.specs.Parts.{part_of};
 
-use crate::keys::Keys;
 use crate::part::Part;
 use grants::{GrantRow, Grants};
 use journal_records::KeyRecord;
+use key_maps::Keys;
 
 /// Whether two keys are the same.
 fn same_key(key: &KeyRecord, other: &KeyRecord) -> bool

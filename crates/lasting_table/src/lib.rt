@@ -18,12 +18,8 @@
 #![tactic(auto)]
 
 mod compared;
-mod counts;
 mod held;
-mod keys;
 mod lasting;
-mod maps;
-mod names;
 mod part;
 mod replay;
 mod widths;

@@ -9,22 +9,22 @@ ghost use Rattle.journal_records.specs.declared.change.Change.TheVariants as cha
 ghost use Rattle.journal_records.specs.declared.record.KeyRecord.{KeyRecord};
 ghost use Rattle.journal_records.specs.LastingPart.{has_id, is_owned, is_named, is_of_user, without_keys};
 ghost use Rattle.journal_records.specs.Needs.{is_met, is_owner, has_place_for, is_grant_numbered, has_uses};
-ghost use Rattle.journal_records.specs.Effects.{after, with_key, used, granted, is_last_use};
+ghost use Rattle.journal_records.specs.Effects.{after, with_key, used, granted, is_last_use, upgraded};
 ghost use Rattle.journal_records.specs.States.{has_uses_within, is_given, may_hold, may_hold_grant};
 ghost use Rattle.journal_records.specs.Storable.{key_row_length, key_rows_length, snapshot_length};
 ghost use Rattle.std.specs.List.{list_all, list_any};
-ghost use Rattle.lasting_table.specs.Rows.{AreBelow, AreRows, IsFit};
-ghost use Rattle.lasting_table.specs.Table.{HasRoom, KeepsRoom};
+ghost use Rattle.key_maps.specs.Rows.{AreBelow, AreRows, IsFit};
+ghost use Rattle.key_maps.specs.Table.{HasRoom, KeepsRoom};
 ghost use Rattle.tags.specs.Descriptor as descriptors;
 
-use crate::keys::Keys;
 use crate::widths::is_wide;
 use grants::{GrantRow, Grants};
 use journal_records::{Change, GRANT_ROW, KEY_ROW, KeyRecord, NEXT_ROW};
+use key_maps::Keys;
 use std::alloc::Global;
 use tags::{
-    ALIAS_BYTES, BLOB_BYTES, KEPT_LIST_BYTES, MOST_GRANTS, MOST_KEYS, MOST_USER, NUMBERS_END,
-    NoMemory, is_text,
+    ALIAS_BYTES, BLOB_BYTES, Bytes, KEPT_LIST_BYTES, MOST_GRANTS, MOST_KEYS, MOST_USER,
+    NUMBERS_END, NoMemory, is_text,
 };
 
 /// Keys, grants and the numbers that the next of each takes; and how many bytes the rows of the keys have in a snapshot.
@@ -78,7 +78,7 @@ fn row_length(key: &KeyRecord) -> u64
 
 impl Part {
     ghost use Rattle.lasting_table.specs.TableView.{HasRoomForKey, HasRoomForGrant, HasRoomFor, KeepsRoom as KeepsRooms, CanMake, takes_memory};
-    ghost use Rattle.lasting_table.specs.Parts.{part_of, held_of, may_be, row_bytes};
+    ghost use Rattle.lasting_table.specs.Parts.{part_of, held_of, may_be, parts_bytes, row_bytes};
     ghost use Rattle.journal_records.specs.LastingPart.{empty_lasting};
 
     /// No keys and no grants. It takes no memory.
@@ -184,6 +184,9 @@ impl Part {
             Change::Ungrant { grant } => self.grants.find(*grant).is_some(),
             Change::Clear { domain, .. } => *domain == 0 || *domain == 2,
             Change::Removed { user } => *user <= MOST_USER,
+            Change::Upgrade { id, blob, list } => {
+                self.is_live(*id) && (blob.len() <= BLOB_BYTES && list.len() <= KEPT_LIST_BYTES)
+            }
         }
     }
 
@@ -297,8 +300,8 @@ impl Part {
         let Some(key) = self.keys.named(domain, nspace, alias) else {
             return;
         };
-        let id = key.id;
-        self.end_key(id);
+        let held = key.id;
+        self.end_key(held);
     }
 
     /// Puts a new key behind the others, and ends the key under its name.
@@ -372,6 +375,30 @@ impl Part {
         }
     }
 
+    /// How many bytes the blob and the list of the key of a number have; 0 where there is none.
+    fn parts_bytes(&self, id: u64) -> u64
+        ensures bytes { result ≡ parts_bytes (find (has_id id) self.now.keys.rows) }
+        ensures orderly { AreRows self.now.keys.rows }
+    {
+        is_wide(self.key_bytes);
+        match self.keys.numbered(id) {
+            Some(key) => (key.blob.len() + key.list.len()) as u64,
+            None => 0,
+        }
+    }
+
+    /// Gives a live key another blob and another list.
+    fn upgrade(&mut self, id: u64, blob: Bytes, list: Bytes)
+        requires live { IsSome (find (has_id id) self.old.keys.rows) }
+        requires few { key_rows_length (upgraded id blob list (part_of self.old)).keys < 2 ^ 64 }
+        ensures { part_of self.new ≡ upgraded id blob list (part_of self.old) }
+    {
+        let before = self.parts_bytes(id);
+        let bytes = (blob.len() + list.len()) as u64;
+        self.keys.upgrade(id, blob, list);
+        self.key_bytes = self.key_bytes - before + bytes;
+    }
+
     /// Makes a change whose need is met, and for which there is room. It takes no memory.
     pub(crate) fn make(&mut self, change: Change)
         requires can { CanMake (held_of self.old) change }
@@ -405,6 +432,7 @@ impl Part {
             }
             Change::Clear { domain, nspace } => self.clear(domain, nspace),
             Change::Removed { user } => self.remove_user(user),
+            Change::Upgrade { id, blob, list } => self.upgrade(id, blob, list),
         }
     }
 

@@ -51,6 +51,7 @@ pub(crate) fn change_widths(change: &Change)
             is_wide(*nspace);
         }
         Change::Removed { user } => is_narrow(*user),
+        Change::Upgrade { id, .. } => is_wide(*id),
     }
 }
 

@@ -56,7 +56,7 @@ const ASKS: &str = r#"{"t":[0,1000],"do":"connect","uid":10001}
 static WRITERS: [usize; 16] = [4, 5, 6, 7, 8, 9, 10, 11, 12, 14, 15, 17, 18, 19, 20, 21];
 
 /// How many calls of the device formatting and the opening of an empty store make, and how many a record.
-const BEFORE: u64 = 7;
+const BEFORE: u64 = 12;
 
 const A_RECORD: u64 = 4;
 

@@ -12,7 +12,7 @@ use tags::{DeviceSecrets, Policy};
 pub const ROOM: DiskRoom = DiskRoom {
     calls: 256,
     bytes: 65_536,
-    pages: 16,
+    pages: 20,
 };
 
 /// An app connects, imports the key of the first case of RFC 4231, begins a mac with it, and finishes that with the case's text.

@@ -78,7 +78,7 @@ static CASES: [Case; 8] = [
     ("", (&[], &[]), Status::Ok, ""),
     ("{}\n\n[]\n{", (&[], &[]), Status::Ok, ""),
     (KNOWN, (&[], &[]), Status::Ok, KNOWN_TRACE),
-    (USED_UP, (&[15], &[]), Status::Ok, USED_UP_TRACE),
+    (USED_UP, (&[20], &[]), Status::Ok, USED_UP_TRACE),
     (HELD, (&[], &[]), Status::Ok, HELD_TRACE),
     // a write that fails ends a run, and the entries before it are whole
     (KNOWN, (&[], &[1]), Status::WriteFault, ""),

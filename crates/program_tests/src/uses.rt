@@ -133,14 +133,14 @@ const LOST: Runs = &[
     GONE,
 ];
 
-/// Calls of the disk that fail, by their numbers from 1, and the runs: formatting makes two calls, the opening of an empty store five,
+/// Calls of the disk that fail, by their numbers from 1, and the runs: formatting makes six calls, the opening of an empty store six,
 /// and each record four.
 static FAULTED: [(&[u64], Runs); 6] = [
-    (&[15], KEPT),
-    (&[12], LOST),
-    (&[14], LOST),
+    (&[20], KEPT),
+    (&[17], LOST),
+    (&[19], LOST),
     (
-        &[15],
+        &[20],
         &[
             &[
                 // A restart settles first.
@@ -155,7 +155,7 @@ static FAULTED: [(&[u64], Runs); 6] = [
         ],
     ),
     (
-        &[13],
+        &[18],
         &[
             &[
                 // A leave, a disconnect and a line that is no event settle nothing; a call that breaks a rule does.
@@ -185,7 +185,7 @@ static FAULTED: [(&[u64], Runs); 6] = [
         ],
     ),
     (
-        &[12, 13],
+        &[17, 18],
         &[
             &[
                 // Settling fails too: the act is not made, the finish leaves its operation open, and the next act settles.
@@ -213,9 +213,9 @@ fn a_use_whose_record_failed_is_kept_or_lost_as_it_is_told(rt: HostRuntime) {
     }
 }
 
-/// Which call fails of the five that a restart makes, to sync and to read, the header, the records, and twice nothing more; eleven came
-/// before it: formatting made two, the opening five, and the record four.
-static UNREAD: [&[u64]; 5] = [&[12], &[13], &[14], &[15], &[16]];
+/// Which call fails of the six that a restart makes, to sync and to read, the front, the selector, the records, and twice nothing more; sixteen
+/// came before it: formatting made six, the opening six, and the record four.
+static UNREAD: [&[u64]; 6] = [&[17], &[18], &[19], &[20], &[21], &[22]];
 
 /// A restart that could not read the store has not happened, and nothing waits: the client, its operation and the key are there, the next
 /// use is written, and the next restart is made.

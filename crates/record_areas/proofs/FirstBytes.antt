@@ -11,8 +11,8 @@ use Rattle.byte_strings.proofs.Fields.{bind_some, chosen, guard_some, number_siz
 use Rattle.journal_records.specs.declared.change.Change.{Change}
 use Rattle.journal_records.specs.declared.record.Record.{Record}
 use Rattle.journal_records.specs.declared.record.Record.TheVariants as records
-use Rattle.journal_records.specs.Reading.{body_at, body_in, changed_at, cleared_at, created_at, deleted_at, fields_of, fields_within, granted_at, held_at, held_grant_at, kinds, next_at, removed_at, rows, ungranted_at, used_at}
-use Rattle.record_areas.specs.BodyLengths.{may_be_key, may_begin, may_fill, may_go_on}
+use Rattle.journal_records.specs.Reading.{body_at, body_in, changed_at, cleared_at, created_at, deleted_at, fields_of, fields_within, granted_at, held_at, held_grant_at, is_row, kinds, next_at, removed_at, rows, ungranted_at, upgraded_at, used_at}
+use Rattle.record_areas.specs.BodyLengths.{may_begin, may_fill, may_go_on, may_have}
 
 -- ---- lengths that are told
 
@@ -155,13 +155,14 @@ other_begins : (X : Type 0) (kind n : ℕ) (read : Reader X) → ((size : ℕ) (
 other_begins X kind n read other few long bytes x rest m e none =
     other (suc (length bytes)) (take m bytes) ∙ le-leb (suc (length bytes)) 25 (omega (arith, (long bytes x rest e).0, none, few))
 
-key_begins : (X : Type 0) (kind behind : ℕ) (read : Reader X) → ((size : ℕ) (fields : List ℕ) → may_begin size (kind ∷ fields) ≡ may_be_key behind size fields) → Skips read 17 3 behind → Begins X (kind, read)
-key_begins X kind behind read key skips bytes x rest m e none =
+texts_begin : (X : Type 0) (kind numbers texts behind : ℕ) (read : Reader X) → ((size : ℕ) (fields : List ℕ) → may_begin size (kind ∷ fields) ≡ may_have numbers texts behind size fields) → Skips read numbers texts behind
+    → Begins X (kind, read)
+texts_begin X kind numbers texts behind read has skips bytes x rest m e none =
     let s = skips bytes x rest e none in
-    let size : suc (length bytes) - 18 ≡ length bytes - 17 = omega (arith, s.0) in
-    key (suc (length bytes)) (take m bytes)
-    ∙ (λ i. may_fill 3 behind (size i) (drop_of_take 17 m bytes i))
-    ∙ fill_front 3 behind (length bytes - 17) (m - 17) (drop 17 bytes) s.1
+    let size : suc (length bytes) - (numbers + 1) ≡ length bytes - numbers = omega (arith, s.0) in
+    has (suc (length bytes)) (take m bytes)
+    ∙ (λ i. may_fill texts behind (size i) (drop_of_take numbers m bytes i))
+    ∙ fill_front texts behind (length bytes - numbers) (m - numbers) (drop numbers bytes) s.1
 
 created_skips : Skips created_at 17 3 4
 unfolding created_at
@@ -172,6 +173,10 @@ held_skips : Skips held_at 17 3 8
 unfolding held_at
 held_skips = skips_field 8 9 3 8 (number_long 8) (λ id. skips_field 1 8 3 8 byte_long (λ domain. skips_none 8 3 8 (number_long 8) (λ nspace.
     fills_text 2 8 (λ alias. fills_text 1 8 (λ blob. fills_text 0 8 (λ list. fills_last 8 (then_long 4 4 (number_long 4) (λ limit. then_long 4 0 (number_long 4) (λ left. made_long _)))))))))
+
+upgraded_skips : Skips upgraded_at 8 2 0
+unfolding upgraded_at
+upgraded_skips = skips_none 8 2 0 (number_long 8) (λ id. fills_text 1 0 (λ blob. fills_text 0 0 (λ list. fills_last 0 (made_long _))))
 
 granted_long : IsLong Change granted_at 24
 unfolding granted_at
@@ -190,7 +195,7 @@ one_long n make = then_long n 0 (number_long n) (λ a. made_long _)
 
 kinds_begin : AllByRecursion (Begins Change) kinds
 kinds_begin = (
-  key_begins Change 1 4 created_at (λ size fields. refl) created_skips,
+  texts_begin Change 1 17 3 4 created_at (λ size fields. refl) created_skips,
   (
     other_begins Change 2 8 deleted_at (λ size fields. refl) (omega arith) (one_long 8 _),
     (
@@ -201,7 +206,10 @@ kinds_begin = (
           other_begins Change 5 8 ungranted_at (λ size fields. refl) (omega arith) (one_long 8 _),
           (
             other_begins Change 6 9 cleared_at (λ size fields. refl) (omega arith) (then_long 1 8 byte_long (λ domain. one_long 8 _)),
-            (other_begins Change 7 4 removed_at (λ size fields. refl) (omega arith) (one_long 4 _), tt),
+            (
+              other_begins Change 7 4 removed_at (λ size fields. refl) (omega arith) (one_long 4 _),
+              (texts_begin Change 11 8 2 0 upgraded_at (λ size fields. refl) upgraded_skips, tt),
+            ),
           ),
         ),
       ),
@@ -213,7 +221,7 @@ rows_begin : AllByRecursion (Begins Record) rows
 rows_begin = (
   other_begins Record 8 16 next_at (λ size fields. refl) (omega arith) next_long,
   (
-    key_begins Record 9 8 held_at (λ size fields. refl) held_skips,
+    texts_begin Record 9 17 3 8 held_at (λ size fields. refl) held_skips,
     (other_begins Record 10 24 held_grant_at (λ size fields. refl) (omega arith) held_grant_long, tt),
   ),
 )
@@ -235,9 +243,9 @@ changed_begins kind bytes it rest m e none =
 fields_begin : (greatest kind : ℕ) → Begins Record (kind, fields_within greatest kind)
 fields_begin greatest kind bytes it rest m e none = ⊎_elim
     (λ (p : (leb kind greatest ≡ true) × (fields_of kind bytes ≡ Some (it, rest))). ⊎_elim
-    (λ (q : (ltb kind 8 ≡ true) × (changed_at kind bytes ≡ Some (it, rest))). changed_begins kind bytes it rest m q.1 none)
-    (λ (q : (ltb kind 8 ≡ false) × (row_of kind rows bytes ≡ Some (it, rest))). row_begins Record rows kind rows_begin bytes it rest m q.1 none)
-    (chosen (ltb kind 8) (changed_at kind bytes) (row_of kind rows bytes) (Some (it, rest)) p.1))
+    (λ (q : (is_row kind ≡ true) × (row_of kind rows bytes ≡ Some (it, rest))). row_begins Record rows kind rows_begin bytes it rest m q.1 none)
+    (λ (q : (is_row kind ≡ false) × (changed_at kind bytes ≡ Some (it, rest))). changed_begins kind bytes it rest m q.1 none)
+    (chosen (is_row kind) (row_of kind rows bytes) (changed_at kind bytes) (Some (it, rest)) p.1))
     (λ (p : (leb kind greatest ≡ false) × (◌≡◌ {A = Option (Record × List ℕ)} None (Some (it, rest)))). absurd (let never = p.1 in cc))
     (chosen (leb kind greatest) (fields_of kind bytes) None (Some (it, rest)) e)
 

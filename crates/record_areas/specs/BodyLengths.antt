@@ -12,12 +12,12 @@ abbrev pub may_fill : ℕ → ℕ → ℕ → List ℕ → Bool
 may_fill zero behind size front = size == behind
 may_fill (suc texts) behind size front = may_go_on size (may_fill texts behind) (number_at 4 front)
 
--- the same of a key's fields: its numbers up to its alias, its alias, blob and list, and the numbers behind them
-abbrev pub may_be_key : ℕ → ℕ → List ℕ → Bool
-may_be_key behind size fields = may_fill 3 behind (size - 18) (drop 17 fields)
+-- the same of the fields of a body of so many bytes, its kind among them: numbers of so many bytes, counted texts, and some bytes behind them
+abbrev pub may_have : ℕ → ℕ → ℕ → ℕ → List ℕ → Bool
+may_have numbers texts behind size fields = may_fill texts behind (size - (numbers + 1)) (drop numbers fields)
 
 -- Whether a body of so many bytes may begin with these. A body of a kind without texts has at most 25.
 abbrev pub may_begin : ℕ → List ℕ → Bool
 may_begin size [] = true
 may_begin size (kind ∷ fields) =
-    if kind == 1 then may_be_key 4 size fields else if kind == 9 then may_be_key 8 size fields else nat_le size 25
+    if kind == 1 then may_have 17 3 4 size fields else if kind == 9 then may_have 17 3 8 size fields else if kind == 11 then may_have 8 2 0 size fields else nat_le size 25

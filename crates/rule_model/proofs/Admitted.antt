@@ -4,7 +4,6 @@ use Rattle.tags.specs.declared.code.Code.{Code}
 use Rattle.tags.specs.declared.rule.Rule.{Rule}
 use Rattle.tags.specs.declared.rule.RuleTable.TheVariants.{S}
 use Rattle.tags.specs.Table.{Ruling, first_broken}
-use Rattle.journal_records.specs.declared.change.Change.{Change}
 use Rattle.step_rules.specs.declared.facts.StepFacts.{StepFacts}
 use Rattle.step_rules.specs.Rules.{is_enter as enters_kind}
 use Rattle.step_rules.specs.Table.{answer as answer_of_step, call_rules, enter_rules}
@@ -16,10 +15,9 @@ use Rattle.rule_model.specs.declared.facts.Brought.{Brought}
 use Rattle.rule_model.specs.declared.facts.Caller.{Caller}
 use Rattle.rule_model.specs.declared.reply.Fields.{Fields}
 use Rattle.rule_model.specs.declared.reply.Reply.{Reply}
-use Rattle.rule_model.specs.declared.reply.Reply.TheVariants.{Done, Broken, Stopped}
+use Rattle.rule_model.specs.declared.reply.Reply.TheVariants.{Done, Stopped}
 use Rattle.rule_model.specs.Acts.{is_enter}
-use Rattle.rule_model.specs.Answer.{answer, answer_by_rules}
-use Rattle.rule_model.specs.Clients.{caller_of}
+use Rattle.rule_model.specs.Answer.{answer_by_rules}
 use Rattle.rule_model.specs.Entries.{History, is_done}
 use Rattle.rule_model.specs.Kept.{is_live, operation_at}
 use Rattle.rule_model.specs.Legal.{IsAnswered, MayFollow, Answered, WithoutMemory, WithoutEntropy, Faulted, NotSettled, NotRestarted}
@@ -28,7 +26,6 @@ use Rattle.rule_model.specs.Operations.{operation_of}
 use Rattle.rule_model.specs.Replies.{broken_or}
 use Rattle.rule_model.specs.Setup.{Setup}
 use Rattle.rule_model.specs.StepFacts.{brought_by, facts_of, has_ended}
-use Rattle.rule_model.specs.Stored.{where_stored}
 
 -- ---- through the layers of an answer
 
@@ -39,17 +36,6 @@ broken_done (Err broken) reply e = cc
 pub broken_fields : {T : Type 0} (ruling : Result T (Rule × Code)) (fields given : Fields) → broken_or ruling (Done fields) ≡ Done given → fields ≡ given
 broken_fields (Ok found) fields given e = cc
 broken_fields (Err broken) fields given e = cc
-
-where_done : (bytes : ℕ) (change : Option Change) (reply : Reply) → is_done (where_stored bytes change reply) ≡ true → is_done reply ≡ true
-where_done bytes None reply e = e
-where_done bytes (Some change) (Done fields) e = refl
-where_done bytes (Some change) (Broken rule code) e = cc
-where_done bytes (Some change) (Stopped code) e = cc
-
--- an admitted answer is one by the rules
-pub admitted_by_rules : (setup : Setup) (past : History) (event : Event) (drawn : List ℕ) → is_done (answer setup past event drawn) ≡ true → is_done (answer_by_rules event.act setup past (caller_of past event) drawn) ≡ true
-admitted_by_rules setup past event drawn e =
-    where_done _ _ (answer_by_rules event.act setup past (caller_of past event) drawn) e
 
 -- ---- a step that enters an operation
 

@@ -5,9 +5,9 @@ use Rattle.std.specs.List.{AllByRecursion, list_any}
 use Rattle.grants.specs.declared.row.GrantRow.{GrantRow}
 use Rattle.grants.specs.Rows.{is_for}
 use Rattle.journal_records.specs.declared.change.Change.{Change}
-use Rattle.journal_records.specs.declared.change.Change.TheVariants.{Create, Delete, Use, Grant, Ungrant, Clear, Removed}
+use Rattle.journal_records.specs.declared.change.Change.TheVariants.{Create, Delete, Use, Grant, Ungrant, Clear, Removed, Upgrade}
 use Rattle.journal_records.specs.declared.record.KeyRecord.{KeyRecord}
-use Rattle.journal_records.specs.Effects.{after, granted, is_last_use, used, with_key, with_use}
+use Rattle.journal_records.specs.Effects.{after, granted, is_last_use, upgraded, used, with_blob, with_key, with_use}
 use Rattle.journal_records.specs.LastingPart.{Lasting, has_id, is_named, is_of_user, is_owned, some_has_id, without_keys}
 use Rattle.journal_records.specs.Storable.{AreKeys, IsKeyBefore, IsStorable, IsStorableKey}
 use Rattle.rule_model.specs.Uses.{HasLimit}
@@ -233,6 +233,34 @@ goes_counted id made limit part bounded live =
       grows = omega arith;
     }
 
+-- ---- over another blob and another list
+
+-- a key keeps its number, its limit and its uses
+same_uses : (id made limit n : ℕ) (blob list : List ℕ) (key : KeyRecord) → IsWithin id made limit key → IsWithin id made limit (with_blob n blob list key)
+same_uses id made limit n blob list key within = by_number (key.id == n) where
+  by_number : (b : Bool) → IsWithin id made limit (if b then record key { blob = blob; list = list } else key)
+  by_number true = within
+  by_number false = within
+
+number_stays : (n next : ℕ) (blob list : List ℕ) (key : KeyRecord) → key.id < next → (with_blob n blob list key).id < next
+number_stays n next blob list key less = by_number (key.id == n) where
+  by_number : (b : Bool) → (if b then record key { blob = blob; list = list } else key).id < next
+  by_number true = less
+  by_number false = less
+
+goes_upgraded : (id n made limit : ℕ) (blob list : List ℕ) (part : Lasting) → Bounded id made limit part → Goes id limit made part (upgraded n blob list part)
+goes_upgraded id n made limit blob list part bounded = record {
+  limit_now = limit;
+  bounded = record {
+    numbered = each_changed (λ (key : KeyRecord). key.id < part.next_key) (λ (key : KeyRecord). key.id < part.next_key) (with_blob n blob list) (number_stays n part.next_key blob list) part.keys bounded.numbered;
+    owned = each_changed (IsWithin id made limit) (IsWithin id made limit) (with_blob n blob list) (same_uses id made limit n blob list) part.keys bounded.owned;
+    fresh = bounded.fresh;
+    within = bounded.within;
+  };
+  same = λ given. refl;
+  grows = omega arith;
+}
+
 -- ---- over any change
 
 goes_still : (id made limit : ℕ) (part later : Lasting) → later.keys ≡ part.keys → later.next_key ≡ part.next_key → Bounded id made limit part → Goes id limit made part later
@@ -261,6 +289,7 @@ goes_on id made limit part (Grant row) next bounded = goes_granted id made limit
 goes_on id made limit part (Ungrant grant) next bounded = goes_still id made limit part (after part (Ungrant grant)) refl refl bounded
 goes_on id made limit part (Clear domain nspace) next bounded = goes_ended id made limit (is_owned domain nspace) part bounded
 goes_on id made limit part (Removed user) next bounded = goes_ended id made limit (is_of_user user) part bounded
+goes_on id made limit part (Upgrade number blob list) next bounded = goes_upgraded id number made limit blob list part bounded
 
 -- ---- what a store can hold
 

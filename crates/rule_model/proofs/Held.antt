@@ -40,7 +40,7 @@ use Rattle.rule_model.specs.Setup.{Setup}
 use Rattle.rule_model.specs.StepFacts.{has_ended}
 use Rattle.rule_model.specs.Stored.{May, MayWhere}
 use Rattle.rule_model.specs.Uses.{HasLimit, Stood, one_if, used_by, uses_made}
-use Rattle.rule_model.proofs.Admitted.{IsEntered, admitted_by_rules, answered_done, entered}
+use Rattle.rule_model.proofs.Admitted.{IsEntered, answered_done, entered}
 use Rattle.rule_model.proofs.Bounds.{Bounded, Goes, TakesNext, goes_counted, goes_on, has_limit_within}
 use Rattle.rule_model.proofs.Kept.{changes_kept, denied_kept, none_changed}
 
@@ -257,7 +257,7 @@ done_settled setup past event drawn fields id before Known settled done both =
       goes : Goes id both.sure.limit (one_if (gives Used id) (uses_made setup past id) + before) (kept setup past) (kept setup (Acted event drawn (Done fields) ∷ past))
       goes = subst (λ made. Goes id both.sure.limit made (kept setup past) (kept setup (Acted event drawn (Done fields) ∷ past))) (one_more_before (gives Used id) (uses_made setup past id) before)
           (goes_admitted id (uses_made setup past id + before) both.sure.limit event.act (device_at setup past) setup.policy (kept setup past) (open_of setup past) (caller_of past event) drawn
-          (λ is. live_used setup past (caller_of past event) drawn event.act id (admitted_by_rules setup past event drawn done) is) both.sure.bounded)
+          (λ is. live_used setup past (caller_of past event) drawn event.act id done is) both.sure.bounded)
 
       sure_now : Holds setup (Acted event drawn (Done fields) ∷ past) id before Known (kept setup (Acted event drawn (Done fields) ∷ past))
       sure_now = carried setup past (Acted event drawn (Done fields)) id before Known (kept setup past) (kept setup (Acted event drawn (Done fields) ∷ past)) both.sure goes (λ l has. inr has)

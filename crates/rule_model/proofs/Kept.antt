@@ -1,5 +1,5 @@
 -- Entries that leave the keys and grants as they are.
-use Rattle.std.proofs.Common.{◌≡◌, ℕ, ◌+◌, Bool, true, false, ◌&&◌, not, if◌then◌else◌, List, ◌∷◌, Option, Some, None, refl, ap, ◌∙◌}
+use Rattle.std.proofs.Common.{◌≡◌, ℕ, Bool, true, false, ◌&&◌, not, if◌then◌else◌, List, ◌∷◌, Option, Some, None, refl, ap, ◌∙◌}
 use Rattle.tags.specs.declared.policy.PolicyRow.{PolicyRow}
 use Rattle.tags.specs.declared.secrets.DeviceSecrets.{DeviceSecrets}
 use Rattle.tags.specs.declared.settled.Settled.{Settled}
@@ -27,7 +27,7 @@ use Rattle.rule_model.specs.Kept.{kept, kept_settled, open_of}
 use Rattle.rule_model.specs.declared.operation.Open.{Open}
 use Rattle.rule_model.specs.Settling.{is_disk_fault, is_faulted, is_system_error, is_unsettled}
 use Rattle.rule_model.specs.Setup.{Setup}
-use Rattle.rule_model.specs.Stored.{May, MayWhere, after_reply, bytes_if, bytes_settled, bytes_with, change_by, holding_of, made_by, record_bytes, stored_bytes, torn_by, where_stored}
+use Rattle.rule_model.specs.Stored.{May, MayWhere, after_reply, change_by, holding_of, made_by, torn_by}
 
 -- the acts that change the keys, the grants or the root of trust where they are admitted
 abbrev pub changes_kept : Act → Bool
@@ -105,12 +105,6 @@ pub denied_device : (setup : Setup) (past : History) (event : Event) (drawn : Li
     → device_at setup (Acted event drawn reply ∷ past) ≡ device_at setup past
 denied_device setup past event drawn reply e = with_root setup (Acted event drawn reply ∷ past) past (denied_root setup past event drawn reply e)
 
--- the same of its bytes
-uncounted_bytes : (faulted : Bool) (setup : Setup) (past : History) (change : Option Change)
-    → bytes_if (faulted && false) change (bytes_settled setup (if faulted then None else None) past) ≡ stored_bytes setup past
-uncounted_bytes true setup past change = refl
-uncounted_bytes false setup past change = refl
-
 -- ---- entries that are not faulted
 
 pub no_fault_unfaulted : (waits : Bool) (act : Act) (reply : Reply) → is_disk_fault reply ≡ false → is_faulted waits act reply ≡ false
@@ -150,27 +144,17 @@ still_kept setup past event drawn (Done fields) settled f e =
 still_kept setup past event drawn (Broken rule code) settled f e = refl
 still_kept setup past event drawn (Stopped code) settled f e = rw f refl
 
-pub still_bytes : (setup : Setup) (past : History) (event : Event) (drawn : List ℕ) (reply : Reply) (settled : Settled) → is_faulted (is_unsettled past) event.act reply ≡ false → changes_kept event.act && is_done reply ≡ false
-    → stored_bytes setup (Settling settled ∷ Acted event drawn reply ∷ past) ≡ stored_bytes setup (Settling settled ∷ past)
-still_bytes setup past event drawn (Done fields) settled f e =
-    ap (λ change. bytes_with change (bytes_settled setup (Some settled) past))
-    (none_changed event.act (device_at setup past) setup.policy (kept_settled setup (Some settled) past) (open_of setup past) (caller_of past event) drawn (only_left (changes_kept event.act) e))
-still_bytes setup past event drawn (Broken rule code) settled f e = refl
-still_bytes setup past event drawn (Stopped code) settled f e = rw f refl
-
--- A later history keeps what an earlier one does, in as many bytes and with the same root of trust. Neither or both wait to be
+-- A later history keeps what an earlier one does, with the same root of trust. Neither or both wait to be
 -- settled, and where they do, a settling leaves the same after both.
 pub record SameStored (setup : Setup) (past later : History) : Type 0 where
   pub kept_is : kept setup later ≡ kept setup past
-  pub bytes_are : stored_bytes setup later ≡ stored_bytes setup past
   pub settled_is : is_unsettled later ≡ is_unsettled past
   pub device_is : device_at setup later ≡ device_at setup past
   pub waiting_kept : (settled : Settled) → is_unsettled past ≡ true → kept setup (Settling settled ∷ later) ≡ kept setup (Settling settled ∷ past)
-  pub waiting_bytes : (settled : Settled) → is_unsettled past ≡ true → stored_bytes setup (Settling settled ∷ later) ≡ stored_bytes setup (Settling settled ∷ past)
 
 pub same_stored : (setup : Setup) (past : History) → SameStored setup past past
 same_stored setup past =
-    record { kept_is = refl; bytes_are = refl; settled_is = refl; device_is = refl; waiting_kept = λ settled waits. refl; waiting_bytes = λ settled waits. refl }
+    record { kept_is = refl; settled_is = refl; device_is = refl; waiting_kept = λ settled waits. refl }
 
 not_both : (changes : Bool) → changes && false ≡ false
 not_both true = refl
@@ -181,15 +165,12 @@ pub unfaulted_stored : (setup : Setup) (past : History) (event : Event) (drawn :
     → SameStored setup past (Acted event drawn reply ∷ past)
 unfaulted_stored setup past event drawn (Done fields) e f = cc
 unfaulted_stored setup past event drawn (Broken rule code) e f =
-    record { kept_is = refl; bytes_are = refl; settled_is = refl; device_is = refl; waiting_kept = λ settled waits. refl; waiting_bytes = λ settled waits. refl }
+    record { kept_is = refl; settled_is = refl; device_is = refl; waiting_kept = λ settled waits. refl }
 unfaulted_stored setup past event drawn (Stopped code) e f = record {
   kept_is = denied_kept setup past event drawn (Stopped code) refl;
-  bytes_are = uncounted_bytes (is_faulted (is_unsettled past) event.act (Stopped code)) setup past
-      (change_of event.act (device_at setup past) setup.policy (kept_settled setup (if is_faulted (is_unsettled past) event.act (Stopped code) then None else None) past) (open_of setup past) (caller_of past event) drawn);
   settled_is = rw f refl;
   device_is = refl;
   waiting_kept = λ settled waits. still_kept setup past event drawn (Stopped code) settled f (not_both (changes_kept event.act));
-  waiting_bytes = λ settled waits. still_bytes setup past event drawn (Stopped code) settled f (not_both (changes_kept event.act));
 }
 
 -- one of which no device call failed
@@ -212,11 +193,9 @@ pub quiet_stored : (setup : Setup) (past : History) (event : Event) (drawn : Lis
     → SameStored setup past (Acted event drawn reply ∷ past)
 quiet_stored setup past event drawn (Done fields) e f = record {
   kept_is = same_kept setup past event drawn (Done fields) e;
-  bytes_are = ap (λ change. bytes_with change (stored_bytes setup past)) (none_changed event.act (device_at setup past) setup.policy (kept setup past) (open_of setup past) (caller_of past event) drawn e);
   settled_is = refl;
   device_is = same_device setup past event drawn (Done fields) e;
   waiting_kept = λ settled waits. still_kept setup past event drawn (Done fields) settled refl (ap (λ b. b && true) e);
-  waiting_bytes = λ settled waits. still_bytes setup past event drawn (Done fields) settled refl (ap (λ b. b && true) e);
 }
 quiet_stored setup past event drawn (Broken rule code) e f = denied_stored setup past event drawn (Broken rule code) refl f
 quiet_stored setup past event drawn (Stopped code) e f = denied_stored setup past event drawn (Stopped code) refl f
@@ -230,19 +209,16 @@ pub unchanged_stored : (setup : Setup) (past : History) (event : Event) (drawn :
     → is_unsettled past ≡ false → SameStored setup past (Acted event drawn reply ∷ past)
 unchanged_stored setup past event drawn (Done fields) root e f idle = record {
   kept_is = ap (λ change. after_change change (kept setup past)) e;
-  bytes_are = ap (λ change. bytes_with change (stored_bytes setup past)) e;
   settled_is = refl;
   device_is = ap (λ given. record setup.device { root = given }) (root (root_of setup past));
   waiting_kept = λ settled waits. never_waits (is_unsettled past) idle waits;
-  waiting_bytes = λ settled waits. never_waits (is_unsettled past) idle waits;
 }
 unchanged_stored setup past event drawn (Broken rule code) root e f idle = denied_stored setup past event drawn (Broken rule code) refl f
 unchanged_stored setup past event drawn (Stopped code) root e f idle = denied_stored setup past event drawn (Stopped code) refl f
 
--- a later history keeps what an earlier one does with a change, in so many bytes more
+-- a later history keeps what an earlier one does with a change
 pub record MadeStored (setup : Setup) (past later : History) (change : Change) : Type 0 where
   pub kept_is : kept setup later ≡ after (kept setup past) change
-  pub bytes_are : stored_bytes setup later ≡ stored_bytes setup past + record_bytes change
   pub settled_is : is_unsettled later ≡ is_unsettled past
   pub device_is : device_at setup later ≡ device_at setup past
 
@@ -250,7 +226,6 @@ pub made_stored : (setup : Setup) (past : History) (event : Event) (drawn : List
     → MadeStored setup past (Acted event drawn (Done fields) ∷ past) change
 made_stored setup past event drawn fields change root is = record {
   kept_is = ap (λ c. after_change c (kept setup past)) is;
-  bytes_are = ap (λ c. bytes_with c (stored_bytes setup past)) is;
   settled_is = refl;
   device_is = ap (λ given. record setup.device { root = given }) (root (root_of setup past));
 }
@@ -259,13 +234,10 @@ made_stored setup past event drawn fields change root is = record {
 -- where it was lost.
 pub record TornStored (setup : Setup) (past later : History) (change : Change) : Type 0 where
   pub kept_is : kept setup later ≡ kept setup past
-  pub bytes_are : stored_bytes setup later ≡ stored_bytes setup past
   pub waits : is_unsettled later ≡ true
   pub device_is : device_at setup later ≡ device_at setup past
   pub made_kept : kept setup (Settling Kept ∷ later) ≡ after (kept setup past) change
-  pub made_bytes : stored_bytes setup (Settling Kept ∷ later) ≡ stored_bytes setup past + record_bytes change
   pub lost_kept : kept setup (Settling Lost ∷ later) ≡ kept setup past
-  pub lost_bytes : stored_bytes setup (Settling Lost ∷ later) ≡ stored_bytes setup past
 
 -- a faulted entry
 pub faulted_stored : (setup : Setup) (past : History) (event : Event) (drawn : List ℕ) (reply : Reply) (change : Change) → is_faulted (is_unsettled past) event.act reply ≡ true → change_by setup past event drawn ≡ Some change
@@ -274,26 +246,15 @@ faulted_stored setup past event drawn (Done fields) change f is = cc
 faulted_stored setup past event drawn (Broken rule code) change f is = cc
 faulted_stored setup past event drawn (Stopped code) change f is = record {
   kept_is = denied_kept setup past event drawn (Stopped code) refl;
-  bytes_are = uncounted_bytes (is_faulted (is_unsettled past) event.act (Stopped code)) setup past
-      (change_of event.act (device_at setup past) setup.policy (kept_settled setup (if is_faulted (is_unsettled past) event.act (Stopped code) then None else None) past) (open_of setup past) (caller_of past event) drawn);
   waits = rw f refl;
   device_is = refl;
   made_kept = rw f (ap (λ c. after_change c (kept setup past)) is);
-  made_bytes = rw f (ap (λ c. bytes_with c (stored_bytes setup past)) is);
   lost_kept = rw f refl;
-  lost_bytes = rw f refl;
 }
 
 pub torn_stored : (setup : Setup) (past : History) (event : Event) (drawn : List ℕ) (change : Change) → is_unsettled past ≡ false → is_restart event.act ≡ false → change_by setup past event drawn ≡ Some change
     → TornStored setup past (Acted event drawn (Stopped SystemError) ∷ past) change
 torn_stored setup past event drawn change idle stays is = faulted_stored setup past event drawn (Stopped SystemError) change (rw (stays, idle) refl) is
-
--- an answer that admits nothing needs no room in the store
-pub denied_stands : (bytes : ℕ) (change : Option Change) (reply : Reply) → is_done reply ≡ false → where_stored bytes change reply ≡ reply
-denied_stands bytes None reply e = refl
-denied_stands bytes (Some change) (Done fields) e = cc
-denied_stands bytes (Some change) (Broken rule code) e = refl
-denied_stands bytes (Some change) (Stopped code) e = refl
 
 -- ---- how what is known of the store goes on over an entry
 

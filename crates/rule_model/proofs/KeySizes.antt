@@ -14,9 +14,9 @@ use Rattle.grants.specs.declared.row.GrantRow.{GrantRow}
 use Rattle.grants.specs.Rows.{is_for}
 use Rattle.journal_records.specs.declared.change.Change.{Change}
 use Rattle.journal_records.specs.declared.change.Change.TheVariants as changes
-use Rattle.journal_records.specs.declared.change.Change.TheVariants.{Create, Delete, Use, Grant as Granting, Ungrant as Ungranting, Clear, Removed}
+use Rattle.journal_records.specs.declared.change.Change.TheVariants.{Create, Delete, Use, Grant as Granting, Ungrant as Ungranting, Clear, Removed, Upgrade}
 use Rattle.journal_records.specs.declared.record.KeyRecord.{KeyRecord}
-use Rattle.journal_records.specs.Effects.{after, granted, is_last_use, with_use}
+use Rattle.journal_records.specs.Effects.{after, granted, is_last_use, with_blob, with_use}
 use Rattle.journal_records.specs.LastingPart.{Lasting, has_id, is_named, is_of_user, is_owned}
 use Rattle.journal_records.specs.Storable.{IsStorable, IsStorableKey}
 use Rattle.key_rules.specs.declared.facts.NewFacts.{NewFacts}
@@ -30,7 +30,7 @@ use Rattle.rule_model.specs.declared.facts.Caller.{Caller}
 use Rattle.rule_model.specs.declared.reply.Reply.{Reply}
 use Rattle.rule_model.specs.declared.reply.Reply.TheVariants.{Done, Broken, Stopped}
 use Rattle.rule_model.specs.Access.{id_by, owner_of}
-use Rattle.rule_model.specs.Answer.{answer, answer_by_rules, made_in}
+use Rattle.rule_model.specs.Answer.{answer_by_rules, made_in}
 use Rattle.rule_model.specs.Blobs.{device_at}
 use Rattle.rule_model.specs.Boot.{has_early_ended}
 use Rattle.rule_model.specs.Changes.{after_change, change_of, creating, grant_of, granting, new_blob, planned}
@@ -44,8 +44,7 @@ use Rattle.rule_model.specs.Operations.{used_key}
 use Rattle.rule_model.specs.Replies.{broken_or}
 use Rattle.rule_model.specs.Settling.{is_faulted, is_kept, is_unsettled}
 use Rattle.rule_model.specs.Setup.{Setup}
-use Rattle.rule_model.specs.Stored.{stored_bytes, where_stored}
-use Rattle.rule_model.proofs.Admitted.{admitted_by_rules, answered_done, broken_done}
+use Rattle.rule_model.proofs.Admitted.{answered_done, broken_done}
 use Rattle.rule_model.proofs.Bounds.{Each, each_as, each_changed, each_left, each_more}
 use Rattle.rule_model.proofs.Kept.{restart_unfaulted, waiting_unfaulted}
 use Rattle.tags.specs.declared.limits.TheConstants.{ALIAS_BYTES, KEPT_LIST_BYTES}
@@ -60,12 +59,19 @@ AreShort part = Each IsShort part.keys
 
 abbrev IsShortChange : Change → Type 0
 IsShortChange (Create id domain nspace alias blob list limit) = (length alias ≤ ALIAS_BYTES) × (length list ≤ KEPT_LIST_BYTES)
+IsShortChange (Upgrade id blob list) = length list ≤ KEPT_LIST_BYTES
 IsShortChange _ = Unit {0}
 
 short_use : (n : ℕ) (key : KeyRecord) → IsShort key → IsShort (with_use n key)
 short_use n key short = by_number (key.id == n) where
   by_number : (b : Bool) → IsShort (if b then record key { left = key.left - 1 } else key)
   by_number true = short
+  by_number false = short
+
+short_upgrade : (n : ℕ) (blob list : List ℕ) → length list ≤ KEPT_LIST_BYTES → (key : KeyRecord) → IsShort key → IsShort (with_blob n blob list key)
+short_upgrade n blob list fits key short = by_number (key.id == n) where
+  by_number : (b : Bool) → IsShort (if b then record key { blob = blob; list = list } else key)
+  by_number true = (short.0, fits)
   by_number false = short
 
 short_granted : (found : Option GrantRow) (row : GrantRow) (part : Lasting) → AreShort part → AreShort (granted found row part)
@@ -83,6 +89,7 @@ short_after part (Granting row) new short = short_granted (find (is_for row.key 
 short_after part (Ungranting grant) new short = short
 short_after part (Clear domain nspace) new short = each_left IsShort (λ key. not (is_owned domain nspace key)) part.keys short
 short_after part (Removed user) new short = each_left IsShort (λ key. not (is_of_user user key)) part.keys short
+short_after part (Upgrade id blob list) new short = each_changed IsShort IsShort (with_blob id blob list) (short_upgrade id blob list new) part.keys short
 
 abbrev IsShortIn : Option Change → Type 0
 IsShortIn None = Unit {0}
@@ -146,20 +153,16 @@ makes_done (ImportKey key params format material) setup past caller drawn e =
 makes_done _ setup past caller drawn e = tt
 
 -- an answer that is no broken rule
-stopped_ok : {T : Type 0} (bytes : ℕ) (change : Option Change) (ruling : Result T (Rule × Code)) (reply : Reply) (code : Code) → Stopped code ≡ where_stored bytes change (broken_or ruling reply) → is_ok ruling ≡ true
-stopped_ok bytes change (Ok found) reply code e = refl
-stopped_ok bytes None (Err broken) reply code e = cc
-stopped_ok bytes (Some change) (Err broken) reply code e = cc
+stopped_ok : {T : Type 0} (ruling : Result T (Rule × Code)) (reply : Reply) (code : Code) → Stopped code ≡ broken_or ruling reply → is_ok ruling ≡ true
+stopped_ok (Ok found) reply code e = refl
+stopped_ok (Err broken) reply code e = cc
 
-makes_stopped : (act : Act) (setup : Setup) (past : History) (caller : Caller) (drawn : List ℕ) (code : Code) → Stopped code ≡ where_stored (stored_bytes setup past)
-    (change_of act (device_at setup past) setup.policy (kept setup past) (open_of setup past) caller drawn) (answer_by_rules act setup past caller drawn) → MakesKey act setup past caller
+makes_stopped : (act : Act) (setup : Setup) (past : History) (caller : Caller) (drawn : List ℕ) (code : Code) → Stopped code ≡ answer_by_rules act setup past caller drawn → MakesKey act setup past caller
 makes_stopped (GenerateKey key params) setup past caller drawn code e =
-    stopped_ok (stored_bytes setup past) (change_of (GenerateKey key params) (device_at setup past) setup.policy (kept setup past) (open_of setup past) caller drawn)
-    (new_key (new_facts setup.policy caller key params None (has_early_ended setup past)))
+    stopped_ok (new_key (new_facts setup.policy caller key params None (has_early_ended setup past)))
     (made_in (kept setup past) caller key (new_blob (device_at setup past) (planned setup.policy caller key params None) None drawn)) code e
 makes_stopped (ImportKey key params format material) setup past caller drawn code e =
-    stopped_ok (stored_bytes setup past) (change_of (ImportKey key params format material) (device_at setup past) setup.policy (kept setup past) (open_of setup past) caller drawn)
-    (new_key (new_facts setup.policy caller key params (import_of format material) (has_early_ended setup past)))
+    stopped_ok (new_key (new_facts setup.policy caller key params (import_of format material) (has_early_ended setup past)))
     (made_in (kept setup past) caller key (new_blob (device_at setup past) (planned setup.policy caller key params (import_of format material)) (Some material) drawn)) code e
 makes_stopped _ setup past caller drawn code e = tt
 
@@ -175,7 +178,7 @@ makes_faulted setup past event drawn code faulted (WithoutMemory is) =
     let no : is_faulted (is_unsettled past) event.act (Stopped MemoryAllocationFailed) ≡ true = subst (λ r. is_faulted (is_unsettled past) event.act r ≡ true) is.is_want faulted in cc
 makes_faulted setup past event drawn code faulted (WithoutEntropy is) =
     let no : is_faulted (is_unsettled past) event.act (Stopped EntropyFault) ≡ true = subst (λ r. is_faulted (is_unsettled past) event.act r ≡ true) is.is_fault faulted in cc
-makes_faulted setup past event drawn code faulted (Faulted is) = makes_done event.act setup past (caller_of past event) drawn (admitted_by_rules setup past event drawn is.admitted)
+makes_faulted setup past event drawn code faulted (Faulted is) = makes_done event.act setup past (caller_of past event) drawn is.admitted
 makes_faulted setup past event drawn code faulted (NotSettled is) =
     both_ways (is_faulted (is_unsettled past) event.act (Stopped code)) faulted (waiting_unfaulted (is_unsettled past) event.act (Stopped code) is.waits)
 makes_faulted setup past event drawn code faulted (NotRestarted other is) =
@@ -205,7 +208,7 @@ kept_short setup next (Settling settled ∷ past) legal storable verdict = kept_
 kept_short setup next (Acted event drawn (Done fields) ∷ past) legal storable verdict =
     let is = answered_done setup past event drawn fields legal.0 in
     over setup past event drawn verdict
-    (makes_done event.act setup past (caller_of past event) drawn (admitted_by_rules setup past event drawn (subst (λ r. is_done r ≡ true) is.is_answer refl)))
+    (makes_done event.act setup past (caller_of past event) drawn (subst (λ r. is_done r ≡ true) is.is_answer refl))
     (kept_short setup (Some event) past legal.1 storable verdict)
 kept_short setup next (Acted event drawn (Broken rule code) ∷ past) legal storable verdict = kept_short setup (Some event) past legal.1 storable verdict
 kept_short setup next (Acted event drawn (Stopped code) ∷ past) legal storable verdict =

@@ -15,7 +15,7 @@ use Rattle.rule_model.specs.declared.reply.Fields.{Fields}
 use Rattle.rule_model.specs.declared.reply.Reply.{Reply}
 use Rattle.rule_model.specs.declared.reply.Reply.TheVariants.{Done, Broken, Stopped}
 use Rattle.rule_model.specs.Acts.{is_begin}
-use Rattle.rule_model.specs.Answer.{answer, answer_by_rules, answer_stored}
+use Rattle.rule_model.specs.Answer.{answer, answer_by_rules}
 use Rattle.rule_model.specs.Clients.{caller_of}
 use Rattle.rule_model.specs.Entries.{History, count_of, gives, is_done}
 use Rattle.rule_model.specs.Kept.{kept, open_of}
@@ -32,7 +32,7 @@ use Rattle.rule_model.specs.declared.operation.Entered.{Entered}
 use Rattle.rule_model.specs.Tickets.{admitted_ticket, goes_out, stopped_ticket, ticket_after, ticket_at}
 use Rattle.rule_model.specs.Tokens.{token_of}
 use Rattle.rule_model.specs.Uses.{one_if, used_by, uses_made}
-use Rattle.rule_model.proofs.Admitted.{IsEntered, admitted_by_rules, answered_done, broken_fields, entered}
+use Rattle.rule_model.proofs.Admitted.{IsEntered, answered_done, broken_fields, entered}
 use Rattle.rule_model.proofs.Bounds.{Each, each_changed, each_in, each_left, each_more}
 use Rattle.rule_model.proofs.Outputs.{Apart, Differs, IsFew, any_changed, any_from_used, any_left, any_more, any_ticket_left, apart_changed, apart_left, apart_more, left_length, less_length, used_from_any, works_on}
 
@@ -387,7 +387,7 @@ paired_done setup past event drawn fields id _ done number paired = paired
 -- ---- over a legal history
 
 begun_number : (setup : Setup) (past : History) (caller : Caller) (drawn : List ℕ) (fields : Fields) (act : Act) → is_begin act ≡ true
-    → Done fields ≡ answer_stored act setup past caller drawn → fields.op ≡ Some (count_of is_begin past + 1)
+    → Done fields ≡ answer_by_rules act setup past caller drawn → fields.op ≡ Some (count_of is_begin past + 1)
 begun_number setup past caller drawn fields (CreateOperation key params forced) begins is =
     ap (λ (f : Fields). f.op) (sym (broken_fields (begin_table.answer (begin_facts setup past caller key params forced)) _ fields (sym is)))
 begun_number setup past caller drawn fields _ begins is = cc
@@ -410,7 +410,7 @@ paired_stopped setup past id faulted _ paired = paired
 paired_acted : (setup : Setup) (past : History) (event : Event) (drawn : List ℕ) (reply : Reply) (id : ℕ) → MayFollow setup past event drawn reply → IsPaired setup past id → IsPaired setup (Acted event drawn reply ∷ past) id
 paired_acted setup past event drawn (Done fields) id may paired =
     let is : Done fields ≡ answer setup past event drawn = (answered_done setup past event drawn fields may).is_answer in
-    paired_done setup past event drawn fields id event.act (admitted_by_rules setup past event drawn (ap is_done (sym is)))
+    paired_done setup past event drawn fields id event.act (ap is_done (sym is))
     (λ begins. begun_number setup past (caller_of past event) drawn fields event.act begins is) paired
 paired_acted setup past event drawn (Broken rule code) id may paired =
     paired_still (count_of is_begin past) (open_of setup past) _ (λ t. ticket_at past t) (taken_of setup past id) (limited_made setup past id) (uses_made setup past id) id

@@ -14,7 +14,7 @@ use Rattle.rule_model.specs.Operations.{operation_of}
 use Rattle.rule_model.specs.Setup.{Setup}
 use Rattle.rule_model.specs.StepFacts.{has_ended}
 use Rattle.rule_model.specs.Uses.{AreRuns, BeginsAfter, HasEnded, HasStood, Run, UsesLaw, outputs_in, uses_in, uses_made}
-use Rattle.rule_model.proofs.Admitted.{IsEntered, admitted_by_rules, entered}
+use Rattle.rule_model.proofs.Admitted.{IsEntered, entered}
 use Rattle.rule_model.proofs.Begun.{outputs_limited}
 use Rattle.rule_model.proofs.Bounds.{Bounded, bounded_from, live_within}
 use Rattle.rule_model.proofs.Held.{HoldBoth, Holds, HoldsAt, hold_both, holds_at}
@@ -74,7 +74,7 @@ ended_refuses setup past id gone event drawn op o enters names found key = by_do
 
   by_done : (b : Bool) → is_done (answer setup past event drawn) ≡ b → b ≡ false
   by_done false is = refl
-  by_done true is = absurd (ends (entered setup past (caller_of past event) drawn event.act op enters names (admitted_by_rules setup past event drawn is)))
+  by_done true is = absurd (ends (entered setup past (caller_of past event) drawn event.act op enters names is))
 
 ended_by : (setup : Setup) (past : History) (id made limit : ℕ) → Bounded id made limit (kept setup past) → 1 ≤ limit → limit ≤ made → HasEnded setup past id
 ended_by setup past id made limit bounded limited spent =

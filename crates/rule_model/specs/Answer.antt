@@ -21,18 +21,17 @@ use Rattle.rule_model.specs.Acts.{is_begin, is_connect}
 use Rattle.rule_model.specs.Boot.{has_early_ended, last_tokens}
 use Rattle.rule_model.specs.Calls.{accepted_in, add_auth_token_ruling, clear_namespace_ruling, counted_in, delete_key_ruling, disconnect_ruling, early_boot_ended_ruling, get_key_entry_ruling, grant_ruling, granted_in, key_entry, listed_in, listing_ruling, ungrant_ruling, user_call_ruling}
 use Rattle.rule_model.specs.Blobs.{device_at}
-use Rattle.rule_model.specs.Changes.{change_of, new_blob, owner_for, planned}
+use Rattle.rule_model.specs.Changes.{new_blob, owner_for, planned}
 use Rattle.rule_model.specs.Clients.{caller_of}
 use Rattle.rule_model.specs.Entries.{History, count_of}
 use Rattle.rule_model.specs.Access.{id_by, owner_of}
-use Rattle.rule_model.specs.Kept.{has_busy, kept, key_found, open_of, operation_at}
+use Rattle.rule_model.specs.Kept.{has_busy, kept, key_found, operation_at}
 use Rattle.rule_model.specs.Places.{has_key_place}
 use Rattle.rule_model.specs.NewFacts.{import_of, new_facts}
 use Rattle.rule_model.specs.Operations.{challenge_of, nonce_size, output_of}
 use Rattle.rule_model.specs.Replies.{broken_or, no_fields}
 use Rattle.rule_model.specs.Setup.{Setup}
 use Rattle.rule_model.specs.Slots.{begin_facts, pruned_for}
-use Rattle.rule_model.specs.Stored.{stored_bytes, where_stored}
 use Rattle.rule_model.specs.StepFacts.{brought_by, brought_by_abort, step_facts}
 use Rattle.rule_model.specs.declared.operation.Entered.{Entered}
 use Rattle.rule_model.specs.Tickets.{next_ticket, ticket_at}
@@ -115,11 +114,6 @@ answer_by_rules EarlyBootEnded setup past caller drawn = broken_or (early_boot_e
 answer_by_rules (Leave ticket) setup past caller drawn = leaving setup past (ticket_at past ticket)
 answer_by_rules (Restart root) setup past caller drawn = Done no_fields
 
--- the answer to an act: by the rules, where its record has room in the store
-abbrev pub answer_stored : Act → Setup → History → Caller → List ℕ → Reply
-answer_stored act setup past caller drawn =
-    where_stored (stored_bytes setup past) (change_of act (device_at setup past) setup.policy (kept setup past) (open_of setup past) caller drawn) (answer_by_rules act setup past caller drawn)
-
 -- the answer to an event over the entries before it, with the bytes that were drawn for it
 abbrev pub answer : Setup → History → Event → List ℕ → Reply
-answer setup past event drawn = answer_stored event.act setup past (caller_of past event) drawn
+answer setup past event drawn = answer_by_rules event.act setup past (caller_of past event) drawn

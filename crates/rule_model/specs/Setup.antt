@@ -4,11 +4,9 @@ use Rattle.journal_records.specs.LastingPart.{Lasting}
 use Rattle.tags.specs.declared.secrets.DeviceSecrets.{DeviceSecrets}
 use Rattle.tags.specs.declared.policy.PolicyRow.{PolicyRow}
 
--- what is fixed in a run: the device's secrets, the policy, the slots, the lasting part at the start, and how many bytes the
--- store's header and records have then
+-- what is fixed in a run: the device's secrets, the policy, the slots, and the lasting part at the start
 pub record Setup : Type 0 where
   pub device : DeviceSecrets
   pub policy : List PolicyRow
   pub slots : ℕ
   pub start : Lasting
-  pub bytes : ℕ

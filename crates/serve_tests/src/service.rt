@@ -28,16 +28,16 @@ pub(crate) const NOW: Reading = Reading {
     wall: 1000,
 };
 
-/// What a disk holds, which takes its first call, and which of its calls fail, counted from 1.
+/// What a disk holds, each piece at its place, which takes its first calls, and which of its calls fail, counted from 1.
 #[derive(Clone, Copy)]
 pub(crate) struct Held {
-    pub(crate) bytes: &'static [u8],
+    pub(crate) pieces: &'static [(u64, &'static [u8])],
     pub(crate) failing: &'static [u64],
 }
 
-/// The journal of an empty store.
+/// An empty store: its front, its selector, and the byte that closes area A.
 pub(crate) const FORMATTED: Held = Held {
-    bytes: b"KSJRNL01\0",
+    pieces: &[(0, b"KSJRNL02"), (268_435_456, b"A"), (268_439_552, b"\0")],
     failing: &[],
 };
 
@@ -73,7 +73,9 @@ pub(crate) struct Outcome {
 /// A disk in memory. A write for which memory is wanting shows in what comes of the disk.
 pub(crate) fn disk_of(alloc: Global, held: Held) -> Option<MemoryDisk<'static>> {
     let mut disk = MemoryDisk::with_room(alloc, ROOM, held.failing).ok()?;
-    let _ = disk.write_at(0, held.bytes);
+    for (at, piece) in held.pieces {
+        let _ = disk.write_at(*at, *piece);
+    }
     Some(disk)
 }
 

@@ -22,15 +22,15 @@ struct Row {
     has_book: bool,
 }
 
-/// A disk that holds nothing, and one whose second call fails, the first of an opening.
+/// A disk that holds nothing, and one whose first call fails, that of an opening.
 const EMPTY: Held = Held {
-    bytes: b"",
+    pieces: &[],
     failing: &[],
 };
 
 const FAILING: Held = Held {
-    bytes: b"",
-    failing: &[2],
+    pieces: &[],
+    failing: &[1],
 };
 
 /// A service that was not there.

@@ -39,7 +39,7 @@ const NOW: Reading = Reading {
 const ROOM: DiskRoom = DiskRoom {
     calls: 4096,
     bytes: 1_048_576,
-    pages: 256,
+    pages: 260,
 };
 
 /// An engine over an empty store, which is made on a disk, where there is memory for it.

@@ -40,12 +40,14 @@ use Rattle.journal_records.specs.contracts.record.KeyRecord as record_type
 use Rattle.journal_records.specs.contracts.change.Change as change_type
 use Rattle.grants.specs.contracts.maps.GrantMaps as grant_maps_type
 use Rattle.grants.specs.contracts.table.Grants as grants_type
-use Rattle.lasting_table.specs.contracts.maps.KeyMaps as key_maps_type
-use Rattle.lasting_table.specs.contracts.keys.Keys as keys_type
+use Rattle.key_maps.specs.contracts.maps.KeyMaps as key_maps_type
+use Rattle.key_maps.specs.contracts.keys.Keys as keys_type
 use Rattle.lasting_table.specs.contracts.part.Part as part_type
 use Rattle.lasting_table.specs.contracts.lasting.LastingTable as lasting_type
 use Rattle.record_areas.specs.contracts.area.Area as area_type
-use Rattle.use_journal.specs.contracts.journal.Journal as journal_type
+use Rattle.journal_compact.specs.contracts.areas.Areas as areas_type
+use Rattle.journal_compact.specs.contracts.areas.Turn as turn_type
+use Rattle.journal_compact.specs.contracts.places.Selected as selected_type
 use Rattle.key_database.specs.contracts.database.KeyDatabase as database_type
 use Rattle.cipher_ops.specs.contracts.state.CipherState as cipher_type
 use Rattle.live_tables.specs.contracts.operations.OperationRow as operation_type
@@ -122,11 +124,17 @@ lasting_send = search (part_send, owned, sendable) depth 60 fits 20000
 pub area_send : IsSend (area_type.the_field).row
 area_send = search (owned, sendable) depth 60 fits 20000
 
-pub journal_send : IsSend (journal_type.the_field).row
-journal_send = search (area_send, owned, sendable) depth 60 fits 20000
+pub turn_send : IsSend (turn_type.the_field).row
+turn_send = search (area_send, owned, sendable) depth 60 fits 20000
+
+pub selected_send : IsSend (selected_type.the_field).row
+selected_send = search (owned, sendable) depth 60 fits 20000
+
+pub areas_send : IsSend (areas_type.the_field).row
+areas_send = search (area_send, turn_send, selected_send, owned, sendable) depth 60 fits 20000
 
 pub database_send : IsSend (database_type.the_field).row
-database_send = search (lasting_send, journal_send, change_send, owned, sendable) depth 60 fits 20000
+database_send = search (lasting_send, areas_send, change_send, owned, sendable) depth 60 fits 20000
 
 pub cipher_send : IsSend (cipher_type.the_field).row
 cipher_send = search (bytes_send, owned, sendable) depth 60 fits 20000

@@ -2,7 +2,7 @@
 use Rattle.std.proofs.Common.{◌≡◌, ◌≢◌, ℕ, ◌+◌, Bool, true, false, if◌then◌else◌, List, Option, Some, None, is_some, is_ok, Result, Ok, Err, refl, sym, ap, ◌∙◌, subst, arith}
 use Rattle.std.specs.Prelude.{IfErr, IsTrue}
 use Rattle.tags.specs.declared.code.Code.{Code}
-use Rattle.tags.specs.declared.code.Code.TheVariants.{MemoryAllocationFailed, NoTicket, StoreFull, JournalFull, TokensFull, EntropyFault, SystemError, ValueCorrupted, VerificationFailed, InvalidKeyArgument}
+use Rattle.tags.specs.declared.code.Code.TheVariants.{MemoryAllocationFailed, NoTicket, StoreFull, TokensFull, EntropyFault, SystemError, ValueCorrupted, VerificationFailed, InvalidKeyArgument}
 use Rattle.tags.specs.declared.rule.Rule.{Rule}
 use Rattle.tags.specs.declared.rule.RuleTable.TheVariants.{A}
 use Rattle.tags.specs.declared.settled.Settled.{Settled}
@@ -36,7 +36,7 @@ use Rattle.rule_model.specs.Operations.{output_of}
 use Rattle.rule_model.specs.Legal.{IsAnswered, MayFollow, MaySettleFirst, is_restart_refusal, Answered, WithoutMemory, WithoutEntropy, Faulted, NotSettled, NotRestarted}
 use Rattle.rule_model.specs.Replies.{broken_or, no_fields}
 use Rattle.rule_model.specs.Setup.{Setup}
-use Rattle.rule_model.specs.Stored.{change_by, where_stored}
+use Rattle.rule_model.specs.Stored.{change_by}
 use Rattle.rule_model.specs.declared.entry_change.TicketChange.TheVariants.{ComesBack}
 use Rattle.rule_model.specs.declared.operation.Entered.{Entered}
 use Rattle.rule_model.specs.Tickets.{next_ticket, stopped_ticket, ticket_at, ticket_change, admitted_ticket}
@@ -44,19 +44,10 @@ use Rattle.rule_model.proofs.Admitted.{answered_done, broken_done, broken_fields
 
 -- ---- an admitted answer is by the rules
 
-stored_is : (bytes : ℕ) (change : Option Change) (reply : Reply) (fields : Fields) → Done fields ≡ where_stored bytes change reply → Done fields ≡ reply
-stored_is bytes None reply fields e = e
-stored_is bytes (Some change) (Done given) fields e = by_room _ e where
-  by_room : (b : Bool) → Done fields ≡ (if b then Done given else Stopped JournalFull) → Done fields ≡ Done given
-  by_room true e = e
-  by_room false e = cc
-stored_is bytes (Some change) (Broken rule code) fields e = cc
-stored_is bytes (Some change) (Stopped code) fields e = cc
-
 pub by_rules : (setup : Setup) (past : History) (event : Event) (drawn : List ℕ) (fields : Fields) → MayFollow setup past event drawn (Done fields) → Done fields ≡ answer_by_rules event.act setup past (caller_of past event) drawn
 by_rules setup past event drawn fields may =
     let is = answered_done setup past event drawn fields may in
-    stored_is _ _ (answer_by_rules event.act setup past (caller_of past event) drawn) fields is.is_answer
+    is.is_answer
 
 -- the ticket of an admitted enter
 entering_ticket : {T : Type 0} (ruling : Result T (Rule × Code)) (given fields : Fields) (next : ℕ) → given.ticket ≡ Some next → Done fields ≡ broken_or ruling (Done given) → fields.ticket ≡ Some next
@@ -184,17 +175,8 @@ if_no false x y p q = q
 store_full : Lacks (Stopped StoreFull)
 store_full e = cc
 
-journal_full : Lacks (Stopped JournalFull)
-journal_full e = cc
-
 tokens_full : Lacks (Stopped TokensFull)
 tokens_full e = cc
-
-stored_no : (bytes : ℕ) (change : Option Change) (reply : Reply) → Lacks reply → Lacks (where_stored bytes change reply)
-stored_no bytes None reply lacks = lacks
-stored_no bytes (Some change) (Done fields) lacks = if_no _ (Done fields) (Stopped JournalFull) (done_lacks fields) journal_full
-stored_no bytes (Some change) (Broken rule code) lacks = lacks
-stored_no bytes (Some change) (Stopped code) lacks = lacks
 
 entry_no : (found : Option KeyRecord) → Lacks (key_entry found)
 entry_no None = done_lacks _
@@ -253,7 +235,7 @@ system_lacks : Lacks (Stopped SystemError)
 system_lacks e = cc
 
 pub never_no_ticket : (setup : Setup) (past : History) (event : Event) (drawn : List ℕ) (reply : Reply) → is_leave event.act ≡ false → MayFollow setup past event drawn reply → reply ≢ Stopped NoTicket
-never_no_ticket setup past event drawn reply l (Answered is) = subst Lacks (sym is.is_answer) (stored_no _ _ (answer_by_rules event.act setup past (caller_of past event) drawn) (rules_no event.act setup past (caller_of past event) drawn l))
+never_no_ticket setup past event drawn reply l (Answered is) = subst Lacks (sym is.is_answer) (rules_no event.act setup past (caller_of past event) drawn l)
 never_no_ticket setup past event drawn reply l (WithoutMemory is) = subst Lacks (sym is.is_want) want_lacks
 never_no_ticket setup past event drawn reply l (WithoutEntropy is) = subst Lacks (sym is.is_fault) entropy_lacks
 never_no_ticket setup past event drawn reply l (Faulted is) = subst Lacks (sym is.is_fault) system_lacks

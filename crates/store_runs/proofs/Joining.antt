@@ -8,7 +8,6 @@ use Rattle.rule_model.specs.Setup.{Setup}
 use Rattle.rule_model.specs.Stored.{holding_of}
 use Rattle.rule_model.specs.Uses.{AreRuns, BeginsAfter, UsesLaw}
 use Rattle.rule_model.proofs.Kept.{may_is}
-use Rattle.keystore_core.specs.Opening.{IsStart}
 use Rattle.store_runs.specs.Runs.{AreStoredRuns, Reads, StoredRun, StoredUsesLaw, runs_of}
 
 -- what the law of stores tells: an image stands for one lasting part, which is what a store can hold
@@ -24,9 +23,9 @@ member one (Unsure known later) part image stands (inl is) = inl (one part known
 member one (Unsure known later) part image stands (inr is) = inr (one part later image stands is)
 
 begins_after : OnePart → EachStorable → (earlier : List StoredRun) (setup : Setup) → AreStoredRuns earlier → Reads earlier setup → BeginsAfter (runs_of earlier) setup.start
-begins_after one each [] setup are read = each setup.start read.0 read.1.stands
+begins_after one each [] setup are read = each setup.start read.0 read.1
 begins_after one each (before ∷ earlier) setup are read =
-    rw (may_is before.run.setup before.run.past setup.start) (member one (holding_of before.run.setup before.run.past) setup.start before.image read.stands are.1)
+    rw (may_is before.run.setup before.run.past setup.start) (member one (holding_of before.run.setup before.run.past) setup.start before.image read are.1)
 
 are_runs : OnePart → EachStorable → (stored : List StoredRun) → AreStoredRuns stored → AreRuns (runs_of stored)
 are_runs one each [] are = are

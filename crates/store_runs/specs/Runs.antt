@@ -1,10 +1,10 @@
 -- Runs on one store, each over the bytes that the one before it left.
 use Rattle.std.specs.Prelude.{ℕ, ◌≤◌, List, [], ◌∷◌, ◌++◌}
+use Rattle.key_database.specs.Store.{StandsFor}
 use Rattle.rule_model.specs.Legal.{Legal}
 use Rattle.rule_model.specs.Setup.{Setup}
 use Rattle.rule_model.specs.Uses.{HasStood, KeepsLimit, Run}
 use Rattle.keystore_core.specs.Engine.{MayHold}
-use Rattle.keystore_core.specs.Opening.{IsStart}
 
 -- a run, and the image that its crash or its end left
 pub record StoredRun : Type 0 where
@@ -13,8 +13,8 @@ pub record StoredRun : Type 0 where
 
 -- what is fixed in a run is that of the bytes which it read: those that the one before it left
 abbrev pub Reads : List StoredRun → Setup → Type 0
-Reads [] setup = (image : List ℕ) × IsStart setup image
-Reads (before ∷ earlier) setup = IsStart setup before.image
+Reads [] setup = (image : List ℕ) × StandsFor setup.start image
+Reads (before ∷ earlier) setup = StandsFor setup.start before.image
 
 -- Legal runs, the newest first. Each read what the one before it left, and left an image that stands for what may be kept of its
 -- entries without those that were undone.

@@ -1,1 +1,2 @@
 mod LiveRows
+mod Rebinding

@@ -1,6 +1,6 @@
 use disk_calls::{read_still, sync_still, write_synced};
 use disk_model::{DiskRoom, MemoryDisk};
-use journal_records::{AppendFault, Record, StoreFault};
+use journal_records::{AREA_KINDS, AppendFault, Record, StoreFault};
 use ks_outside::{Disk, Failed};
 use record_areas::{Area, Records};
 use std::alloc::Global;
@@ -15,6 +15,10 @@ static REMOVED: &[u8] = b"\x4b\x00\x00\x00\x05\x07\x00\x00\x00\x00\x00";
 /// The row of the next numbers 2 and 1.
 const NEXT: &[u8] =
     b"\x4b\x00\x00\x00\x11\x08\x00\x00\x00\x00\x00\x00\x00\x02\x00\x00\x00\x00\x00\x00\x00\x01\x00";
+
+/// Another blob and another list of key 2.
+const UPGRADE: &[u8] =
+    b"\x4b\x00\x00\x00\x14\x0b\x00\x00\x00\x00\x00\x00\x00\x02\x00\x00\x00\x02\xbb\xcc\x00\x00\x00\x01\x00\x00";
 
 /// Where the area of the tests begins, and before which place it ends.
 const START: u64 = 3;
@@ -177,7 +181,7 @@ struct Bytes {
     read: Result<usize, StoreFault>,
 }
 
-static BYTES: [Bytes; 9] = [
+static BYTES: [Bytes; 11] = [
     // a use, a shut gate, and a use behind it that is never read
     Bytes {
         bytes: b"\x4b\x00\x00\x00\x09\x03\x00\x00\x00\x00\x00\x00\x00\x01\x00\x4b\x00\x00\x00\x09\x03",
@@ -186,11 +190,21 @@ static BYTES: [Bytes; 9] = [
     },
     Bytes {
         bytes: NEXT,
-        kinds: 10,
+        kinds: AREA_KINDS,
         read: Ok(1),
     },
     Bytes {
         bytes: NEXT,
+        kinds: 7,
+        read: Err(StoreFault::Corrupted { offset: 3 }),
+    },
+    Bytes {
+        bytes: UPGRADE,
+        kinds: AREA_KINDS,
+        read: Ok(1),
+    },
+    Bytes {
+        bytes: UPGRADE,
         kinds: 7,
         read: Err(StoreFault::Corrupted { offset: 3 }),
     },
@@ -213,13 +227,13 @@ static BYTES: [Bytes; 9] = [
     },
     // a kind that is none, and a body with a byte behind its fields
     Bytes {
-        bytes: b"\x4b\x00\x00\x00\x09\x0b\x00\x00\x00\x00\x00\x00\x00\x01\x00",
-        kinds: 10,
+        bytes: b"\x4b\x00\x00\x00\x09\x0c\x00\x00\x00\x00\x00\x00\x00\x01\x00",
+        kinds: AREA_KINDS,
         read: Err(StoreFault::Corrupted { offset: 3 }),
     },
     Bytes {
         bytes: b"\x4b\x00\x00\x00\x0a\x03\x00\x00\x00\x00\x00\x00\x00\x01\x00\x00",
-        kinds: 10,
+        kinds: AREA_KINDS,
         read: Err(StoreFault::Corrupted { offset: 3 }),
     },
     // a use, and then a body that is none
@@ -257,7 +271,7 @@ struct Long {
     read: Result<usize, StoreFault>,
 }
 
-static LONG: [Long; 7] = [
+static LONG: [Long; 9] = [
     // behind a gate that is shut no piece is read, and in a length that no body of its kind has, neither
     Long {
         failing: &[7],
@@ -279,6 +293,17 @@ static LONG: [Long; 7] = [
         failing: &[7],
         bytes: b"\x4b\x00\x02\x00\x26\x09\x00\x00\x00\x00\x00\x00\x00\x01\x00\x00\x00\x00\x00\x00\x00\x27\x11\x00\x00\x00\x01m\x00\x00\x00\x01\xaa\x00\x00\x00\x02\x00\x00\x00\x00\x00\x02\x00\x00\x00\x02\x00",
         read: Err(StoreFault::Corrupted { offset: 3 }),
+    },
+    // another blob and list of a key that do not fill it, and a blob of nearly all its bytes
+    Long {
+        failing: &[7],
+        bytes: b"\x4b\x00\x02\x00\x16\x0b\x00\x00\x00\x00\x00\x00\x00\x02\x00\x00\x00\x02\xbb\xcc\x00\x00\x00\x03\x00\x01\x02\x00",
+        read: Err(StoreFault::Corrupted { offset: 3 }),
+    },
+    Long {
+        failing: &[],
+        bytes: b"\x4b\x00\x02\x00\x00\x0b\x00\x00\x00\x00\x00\x00\x00\x02\x00\x01\xff\xef\xbb",
+        read: Ok(1),
     },
     // a new key whose blob passes the end of its body
     Long {
@@ -304,7 +329,7 @@ fn read_long(alloc: Global, row: &Long) -> Option<Result<usize, StoreFault>> {
     let mut disk = MemoryDisk::with_room(alloc, ROOM, row.failing).ok()?;
     let _ = write_synced(&mut disk, 200_000, b"x");
     let _ = write_synced(&mut disk, START, row.bytes);
-    let read = match opened_to(alloc, &mut disk, 300_000, 10) {
+    let read = match opened_to(alloc, &mut disk, 300_000, AREA_KINDS) {
         Ok((_, records)) => Ok(records.as_slice().len()),
         Err(fault) => Err(fault),
     };
@@ -372,11 +397,11 @@ fn words_of(alloc: Global, records: &Records) -> Option<String> {
 fn in_words(alloc: Global) -> Option<String> {
     let mut disk = marked(alloc, &[])?;
     let _ = write_synced(&mut disk, START, NEXT);
-    let words = match opened(alloc, &mut disk, 10) {
+    let words = match opened(alloc, &mut disk, AREA_KINDS) {
         Ok((mut area, records)) => {
             let _ = add(&mut area, &mut disk, REMOVED);
             drop(records);
-            match opened(alloc, &mut disk, 10) {
+            match opened(alloc, &mut disk, AREA_KINDS) {
                 Ok((_, later)) => words_of(alloc, &later),
                 Err(_) => None,
             }

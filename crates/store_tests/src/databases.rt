@@ -11,7 +11,6 @@ use lasting_table::LastingTable;
 use std::alloc::Global;
 use std::test::Fail;
 use tags::{NoMemory, Settled};
-use use_journal::Journal;
 
 /// Room for the tests.
 const ROOM: DiskRoom = DiskRoom {
@@ -21,7 +20,7 @@ const ROOM: DiskRoom = DiskRoom {
 };
 
 /// How many keys uid 10001 and namespace 10001 have, how many grants there are, and the next numbers.
-type Told = ((u64, u64), usize, (u64, u64));
+pub(crate) type Told = ((u64, u64), usize, (u64, u64));
 
 /// Records, as `framed` of `tools/keystore/store.py` spells them, and what is told after each: keys of uid 10001 but where it is said, with a
 /// blob and a list of their own, and grants to uids from 10002 on.
@@ -134,7 +133,7 @@ fn make_room(table: &mut LastingTable, change: &Change) -> Result<(), NoMemory>
 }
 
 /// Makes a change of a table, where its need is met.
-fn make(alloc: Global, table: &mut LastingTable, record: &[u8]) -> bool {
+pub(crate) fn make(alloc: Global, table: &mut LastingTable, record: &[u8]) -> bool {
     let Ok(change) = parse(alloc, record) else {
         return false;
     };
@@ -149,7 +148,7 @@ fn make(alloc: Global, table: &mut LastingTable, record: &[u8]) -> bool {
 }
 
 /// Makes a change of a database, where it is settled and the need is met.
-fn apply(
+pub(crate) fn apply(
     alloc: Global,
     database: &mut KeyDatabase,
     disk: &mut MemoryDisk,
@@ -167,7 +166,7 @@ fn apply(
 }
 
 /// What a table tells.
-fn told(table: &LastingTable) -> Told {
+pub(crate) fn told(table: &LastingTable) -> Told {
     (
         (table.count(0, 10_001), table.count(2, 10_001)),
         table.grants().len(),
@@ -176,7 +175,7 @@ fn told(table: &LastingTable) -> Told {
 }
 
 /// What the database of a disk tells, opened anew.
-fn told_anew(alloc: Global, disk: &mut MemoryDisk) -> Option<Told> {
+pub(crate) fn told_anew(alloc: Global, disk: &mut MemoryDisk) -> Option<Told> {
     match KeyDatabase::open(alloc, disk) {
         Ok(database) => {
             let told = told(database.table());
@@ -188,8 +187,8 @@ fn told_anew(alloc: Global, disk: &mut MemoryDisk) -> Option<Told> {
 }
 
 /// Makes an empty store on a disk, and opens its database.
-fn fresh(alloc: Global, disk: &mut MemoryDisk) -> Option<KeyDatabase> {
-    match Journal::format(disk) {
+pub(crate) fn fresh(alloc: Global, disk: &mut MemoryDisk) -> Option<KeyDatabase> {
+    match KeyDatabase::format(disk) {
         Ok(()) => KeyDatabase::open(alloc, disk).ok(),
         Err(_) => None,
     }
@@ -294,12 +293,12 @@ fn the_look_ups_of_access(rt: HostRuntime) {
     assert!(rt; shared_found(rt.alloc()) == wanted);
 }
 
-/// Of the calls 8 to 11, which make the first key, the one that fails; how it settles, and how many keys there are then.
+/// Of the calls 13 to 16, which make the first key, the one that fails; how it settles, and how many keys there are then.
 static FAULTS: [(&[u64], Settled, u64); 4] = [
-    (&[8], Settled::Lost, 0),
-    (&[9], Settled::Lost, 0),
-    (&[10], Settled::Lost, 0),
-    (&[11], Settled::Kept, 1),
+    (&[13], Settled::Lost, 0),
+    (&[14], Settled::Lost, 0),
+    (&[15], Settled::Lost, 0),
+    (&[16], Settled::Kept, 1),
 ];
 
 /// How many keys the database of a disk has, opened anew.

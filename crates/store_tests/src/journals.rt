@@ -1,12 +1,13 @@
 ghost use Rattle.std.specs.Prelude.{None};
 ghost use Rattle.ks_outside.specs.Telling.{none_is_some};
 
+use crate::draws::{Draws, digest};
 use crate::records::is_read_and_written;
 use disk_calls::{read_synced, write_synced};
 use disk_model::{Choice, DiskRoom, MemoryDisk};
 use journal_records::{AppendFault, StoreFault};
 use ks_outside::{Disk, Failed};
-use std::alloc::{AllocError, Global};
+use std::alloc::Global;
 use tags::Settled;
 use use_journal::Journal;
 
@@ -364,79 +365,6 @@ fn the_last_place_of_a_journal_and_one_byte_more(rt: HostRuntime) {
     );
 }
 
-/// Draws by xorshift64*, as `tools/ks make stores` makes them.
-#[derive(Drop)]
-struct Draws {
-    state: u64,
-}
-
-/// The fields of the bodies of records, by their kinds from 1 on: a number of eight bytes (l), of four (s), a byte (b), and counted bytes (t).
-static FORMS: [&[u8]; 7] = [b"lblttts", b"l", b"l", b"llss", b"l", b"bl", b"s"];
-
-impl Draws {
-    fn next(&mut self) -> u64 {
-        let mut x = self.state;
-        x ^= x >> 12;
-        x ^= x << 25;
-        x ^= x >> 27;
-        self.state = x;
-        x.wrapping_mul(2_685_821_657_736_338_717)
-    }
-
-    fn byte(&mut self) -> u8 {
-        (self.next() % 256) as u8
-    }
-
-    /// Adds up to eleven bytes behind their count.
-    fn put_bytes(&mut self, body: &mut Vec<u8>) -> Result<(), AllocError> {
-        let count = (self.next() % 12) as u32;
-        body.extend_from_slice(&count.to_be_bytes())?;
-        for _ in 0..count {
-            body.push(self.byte())?;
-        }
-        Ok(())
-    }
-
-    /// Adds a field.
-    fn put(&mut self, form: u8, body: &mut Vec<u8>) -> Result<(), AllocError> {
-        match form {
-            b'l' => body.extend_from_slice(&self.next().to_be_bytes()),
-            b's' => body.extend_from_slice(&((self.next() % (1 << 32)) as u32).to_be_bytes()),
-            b'b' => body.extend_from_slice(&[self.byte()]),
-            _ => self.put_bytes(body),
-        }
-    }
-
-    /// The body of a record of any kind.
-    fn body(&mut self, alloc: Global) -> Result<Vec<u8>, AllocError> {
-        let mut body = Vec::new(alloc);
-        let kind = (self.next() % 7) as usize;
-        body.push(kind as u8 + 1)?;
-        for form in FORMS[kind] {
-            self.put(*form, &mut body)?;
-        }
-        Ok(body)
-    }
-
-    /// A record of any kind, without its closing byte.
-    fn record(&mut self, alloc: Global) -> Result<Vec<u8>, AllocError> {
-        let body = self.body(alloc)?;
-        let mut record = Vec::from_slice(alloc, b"\x4b")?;
-        record.extend_from_slice(&((body.len() % 65_536) as u32).to_be_bytes())?;
-        record.extend_from_slice(body.as_slice())?;
-        Ok(record)
-    }
-}
-
-/// FNV-1a of 64 bits, gone on with.
-fn digest(bytes: &[u8], state: u64) -> u64 {
-    let mut state = state;
-    for byte in bytes {
-        state = (state ^ *byte as u64).wrapping_mul(0x100_0000_01b3);
-    }
-    state
-}
-
 /// Adds a drawn record, which is read and written so besides.
 fn add_drawn(
     alloc: Global,
@@ -508,7 +436,7 @@ fn digest_of_store(alloc: Global, draws: &mut Draws, state: u64) -> u64 {
 // The digest is what `tools/ks make stores --stores` prints, which writes and reads the same stores without this code.
 #[test]
 fn a_thousand_stores_are_those_of_another_reader(rt: HostRuntime) {
-    let mut draws = Draws { state: 1 };
+    let mut draws = Draws::of(1);
     let mut state = 0xcbf2_9ce4_8422_2325;
     for _ in 0..1000 {
         state = digest_of_store(rt.alloc(), &mut draws, state);

@@ -5,12 +5,25 @@
 #[cfg(test)]
 mod areas;
 #[cfg(test)]
+mod compactions;
+#[cfg(test)]
 mod databases;
 #[cfg(test)]
 mod disks;
 #[cfg(test)]
+mod draws;
+#[cfg(test)]
 mod journals;
+#[cfg(test)]
+mod older;
+#[cfg(test)]
+mod openings;
+mod rebound;
 #[cfg(test)]
 mod records;
 #[cfg(test)]
 mod rows;
+#[cfg(test)]
+mod snapshots;
+#[cfg(test)]
+mod two_areas;

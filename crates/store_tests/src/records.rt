@@ -1,14 +1,14 @@
 ghost use Rattle.journal_records.specs.Worked.{WorkedAreas, WorkedExamples};
 
 use journal_records::{
-    RecordFault, frame, frame_into, frame_record_into, framed_length, parse, read_record,
-    record_length,
+    AREA_KINDS, RecordFault, frame, frame_into, frame_record_into, framed_length, parse,
+    read_record, record_length,
 };
 use std::alloc::Global;
 use std::test::Fail;
 
-/// A record of each kind, as `tools/ks make stores --records` spells it.
-static RECORDS: [&[u8]; 7] = [
+/// A record of each kind of change, as `tools/ks make stores --records` spells it. The last one stands in areas alone.
+static RECORDS: [&[u8]; 8] = [
     b"\x4b\x00\x00\x00\x36\x01\xd1\xfb\xaf\x7f\x72\x8d\x2e\xae\xae\x16\xdf\x9d\x6a\xc7\x6b\xd3\x22\
 \x00\x00\x00\x06\x11\x74\x2b\x44\x58\xc8\x00\x00\x00\x08\x43\xaf\xd8\x48\xed\xb6\xf8\xdd\
 \x00\x00\x00\x06\x61\x59\xbd\xae\x4d\x92\x2a\x5a\x9f\xa2",
@@ -19,6 +19,7 @@ static RECORDS: [&[u8]; 7] = [
     b"\x4b\x00\x00\x00\x09\x05\x00\x12\xf5\x6e\xcd\x0f\x27\x48",
     b"\x4b\x00\x00\x00\x0a\x06\x7d\xd1\xf1\xe9\x40\x7b\x98\x80\x8c",
     b"\x4b\x00\x00\x00\x05\x07\xe2\xfe\x43\xf5",
+    b"\x4b\x00\x00\x00\x15\x0b\xfd\x5d\x46\xc8\x76\x2b\xa7\x51\x00\x00\x00\x00\x00\x00\x00\x04\x75\x86\xa3\xc4",
 ];
 
 /// Bytes that are no record: cut, of no kind, with a body that is too long or too short for its fields, with a shut
@@ -100,9 +101,9 @@ static ROWS: [&[u8]; 3] = [
 \x00\x00\x27\x12\x00\x00\x01\x00",
 ];
 
-/// Whether the row is read where kinds up to 10 may stand, and written so again with a byte 00 behind it and nothing more.
+/// Whether the row is read where the kinds of an area may stand, and written so again with a byte 00 behind it and nothing more.
 fn is_row(alloc: Global, row: &[u8]) -> bool {
-    let Ok((it, rest)) = read_record(alloc, 10, row.get(1..).unwrap_or(&[])) else {
+    let Ok((it, rest)) = read_record(alloc, AREA_KINDS, row.get(1..).unwrap_or(&[])) else {
         return false;
     };
     let whole = rest.is_empty();
@@ -119,12 +120,12 @@ fn is_row(alloc: Global, row: &[u8]) -> bool {
         && end == row.len() + 1
 }
 
-/// Whether it is no record where changes alone may stand.
-fn is_no_change(alloc: Global, row: &[u8]) -> bool {
+/// Whether it is no record of a journal.
+fn is_of_areas(alloc: Global, record: &[u8]) -> bool {
     matches!(
-        read_record(alloc, 7, row.get(1..).unwrap_or(&[])),
+        read_record(alloc, 7, record.get(1..).unwrap_or(&[])),
         Err(RecordFault::Bad)
-    ) && is_no_record(alloc, row)
+    )
 }
 
 #[test]
@@ -132,8 +133,10 @@ fn rows_of_each_kind(rt: HostRuntime) {
     let mut read = true;
     for row in &ROWS {
         read &= is_row(rt.alloc(), row);
-        read &= is_no_change(rt.alloc(), row);
+        read &= is_no_record(rt.alloc(), row);
+        read &= is_of_areas(rt.alloc(), row);
     }
+    read &= is_of_areas(rt.alloc(), RECORDS[7]);
     assert!(rt; read);
 }
 

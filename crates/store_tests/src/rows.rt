@@ -1,22 +1,24 @@
 //! The need of each record of an area, rows of a snapshot among them, broken alone; and a snapshot that is put, measured and told.
 
 use held_rows::Held;
-use journal_records::{KeyRecord, Record, read_record};
+use journal_records::{AREA_KINDS, Change, KeyRecord, Record, read_record};
 use lasting_table::{LastingTable, TableReplay};
 use std::alloc::Global;
 use tags::Bytes;
 
 /// The records of an area, as `tools/ks make stores --needs` spells them: the next numbers 5 and 9; key 2 of uid 10001, m, with two uses
-/// left of three; grant 3 of it to uid 10002; a use of it.
-static FRONT: [&[u8]; 4] = [
+/// left of three; grant 3 of it to uid 10002; a use of it; the new key 5, n, of the same owner; the end of key 2.
+static FRONT: [&[u8]; 6] = [
     b"\x4b\x00\x00\x00\x11\x08\x00\x00\x00\x00\x00\x00\x00\x05\x00\x00\x00\x00\x00\x00\x00\x09",
     b"\x4b\x00\x00\x00\x28\x09\x00\x00\x00\x00\x00\x00\x00\x02\x00\x00\x00\x00\x00\x00\x00\x27\x11\x00\x00\x00\x01\x6d\x00\x00\x00\x01\xaa\x00\x00\x00\x00\x00\x00\x00\x03\x00\x00\x00\x02",
     b"\x4b\x00\x00\x00\x19\x0a\x00\x00\x00\x00\x00\x00\x00\x03\x00\x00\x00\x00\x00\x00\x00\x02\x00\x00\x27\x12\x00\x00\x01\x00",
     b"\x4b\x00\x00\x00\x09\x03\x00\x00\x00\x00\x00\x00\x00\x02",
+    b"\x4b\x00\x00\x00\x24\x01\x00\x00\x00\x00\x00\x00\x00\x05\x00\x00\x00\x00\x00\x00\x00\x27\x11\x00\x00\x00\x01\x6e\x00\x00\x00\x01\xaa\x00\x00\x00\x00\x00\x00\x00\x00",
+    b"\x4b\x00\x00\x00\x09\x02\x00\x00\x00\x00\x00\x00\x00\x02",
 ];
 
 /// How many of them stand before a record, the record, and whether its need is met there; by the same tool.
-static NEEDS: [(usize, &[u8], bool); 47] = [
+static NEEDS: [(usize, &[u8], bool); 57] = [
     (
         0,
         b"\x4b\x00\x00\x00\x11\x08\x00\x00\x00\x00\x00\x00\x00\x01\x00\x00\x00\x00\x00\x00\x00\x01",
@@ -252,18 +254,68 @@ static NEEDS: [(usize, &[u8], bool); 47] = [
         b"\x4b\x00\x00\x00\x09\x03\x00\x00\x00\x00\x00\x00\x00\x02",
         true,
     ),
+    (
+        0,
+        b"\x4b\x00\x00\x00\x14\x0b\x00\x00\x00\x00\x00\x00\x00\x02\x00\x00\x00\x02\xbb\xcc\x00\x00\x00\x01\x00",
+        false,
+    ),
+    (
+        1,
+        b"\x4b\x00\x00\x00\x14\x0b\x00\x00\x00\x00\x00\x00\x00\x02\x00\x00\x00\x02\xbb\xcc\x00\x00\x00\x01\x00",
+        false,
+    ),
+    (
+        2,
+        b"\x4b\x00\x00\x00\x14\x0b\x00\x00\x00\x00\x00\x00\x00\x02\x00\x00\x00\x02\xbb\xcc\x00\x00\x00\x01\x00",
+        true,
+    ),
+    (
+        3,
+        b"\x4b\x00\x00\x00\x14\x0b\x00\x00\x00\x00\x00\x00\x00\x02\x00\x00\x00\x02\xbb\xcc\x00\x00\x00\x01\x00",
+        true,
+    ),
+    (
+        4,
+        b"\x4b\x00\x00\x00\x14\x0b\x00\x00\x00\x00\x00\x00\x00\x02\x00\x00\x00\x02\xbb\xcc\x00\x00\x00\x01\x00",
+        true,
+    ),
+    (
+        5,
+        b"\x4b\x00\x00\x00\x14\x0b\x00\x00\x00\x00\x00\x00\x00\x02\x00\x00\x00\x02\xbb\xcc\x00\x00\x00\x01\x00",
+        true,
+    ),
+    (
+        6,
+        b"\x4b\x00\x00\x00\x14\x0b\x00\x00\x00\x00\x00\x00\x00\x02\x00\x00\x00\x02\xbb\xcc\x00\x00\x00\x01\x00",
+        false,
+    ),
+    (
+        4,
+        b"\x4b\x00\x00\x00\x11\x0b\x00\x00\x00\x00\x00\x00\x00\x05\x00\x00\x00\x00\x00\x00\x00\x00",
+        false,
+    ),
+    (
+        5,
+        b"\x4b\x00\x00\x00\x11\x0b\x00\x00\x00\x00\x00\x00\x00\x05\x00\x00\x00\x00\x00\x00\x00\x00",
+        true,
+    ),
+    (
+        6,
+        b"\x4b\x00\x00\x00\x11\x0b\x00\x00\x00\x00\x00\x00\x00\x05\x00\x00\x00\x00\x00\x00\x00\x00",
+        true,
+    ),
 ];
 
 /// The record of these bytes, which begin with its gate.
 fn record_of(alloc: Global, bytes: &[u8]) -> Option<Record> {
-    match read_record(alloc, 10, bytes.get(1..).unwrap_or(&[])) {
+    match read_record(alloc, AREA_KINDS, bytes.get(1..).unwrap_or(&[])) {
         Ok((it, _)) => Some(it),
         Err(_) => None,
     }
 }
 
 /// Puts a record where its need is met, and tells whether it is.
-fn put(table: &mut TableReplay, it: Record) -> Option<bool> {
+pub(crate) fn put(table: &mut TableReplay, it: Record) -> Option<bool> {
     if !table.meets(&it) {
         drop(it);
         return Some(false);
@@ -421,4 +473,47 @@ fn a_snapshot_is_put_and_told(rt: HostRuntime) {
     assert_eq!(rt; told(rt.alloc(), 3), (true, rows, framed_bytes(3)));
     let used = ((5, 9), Some((2, 1, 1)), Some((3, 2, 256)), false);
     assert_eq!(rt; told(rt.alloc(), 4), (true, used, framed_bytes(3)));
+}
+
+/// How long the other blob and the other list of a key are, and whether it may get them.
+static PARTS: [(usize, usize, bool); 3] = [
+    (6_327, 4_140, true),
+    (6_328, 1, false),
+    (1, 4_141, false),
+];
+
+/// Whether key 2, which was used once, may get a blob and a list of these lengths; what the table tells then, and its snapshot's length.
+fn upgrades_long(alloc: Global, blob: usize, list: usize) -> Option<(Option<bool>, Rows, u64)> {
+    let blob = bytes_of(alloc, blob)?;
+    let list = bytes_of(alloc, list)?;
+    let mut table = TableReplay::new(alloc);
+    let whole = put_front(alloc, &mut table, 4);
+    let change = Change::Upgrade { id: 2, blob, list };
+    let met = put(&mut table, Record::Change { change });
+    let table = table.into_table();
+    let rows = rows_of(&table);
+    let length = table.snapshot_length();
+    drop(table);
+    if whole {
+        Some((met, rows, length))
+    } else {
+        None
+    }
+}
+
+/// The number of the first of them that goes otherwise; that of all where none does. The key's use stays, and its grant.
+fn first_other_parts(alloc: Global) -> usize {
+    let used = ((5, 9), Some((2, 1, 1)), Some((3, 2, 256)), false);
+    for (number, (blob, list, wanted)) in PARTS.iter().enumerate() {
+        let length = framed_bytes(3).saturating_add(if *wanted { 6_326 + 4_140 } else { 0 });
+        if upgrades_long(alloc, *blob, *list) != Some((Some(*wanted), used, length)) {
+            return number;
+        }
+    }
+    PARTS.len()
+}
+
+#[test]
+fn a_blob_and_a_list_of_one_byte_too_much(rt: HostRuntime) {
+    assert_eq!(rt; first_other_parts(rt.alloc()), PARTS.len());
 }

@@ -10,7 +10,7 @@ ghost use Rattle.record_areas.specs.Frames.{Frame, IsMarked, past_of, placed};
 ghost use Rattle.record_areas.specs.Holding as areas;
 ghost use Rattle.record_areas.specs.Holding.{Appends, IsSettledOn, IsUnsettledOn, SettlesTo, end_after, end_settled, pending_after};
 ghost use Rattle.record_areas.specs.Readings as readings;
-ghost use Rattle.record_areas.specs.Readings.{IsBehind, IsWhole};
+ghost use Rattle.record_areas.specs.Readings.{HasRead, IsBehind, IsOver, IsWhole};
 ghost use Rattle.tags.specs.declared.limits.TheConstants.{JOURNAL_BYTES};
 ghost use Rattle.use_journal.specs.declared.journal.TheConstants.{HEADER_BYTES, KINDS};
 
@@ -68,7 +68,17 @@ impl Journal {
         ensures goes { Reads D.Disk disk.old disk.new (open_failed result) }
     {
         find_header(disk)?;
-        Ok(Reading::at(alloc, HEADER_BYTES as u64, JOURNAL_BYTES, KINDS))
+        Ok(Journal::reading(alloc))
+    }
+
+    /// The reading of the records of a journal, none of which was read yet. It takes no memory.
+    pub fn reading(alloc: Global) -> Reading
+        ensures whole { IsWhole result }
+        ensures over { IsOver result HEADER_BYTES JOURNAL_BYTES KINDS }
+        ensures place { readings.place_of result ≡ HEADER_BYTES }
+        ensures begins { (image : List ℕ) → HasRead result HEADER_BYTES JOURNAL_BYTES [] image }
+    {
+        Reading::at(alloc, HEADER_BYTES as u64, JOURNAL_BYTES, KINDS)
     }
 
     /// The journal whose records a reading has come to the end of. It takes no memory.

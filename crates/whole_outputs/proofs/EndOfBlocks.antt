@@ -3,7 +3,7 @@ use Rattle.std.proofs.Common.{◌≡◌, ℕ, ◌+◌, ◌-◌, ◌*◌, ◌/◌
 use Rattle.std.specs.List.{list_all}
 use Rattle.std.specs.Option.{ok_or, option_map}
 use Rattle.std.proofs.Math.Seq.{drop-append-add, take-append-add}
-use Rattle.std.proofs.lemmas.List.{drop_at, get_or-append-add}
+use Rattle.std.proofs.lemmas.List.{drop_at, take_rest, get_or-append-add}
 use Rattle.std.proofs.lemmas.Bool.{cases_lt, cases_eq, eq-eqb, ne_eqb, lt-leb, le-leb, and_left, and_right}
 use Rattle.tags.specs.declared.code.Code.{Code}
 use Rattle.block_modes.specs.declared.fault.ModeFault.{ModeFault}
@@ -56,6 +56,13 @@ unpad-behind xs text long =
     ap (λ k. unpad_by (get_or (xs ++ text) k 0) (xs ++ text)) e
     ∙ ap (λ k. unpad_by k (xs ++ text)) (get_or-append-add xs text (length text - 1) 0)
     ∙ unpad_by-behind (get_or text (length text - 1) 0) xs text long
+
+-- whole blocks without the padding that their last byte tells, where the bytes from there on tell whether it is one
+pub unpad_told : (text : List ℕ) (n : ℕ) (right : Bool) → 16 ≤ length text → n ≡ get_or text (length text - 1) 0 → 1 ≤ n → n ≤ 16 →
+    right ≡ list_all (λ byte. byte == n) (take (length text - (length text - n)) (drop (length text - n) text)) → unpad text ≡ cond right (Some (take (length text - n) text)) None
+unpad_told text n right long is some few all =
+    let within : n ≤ length text = omega arith in
+    rw (← is, le-leb 1 n some, le-leb n 16 few, le-leb n (length text) within, all, take_rest text (length text - n)) refl
 
 -- ---- the end
 

@@ -1,5 +1,5 @@
 -- How many bytes a key's body has.
-use Rattle.std.proofs.Common.{sym, arith}
+use Rattle.std.proofs.Common.{arith}
 use Rattle.journal_records.proofs.SnapshotBytes.{key_long}
 use Rattle.journal_records.proofs.writing.body_length.Goals as goal
 

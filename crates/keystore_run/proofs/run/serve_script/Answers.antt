@@ -6,7 +6,7 @@ use Rattle.keystore_run.proofs.run.serve_script.Goals as goal
 
 pub lines-init : goal.lines-init
 lines-init g c = record {
-  going = λ setup begin for unwritten. begins g.S.Source g.K.Sink g.D.Disk g.N.Entropy g.met.D.Disk.only_now c.args.written setup begin _ c.args.session.now c.args.reader.now.bytes c.args.reader.now.taken for unwritten c.requires.nothing c.requires.untaken;
+  going = λ setup begin for leaves. begins g.S.Source g.K.Sink g.D.Disk g.N.Entropy g.met.D.Disk.only_now c.args.written setup begin _ c.args.session.now c.args.reader.now.bytes c.args.reader.now.taken for leaves c.requires.nothing c.requires.untaken;
   entries = omega (arith, c.requires.fresh);
   bytes = omega (arith, ap length c.requires.nothing, c.requires.untaken);
   taken = omega (arith, c.requires.untaken);
@@ -15,9 +15,9 @@ lines-init g c = record {
 }
 
 pub returns-in-Err-clause-ends : goal.returns-in-Err-clause-ends
-returns-in-Err-clause-ends g c = λ setup begin for unwritten.
+returns-in-Err-clause-ends g c = λ setup begin for leaves.
     let more = c.in-Line.ensures.bytes in
-    let going = fills g.S.Source g.K.Sink g.D.Disk g.N.Entropy g.met.D.Disk.only_now c.args.written setup _ _ c.fill.new.source _ _ c.fill.new.self.bytes more.0 _ c.fill.new.self.taken _ false (c.lines.invariant.going setup begin for unwritten) more.1 more.2 more.3 in
+    let going = fills g.S.Source g.K.Sink g.D.Disk g.N.Entropy g.met.D.Disk.only_now c.args.written setup _ _ c.fill.new.source _ _ c.fill.new.self.bytes more.0 _ c.fill.new.self.taken _ false (c.lines.invariant.going setup begin for leaves) more.1 more.2 more.3 in
     let found = c.in-Line.ensures.found in
     (cut_line g.S.Source g.K.Sink g.D.Disk g.N.Entropy g.met.D.Disk.only_now c.in-Err.halt _ c.args.written setup _ _ c.serve_line.new.sink c.serve_line.new.disk c.serve_line.new.entropy _ _ _ _ _ _ _ c.status.ensures going c.fill.ensures.taken
     (held_line c.fill.new.self.bytes c.in-Line.count found.feed) (short_line c.fill.new.self.bytes c.in-Line.count found.feed found.short) (taken_feed _ going.lines c.fill.new.self.bytes c.in-Line.count found.feed)
@@ -31,8 +31,8 @@ lines-preserved g c =
     let left : length c.pass.new.self.bytes ≡ length c.fill.new.self.bytes - (c.in-Line.count + 1) =
     ap length c.pass.ensures.bytes ∙ length-drop (c.in-Line.count + 1) c.fill.new.self.bytes in
     record {
-      going = λ setup begin for unwritten.
-          let going = fills g.S.Source g.K.Sink g.D.Disk g.N.Entropy g.met.D.Disk.only_now c.args.written setup _ _ c.fill.new.source _ _ c.fill.new.self.bytes more.0 _ c.fill.new.self.taken _ false (c.lines.invariant.going setup begin for unwritten) more.1 more.2 more.3 in
+      going = λ setup begin for leaves.
+          let going = fills g.S.Source g.K.Sink g.D.Disk g.N.Entropy g.met.D.Disk.only_now c.args.written setup _ _ c.fill.new.source _ _ c.fill.new.self.bytes more.0 _ c.fill.new.self.taken _ false (c.lines.invariant.going setup begin for leaves) more.1 more.2 more.3 in
           rw (c.pass.ensures.bytes, c.pass.ensures.taken)
           (passes g.S.Source g.K.Sink g.D.Disk g.N.Entropy g.met.D.Disk.only_now c.args.written setup _ _ c.serve_line.new.sink c.serve_line.new.disk c.serve_line.new.entropy _ _ _ _ _ c.in-Line.count going found.feed found.short
           (rw c.line-line.ensures at (c.in_default.ensures.serves setup going.past going.stands)));
@@ -44,18 +44,18 @@ lines-preserved g c =
     }
 
 pub returns-then-is_empty-clause-ends : goal.returns-then-is_empty-clause-ends
-returns-then-is_empty-clause-ends g c = λ setup begin for unwritten.
+returns-then-is_empty-clause-ends g c = λ setup begin for leaves.
     let more = c.in-End.ensures.bytes in
-    let going = fills g.S.Source g.K.Sink g.D.Disk g.N.Entropy g.met.D.Disk.only_now c.args.written setup _ _ c.fill.new.source _ _ c.fill.new.self.bytes more.0 _ c.fill.new.self.taken _ false (c.lines.invariant.going setup begin for unwritten) more.1 more.2 more.3 in
+    let going = fills g.S.Source g.K.Sink g.D.Disk g.N.Entropy g.met.D.Disk.only_now c.args.written setup _ _ c.fill.new.source _ _ c.fill.new.self.bytes more.0 _ c.fill.new.self.taken _ false (c.lines.invariant.going setup begin for leaves) more.1 more.2 more.3 in
     let found = c.in-End.ensures.found in
     let whole = whole_line c.fill.new.self.bytes c.line-line-in-End.result.now c.held.result c.line-line-in-End.ensures c.held.ensures in
     let none : length c.fill.new.self.bytes ≡ 0 = rw whole at (is_zero (length c.line-line-in-End.result.now) _ c.is_empty.ensures c.if-is_empty.true) in
     ends_empty g.S.Source g.K.Sink g.D.Disk g.N.Entropy g.met.D.Disk.only_now c.args.written setup _ _ _ _ _ _ going found.end found.few none
 
 pub returns-in-End-clause-ends : goal.returns-in-End-clause-ends
-returns-in-End-clause-ends g c = λ setup begin for unwritten.
+returns-in-End-clause-ends g c = λ setup begin for leaves.
     let more = c.in-End.ensures.bytes in
-    let going = fills g.S.Source g.K.Sink g.D.Disk g.N.Entropy g.met.D.Disk.only_now c.args.written setup _ _ c.fill.new.source _ _ c.fill.new.self.bytes more.0 _ c.fill.new.self.taken _ false (c.lines.invariant.going setup begin for unwritten) more.1 more.2 more.3 in
+    let going = fills g.S.Source g.K.Sink g.D.Disk g.N.Entropy g.met.D.Disk.only_now c.args.written setup _ _ c.fill.new.source _ _ c.fill.new.self.bytes more.0 _ c.fill.new.self.taken _ false (c.lines.invariant.going setup begin for leaves) more.1 more.2 more.3 in
     let found = c.in-End.ensures.found in
     let whole = whole_line c.fill.new.self.bytes c.line-line-in-End.result.now c.held.result c.line-line-in-End.ensures c.held.ensures in
     let some : 0 < length c.fill.new.self.bytes = rw whole at (is_some_length (length c.line-line-in-End.result.now) _ c.is_empty.ensures c.if-is_empty.false) in
@@ -63,9 +63,9 @@ returns-in-End-clause-ends g c = λ setup begin for unwritten.
     (rw whole at (c.in_default-serve_line.ensures.serves setup going.past going.stands)))
 
 pub returns-in-Err-serve_line-clause-ends : goal.returns-in-Err-serve_line-clause-ends
-returns-in-Err-serve_line-clause-ends g c = λ setup begin for unwritten.
+returns-in-Err-serve_line-clause-ends g c = λ setup begin for leaves.
     let more = c.in-End.ensures.bytes in
-    let going = fills g.S.Source g.K.Sink g.D.Disk g.N.Entropy g.met.D.Disk.only_now c.args.written setup _ _ c.fill.new.source _ _ c.fill.new.self.bytes more.0 _ c.fill.new.self.taken _ false (c.lines.invariant.going setup begin for unwritten) more.1 more.2 more.3 in
+    let going = fills g.S.Source g.K.Sink g.D.Disk g.N.Entropy g.met.D.Disk.only_now c.args.written setup _ _ c.fill.new.source _ _ c.fill.new.self.bytes more.0 _ c.fill.new.self.taken _ false (c.lines.invariant.going setup begin for leaves) more.1 more.2 more.3 in
     let found = c.in-End.ensures.found in
     let whole = whole_line c.fill.new.self.bytes c.line-line-in-End.result.now c.held.result c.line-line-in-End.ensures c.held.ensures in
     (cut_line g.S.Source g.K.Sink g.D.Disk g.N.Entropy g.met.D.Disk.only_now c.in-Err-serve_line.halt _ c.args.written setup _ _ c.serve_line-in-End.new.sink c.serve_line-in-End.new.disk c.serve_line-in-End.new.entropy _ _ _ _ _ _ _ c.status-in-Err-serve_line.ensures going c.fill.ensures.taken
@@ -73,9 +73,9 @@ returns-in-Err-serve_line-clause-ends g c = λ setup begin for unwritten.
     whole (c.in-Err-serve_line.ensures.serves setup going.past going.stands))
 
 pub returns-in-TooLong-clause-ends : goal.returns-in-TooLong-clause-ends
-returns-in-TooLong-clause-ends g c = λ setup begin for unwritten.
+returns-in-TooLong-clause-ends g c = λ setup begin for leaves.
     let more = c.in-TooLong.ensures.bytes in
-    let going = fills g.S.Source g.K.Sink g.D.Disk g.N.Entropy g.met.D.Disk.only_now c.args.written setup _ _ c.fill.new.source _ _ c.fill.new.self.bytes more.0 _ c.fill.new.self.taken _ false (c.lines.invariant.going setup begin for unwritten) more.1 more.2 more.3 in
+    let going = fills g.S.Source g.K.Sink g.D.Disk g.N.Entropy g.met.D.Disk.only_now c.args.written setup _ _ c.fill.new.source _ _ c.fill.new.self.bytes more.0 _ c.fill.new.self.taken _ false (c.lines.invariant.going setup begin for leaves) more.1 more.2 more.3 in
     let found = c.in-TooLong.ensures.found in
     record {
       lines = going.lines;
@@ -87,9 +87,9 @@ returns-in-TooLong-clause-ends g c = λ setup begin for unwritten.
     }
 
 pub returns-in-ScriptTooLong-clause-ends : goal.returns-in-ScriptTooLong-clause-ends
-returns-in-ScriptTooLong-clause-ends g c = λ setup begin for unwritten.
+returns-in-ScriptTooLong-clause-ends g c = λ setup begin for leaves.
     let more = c.in-ScriptTooLong.ensures.bytes in
-    let going = fills g.S.Source g.K.Sink g.D.Disk g.N.Entropy g.met.D.Disk.only_now c.args.written setup _ _ c.fill.new.source _ _ c.fill.new.self.bytes more.0 _ c.fill.new.self.taken _ false (c.lines.invariant.going setup begin for unwritten) more.1 more.2 more.3 in
+    let going = fills g.S.Source g.K.Sink g.D.Disk g.N.Entropy g.met.D.Disk.only_now c.args.written setup _ _ c.fill.new.source _ _ c.fill.new.self.bytes more.0 _ c.fill.new.self.taken _ false (c.lines.invariant.going setup begin for leaves) more.1 more.2 more.3 in
     let found = c.in-ScriptTooLong.ensures.found in
     record {
       lines = going.lines;
@@ -100,9 +100,9 @@ returns-in-ScriptTooLong-clause-ends g c = λ setup begin for unwritten.
     }
 
 pub returns-in-Fault-clause-ends : goal.returns-in-Fault-clause-ends
-returns-in-Fault-clause-ends g c = λ setup begin for unwritten.
+returns-in-Fault-clause-ends g c = λ setup begin for leaves.
     let more = c.in-Fault.ensures.bytes in
-    let going = fills g.S.Source g.K.Sink g.D.Disk g.N.Entropy g.met.D.Disk.only_now c.args.written setup _ _ c.fill.new.source _ _ c.fill.new.self.bytes more.0 _ c.fill.new.self.taken _ true (c.lines.invariant.going setup begin for unwritten) more.1 more.2 more.3 in
+    let going = fills g.S.Source g.K.Sink g.D.Disk g.N.Entropy g.met.D.Disk.only_now c.args.written setup _ _ c.fill.new.source _ _ c.fill.new.self.bytes more.0 _ c.fill.new.self.taken _ true (c.lines.invariant.going setup begin for leaves) more.1 more.2 more.3 in
     let found = c.in-Fault.ensures.found in
     record {
       lines = going.lines;

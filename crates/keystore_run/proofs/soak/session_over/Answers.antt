@@ -18,7 +18,7 @@ pub returns-clause-session : goal.returns-clause-session
 returns-clause-session g c =
     let setup = setup_of c.demo-device.result c.in_ok-policy.policy 16 c.in-Ok-open.engine in
     let opens = is_opened c.demo-device.result c.in_ok-policy.policy 16 c.in-Ok-open.engine in
-    load_session g.D.Disk g.met.D.Disk.content_is_image g.met.D.Disk.counts_now c.args.disk.now c.format.new.disk c.open.new.disk c.demo-device.result c.in_ok-policy.policy c.in-Ok-open.engine c.new.result
+    load_session g.D.Disk c.args.disk.now c.format.new.disk c.open.new.disk c.demo-device.result c.in_ok-policy.policy c.in-Ok-open.engine c.new.result
     c.requires.empty (demo_is _ c.demo-device.ensures.seal c.demo-device.ensures.token c.demo-device.ensures.root) c.in_ok-policy.ensures
-    c.in-Ok.ensures.formatted c.in-Ok.ensures.passes c.in-Ok.ensures.goes.telling (c.in-Ok-open.ensures.stands setup opens) (c.in-Ok-open.ensures.holds setup opens)
-    (c.in-Ok-open.ensures.finds empty_lasting) c.in-Ok-open.ensures.goes.images c.in-Ok-open.ensures.goes.goes.telling c.new.ensures.engine (c.new.ensures.jobs setup)
+    c.in-Ok.ensures.formatted c.in-Ok.ensures.goes.telling (c.in-Ok-open.ensures.stands setup opens) (c.in-Ok-open.ensures.holds setup opens)
+    (c.in-Ok-open.ensures.finds empty_lasting) c.new.ensures.engine (c.new.ensures.jobs setup)

@@ -5,7 +5,8 @@ use Rattle.keystore_core.specs.Engine.{Stands}
 use Rattle.service_book.specs.Book.{history_of, log_of}
 use Rattle.shared_service.specs.Drawn.{DrewAll}
 use Rattle.shared_service.specs.Passes.{HasAll, IsSetupOf, start_of}
-use Rattle.keystore_server.proofs.Endings.{attended, store_images}
+use Rattle.keystore_core.specs.Opening.{store_images}
+use Rattle.keystore_server.proofs.Endings.{attended}
 use Rattle.keystore_server.proofs.Numbering.{all_idle, all_numbers, all_ours}
 use Rattle.keystore_server.proofs.Parting.{none_connected}
 use Rattle.keystore_server.proofs.Working.{all_below, has_worked, unserved_empty}

@@ -4,7 +4,7 @@ use Rattle.ks_outside.proofs.Shown.{counts_none}
 use Rattle.keystore_server.specs.declared.words.ServeForm.{ServeForm}
 use Rattle.keystore_server.specs.Ends.{IsCompleted, Opened, Refused, Serves, is_listen_fault}
 use Rattle.keystore_server.proofs.Endings.{refused_completed, refused_disk, refused_listens, refused_usage, serves_completed, serves_disk, serves_listened, serves_usage}
-use Rattle.keystore_core.specs.Opening.{is_opened, opened_images, setup_of, unwritten_of}
+use Rattle.keystore_core.specs.Opening.{is_opened, opened_from, opened_images, setup_of}
 use Rattle.keystore_server.proofs.service.serve_words.Goals as goal
 
 pub returns-in-Ok-clause-serves : goal.returns-in-Ok-clause-serves
@@ -13,7 +13,7 @@ returns-in-Ok-clause-serves g c = λ form said.
     let setup = setup_of c.args.device.now c.args.policy.now 16 c.in-Ok.engine in
     subst (λ (f : ServeForm). Serves g.B.Listener g.B.L.Link g.D.Disk g.N.Entropy (g.C.Clock.shows c.args.clock.now) g.B.HangsUp.leaves c.args.device.now c.args.policy.now f c.args.listener c.args.disk c.args.entropy c.serve_opened.result) same
     (Opened c.open.new.disk setup (record { device_is = refl; policy_is = refl; slots_are = refl })
-    (record { stands = opened_images g.D.Disk c.args.device.now c.args.policy.now 16 c.in-Ok.engine c.open.new.disk (c.in-Ok.ensures.holds setup (is_opened c.args.device.now c.args.policy.now 16 c.in-Ok.engine)); images = c.in-Ok.ensures.goes.images; finds = c.in-Ok.ensures.finds; unwritten = unwritten_of g.D.Disk c.args.disk c.open.new.disk c.in-Ok.ensures.goes })
+    (record { stands = opened_images g.D.Disk c.args.device.now c.args.policy.now 16 c.in-Ok.engine c.open.new.disk (c.in-Ok.ensures.holds setup (is_opened c.args.device.now c.args.policy.now 16 c.in-Ok.engine)); finds = c.in-Ok.ensures.finds; leaves = opened_from g.D.Disk c.args.disk c.open.new.disk c.in-Ok.ensures.brought c.in-Ok.ensures.goes })
     (c.serve_opened.ensures.serves setup (c.in-Ok.ensures.stands setup (is_opened c.args.device.now c.args.policy.now 16 c.in-Ok.engine))))
 
 pub returns-in-Ok-clause-listen_faults : goal.returns-in-Ok-clause-listen_faults
@@ -51,7 +51,7 @@ returns-in-Ok-clause-untouched g c = λ e.
 -- the store was not opened
 pub returns-in-Err-clause-serves : goal.returns-in-Err-clause-serves
 returns-in-Err-clause-serves g c = λ form said.
-    Refused c.in-Err.fault (record { goes = c.in-Err.ensures.goes; reads = c.in-Err.ensures.reads; finds = c.in-Err.ensures.finds })
+    Refused c.in-Err.fault (record { goes = c.in-Err.ensures.goes; brought = c.in-Err.ensures.brought; refused = c.in-Err.ensures.refused; reads = c.in-Err.ensures.reads; finds = c.in-Err.ensures.finds })
     c.refusal.ensures (record { listener_is = refl; entropy_is = refl; book_is = refl })
 
 pub returns-in-Err-clause-listen_faults : goal.returns-in-Err-clause-listen_faults
@@ -62,12 +62,12 @@ returns-in-Err-clause-listen_faults g c =
 pub returns-in-Err-clause-disk_faults : goal.returns-in-Err-clause-disk_faults
 returns-in-Err-clause-disk_faults g c = λ e.
     refused_disk g.D.Disk c.args.disk c.open.new.disk c.in-Err.fault
-    (record { goes = c.in-Err.ensures.goes; reads = c.in-Err.ensures.reads; finds = c.in-Err.ensures.finds }) (sym c.refusal.ensures ∙ e)
+    (record { goes = c.in-Err.ensures.goes; brought = c.in-Err.ensures.brought; refused = c.in-Err.ensures.refused; reads = c.in-Err.ensures.reads; finds = c.in-Err.ensures.finds }) (sym c.refusal.ensures ∙ e)
 
 pub returns-in-Err-clause-complete : goal.returns-in-Err-clause-complete
 returns-in-Err-clause-complete g c = λ part stands told.
     subst IsCompleted (sym c.refusal.ensures) (refused_completed g.D.Disk c.args.disk c.open.new.disk c.in-Err.fault
-    (record { goes = c.in-Err.ensures.goes; reads = c.in-Err.ensures.reads; finds = c.in-Err.ensures.finds }) part stands told)
+    (record { goes = c.in-Err.ensures.goes; brought = c.in-Err.ensures.brought; refused = c.in-Err.ensures.refused; reads = c.in-Err.ensures.reads; finds = c.in-Err.ensures.finds }) part stands told)
 
 pub returns-in-Err-clause-usage : goal.returns-in-Err-clause-usage
 returns-in-Err-clause-usage g c = (

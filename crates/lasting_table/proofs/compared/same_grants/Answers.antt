@@ -1,6 +1,6 @@
 use Rattle.std.proofs.Common.{sym, ◌∙◌, ap}
 use Rattle.std.specs.Option.{option_copied}
-use Rattle.lasting_table.proofs.Afters.{grant_of, grants_rise}
+use Rattle.lasting_table.proofs.Rising.{grant_of, grants_rise}
 use Rattle.lasting_table.proofs.Lockstep.{empty_front, fewer_behind, steps_on, same_at_end}
 use Rattle.lasting_table.proofs.Ends.{copied_none}
 use Rattle.lasting_table.proofs.compared.same_grants.Goals as goal

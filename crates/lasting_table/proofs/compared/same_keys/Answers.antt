@@ -1,7 +1,7 @@
 use Rattle.std.proofs.Common.{sym, ◌∙◌, ap}
 use Rattle.std.specs.Option.{option_copied}
-use Rattle.lasting_table.specs.Maps.{id_of}
-use Rattle.lasting_table.proofs.Afters.{keys_rise}
+use Rattle.key_maps.specs.Maps.{id_of}
+use Rattle.lasting_table.proofs.Rising.{keys_rise}
 use Rattle.lasting_table.proofs.Lockstep.{empty_front, fewer_behind, steps_on, same_at_end}
 use Rattle.lasting_table.proofs.Ends.{copied_none}
 use Rattle.lasting_table.proofs.compared.same_keys.Goals as goal

@@ -1,6 +1,6 @@
 use Rattle.std.proofs.Common.{◌≡◌, length, not}
 use Rattle.std.specs.List.{filter}
-use Rattle.lasting_table.specs.Rows.{is_past}
+use Rattle.key_maps.specs.Rows.{is_past}
 use Rattle.lasting_table.proofs.compared.same_keys.Given as goal
 
 -- up to past both have the same keys

@@ -36,6 +36,7 @@ returns c = record {
   few_bytes = refl;
   used_behind = rw text refl;
   made_behind = rw text refl;
+  upgraded_behind = rw text refl;
   next_not_first = refl;
   next_behind_change = rw text refl;
   next_zero = refl;
@@ -65,4 +66,5 @@ returns c = record {
   no_key_granted = rw text refl;
   grant_behind_change = rw text refl;
   empty_bytes = refl;
+  upgrade_bytes = refl;
 }

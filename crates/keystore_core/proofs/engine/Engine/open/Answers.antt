@@ -1,7 +1,8 @@
 use Rattle.std.proofs.Common.{refl, sym, ap, ◌∙◌, subst}
 use Rattle.journal_records.specs.Holding.{Sure}
 use Rattle.journal_records.specs.Storable.{IsStorable}
-use Rattle.key_database.specs.Stands.{Holds, lasting, store_bytes}
+use Rattle.key_database.specs.Stands.{Holds, lasting}
+use Rattle.key_database.specs.Store.{StandsFor}
 use Rattle.rule_model.specs.Setup.{Setup}
 use Rattle.keystore_core.specs.Engine.{IsOver}
 use Rattle.keystore_core.proofs.engine.Engine.open.Goals as goal
@@ -19,8 +20,8 @@ returns-in-Ok-new-clause-stands g c = λ setup is.
 
 pub returns-in-Ok-new-clause-first : goal.returns-in-Ok-new-clause-first
 returns-in-Ok-new-clause-first g c =
-    let setup : Setup = record { device = c.args.device.now; policy = c.args.policy.now; slots = c.args.slots; start = lasting c.in-Ok-new.tables.keys; bytes = store_bytes c.in-Ok-new.tables.keys } in
-    record { setup = setup; stands = returns-in-Ok-new-clause-stands g c setup (record { start = refl; bytes = refl; device_is = refl; policy_is = refl; slots_are = refl }) }
+    let setup : Setup = record { device = c.args.device.now; policy = c.args.policy.now; slots = c.args.slots; start = lasting c.in-Ok-new.tables.keys } in
+    record { setup = setup; stands = returns-in-Ok-new-clause-stands g c setup (record { start = refl; device_is = refl; policy_is = refl; slots_are = refl }) }
 
 pub returns-in-Ok-new-clause-store : goal.returns-in-Ok-new-clause-store
 returns-in-Ok-new-clause-store g c = λ setup stands.
@@ -29,3 +30,6 @@ returns-in-Ok-new-clause-store g c = λ setup stands.
 
 pub returns-in-Ok-new-clause-finds : goal.returns-in-Ok-new-clause-finds
 returns-in-Ok-new-clause-finds g c = λ part images told. ap lasting c.in-Ok-new.ensures.keys ∙ c.in-Ok-open.ensures.stands part images told
+
+pub returns-in-Ok-new-clause-reads : goal.returns-in-Ok-new-clause-reads
+returns-in-Ok-new-clause-reads g c = λ image left. subst (λ keys. StandsFor (lasting keys) image) (sym c.in-Ok-new.ensures.keys) (c.in-Ok-open.ensures.reads image left)

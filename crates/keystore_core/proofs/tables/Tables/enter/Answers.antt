@@ -7,11 +7,12 @@ use Rattle.step_rules.specs.Table.{answer}
 use Rattle.operation_slots.specs.Table.{held}
 use Rattle.rule_model.specs.Kept.{is_live, operation_at}
 use Rattle.keystore_core.specs.Tables.{row_at}
+use Rattle.rule_model.specs.Settling.{is_disk_fault}
 use Rattle.std.proofs.Math.Bool.{Bool-set}
 use Rattle.rule_model.specs.StepFacts.{brought_by}
 use Rattle.keystore_core.specs.Stepping.{used_by, used_in}
 use Rattle.keystore_core.specs.Writing.{StoreGoes}
-use Rattle.keystore_core.proofs.Entered.{entered_after, entering_change, entering_restarts, goes_into, is_told, unspent_after, use_met}
+use Rattle.keystore_core.proofs.Entered.{closes_store, entered_after, entering_change, entering_restarts, goes_into, is_told, unspent_after, use_met}
 use Rattle.keystore_core.proofs.Standing.{few_tickets, same_but_tickets, still}
 use Rattle.keystore_core.proofs.Stepped.{CanWork-prop, MayGrow-prop, can_work, ends_idle, idle_facts, may_grow, refused, row_found, slot_found, step_enters}
 use Rattle.keystore_core.proofs.tables.Tables.enter.Goals as goal
@@ -89,3 +90,10 @@ returns-then-not-is_done-clause-serves g c = λ setup past stands.
     (unspent_after setup past (record c.args.self.now { tickets = c.reserve.new.self }) c.spend-reply.new.keys c.args.caller c.args.op c.args.work now c.requires.caller c.requires.settled c.unspent.new.self
     c.next-ticket.result c.spend-reply.result (sym c.is_done.ensures ∙ c.if-not-is_done.true) (sym (c.in_default.ensures.first ∙ ap answer facts)) (rw facts at c.in_default.ensures.idle)
     (rw c.in_ok-reserve.ensures.same.given c.next-ticket.ensures) (rw (c.used_key-used.ensures, c.look_up.ensures, c.brought_by-brought.ensures) at c.spend-reply.ensures.written) c.unspent.ensures.closes)
+
+pub returns-then-not-is_done-clause-store : goal.returns-then-not-is_done-clause-store
+returns-then-not-is_done-clause-store g c =
+    let used = rw (c.used_key-used.ensures, c.look_up.ensures, c.brought_by-brought.ensures) at c.spend-reply.ensures.store in
+    rw (entering_change c.args.self.now c.args.caller c.args.op c.args.work c.unspent.result, entering_restarts c.args.op c.args.work, c.unspent.ensures.reply)
+    (goes_into g.D.Disk c.args.self.now.keys c.spend-reply.new.keys c.unspent.new.self.keys c.args.disk.now c.spend-reply.new.disk false (used_by (used_in c.args.self.now c.args.op (brought_by c.args.work).kind)) c.spend-reply.result
+    (closes_store (is_disk_fault c.spend-reply.result) c.args.op _ c.unspent.new.self c.unspent.ensures.closes) used)

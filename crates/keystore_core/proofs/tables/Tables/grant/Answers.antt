@@ -1,4 +1,4 @@
-use Rattle.std.proofs.Common.{◌≡◌, true, ap, sym, ◌∙◌}
+use Rattle.std.proofs.Common.{◌≡◌, Some, true, ap, refl, rules, sym, ◌∙◌}
 use Rattle.std.specs.Option.{option_copied}
 use Rattle.key_database.specs.Stands.{lasting}
 use Rattle.journal_records.specs.LastingPart.{Lasting, some_has_id}
@@ -6,6 +6,9 @@ use Rattle.rule_model.specs.Access.{id_of}
 use Rattle.rule_model.specs.Changes.{grant_number}
 use Rattle.rule_model.specs.Places.{has_grant_place}
 use Rattle.keystore_core.proofs.KeyTable.{found_live, may_grant}
+use Rattle.rule_model.specs.declared.event.Act.TheVariants as acts
+use Rattle.rule_model.specs.Replies.{no_fields}
+use Rattle.keystore_core.proofs.Reading.{writes}
 use Rattle.keystore_core.proofs.tables.Tables.grant.Goals as goal
 
 pub write_change-reply-requires-clause-can : goal.write_change-reply-requires-clause-can
@@ -20,3 +23,10 @@ write_change-reply-requires-clause-can g c =
           (ap (λ (part : Lasting). some_has_id id part.keys) same ∙ live) (ap (λ part. has_grant_place part id c.args.uid) same ∙ place.0) (place.1 ∙ sym (ap (λ part. grant_number part id c.args.uid) same)),
       (λ e. cc, λ e. c.in_ok-reserve_grant.ensures.room),
     )
+
+pub returns-clause-serves : goal.returns-clause-serves
+returns-clause-serves g c = λ setup past stands. rw (c.undrawn.ensures.reply, c.undrawn.ensures.job, c.undrawn.ensures.drawn)
+    (writes setup past c.args.self.now c.args.caller (acts.Grant c.args.key.now c.args.uid c.args.bits) stands c.requires.caller
+    (record { draws = refl; clients = refl; operations = refl; tickets = refl; restarts = refl; root = λ before. refl; boot = refl })
+    c.reserve_grant.new.self c.write_change-reply.new.keys (record no_fields { grant = Some c.in-Some-grant_place.grant }) _ c.write_change-reply.result
+    c.in_ok-reserve_grant.ensures.same c.requires.settled (search rules) c.write_change-reply.ensures.written (search rules) refl)

@@ -2,7 +2,7 @@ use Rattle.std.proofs.Common.{◌≡◌}
 use Rattle.std.specs.Option.{option_copied}
 use Rattle.journal_records.specs.LastingPart.{is_named}
 use Rattle.lasting_table.specs.TableView.{lasting_in}
-use Rattle.lasting_table.proofs.KeyRows.{found_again}
+use Rattle.key_maps.proofs.KeyRows.{found_again}
 use Rattle.lasting_table.proofs.lasting.LastingTable.by_name.Goals as goal
 
 pub returns-clause-again : goal.returns-clause-again

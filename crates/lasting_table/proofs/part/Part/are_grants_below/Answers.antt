@@ -1,6 +1,7 @@
 use Rattle.std.proofs.Common.{not, sym, ap, ◌∙◌}
 use Rattle.std.specs.Prelude.{is_some}
-use Rattle.lasting_table.proofs.Lengths.{grants_below, none_test}
+use Rattle.key_maps.proofs.Tests.{none_test}
+use Rattle.lasting_table.proofs.Lengths.{grants_below}
 use Rattle.lasting_table.proofs.part.Part.are_grants_below.Goals as goal
 
 pub returns : goal.returns

@@ -3,7 +3,7 @@ use Rattle.std.specs.List.{filter}
 use Rattle.journal_records.specs.LastingPart.{Lasting, is_named, without_keys}
 use Rattle.journal_records.specs.Storable.{key_rows_length}
 use Rattle.lasting_table.specs.Parts.{part_of}
-use Rattle.lasting_table.specs.Rows.{AreBelow}
+use Rattle.key_maps.specs.Rows.{AreBelow}
 use Rattle.lasting_table.proofs.Ends.{new_rows, below_new, with_new}
 use Rattle.lasting_table.proofs.Lengths.{bytes_push}
 use Rattle.lasting_table.proofs.part.Part.create.Goals as goal

@@ -3,7 +3,7 @@ use Rattle.std.specs.Prelude.{find}
 use Rattle.std.specs.Option.{option_copied}
 use Rattle.journal_records.specs.LastingPart.{is_named}
 use Rattle.lasting_table.specs.Parts.{part_of}
-use Rattle.lasting_table.proofs.KeyRows.{id_from_found}
+use Rattle.key_maps.proofs.KeyRows.{id_from_found}
 use Rattle.lasting_table.proofs.Ends.{end_of_none, end_of_named}
 use Rattle.lasting_table.proofs.part.Part.end_named.Goals as goal
 

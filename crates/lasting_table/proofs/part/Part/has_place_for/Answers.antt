@@ -2,7 +2,8 @@ use Rattle.std.proofs.Common.{◌≡◌, false, ◌∙◌, sym, ap, arith}
 use Rattle.std.specs.Prelude.{is_some, nat_lt}
 use Rattle.std.proofs.lemmas.Bool.{le-ltb}
 use Rattle.lasting_table.specs.Parts.{part_of}
-use Rattle.lasting_table.proofs.Ends.{copied_some, place_few, place_new, place_rebound}
+use Rattle.key_maps.proofs.Tests.{copied_some}
+use Rattle.lasting_table.proofs.Ends.{place_few, place_new, place_rebound}
 use Rattle.lasting_table.proofs.part.Part.has_place_for.Goals as goal
 use Rattle.tags.specs.declared.limits.TheConstants.{MOST_KEYS}
 

@@ -1,7 +1,7 @@
 use Rattle.std.proofs.Common.{◌∙◌, sym, ap}
 use Rattle.std.specs.Prelude.{is_some}
 use Rattle.grants.specs.Rows.{is_numbered}
-use Rattle.lasting_table.proofs.Ends.{any_is_found, copied_some}
+use Rattle.key_maps.proofs.Tests.{any_is_found, copied_some}
 use Rattle.lasting_table.proofs.part.Part.meets.Goals as goal
 
 pub returns-in-Ungrant : goal.returns-in-Ungrant

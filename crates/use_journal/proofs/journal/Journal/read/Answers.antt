@@ -10,8 +10,8 @@ returns-in_err-find_header-clause-missing g c =
 
 pub returns-clause-begins : goal.returns-clause-begins
 returns-clause-begins g c = record {
-  over = c.at.ensures.over;
-  place = omega (arith, c.at.ensures.place);
+  over = c.reading.ensures.over;
+  place = omega (arith, c.reading.ensures.place);
   records = tt;
-  images = λ image left. c.at.ensures.begins image;
+  images = λ image left. c.reading.ensures.begins image;
 }

@@ -1,0 +1,10 @@
+pub mod Afters
+pub mod Counting
+pub mod Entries
+pub mod Firsts
+pub mod Indexing
+pub mod KeyRows
+pub mod NameOrder
+pub mod Nexts
+pub mod Tests
+pub mod Whole

@@ -1,5 +1,0 @@
-use Rattle.lasting_table.proofs.Counting.{raised}
-use Rattle.lasting_table.proofs.counts.raise.Goals as goal
-
-pub returns-clause-ok : goal.returns-clause-ok
-returns-clause-ok c = raised c.args.counts.now c.insert.new.self c.args.owner c.count_of-count.result c.count_of-count.ensures c.in_ok-insert.ensures.updates

@@ -1,6 +1,0 @@
-use Rattle.std.proofs.Common.{◌∙◌}
-use Rattle.lasting_table.proofs.Entries.{lookup_is}
-use Rattle.lasting_table.proofs.maps.KeyMaps.numbered.Goals as goal
-
-pub returns : goal.returns
-returns c = rw (← c.self.view_is) (c.get.ensures.value ∙ lookup_is c.args.id _ c.self.invariant.numbered)
