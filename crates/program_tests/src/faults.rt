@@ -1,14 +1,21 @@
 //! Every device call of every act that writes a record fails, for once or for good: what is opened after it is what was
 //! acknowledged.
 
-use crate::script::{FRESH, Outside, ROOM};
+use crate::script::{FRESH, Outside, ROOM, System};
 use disk_model::{MemoryDisk, StoppedDisk};
 use ks_outside::Disk;
 use std::alloc::Global;
 
-/// An app, the system, another app, and an app of another user. Sixteen of the calls write a record; the last one does not,
-/// and settles what waits.
-static ACTS: [&str; 23] = [
+/// The system before an update, and what an app imports then.
+const OLDER: System = (140_000, 202_405);
+
+const OLD_KEY: &str = r#"{"t":[0,1000],"do":"connect","uid":10001}
+{"t":[0,1000],"c":1,"do":"importKey","key":{"domain":0,"alias":"v"},"params":[["PURPOSE",2],["PURPOSE",3],["ALGORITHM",128],["DIGEST",4],["MIN_MAC_LENGTH",64],["NO_AUTH_REQUIRED",true]],"format":3,"material":"0b0b0b0b0b0b0b0b0b0b0b0b0b0b0b0b0b0b0b0b"}
+"#;
+
+/// An app, the system, another app, and an app of another user, behind the update. Seventeen of the calls write a record; the
+/// last one does not, and settles what waits.
+static ACTS: [&str; 24] = [
     r#"{"t":[0,1000],"do":"connect","uid":10001}"#,
     r#"{"t":[0,1000],"do":"connect","uid":1000}"#,
     r#"{"t":[0,1000],"do":"connect","uid":10002}"#,
@@ -21,6 +28,7 @@ static ACTS: [&str; 23] = [
     r#"{"t":[0,1000],"c":1,"do":"ungrant","key":{"domain":0,"alias":"a"},"uid":10002}"#,
     r#"{"t":[0,1000],"c":1,"do":"grant","key":{"domain":0,"alias":"g"},"uid":10002,"bits":256}"#,
     r#"{"t":[0,1000],"c":1,"do":"importKey","key":{"domain":0,"alias":"a"},"params":[["PURPOSE",2],["PURPOSE",3],["ALGORITHM",128],["DIGEST",4],["MIN_MAC_LENGTH",64],["NO_AUTH_REQUIRED",true]],"format":3,"material":"0b0b0b0b0b0b0b0b0b0b0b0b0b0b0b0b0b0b0b0b"}"#,
+    r#"{"t":[0,1000],"c":1,"do":"upgradeKey","key":{"domain":0,"alias":"v"}}"#,
     r#"{"t":[0,1000],"c":1,"do":"importKey","key":{"domain":0,"alias":"u"},"params":[["PURPOSE",2],["PURPOSE",3],["ALGORITHM",128],["DIGEST",4],["MIN_MAC_LENGTH",64],["NO_AUTH_REQUIRED",true],["USAGE_COUNT_LIMIT",2]],"format":3,"material":"0b0b0b0b0b0b0b0b0b0b0b0b0b0b0b0b0b0b0b0b"}"#,
     r#"{"t":[0,1000],"c":1,"do":"createOperation","key":{"domain":0,"alias":"u"},"params":[["PURPOSE",2],["MAC_LENGTH",256]]}"#,
     r#"{"t":[0,1000],"c":1,"do":"finish","op":1,"input":"00"}"#,
@@ -34,7 +42,8 @@ static ACTS: [&str; 23] = [
     r#"{"t":[0,1000],"c":1,"do":"getNumberOfEntries","domain":0}"#,
 ];
 
-/// What asks for all that lasts: the keys of each owner, the uses that are left, the grants, and the next two numbers.
+/// What asks for all that lasts: the keys of each owner, the uses that are left, the list of the older key and whether it opens, the grants,
+/// and the next two numbers.
 const ASKS: &str = r#"{"t":[0,1000],"do":"connect","uid":10001}
 {"t":[0,1000],"do":"connect","uid":1000}
 {"t":[0,1000],"do":"connect","uid":10002}
@@ -44,6 +53,8 @@ const ASKS: &str = r#"{"t":[0,1000],"do":"connect","uid":10001}
 {"t":[0,1000],"c":4,"do":"listEntriesBatched","domain":0}
 {"t":[0,1000],"c":1,"do":"getKeyEntry","key":{"domain":0,"alias":"u"}}
 {"t":[0,1000],"c":1,"do":"getKeyEntry","key":{"domain":0,"alias":"l"}}
+{"t":[0,1000],"c":1,"do":"getKeyEntry","key":{"domain":0,"alias":"v"}}
+{"t":[0,1000],"c":1,"do":"createOperation","key":{"domain":0,"alias":"v"},"params":[["PURPOSE",2],["MAC_LENGTH",256]]}
 {"t":[0,1000],"c":3,"do":"createOperation","key":{"domain":1,"nspace":1},"params":[]}
 {"t":[0,1000],"c":3,"do":"createOperation","key":{"domain":1,"nspace":2},"params":[]}
 {"t":[0,1000],"c":1,"do":"createOperation","key":{"domain":0,"alias":"l"},"params":[["PURPOSE",2],["MAC_LENGTH",256]]}
@@ -53,10 +64,10 @@ const ASKS: &str = r#"{"t":[0,1000],"do":"connect","uid":10001}
 "#;
 
 /// Which of the calls write a record.
-static WRITERS: [usize; 16] = [4, 5, 6, 7, 8, 9, 10, 11, 12, 14, 15, 17, 18, 19, 20, 21];
+static WRITERS: [usize; 17] = [4, 5, 6, 7, 8, 9, 10, 11, 12, 13, 15, 16, 18, 19, 20, 21, 22];
 
-/// How many calls of the device formatting and the opening of an empty store make, and how many a record.
-const BEFORE: u64 = 12;
+/// How many calls of the device come before the calls: formatting makes six, the openings six each, and a record four.
+const BEFORE: u64 = 22;
 
 const A_RECORD: u64 = 4;
 
@@ -91,11 +102,27 @@ fn asked<D: Disk>(alloc: Global, disk: &mut D) -> Option<String> {
 /// What a script gets, and what lasts then.
 type Told = (Option<String>, Option<String>);
 
+/// What a script gets on the disk on which the older key was made.
+fn behind_update<D: Disk>(alloc: Global, disk: &mut D, script: &str) -> Option<String> {
+    let before = Outside {
+        system: OLDER,
+        script: OLD_KEY,
+        ..FRESH
+    };
+    drop(before.text(alloc, disk));
+    let outside = Outside {
+        words: "run",
+        script,
+        ..FRESH
+    };
+    outside.text(alloc, disk)
+}
+
 /// Such calls over a disk on which one call fails, or none.
 fn after_fault(alloc: Global, failing: &[u64], script: &str) -> Told {
     match MemoryDisk::with_room(alloc, ROOM, failing) {
         Ok(mut disk) => {
-            let given = Outside { script, ..FRESH }.text(alloc, &mut disk);
+            let given = behind_update(alloc, &mut disk, script);
             let lasts = asked(alloc, &mut disk);
             drop(disk);
             (given, lasts)
@@ -109,7 +136,7 @@ fn after_stop(alloc: Global, passed: u64, script: &str) -> Told {
     match MemoryDisk::with_room(alloc, ROOM, &[]) {
         Ok(disk) => {
             let mut stopped = StoppedDisk::new(disk, passed);
-            let given = Outside { script, ..FRESH }.text(alloc, &mut stopped);
+            let given = behind_update(alloc, &mut stopped, script);
             let mut disk = stopped.into_inner();
             let lasts = asked(alloc, &mut disk);
             drop(disk);

@@ -37,4 +37,6 @@ mod trace_runs;
 #[cfg(test)]
 mod traces;
 #[cfg(test)]
+mod upgrades;
+#[cfg(test)]
 mod uses;
