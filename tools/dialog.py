@@ -61,9 +61,9 @@ class Told:
             self.blobs[self.lines] = bytes.fromhex(json.loads(reply)["blob"])
 
 
-def replies_of(process, lines):
+def replies_of(process, lines, told=None):
     """The replies of a program to lines, each of which it gets once the one before is answered."""
-    told = Told()
+    told = Told() if told is None else told
     for line in lines:
         try:
             process.stdin.write(told.filled(line) + b"\n")

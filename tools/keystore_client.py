@@ -34,6 +34,7 @@ are a `ConnectionEnded`, and so is what comes where another program answers. The
     python3 tools/keystore_client.py count
     python3 tools/keystore_client.py grant m 10002
     python3 tools/keystore_client.py ungrant m 10002
+    python3 tools/keystore_client.py upgrade --all
     python3 tools/keystore_client.py delete m --json
     python3 tools/keystore_client.py unlock 0
     python3 tools/make_token.py 7 --time 5000 | python3 tools/keystore_client.py token -
@@ -99,12 +100,13 @@ CODES = {
     ),
     -33: (
         "INVALID_KEY_BLOB",
-        "the blob does not open, or not for this device and these ids; the operation's key has ended",
+        "the blob does not open, or not for this device and these ids; the key is of a newer system than the device's; "
+        "the operation's key has ended",
     ),
     -38: (
         "INVALID_ARGUMENT",
-        "KeyMint's: a tag that does not repeat stands twice; tags that do not go together, or a limit of 0; at a "
-        "finish, without a rule, the padding is none",
+        "KeyMint's: a tag that does not repeat stands twice; tags that do not go together, or a limit of 0; the key is "
+        "of a newer system than the device's; at a finish, without a rule, the padding is none",
     ),
     -39: ("UNSUPPORTED_TAG", "a key of domain 3 has a count that only stored keys have"),
     -40: ("INVALID_TAG", "the list does not read; additional data comes where none is taken"),
@@ -118,7 +120,7 @@ CODES = {
     -57: ("INVALID_MAC_LENGTH", "the mac or tag is shorter than the key allows"),
     -58: ("MISSING_MIN_MAC_LENGTH", "the key needs a least length of its macs or tags"),
     -59: ("UNSUPPORTED_MIN_MAC_LENGTH", "that least length is none that the digest or GCM has"),
-    -62: ("KEY_REQUIRES_UPGRADE", "no call answers it here"),
+    -62: ("KEY_REQUIRES_UPGRADE", "the key is of an older system than the device's, and works on once it was upgraded"),
     -72: ("DEVICE_LOCKED", "the caller's user is locked"),
     -73: ("EARLY_BOOT_ENDED", "early boot has ended"),
     4: ("SYSTEM_ERROR", "a call of the disk failed; a later call tells what became of a change"),
@@ -131,7 +133,6 @@ CODES = {
     21: ("TOO_MUCH_DATA", "an input or a signature is too long"),
     1001: ("RUN_FULL", "the service's run is full, and the call added nothing: it has to be started again"),
     1002: ("STORE_FULL", "there is no place for one more key or grant, or no number for it"),
-    1003: ("JOURNAL_FULL", "the record does not fit into the journal; nothing is changed"),
     1004: ("TOKENS_FULL", "there is no place for one more triple of user, authenticator and kind"),
     1005: ("ENTROPY_FAULT", "a draw of random bytes failed; the call changed nothing"),
     1006: ("NO_TICKET", "no step is out under the ticket"),
@@ -531,6 +532,11 @@ class Client:
     def abort(self, op):
         return self.call(9, u64(op))
 
+    def upgradeKey(self, key, params=parameters()):
+        """Seals a key anew for the system that the device runs now. The reply has `blob` where the key is handed in as
+        one; `params` has the application's id and data, where the key was made for any."""
+        return self.call(24, key.spelled(), counted(params))
+
     # IKeystoreService
 
     def getKeyEntry(self, key):
@@ -918,6 +924,33 @@ def do_count(service, _):
     return service.connected().getNumberOfEntries().fields
 
 
+def upgraded(client, alias):
+    """Upgrades a key; an entry of it where that changed its list."""
+    key = Key(alias=alias)
+    before = client.getKeyEntry(key)
+    client.upgradeKey(key)
+    return [] if client.getKeyEntry(key).list == before.list else [(text_bytes(alias), before.key)]
+
+
+def do_upgrade(service, words):
+    """Upgrades a key, or all of the caller's, and tells those that were changed; what is refused of all of them stops
+    no other."""
+    if words.all == (words.key is not None):
+        raise ValueError("a key is named, or --all is given")
+    if not words.all:
+        return {"entries": upgraded(service.connected(), words.key)}
+    entries, refused = [], []
+    for alias, _ in do_list(service, None)["entries"]:
+        try:
+            entries += upgraded(service.connected(), alias)
+        except ServiceError as error:
+            refused.append(f"{alias.decode(errors='replace')}: {error}")
+    show({"entries": entries}, words.json)
+    if refused:
+        raise Refused("; ".join(refused))
+    return None
+
+
 def do_grant(service, words):
     return service.connected().grant(Key(alias=words.key), words.grantee, words.bits).fields
 
@@ -1089,6 +1122,9 @@ def words_of(words):
     granted.add_argument("--bits", type=number(32), default=USE, help=f"what it may do ({USE}, use)")
     command("ungrant", do_ungrant, "take a grant back", "key").add_argument("grantee", type=number(32), metavar="uid")
     command("delete", do_delete, "delete a key", "key")
+    anew = command("upgrade", do_upgrade, "seal a key anew for the device's system, and tell it where it changed")
+    anew.add_argument("key", nargs="?")
+    anew.add_argument("--all", action="store_true", help="all of the caller's keys")
     command("token", do_token, "bring a token, as tools/make_token.py prints it", "file", of_system=True)
     for name, does, text in (
         ("lock", do_lock, "the device is locked for a user"),

@@ -11,6 +11,7 @@ share with the service. It is no part of the program: a person tries with it a k
 import argparse
 import json
 
+from keystore.device import device_of
 from keystore.tokens import DEMO_KEY, mac_of
 
 
@@ -38,9 +39,10 @@ def device_key(path):
     """The second of the three keys of a file device.key."""
     with open(path, "rb") as file:
         data = file.read()
-    if len(data) != 96:
-        raise argparse.ArgumentTypeError(f"{path} has not 96 bytes")
-    return data[32:64]
+    try:
+        return device_of(data)[32:64]
+    except ValueError as fault:
+        raise argparse.ArgumentTypeError(f"{path}: {fault}") from fault
 
 
 def main():

@@ -3,11 +3,12 @@
 
     python3 tools/release.py [--folder FOLDER]
 
-It has the program, the client, the tools that hand in tokens, the documents, the man page, the examples and LICENSE, as
-they are committed, and a file RELEASE with the commit, the digest of the sources, the logic's line of `rt version` and
-the program's sha256. The same commit and program give the same bytes, as far as `zlib` packs them alike: names in
-order, the commit's time, no owner. Beside it stands a file .sha256 for `sha256sum -c --ignore-missing`, with the sums
-of the archive and of the program in it. The program must be that of the commit's sources.
+It has the program, the client, the tools that make devices and hand in tokens, the documents, the man page, the
+examples and LICENSE, as they are committed, and a file RELEASE with the commit, the digest of the sources, the logic's
+line of `rt version` and the program's sha256. The same commit and program give the same bytes, as far as `zlib` packs
+them alike: names in order, the commit's time, no owner. Beside it stands a file .sha256 for `sha256sum -c
+--ignore-missing`, with the sums of the archive and of the program in it. The program must be that of the commit's
+sources.
 
 Who puts the archive, or its .sha256 alone, into the top folder is told by `./keystore2 build` whether the program
 that it proved has the bytes of the release."""
@@ -25,13 +26,16 @@ from build import BUILT, digest, is_of
 from keystore.harness import TOP, folder_at, parser_of
 
 KEPT = ["README.md", "CHANGELOG.md", "SECURITY.md", "LICENSE", "docs", "examples"]
-# The client, and by which docs/EXAMPLES.md hands in tokens.
+# The client, and by which docs/EXAMPLES.md makes devices and hands in tokens.
 TOOLS = [
     "keystore_client.py",
     "dialog.py",
+    "make_device.py",
     "make_token.py",
     "keystore/__init__.py",
+    "keystore/device.py",
     "keystore/harness.py",
+    "keystore/spelling.py",
     "keystore/tokens.py",
 ]
 

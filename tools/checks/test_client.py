@@ -47,6 +47,7 @@ def one_of_each(client):
     client.earlyBootEnded()
     client.clearNamespace(2, 100)
     client.userRemoved(10)
+    client.upgradeKey(alias, b"\x00\x03")
 
 
 def refusal(body):

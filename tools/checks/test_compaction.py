@@ -1,6 +1,6 @@
 """A store that has grown is written anew into its other area, once it is due and not before, whatever comes amid it.
 
-300 imports under one alias are compacted before the 237th, whose records and snapshot have known lengths; so is a
+300 imports under one alias are compacted before the 213th, whose records and snapshot have known lengths; so is a
 longer run, there and back, with uses, grants and a cleared owner between, whose replies are the second model's. Each
 call of the compaction fails, fails for good, or is the last that the process makes: the change that compacted is
 answered 4 and settled as lost, and what was acknowledged is found, in the run and in the next one. So it is where
@@ -24,9 +24,9 @@ from model.second_model import Service, reply_line
 
 UID, OTHER, SYSTEM = 10001, 10002, 1000
 # The bytes of a record that imports m, and of the snapshot of a store with that key alone.
-RECORD, SNAPSHOT = 281, 307
+RECORD, SNAPSHOT = 313, 339
 # Before this import the records have more than 65,536 bytes and twice the snapshot.
-DUE = 237
+DUE = 213
 LOOK = call(1, "getKeyEntry", key=named("m"))
 LOST = {"settled": "lost"}
 # As many keys as there may be.
@@ -71,7 +71,7 @@ class OnAStore(Case):
 
 
 class OneAlias(OnAStore):
-    def test_300_imports_are_compacted_before_the_237th(self):
+    def test_300_imports_are_compacted_before_the_213th(self):
         replies = self.ran(imports(DUE - 1))
         check("the keys", [it["key"] for it in replies[1:]], list(range(1, DUE)))
         store = self.store()

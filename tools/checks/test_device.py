@@ -11,6 +11,7 @@ import subprocess
 import time
 
 from keystore.cases import HAS_CIPHERS, Case, each, needs_ciphers
+from keystore.device import versions_of
 from keystore.harness import check, without_notices
 from keystore.lines import ASKED, BLOB, MAC_LIST, OK, PARAMS, begin, broken, call, connect, made, named, sealed, text_of
 from keystore.scratch import scratch_folder
@@ -21,6 +22,7 @@ if HAS_CIPHERS:
 
 RUN = ["run", "--fresh"]
 DEVICE, OTHER_DEVICE = bytes(range(96)), bytes(range(1, 97))
+SYSTEM, DEMO_SYSTEM = bytes.fromhex("00000007fffffffe"), bytes.fromhex("000222e0000316a6")
 # What stands in place of a file's content where a folder stands there.
 FOLDER = object()
 NO_DEVICE = ("", 2, "keystore2: bad device file")
@@ -56,6 +58,8 @@ MANY = [[1000 + number, 7, 16] for number in range(256)]
 WRONG_DEVICES = {
     "a byte too short": DEVICE[:-1],
     "a byte too long": DEVICE + b"\0",
+    "a byte of its system too short": DEVICE + SYSTEM[:-1],
+    "a byte behind its system": DEVICE + SYSTEM + b"\0",
     "one key": DEVICE[:32],
     "empty": b"",
     "a folder": FOLDER,
@@ -240,7 +244,9 @@ def check_made_blobs(program, device, files):
         parts = blobs.parts_of(blobs.unsealed(device, blob))
         more = [["KEY_SIZE", 160], ["ORIGIN", 2]] if number % 2 == 0 else [["KEY_SIZE", 256], ["ORIGIN", 0]]
         kept = blobs.list_of([*PARAMS, *more, ["CREATION_DATETIME", 1000]])
-        check("ids", (parts["root"], parts["app_id"], parts["app_data"], parts["encoded"]), (device[64:], *ids, kept))
+        kept = blobs.with_versions(kept, *versions_of(device))
+        found = (parts["root"], parts["app_id"], parts["app_data"], parts["encoded"])
+        check("ids", found, (device[64:96], *ids, kept))
         check("its bytes", blobs.blob_of(kept, parts["material"], *ids, nonce=blob[4:16], device=device), blob)
         nonces.add(blob[4:16])
         materials.add(parts["material"])
@@ -250,7 +256,7 @@ def check_made_blobs(program, device, files):
 
 
 def check_foreign_blobs(program, device, files):
-    encoded, material = blobs.list_of(PARAMS), b"\x0b" * 20
+    encoded, material = blobs.with_versions(blobs.list_of(PARAMS), *versions_of(device)), b"\x0b" * 20
     stranger = device[:32] + OTHER_DEVICE[32:]
     thief = OTHER_DEVICE[:32] + device[32:]
     cases = [
@@ -270,7 +276,7 @@ def check_tokens(program, device, files):
     token = {"challenge": 1, "user": 7, "authenticator": 0, "kind": 1, "time": 1000}
     keys = [
         (device[:32], broken(-30, "A7")),
-        (device[64:], broken(-30, "A7")),
+        (device[64:96], broken(-30, "A7")),
         (OTHER_DEVICE[32:64], broken(-30, "A7")),
         (device[32:64], OK),
     ]
@@ -288,7 +294,8 @@ def check_tokens(program, device, files):
 
 DEVICES = {
     "a device of its own": (DEVICE, {"device.key": DEVICE}),
-    "the demo device": (b"\1" * 32 + b"\2" * 32 + b"\3" * 32, {}),
+    "a device of its own, and its system": (DEVICE + SYSTEM, {"device.key": DEVICE + SYSTEM}),
+    "the demo device": (b"\1" * 32 + b"\2" * 32 + b"\3" * 32 + DEMO_SYSTEM, {}),
 }
 
 

@@ -12,12 +12,25 @@ import json
 import os
 import subprocess
 
-from compare.failing_disk import SETTLED, compare, kept_in, left_in
+from compare.failing_disk import SETTLED, compare, kept_in, left_by, left_in
 from keystore.cases import Case, each, needs_ciphers, needs_compiler
-from keystore.every_act import CONNECTS, EVERY_ACT, FAR, OTHER, OWNER, Line, finish, limited, look, writing
+from keystore.every_act import (
+    CONNECTS,
+    EVERY_ACT,
+    FAR,
+    MADE_BEFORE,
+    OLDER,
+    OTHER,
+    OWNER,
+    Line,
+    finish,
+    limited,
+    look,
+    writing,
+)
 from keystore.harness import check
 from keystore.lines import GRANT, begin, call, connect, named, numbered
-from keystore.runs import PATIENCE, make_store
+from keystore.runs import PATIENCE, make_store_on
 from keystore.store_bytes import StoreBytes
 from keystore.store_calls import How, StoreCalls
 from model.second_model import Service, reply_line
@@ -62,7 +75,7 @@ ONLY = {How.HAS_NO_ROOM: 1, How.IS_SHORT: 2}
 ASKED = [
     (uid, alias)
     for uid in (OWNER, OTHER, FAR)
-    for alias in ("free", "once", "twice", "drawn", "own", "far", "first", "second")
+    for alias in ("free", "once", "twice", "drawn", "own", "far", "first", "second", "old")
 ]
 
 
@@ -81,14 +94,14 @@ def rows_of(lines, output):
 
 
 def seen(reply):
-    return {name: reply[name] for name in ("code", "key", "uses") if name in reply}
+    return {name: reply[name] for name in ("code", "key", "uses", "list") if name in reply}
 
 
 def told_of(keys, uid, alias):
-    """What a look at a key tells: its number and the uses that are left."""
-    for number, (domain, nspace, name, uses) in keys.items():
+    """What a look at a key tells: its number, its list and the uses that are left."""
+    for number, (domain, nspace, name, uses, encoded) in keys.items():
         if (domain, nspace, name) == (0, uid, alias.encode()):
-            return {"code": 0, "key": number, **({"uses": uses} if uses else {})}
+            return {"code": 0, "key": number, "list": encoded.hex(), **({"uses": uses} if uses else {})}
     return {"code": 7}
 
 
@@ -98,8 +111,8 @@ def told_of(keys, uid, alias):
 class EachCall(Case):
     def show(self, name, way):
         self.calls, self.opened = StoreCalls(self.folder), set()
-        make_store(self.program, self.folder)
-        self.empty = self.store()
+        make_store_on(self.program, self.folder, OLDER, b"\n".join(text_of(MADE_BEFORE)) + b"\n")
+        self.before = self.store()
         self.lines = text_of(SCRIPTS[name])
         self.whole = self.ran(0, How.GOES_WELL).stdout
         self.size, calls = self.store().size, self.calls.calls()
@@ -110,8 +123,8 @@ class EachCall(Case):
                     self.show_call(number, way, number >= first)
 
     def ran(self, number, way):
-        """How a run over the script on an empty store ended, and what it answered."""
-        self.empty.write(self.folder / "store.ks")
+        """How a run over the script on the older store ended, and what it answered."""
+        self.before.write(self.folder / "store.ks")
         self.calls.begin(number, way)
         return subprocess.run(
             [self.program, "run"],
@@ -136,14 +149,14 @@ class EachCall(Case):
         elif is_open:
             check("the end", (done.returncode, len(answered)), (0, len(rows)))
         else:
-            check("the end", (done.returncode, done.stdout, self.store()), (DISK_FAULT, b"", self.empty))
+            check("the end", (done.returncode, done.stdout, self.store()), (DISK_FAULT, b"", self.before))
         if way == How.IS_SHORT:
             check(
                 "what was answered, and the size of what is left",
                 (done.stdout, self.store().size),
                 (self.whole, self.size),
             )
-        service, fault = compare(answered, SLOTS)
+        service, fault = compare(answered, SLOTS, left_by(text_of(MADE_BEFORE), OLDER))
         if fault is not None:
             raise AssertionError(fault)
         stores = [kept_in(store) for store in (service.store, service.waiting) if store is not None]
@@ -184,7 +197,7 @@ class Scripts(Case):
     @needs_ciphers
     def test_each_change_is_admitted(self):
         for name, lines in SCRIPTS.items():
-            service = Service(slots=SLOTS)
+            service = Service(slots=SLOTS, store=left_by(text_of(MADE_BEFORE), OLDER))
             for line, text in zip(lines, text_of(lines)):
                 before = kept_in(service.store)
                 reply = json.loads(reply_line(service, text))

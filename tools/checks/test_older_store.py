@@ -39,6 +39,8 @@ OLDER = StoreBytes.of(bytes.fromhex(KEPT["store"]))
 EMPTY_JOURNAL = journal_of(b"")
 DRAWN = 40
 OK, DISK_FAULT, CORRUPTED = 0, 6, 7
+REQUIRES_UPGRADE = -62
+NO_PARAMS = "0000"
 ENDED = (OK, b"", [])
 
 
@@ -97,18 +99,23 @@ class BroughtOver(OnAStore):
             with self.subTest(drawn=number):
                 self.check_opens("a drawn store", drawn_store(random.Random(number)))
 
+    def check_codes(self, what, lines, wanted):
+        """The codes of a run's replies."""
+        text = "".join(json.dumps(line) + "\n" for line in lines).encode()
+        status, said, _ = ended(self.program, ["run"], self.folder, text)
+        check(what, (status, [json.loads(it)["code"] for it in said.splitlines()]), (OK, wanted))
+
     def test_the_keys_work_on(self):
-        """The last use of a key is there, and gone behind it, in a run and in the next one."""
+        """A key's list has no versions, so it is upgraded first; its last use is there, and gone behind it, in a run
+        and in the next one."""
         OLDER.write(self.path)
         once = next(key for key in KEPT["part"]["keys"] if key["limit"] > 1 and key["left"] == 1)
         where = named(bytes.fromhex(once["alias"]).decode())
-        lines = [connect(once["nspace"]), begin(1, where), call(1, "finish", op=1, input="00"), begin(1, where)]
-        text = "".join(json.dumps(line) + "\n" for line in lines).encode()
-        status, said, _ = ended(self.program, ["run"], self.folder, text)
-        check("the uses", (status, [json.loads(it)["code"] for it in said.splitlines()]), (OK, [0, 0, 0, 7]))
-        text = "".join(json.dumps(line) + "\n" for line in [lines[0], lines[1]]).encode()
-        status, said, _ = ended(self.program, ["run"], self.folder, text)
-        check("the next run", (status, [json.loads(it)["code"] for it in said.splitlines()]), (OK, [0, 7]))
+        app, begins = connect(once["nspace"]), begin(1, where)
+        self.check_codes("a begin", [app, begins], [0, REQUIRES_UPGRADE])
+        uses = [begins, call(1, "finish", op=1, input="00"), begins]
+        self.check_codes("the uses", [app, call(1, "upgradeKey", key=where, params=NO_PARAMS), *uses], [0, 0, 0, 0, 7])
+        self.check_codes("the next run", [app, begins], [0, 7])
 
     def test_a_front_that_is_changed_later_is_told(self):
         OLDER.write(self.path)

@@ -14,10 +14,10 @@ import os
 import subprocess
 
 from keystore.cases import Case, each, needs_compiler
-from keystore.every_act import EVERY_ACT, Line
+from keystore.every_act import EVERY_ACT, MADE_BEFORE, OLDER, Line
 from keystore.harness import check
 from keystore.lines import call
-from keystore.runs import PATIENCE, once_it_listens, service
+from keystore.runs import PATIENCE, make_store_on, once_it_listens, service
 from keystore.store import AREAS, EMPTY, HEADER, MAGIC, NEWEST, SEAL, SELECTOR, read_store
 from keystore.store_bytes import StoreBytes
 from keystore.store_calls import How, Note, StoreCalls
@@ -102,11 +102,13 @@ class InARun(OverTheCalls):
         )
 
     def test_each_reply_leaves_behind_its_change(self):
-        self.ran("init")
+        make_store_on(self.program, self.folder, OLDER, text_of(MADE_BEFORE))
+        before = changes_in(self.store())
+        size = before[-1][1] + 1
         self.calls.begin()
         replies = self.ran("run", script=text_of(EVERY_ACT))
-        check("the replies", {json.loads(it)["code"] for it in replies}, {0, 7})
-        changes, size = iter(changes_in(self.store())), EMPTY.size
+        check("the replies", {json.loads(it)["code"] for it in replies}, {0, 7, -62})
+        changes = iter(changes_in(self.store())[len(before) :])
         wanted = [*OPENING, *reading(size)]
         for line in EVERY_ACT:
             if line.writes:

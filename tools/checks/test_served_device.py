@@ -10,6 +10,7 @@ import json
 import time
 
 from keystore.cases import HAS_CIPHERS, Case, each, needs_ciphers
+from keystore.device import versions_of
 from keystore.harness import check
 from keystore.runs import PATIENCE, make_store, once_it_listens, service
 from keystore.session import BAD_FRAMES, CLIENT, CONNECT, SESSION, replies_to
@@ -19,7 +20,8 @@ from keystore_client import Client, Key, ServiceError, parameters
 if HAS_CIPHERS:
     from keystore import blobs
 
-OWN_DEVICE, DEMO_DEVICE = bytes(range(96)), b"\1" * 32 + b"\2" * 32 + b"\3" * 32
+OWN_DEVICE = bytes(range(96))
+DEMO_DEVICE = b"\1" * 32 + b"\2" * 32 + b"\3" * 32 + bytes.fromhex("000222e0000316a6")
 OTHER_DEVICE = bytes(range(1, 97))
 # USE, GET_INFO, DELETE and MANAGE_BLOB, and what else a row may have.
 EVERY_BIT = 511
@@ -121,7 +123,7 @@ def check_boot(client, secret, others):
 def check_blobs(client, device, namespace):
     """A blob begins on its own device alone."""
     for maker, refusal in [(device, None), (OTHER_DEVICE, (-33, "B7")), (device[:32] + OTHER_DEVICE[32:], (-33, "B8"))]:
-        encoded = parameters(**FREE)
+        encoded = blobs.with_versions(parameters(**FREE), *versions_of(device))
         key = Key(domain=3, nspace=namespace, blob=blobs.blob_of(encoded, KEY, device=maker))
         told = answer(client.createOperation, key, SIGNING)
         check("a blob", is_admitted(told) or told, refusal or True)

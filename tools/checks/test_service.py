@@ -76,7 +76,7 @@ UNCALLED = {
 ENTRY = (
     "key 3\ndomain 0\nnspace 10001\nalias m\nlist PURPOSE 2, PURPOSE 3, ALGORITHM 128, KEY_SIZE 160, DIGEST "
     "4, MIN_MAC_LENGTH 64, "
-    "NO_AUTH_REQUIRED, CREATION_DATETIME ?, ORIGIN 2\n"
+    "NO_AUTH_REQUIRED, CREATION_DATETIME ?, ORIGIN 2, OS_VERSION 140000, OS_PATCHLEVEL 202406\n"
 )
 TURNS = [
     (["import", "m", "--kind", "hmac", "--material", "0b" * 20], "key 3\n", 0),

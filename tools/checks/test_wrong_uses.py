@@ -94,10 +94,12 @@ USAGES = [
 
 # Files of the device that are none, and what is said of them.
 DEVICES = [
-    (bytes(95), "it has 95 bytes, and must have 96"),
-    (b"", "it has 0 bytes, and must have 96"),
-    (bytes(97), "it has more than 96 bytes"),
-    (HOLES, "it has more than 96 bytes"),
+    (bytes(95), "it has 95 bytes, and must have 96 or 104"),
+    (b"", "it has 0 bytes, and must have 96 or 104"),
+    (bytes(97), "it has 97 bytes, and must have 96 or 104"),
+    (bytes(103), "it has 103 bytes, and must have 96 or 104"),
+    (bytes(105), "it has more than 104 bytes"),
+    (HOLES, "it has more than 104 bytes"),
     (FOLDER, "Is a directory (os error 21)"),
 ]
 ROW = "row {} is no array of exactly a uid, a namespace and permission bits, as [1000, 100, 509]"

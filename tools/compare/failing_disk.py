@@ -14,6 +14,7 @@ waits, and nowhere else.
 Then read_store.py reads the store that is left: its keys and grants are the model's, with the change that waits or
 without it. It needs a C compiler, `cc`. The exit status is 1 where a script differs."""
 import collections
+import copy
 import os
 import subprocess
 import tempfile
@@ -26,6 +27,7 @@ from compare.random_scripts import MOST_SECONDS, shown
 from keystore.store import lasting_in
 from keystore.store_bytes import StoreBytes
 from keystore.scratch import scratch_folder
+from keystore.lists import write_list
 from keystore.script_events import Malformed, event_of
 from make.script_maker import Maker, without_drawn
 from model.second_model import Service, reply_line, text_of
@@ -135,11 +137,18 @@ def served(program, maker, folder, library, seed):
     return rows, status
 
 
+def blobs_of(service):
+    return [key.blob for key in service.store.made]
+
+
 def writes(event, service):
     """Whether an event writes a record where it is admitted."""
     if event["act"] == "finish":
         operation = service.operations.get(event["op"])
         return operation is not None and operation.key is not None and operation.key.uses is not None
+    if event["act"] == "upgradeKey":
+        changed = copy.deepcopy(service)
+        return changed.reply(event)["code"] == 0 and blobs_of(changed) != blobs_of(service)
     return event["act"] in WRITING and not (
         event["act"] in ("generateKey", "importKey") and event["key"]["domain"] == 3
     )
@@ -180,9 +189,10 @@ def wanted(service, line, settled, reply):
     return reply_line(service, line)
 
 
-def compare(rows, slots):
-    """The service behind what a run told, by the model, or what differs first."""
-    service, told = Service(slots=slots), Told()
+def compare(rows, slots, store=None):
+    """The service behind what a run told, by the model over a store, a fresh one where none is given, or what differs
+    first."""
+    service, told = Service(slots=slots, store=store), Told()
     for place, (line, settled, reply) in enumerate(rows):
         spoken = told.filled(line)
         try:
@@ -197,18 +207,31 @@ def compare(rows, slots):
     return service, None
 
 
+def left_by(lines, versions):
+    """The model's store behind lines on a system."""
+    service = Service(versions=versions)
+    for line in lines:
+        reply_line(service, line)
+    return service.store
+
+
 def kept_in(store):
-    """The keys and grants of a model's store."""
-    keys = {key.number: (key.domain, key.nspace, key.alias, key.uses or 0) for key in store.live.values()}
+    """The keys, with their lists, and the grants of a model's store."""
+    keys = {
+        key.number: (key.domain, key.nspace, key.alias, key.uses or 0, write_list(key.params))
+        for key in store.live.values()
+    }
     return keys, {grant.number: (grant.key.number, grant.uid, grant.bits) for grant in store.grants.values()}
 
 
 def left_in(store):
-    """The keys and grants that the bytes of a store stand for, or None where they stand for none."""
+    """The same of what the bytes of a store stand for, or None where they stand for none."""
     lasting, wrong = lasting_in(store)
     if wrong is not None:
         return None
-    keys = {key["id"]: (key["domain"], key["nspace"], key["alias"], key["left"]) for key in lasting.keys}
+    keys = {
+        key["id"]: (key["domain"], key["nspace"], key["alias"], key["left"], key["list"]) for key in lasting.keys
+    }
     return keys, {row["grant"]: (row["key"], row["uid"], row["bits"]) for row in lasting.grants}
 
 

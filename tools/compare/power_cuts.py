@@ -9,9 +9,9 @@ and the new one. Such images are drawn, and each is opened: by the reader of `ke
 which tells the keys as they are there. What an image stands for is what the lines before the last reply left, or that
 with the line under way; what these leave is what the second model says.
 
-The scripts have each act that writes a record, with restarts; imports that are compacted, there and back; a use that is
-the last one as the change that compacts; a store of the first format that is brought over; and a run that makes a store
-with two areas empty, of whose bytes each is old or new."""
+The scripts have each act that writes a record, with restarts and a key of an older system; imports that are compacted,
+there and back; a use that is the last one as the change that compacts; a store of the first format that is brought
+over; and a run that makes a store with two areas empty, of whose bytes each is old or new."""
 import json
 import os
 import random
@@ -20,11 +20,11 @@ import sys
 import tempfile
 from pathlib import Path
 
-from compare.failing_disk import kept_in
-from keystore.every_act import CONNECTS, EVERY_ACT, finish, limited
+from compare.failing_disk import kept_in, left_by
+from keystore.every_act import CONNECTS, EVERY_ACT, MADE_BEFORE, OLDER, finish, limited
 from keystore.harness import TOOLS, add_program, parser_of
 from keystore.lines import APP, begin, call, connect, made, named
-from keystore.runs import PATIENCE
+from keystore.runs import PATIENCE, make_store_on
 from keystore.scratch import scratch_folder
 from keystore.store import EMPTY, SELECTOR, SLACK, Lasting, lasting_in, read_store
 from keystore.store_bytes import StoreBytes
@@ -57,7 +57,7 @@ def part_of(store):
 
 def outlined(part):
     """The keys and grants of it as the second model has them."""
-    keys = {it["id"]: (it["domain"], it["nspace"], it["alias"], it["left"]) for it in map(dict, part[0])}
+    keys = {it["id"]: (it["domain"], it["nspace"], it["alias"], it["left"], it["list"]) for it in map(dict, part[0])}
     return keys, {it["grant"]: (it["key"], it["uid"], it["bits"]) for it in map(dict, part[1])}
 
 
@@ -95,10 +95,11 @@ def other_bytes(draws, data):
 
 
 class Script:
-    """Lines over a store, and the words of the run."""
+    """Lines over a store, and the words of the run; the second model's store of the former, where it is not empty."""
 
-    def __init__(self, name, lines, store=EMPTY, words=("run",), is_exact=False):
+    def __init__(self, name, lines, store=EMPTY, words=("run",), is_exact=False, model=None):
         self.name, self.lines, self.store, self.words, self.is_exact = name, lines, store, words, is_exact
+        self.model = model
 
     def moments(self, program, calls, folder):
         """All moments of a run of it, and the parts that its replies leave, one behind the other."""
@@ -131,10 +132,10 @@ class Script:
         return moments, parts
 
     def check_parts(self, parts, replies):
-        """What the replies leave is what the second model says, where it begins with an empty store."""
-        if self.store is not EMPTY:
+        """What the replies leave is what the second model says, where it has the store before them."""
+        if self.store is not EMPTY and self.model is None:
             return
-        service = Service(slots=16)
+        service = Service(slots=16, store=self.model)
         for place, (line, reply) in enumerate(zip(self.lines, replies), 1):
             wanted = json.loads(reply_line(service, text_of([line]).rstrip(b"\n")))
             given = json.loads(reply)
@@ -221,10 +222,13 @@ def last_use_that_compacts(program, folder):
 def scripts(program, folder):
     with open(TOOLS / "checks/older_store.json", encoding="utf-8") as kept:
         older = StoreBytes.of(bytes.fromhex(json.load(kept)["store"]))
+    before = text_of([it.members for it in MADE_BEFORE])
+    make_store_on(program, folder, OLDER, before)
+    old, model = StoreBytes.read(folder / "store.ks"), left_by(before.splitlines(), OLDER)
     imports = [connect(UID), *[made(1, named("m"))] * 620]
     both = ran(program, folder, imports)
     return [
-        Script("every act", [it.members for it in EVERY_ACT]),
+        Script("every act", [it.members for it in EVERY_ACT], old, model=model),
         Script("imports", imports),
         Script("a last use that compacts", last_use_that_compacts(program, folder)),
         Script("a store of the first format", [], older),

@@ -3,7 +3,8 @@
     tools/ks compare random_scripts SEED COUNT [--program PATH] [--runs N]
 
 With --runs each script is run over a fresh store, and N - 1 others after it over what the one before left, in the
-same folder, so that what lasts is compared too. The same seed makes the same scripts. Of what is drawn only
+same folder, so that what lasts is compared too; before each run but the first the versions of the device rise, fall
+or stay. The same seed makes the same scripts. Of what is drawn only
 challenges and blobs can be seen in them: a line whose reply would tell drawn bytes of another kind, or that would
 make a usable key of them, is left out. So the randomness of the device does not matter. A token may have the
 challenge of an operation, and a key the blob of another line; these are filled in as the program told them, so the
@@ -13,18 +14,28 @@ and how many scripts differ. The exit status is 1 where one differs."""
 import collections
 import itertools
 import json
+import random
 import subprocess
 import tempfile
 import threading
+from pathlib import Path
 
 from dialog import replies_of
+from keystore.device import DEMO_DEVICE, with_system
 from keystore.harness import add_program, parser_of
 from make.script_maker import Maker, without_drawn
 from keystore.scratch import scratch_folder
+from model.values import DEMO_VERSIONS
 
 # How many seconds a run may take, and how many characters of a line are printed.
 MOST_SECONDS = 60
 MOST_SHOWN = 400
+
+
+def next_versions(seed, versions):
+    """The versions of a device's system at its next run: each is one more or less than before, or stays."""
+    drawn = random.Random(f"versions {seed}")
+    return tuple(value + drawn.choice([-1, 0, 0, 1, 1]) for value in versions)
 
 
 def replies_to(program, maker, folder, is_fresh):
@@ -73,10 +84,13 @@ def print_tally(replies):
 
 def scripts_of(program, seed, runs):
     """The makers of scripts over one store, each with what the program gave and its fault."""
-    store = None
+    store, versions = None, DEMO_VERSIONS
     with scratch_folder() as folder:
         for run in range(runs):
-            maker = Maker(f"{seed} {run}" if run else seed, store)
+            if run:
+                versions = next_versions(f"{seed} {run}", versions)
+                (Path(folder) / "device.key").write_bytes(with_system(DEMO_DEVICE, *versions))
+            maker = Maker(f"{seed} {run}" if run else seed, store, versions)
             maker.script()
             yield maker, *replies_to(program, maker, folder, store is None)
             store = maker.service.store

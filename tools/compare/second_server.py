@@ -38,6 +38,7 @@ ACTS = {
     19: ("earlyBootEnded", []),
     20: ("clearNamespace", OWNER),
     21: ("userRemoved", [("user", U32)]),
+    24: ("upgradeKey", KEYED),
 }
 TOKEN = [("challenge", U64), ("user", U64), ("authenticator", U64), ("kind", U32), ("time", U64)]
 NUMBERS = {

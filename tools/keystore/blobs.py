@@ -8,15 +8,23 @@ from typing import Any
 from cryptography.exceptions import InvalidTag
 from cryptography.hazmat.primitives.ciphers.aead import AESGCM
 
+from keystore.device import DEMO_DEVICE, SECRETS
 from keystore.lists import BOOL, BYTES, TAGS, ListFault, Params, read_list, write_list
 from keystore.spelling import Reader, Short, counted, optional
 
 MAGIC = bytes.fromhex("4b534231")
-DEMO_DEVICE = b"\x01" * 32 + b"\x02" * 32 + b"\x03" * 32
 
 
 class NoBlob(Exception):
     """Bytes that are no blob of the device."""
+
+
+def with_versions(encoded: bytes, os: int, patch: int) -> bytes:
+    """A list with these versions in place of its own; a text that is no list stays as it is."""
+    try:
+        return write_list({**read_list(encoded), "OS_VERSION": [os], "OS_PATCHLEVEL": [patch]})
+    except ListFault:
+        return encoded
 
 
 def list_of(params: Iterable[tuple[str, Any]]) -> bytes:
@@ -47,7 +55,8 @@ def blob_of(
     device: bytes = DEMO_DEVICE,
 ) -> bytes:
     """The blob of a list and a material, for the device's own root of trust where none is given."""
-    return seal(device, nonce, text_of(device[64:] if root is None else root, app_id, app_data, encoded, material))
+    own = device[64:SECRETS] if root is None else root
+    return seal(device, nonce, text_of(own, app_id, app_data, encoded, material))
 
 
 def unsealed(device: bytes, blob: bytes) -> bytes:

@@ -1,9 +1,10 @@
 """A script in which each act that writes a record comes, with looks at what it left, held work and two restarts; and
-which of its lines write."""
+which of its lines write. It follows a run on an older system, which made a key."""
 from __future__ import annotations
 
 from typing import Any, NamedTuple
 
+from keystore.device import DEMO_OS, DEMO_PATCH
 from keystore.lines import APP, GRANT, PARAMS, begin, call, connect, made, named, numbered
 
 OWNER, OTHER, SYSTEM, FAR = 10001, 10002, 1000, 110001
@@ -34,6 +35,9 @@ def look(client: int, alias: str) -> Line:
 
 
 CONNECTS = [Line(connect(uid)) for uid in (OWNER, OTHER, SYSTEM, FAR)]
+# The older system, and what an app makes on it.
+OLDER = DEMO_OS, DEMO_PATCH - 1
+MADE_BEFORE = [CONNECTS[0], writing(made(1, named("old")))]
 RESTART = Line({"t": [0, 1000], "do": "restart"})
 ROOT = "5a" * 32
 EVERY_ACT = [
@@ -54,6 +58,10 @@ EVERY_ACT = [
     writing(call(1, "deleteKey", key=named("drawn"))),
     writing(call(1, "grant", key=named("twice"), uid=OTHER, bits=260)),
     writing(call(1, "ungrant", key=named("twice"), uid=OTHER)),
+    Line(begin(1, named("old"))),
+    writing(call(1, "upgradeKey", key=named("old"))),
+    Line(call(1, "upgradeKey", key=named("old"))),
+    look(1, "old"),
     RESTART,
     *CONNECTS,
     look(5, "twice"),

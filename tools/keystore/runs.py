@@ -14,8 +14,9 @@ import time
 from collections.abc import Callable, Iterable, Iterator, Mapping, Sequence
 from pathlib import Path
 from types import TracebackType
-from typing import IO, Any, TypeVar
+from typing import IO, Any, NamedTuple, TypeVar
 
+from keystore.device import DEMO_DEVICE, with_system
 from keystore.harness import SLOWER, Word, check, cut, without_notices
 from keystore.scratch import scratch_folder
 
@@ -117,6 +118,28 @@ def words_of(script: Path) -> list[str]:
     return words.read_text(encoding="utf-8").split() if words.exists() else []
 
 
+class Part(NamedTuple):
+    """What one run has of a script: its lines, and the versions of its device's system, or None for the demo device."""
+
+    lines: list[bytes]
+    versions: tuple[int, int] | None = None
+
+
+def parts_of(script: Path) -> list[Part]:
+    """The runs of a script over one store, one after another: a single one where no file .systems stands beside it,
+    and else one for each of its rows, the versions of the operating system and of its patches, and how many lines."""
+    lines, rows = script.read_bytes().removesuffix(b"\n").split(b"\n"), script.with_suffix(".systems")
+    if not rows.exists():
+        return [Part(lines)]
+    parts, begin = [], 0
+    for row in rows.read_text(encoding="utf-8").splitlines():
+        os_version, patch, count = map(int, row.split())
+        parts.append(Part(lines[begin : begin + count], (os_version, patch)))
+        begin += count
+    check(f"the lines of the runs of {script.name}", begin, len(lines))
+    return parts
+
+
 class Run:
     """A run that is asked line by line. Where it is left before its end it is killed, and where it takes too long,
     so that nobody waits for good."""
@@ -177,6 +200,15 @@ class Run:
 def make_store(program: Word, folder: Word) -> None:
     """Makes an empty store."""
     check("init", ended(program, ["init"], folder), (0, b"", []))
+
+
+def make_store_on(program: Word, folder: Path, versions: tuple[int, int], script: bytes) -> None:
+    """Makes a store by a run over a script on a device with these versions of its system, whose file goes with it."""
+    device = folder / "device.key"
+    device.write_bytes(with_system(DEMO_DEVICE, *versions))
+    status, _, fault = ended(program, ["run", "--fresh"], folder, script)
+    check("the run on another system", (status, fault), (0, []))
+    device.unlink()
 
 
 @contextlib.contextmanager

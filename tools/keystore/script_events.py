@@ -270,6 +270,7 @@ FIELDS: dict[str, Callable[[Members], Members]] = {
     "finish": finish_fields,
     "leave": leave_fields,
     "abort": operation_fields,
+    "upgradeKey": key_fields,
     "getKeyEntry": named_fields,
     "deleteKey": named_fields,
     "grant": grant_fields,

@@ -4,7 +4,8 @@ The blobs are made by tools/blobs.py for the demo device, and the replies stand 
 give them, each at its line. A blob that is "line N" is filled in when the script is run (`tools/dialog.py`)."""
 import itertools
 
-from keystore.blobs import DEMO_DEVICE, blob_of, list_of, seal, text_of
+from keystore.blobs import blob_of, list_of, seal, text_of
+from keystore.device import DEMO_DEVICE, DEMO_OS, DEMO_PATCH
 from keystore.lines import (
     APP,
     ASKED,
@@ -31,7 +32,7 @@ from keystore.script_events import encoded_list
 SYSTEM, OWN = 1, 2
 UNREADABLE, OTHER = broken(-33, "B7"), broken(-33, "B8")
 MATERIAL = b"\x0b" * 20
-ROOT = DEMO_DEVICE[64:]
+ROOT = DEMO_DEVICE[64:96]
 # The mac of "Hi There" under twenty bytes 0b: RFC 4231.
 HI_THERE = {"code": 0, "out": "b0344c61d8db38535ca8afceaf0bf12b881dc200c9833da726e9376c2e32cff7"}
 TEXT = "4869205468657265"
@@ -46,6 +47,16 @@ CIPHER_LIST = [
     ["CALLER_NONCE", True],
     ["NO_AUTH_REQUIRED", True],
 ]
+
+
+def of_system(os, patch):
+    """The versions of a system, in a list; None for one that the list does not have."""
+    return [[name, value] for name, value in [("OS_VERSION", os), ("OS_PATCHLEVEL", patch)] if value is not None]
+
+
+def own_list(params):
+    """A list of the demo device's own system."""
+    return list_of([*params, *of_system(DEMO_OS, DEMO_PATCH)])
 
 
 def with_ids(params, app_id, app_data):
@@ -100,7 +111,7 @@ def ids_in_order(keys, begun):
     rows.put(call(OWN, "grant", key=named("shared"), uid=10002, bits=260), {"code": 0, "grant": 1})
     rows.put(begin(3, numbered(GRANT, 1)), OTHER)
     rows.works(begin(3, numbered(GRANT, 1), with_ids(ASKED, "6162", "6163")))
-    kept = list_of([*PARAMS, ["KEY_SIZE", 160], ["CREATION_DATETIME", 1000], ["ORIGIN", 2]])
+    kept = own_list([*PARAMS, ["KEY_SIZE", 160], ["CREATION_DATETIME", 1000], ["ORIGIN", 2]])
     entry = {"code": 0, "key": rows.keys, "domain": 0, "nspace": 10001, "alias": "shared", "list": kept.hex()}
     rows.put(call(3, "getKeyEntry", key=numbered(GRANT, 1)), entry)
     rows.put(
@@ -115,7 +126,7 @@ def ids_in_order(keys, begun):
 
 def drawn_blob(app_id, app_data, kept, length):
     """The reply to a creation, of whose blob the start and the length are known."""
-    text = text_of(ROOT, app_id, app_data, list_of(kept), bytes(length))
+    text = text_of(ROOT, app_id, app_data, own_list(kept), bytes(length))
     return {"code": 0, "blob": "4b534231" + "?" * (2 * (12 + len(text) + 16))}
 
 
@@ -184,7 +195,7 @@ def domain():
     rows.rows += refused_creations()
     lines = made_blobs(rows)
     begins_on_made(rows, lines)
-    own = blob_of(list_of(PARAMS), MATERIAL).hex()
+    own = blob_of(own_list(PARAMS), MATERIAL).hex()
     for client, nspace in [(OWN, 100), (OWN, 0), (SYSTEM, 0), (SYSTEM, 101)]:
         for key in [sealed(own, nspace), sealed("", nspace), sealed("00", nspace)]:
             rows.put(begin(client, key), broken(6, "B3"))
@@ -194,6 +205,7 @@ def domain():
         rows.put(begin(9, key), broken(20, "B1"))
     for blob in [own, "", "00"]:
         rows.put(begin(SYSTEM, sealed(blob), "00"), broken(-40, "B6"))
+    rows.put(begin(SYSTEM, sealed(blob_of(list_of(PARAMS), MATERIAL).hex())), broken(-62, "B23"))
     for key in [sealed(own), {**sealed(own), "alias": ""}, {**sealed(own.upper()), "alias": "first"}]:
         rows.works(begin(SYSTEM, key))
         rows.works(begin(SYSTEM, key, forced=True))
@@ -213,7 +225,7 @@ def domain():
 
 # Blobs that were made elsewhere: each fault alone and with others, behind a right tag or a wrong one.
 
-LIST = list_of(PARAMS)
+LIST = own_list(PARAMS)
 OWN_BLOB = blob_of(LIST, MATERIAL, b"ab", b"")
 OWN_TEXT = text_of(ROOT, b"ab", b"", LIST, MATERIAL)
 OWN_ASKED = with_ids(ASKED, "6162", "")
@@ -322,15 +334,36 @@ def faults():
     ]:
         rows.put(begin(SYSTEM, sealed(blob_of(LIST, MATERIAL, app_id, app_data).hex()), OWN_ASKED), OTHER)
     for params, material in unusable_keys():
-        rows.put(begin(SYSTEM, sealed(blob_of(list_of(params), material, b"ab", b"").hex()), OWN_ASKED), OTHER)
+        rows.put(begin(SYSTEM, sealed(blob_of(own_list(params), material, b"ab", b"").hex()), OWN_ASKED), OTHER)
+    for system, fault in SYSTEMS:
+        blob = blob_of(list_of([*PARAMS, *system]), MATERIAL, b"ab", b"").hex()
+        rows.put(begin(SYSTEM, sealed(blob), OWN_ASKED), fault)
     return rows.rows + several_faults(rows.begun)
+
+
+# Systems of which a list says that its key is: one that has a greater version cannot be used, and else one that has a
+# lower one wants an upgrade.
+NEWER, OLDER = broken(-33, "B23"), broken(-62, "B23")
+SYSTEMS = [
+    (of_system(None, None), OLDER),
+    (of_system(DEMO_OS, None), OLDER),
+    (of_system(None, DEMO_PATCH), OLDER),
+    (of_system(DEMO_OS - 1, DEMO_PATCH), OLDER),
+    (of_system(DEMO_OS, DEMO_PATCH - 1), OLDER),
+    (of_system(DEMO_OS + 1, DEMO_PATCH), NEWER),
+    (of_system(DEMO_OS, DEMO_PATCH + 1), NEWER),
+    (of_system(DEMO_OS + 1, DEMO_PATCH - 1), NEWER),
+    (of_system(DEMO_OS - 1, DEMO_PATCH + 1), NEWER),
+    (of_system(DEMO_OS + 1, None), NEWER),
+    (of_system(None, 4294967295), NEWER),
+]
 
 
 def several_faults(begun):
     """Of several faults the first rule's: B6, a wrong blob, a wrong root, id or key, and then what is asked for."""
     rows = Rows([])
     rows.begun = begun
-    late = list_of([*PARAMS, ["ACTIVE_DATETIME", 1001]])
+    late = own_list([*PARAMS, ["ACTIVE_DATETIME", 1001]])
     wrong_root = blob_of(late, MATERIAL, b"ab", b"", b"\4" * 32)
     wrong_text = seal(DEMO_DEVICE, bytes(12), text_of(b"\4" * 32, b"x", None, turned_list(), b""))
     for blob, params, fault in [
@@ -343,6 +376,8 @@ def several_faults(begun):
         (wrong_root, ASKED, OTHER),
         (blob_of(late, b"", b"ab", b""), OWN_ASKED, OTHER),
         (blob_of(late, MATERIAL, b"ab", b""), ASKED, OTHER),
+        (blob_of(list_of([*PARAMS, ["ACTIVE_DATETIME", 1001]]), MATERIAL, b"ab", b""), ASKED, OTHER),
+        (blob_of(list_of([*PARAMS, ["ACTIVE_DATETIME", 1001]]), MATERIAL, b"ab", b""), OWN_ASKED[1:], OLDER),
         (blob_of(late, MATERIAL, b"ab", b""), OWN_ASKED[1:], broken(-2, "B9")),
         (blob_of(late, MATERIAL, b"ab", b""), OWN_ASKED, broken(-24, "B10")),
         (OWN_BLOB, OWN_ASKED[:1] + OWN_ASKED[2:], broken(-53, "B20")),
@@ -359,24 +394,25 @@ def several_faults(begun):
 def foreign_lists():
     rows = Rows([1000, 10001])
     for most, fits in [(0, False), (1, True), (2, True)]:
-        blob = blob_of(list_of([*PARAMS, ["MAX_USES_PER_BOOT", most]]), MATERIAL).hex()
+        blob = blob_of(own_list([*PARAMS, ["MAX_USES_PER_BOOT", most]]), MATERIAL).hex()
         for _ in range(3):
             line = begin(SYSTEM, sealed(blob))
             rows.works(line) if fits else rows.put(line, broken(-56, "B16"))
+    rows.put(begin(SYSTEM, sealed(blob_of(list_of(PARAMS), MATERIAL).hex())), broken(-62, "B23"))
     for limit in [0, 1, 4294967295]:
         limited(rows, limit)
-    token_and_none = blob_of(list_of([*PARAMS, ["USER_SECURE_ID", 7]]), MATERIAL).hex()
+    token_and_none = blob_of(own_list([*PARAMS, ["USER_SECURE_ID", 7]]), MATERIAL).hex()
     number = rows.begins(begin(SYSTEM, sealed(token_and_none)), challenge="?")
     rows.put(call(SYSTEM, "update", op=number, input="00"), broken(-26, "S5"))
     token = {"challenge": f"op {number}", "user": 7, "authenticator": 0, "kind": 1, "time": 0}
     rows.put(call(SYSTEM, "addAuthToken", **token), OK)
     rows.put(call(SYSTEM, "finish", op=number, input=TEXT), HI_THERE)
-    for more in [["APPLICATION_ID", "6162"], ["NONCE", ""], ["ORIGIN", 4], ["OS_VERSION", 9]]:
-        rows.works(begin(SYSTEM, sealed(blob_of(list_of([*PARAMS, more]), MATERIAL).hex())))
-    rows.works(begin(SYSTEM, sealed(blob_of(list_of([*PARAMS, ["USER_ID", 0]]), MATERIAL).hex())))
-    rows.put(begin(SYSTEM, sealed(blob_of(list_of([*PARAMS, ["USER_ID", 1]]), MATERIAL).hex())), broken(-15, "B12"))
+    for more in [["APPLICATION_ID", "6162"], ["NONCE", ""], ["ORIGIN", 4]]:
+        rows.works(begin(SYSTEM, sealed(blob_of(own_list([*PARAMS, more]), MATERIAL).hex())))
+    rows.works(begin(SYSTEM, sealed(blob_of(own_list([*PARAMS, ["USER_ID", 0]]), MATERIAL).hex())))
+    rows.put(begin(SYSTEM, sealed(blob_of(own_list([*PARAMS, ["USER_ID", 1]]), MATERIAL).hex())), broken(-15, "B12"))
     rows.put(
-        begin(SYSTEM, sealed(blob_of(list_of([*PARAMS, ["UNLOCKED_DEVICE_REQUIRED", True]]), MATERIAL).hex())),
+        begin(SYSTEM, sealed(blob_of(own_list([*PARAMS, ["UNLOCKED_DEVICE_REQUIRED", True]]), MATERIAL).hex())),
         broken(-72, "B14"),
     )
     return rows.rows + ends_of_keys(rows.begun)
@@ -384,7 +420,7 @@ def foreign_lists():
 
 def limited(rows, limit):
     """A blob with a use limit gives all output at its finish, and opens any number of times."""
-    blob = blob_of(list_of([*CIPHER_LIST, ["USAGE_COUNT_LIMIT", limit]]), bytes(16)).hex()
+    blob = blob_of(own_list([*CIPHER_LIST, ["USAGE_COUNT_LIMIT", limit]]), bytes(16)).hex()
     for mode, padding, nonce, ends in [(3, 1, "00" * 16, 17), (1, 1, None, 32), (1, 64, None, 16)]:
         asked = [["PURPOSE", 0], ["BLOCK_MODE", mode], ["PADDING", padding], *([["NONCE", nonce]] if nonce else [])]
         number = rows.begins(begin(SYSTEM, sealed(blob), asked))

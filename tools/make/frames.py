@@ -99,6 +99,7 @@ REQUESTS = [
     act(19, "EarlyBootEnded"),
     act(20, "ClearNamespace", short("domain", 2), long("nspace", 100)),
     act(21, "UserRemoved", short("user", 10)),
+    act(24, "UpgradeKey", ALIAS, text("params", b"\x00\x03")),
 ]
 
 

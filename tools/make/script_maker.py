@@ -4,7 +4,8 @@ import json
 import re
 from dataclasses import replace
 
-from keystore.blobs import DEMO_DEVICE, list_of, seal, text_of as sealed_text
+from keystore.blobs import list_of, seal, text_of as sealed_text
+from keystore.device import DEMO_DEVICE
 from dialog import OPEN, Told
 from keystore.tokens import DEMO_KEY, mac_of
 from model.blobs import opened_blob
@@ -14,6 +15,7 @@ from model.values import (
     BLOB,
     DEMO_ROOT,
     DEMO_SEAL_KEY,
+    DEMO_VERSIONS,
     DIGEST_BITS,
     GCM,
     GRANT,
@@ -114,10 +116,10 @@ class Maker(ListMaker):
     """Makes one script and its number of slots, line by line, each with an eye on what the model's service holds by
     then."""
 
-    def __init__(self, seed, store=None):
+    def __init__(self, seed, store=None, versions=DEMO_VERSIONS):
         super().__init__(seed)
         self.slots = self.random.choice([1, 2, 3, 5, 16, 16, self.random.randint(17, MOST_SLOTS)])
-        self.service = Service(slots=self.slots, store=store)
+        self.service = Service(slots=self.slots, store=store, versions=versions)
         self.outputs = []
         self.told = Told()
         self.lines = []
@@ -234,6 +236,14 @@ class Maker(ListMaker):
         key = {"domain": BLOB, "nspace": self.random.choice([100] * 9 + [0, 101])}
         return {**key, "alias": "a"} if self.chance(0.1) else key
 
+    def versions(self):
+        """The versions in a list that was made elsewhere: mostly the device's, else one above or below, or none."""
+        pairs = [["OS_VERSION", self.service.versions[0]], ["OS_PATCHLEVEL", self.service.versions[1]]]
+        if self.chance(0.7):
+            return pairs
+        pairs = [[name, max(0, value + self.random.choice([-1, 0, 1]))] for name, value in pairs]
+        return [pair for pair in pairs if self.chance(0.8)]
+
     def foreign_blob(self):
         """A blob that was made elsewhere, often with a fault."""
         is_aes = self.chance(0.6)
@@ -243,6 +253,7 @@ class Maker(ListMaker):
             bytes.fromhex(ids[name]) if name in ids else None for name in ("APPLICATION_ID", "APPLICATION_DATA")
         )
         root = self.one_bit_off(DEMO_ROOT) if self.chance(0.05) else DEMO_ROOT
+        params += self.versions()
         encoded = encoded_list(params) if self.chance(0.03) else list_of(params)
         material = bytes([self.random.choice([0, 7])]) * self.size(is_aes)
         text = sealed_text(root, app_id, app_data, encoded, material)
@@ -251,8 +262,8 @@ class Maker(ListMaker):
         blob = seal(DEMO_DEVICE if self.chance(0.97) else DEMO_DEVICE[32:] + DEMO_ROOT, self.random.randbytes(12), text)
         return self.one_bit_off(blob) if self.chance(0.05) else blob
 
-    def begin_on_blob(self, members):
-        """Begins an operation on a blob that the service made, or on one that was made elsewhere."""
+    def use_blob(self, members):
+        """Names a blob that the service made, or one that was made elsewhere; what it opens to, where it does."""
         self.as_system(members)
         key = members["key"] = self.place_of_blobs()
         lines = list(self.told.blobs)
@@ -272,8 +283,8 @@ class Maker(ListMaker):
         aliases = [key.alias for key in keys if not is_limited or key.uses is not None]
         return {"domain": APP, "alias": self.random.choice(aliases).decode() if aliases else "a"}
 
-    def begin_on_stored(self, members):
-        """Begins an operation on a stored key; what its blob opens to, where it is there."""
+    def use_stored(self, members):
+        """Names a stored key; what its blob opens to, where it is there."""
         members["key"] = self.descriptor()
         key = self.found(members["c"], members["key"])
         if key is None and self.chance(0.8):
@@ -284,10 +295,18 @@ class Maker(ListMaker):
     def begin(self, members):
         """Begins an operation, mostly under a key that is there."""
         members["do"] = "createOperation"
-        opened = self.begin_on_blob(members) if self.chance(0.15) else self.begin_on_stored(members)
+        opened = self.use_blob(members) if self.chance(0.15) else self.use_stored(members)
         members["params"] = self.spelled(self.edited(self.asked_list(opened), 0.2))
         if self.chance(0.12):
             members["forced"] = self.chance(0.9)
+
+    def upgrade(self, members):
+        """Upgrades a key, mostly one that is there and with the ids for which its blob was made."""
+        members["do"] = "upgradeKey"
+        opened = self.use_blob(members) if self.chance(0.3) else self.use_stored(members)
+        named = () if opened is None else (("APPLICATION_ID", opened.app_id), ("APPLICATION_DATA", opened.app_data))
+        ids = [[name, value.hex()] for name, value in named if value is not None]
+        members["params"] = self.spelled(self.edited(ids, 0.1))
 
     def some_uid(self):
         """Mostly the uid of a client, so that a grant can be used."""
@@ -484,11 +503,13 @@ class Maker(ListMaker):
             members["do"] = "disconnect"
         elif kind < 0.13:
             self.new_key(members)
-        elif kind < 0.2:
+        elif kind < 0.14:
+            self.upgrade(members)
+        elif kind < 0.21:
             self.call_on_key(members)
-        elif kind < 0.23:
-            self.call_on_owner(members)
         elif kind < 0.235:
+            self.call_on_owner(members)
+        elif kind < 0.24:
             self.call_of_system(members)
         elif kind < 0.25:
             self.call_of_device(members)

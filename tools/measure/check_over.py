@@ -1,7 +1,7 @@
 """Checks a crate as it stands over the libraries that `rt ci` left in a clone, and lists the modules that took longest.
 
     tools/ks measure check_over CLONE CRATE [--test] [--only PATH].. [--most N]
-        [--holes | --fix-imports | --build]
+        [--jobs N] [--holes | --fix-imports | --build]
 
 `rt ci` keeps what it proves for itself alone, and a first `rt check` proves all crates below once more. Over a clone
 in which a whole `rt ci` has run, the functions of a path (`--only CRATE::MODULE`) are checked within a minute or two,
@@ -27,9 +27,9 @@ def times(folder, start=0):
     return [(later - sooner, name.removesuffix(".oantt")) for (sooner, _), (later, name) in zip(written, written[1:])]
 
 
-def command(clone, name, kept):
-    """The check of a crate, as the gate makes it, over the libraries of a clone; what was checked is kept in the
-    folder `kept`."""
+def command(clone, name, kept, jobs=1):
+    """The check of a crate, as the gate makes it, over the libraries of a clone, by so many modules at a time; what was
+    checked is kept in the folder `kept`."""
     kit = pathlib.Path(subprocess.run(["rt", "doc"], capture_output=True, text=True, check=True).stdout.strip()).parent
     own = build.libraries()
     root = "src/lib.rt" if (TOP / f"crates/{name}/src/lib.rt").exists() else "src/main.rt"
@@ -47,7 +47,7 @@ def command(clone, name, kept):
         "--links",
         f"{name}=",
     ]
-    return [*words, "--jobs", "1", "--incremental", kept]
+    return [*words, "--jobs", str(jobs), "--incremental", kept]
 
 
 def build_command(clone, name):
@@ -67,6 +67,7 @@ def main():
     parser.add_argument("--test", action="store_true")
     parser.add_argument("--only", action="append", default=[])
     parser.add_argument("--most", type=int, default=12)
+    parser.add_argument("--jobs", type=int, default=1)
     ways = parser.add_mutually_exclusive_group()
     ways.add_argument("--holes", action="store_const", const="--allow-holes", dest="way")
     ways.add_argument("--fix-imports", action="store_const", const="--fix-imports", dest="way")
@@ -77,7 +78,7 @@ def main():
     folder = TOP / "crates" / given.crate
     (folder / "out/over").mkdir(parents=True, exist_ok=True)
     clone = given.clone.resolve()
-    words = build_command(clone, given.crate) if given.build else command(clone, given.crate, "out/over")
+    words = build_command(clone, given.crate) if given.build else command(clone, given.crate, "out/over", given.jobs)
     words += ["--empty-contracts", *[given.way] * bool(given.way)]
     words += ["--test"] * given.test + [word for path in given.only for word in ("--only", path)]
     start = time.time()

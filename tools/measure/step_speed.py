@@ -52,6 +52,7 @@ KINDS = {
     "createOperation, abort": begin,
     "getKeyEntry": lambda i, key: [call(1, "getKeyEntry", named(key))],
     "importKey, rebinding": lambda i, key: [new_key(1, named(key))],
+    "upgradeKey, nothing changes": lambda i, key: [call(1, "upgradeKey", named(key))],
     "deleteKey, importKey": lambda i, key: [call(1, "deleteKey", named(key)), new_key(1, named(key))],
     "grant, ungrant": lambda i, key: [
         call(1, "grant", f'{named(key)},"uid":7,"bits":256'),

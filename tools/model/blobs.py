@@ -62,13 +62,13 @@ def read_sealed(text: bytes) -> Sealed:
     return Sealed(root, app_id, app_data, params, material)
 
 
-def opened_blob(key: bytes, blob: bytes) -> Sealed:
-    """What a blob seals under a device's key, by B7."""
+def opened_blob(key: bytes, blob: bytes, rule: str = "B7") -> Sealed:
+    """What a blob seals under a device's key, by B7, or by A12."""
     if len(blob) < LEAST_BYTES or blob[: len(START)] != START:
-        raise Denied(-33, "B7")
+        raise Denied(-33, rule)
     nonce_end = len(START) + NONCE_BYTES
     try:
         text = AESGCM(key).decrypt(blob[len(START) : nonce_end], blob[nonce_end:], START)
         return read_sealed(text)
     except (InvalidTag, Unreadable):
-        raise Denied(-33, "B7")
+        raise Denied(-33, rule)

@@ -32,14 +32,20 @@ NOT_KEPT = ["APPLICATION_ID", "APPLICATION_DATA", "NONCE", "MAC_LENGTH", "ORIGIN
 GENERATED, IMPORTED = 0, 2
 
 
-def kept_list(params: Params, material: bytes | None, wall: int) -> Params:
+def with_versions(kept: Params, versions: tuple[int, int]) -> Params:
+    """A list with the versions of the device's system."""
+    os, patch = versions
+    return kept | {"OS_VERSION": [os], "OS_PATCHLEVEL": [patch]}
+
+
+def kept_list(params: Params, material: bytes | None, wall: int, versions: tuple[int, int]) -> Params:
     """The list that is kept with a new key; the material is None for one that is generated."""
     kept = {name: values for name, values in params.items() if name not in NOT_KEPT}
     kept["ORIGIN"] = [GENERATED if material is None else IMPORTED]
     if material is not None:
         kept.setdefault("KEY_SIZE", [8 * len(material)])
     kept.setdefault("CREATION_DATETIME", [wall])
-    return kept
+    return with_versions(kept, versions)
 
 
 def owner_of(uid: int, domain: int, nspace: int) -> Owner:

@@ -1,4 +1,5 @@
-"""The rules of second_model.py that read lists, lengths and the device's state: K4 to K15, B6 to B21 and S4 to S8."""
+"""The rules of second_model.py that read lists, lengths and the device's state: K4 to K15, B6 to B23, S4 to S8
+and A14."""
 from __future__ import annotations
 
 from typing import Any
@@ -15,7 +16,9 @@ from model.values import (
     ENCRYPT,
     GCM,
     HMAC,
+    MOST_BLOB_BYTES,
     MOST_ID_BYTES,
+    MOST_KEPT_BYTES,
     MOST_LIST_BYTES,
     MOST_OPERATION_BYTES,
     NO_PADDING,
@@ -135,16 +138,39 @@ def check_new(event: Event, params: Params, material: bytes | None, is_early_ove
 # Table B.
 
 
-def check_opened(asked: Params, opened: Sealed, root: bytes) -> None:
-    """B8, for what stands in an opened blob."""
+def check_sealed_for(asked: Params, opened: Sealed, root: bytes, rule: str) -> None:
+    """A13, and what B8 has of it: an opened blob is of this device, and of the application that asks."""
     ids = [one(asked, "APPLICATION_ID"), one(asked, "APPLICATION_DATA")]
     if opened.root != root or [opened.app_id, opened.app_data] != ids:
-        raise Denied(-33, "B8")
+        raise Denied(-33, rule)
+
+
+def check_opened(asked: Params, opened: Sealed, root: bytes) -> None:
+    """B8, for what stands in an opened blob."""
+    check_sealed_for(asked, opened, root, "B8")
     try:
         check_algorithm(opened.params)
         check_key(opened.params, opened.material)
     except Denied:
         raise Denied(-33, "B8")
+
+
+def versions_in(kept: Params) -> tuple[int, int]:
+    """The versions that a list names; it has 0 for one that it does not name."""
+    return one(kept, "OS_VERSION") or 0, one(kept, "OS_PATCHLEVEL") or 0
+
+
+def is_newer(kept: Params, versions: tuple[int, int]) -> bool:
+    """Whether a list names a version that is greater than the device's."""
+    return any(own > device for own, device in zip(versions_in(kept), versions))
+
+
+def check_versions(kept: Params, versions: tuple[int, int]) -> None:
+    """B23."""
+    if is_newer(kept, versions):
+        raise Denied(-33, "B23")
+    if versions_in(kept) != versions:
+        raise Denied(-62, "B23")
 
 
 def check_purpose(asked: Params, kept: Params) -> None:
@@ -244,8 +270,9 @@ def check_nonce(asked: Params, kept: Params) -> None:
 
 
 def check_begin(asked: Params, facts: BeginFacts) -> None:
-    """B9 to B21, for the list of the operation."""
+    """B23 and B9 to B21, for the list of the operation."""
     kept = facts.kept
+    check_versions(kept, facts.versions)
     check_purpose(asked, kept)
     check_dates(asked, kept, facts.wall)
     check_device(facts)
@@ -273,6 +300,17 @@ def plan_of(asked: Params, kept: Params) -> Plan:
         least_mac_bytes=(one(kept, "MIN_MAC_LENGTH") or 0) // 8,
         is_limited="USAGE_COUNT_LIMIT" in kept,
     )
+
+
+# Table A.
+
+
+def check_upgrade(kept: Params, list_bytes: int, blob_bytes: int, versions: tuple[int, int]) -> None:
+    """A14, for an opened list, and how long the new list and blob would be."""
+    if is_newer(kept, versions):
+        raise Denied(-38, "A14")
+    if list_bytes > MOST_KEPT_BYTES or blob_bytes > MOST_BLOB_BYTES:
+        raise Denied(-21, "A14")
 
 
 # Table S.

@@ -1,6 +1,6 @@
 """A second model of the rules: reads a script on standard input and writes the reply lines.
 
-    tools/ks compare second_model [--fail N,N,..] [--slots N] [--trace] < SCRIPT
+    tools/ks compare second_model [--fail N,N,..] [--slots N] [--trace] [--os N] [--patch N] < SCRIPT
 
 It is written from docs/RULES.md's rules, apart from the proved code, so that the two can be compared. Its entropy
 counts 00, 01 .. ff, 00 ..; the draws whose numbers --fail gives, counted from 1, fail. AES, its modes and GCM are
@@ -17,23 +17,27 @@ import copy
 import json
 import sys
 from collections.abc import Callable, Collection, Iterator
+from dataclasses import replace
 from typing import Any
 
 from keystore.harness import parser_of
 from keystore.lists import Params, write_list
 from keystore.script_events import Malformed, event_of
 from model.blobs import NONCE_BYTES as BLOB_NONCE_BYTES, Sealed, opened_blob, sealed_blob
-from model.keys import KeyStore, Owner, kept_list, owner_of
+from model.keys import KeyStore, Owner, kept_list, owner_of, with_versions
 from model.outputs import front, raw_output, whole_output
 from model.rules import (
     ENDING,
     check_begin,
     check_new,
     check_opened,
+    check_sealed_for,
     check_step,
+    check_upgrade,
     is_authenticated_each,
     plan_of,
     read_params,
+    versions_in,
 )
 from model.tokens import Tokens, fits
 from model.trace_lines import acted_line
@@ -44,6 +48,7 @@ from model.values import (
     DELETE,
     DEMO_ROOT,
     DEMO_SEAL_KEY,
+    DEMO_VERSIONS,
     GET_INFO,
     GRANT,
     KEY_ID,
@@ -129,7 +134,13 @@ class Service:
     """A run with so many slots over a store, a fresh one where none is given; the draws with the numbers `failing`,
     counted from 1, fail."""
 
-    def __init__(self, failing: Collection[int] = (), slots: int = 16, store: KeyStore | None = None) -> None:
+    def __init__(
+        self,
+        failing: Collection[int] = (),
+        slots: int = 16,
+        store: KeyStore | None = None,
+        versions: tuple[int, int] = DEMO_VERSIONS,
+    ) -> None:
         self.entropy = Entropy(failing)
         self.slots = slots
         self.uids: list[int | None] = []
@@ -139,6 +150,7 @@ class Service:
         self.step = 0
         self.seal_key = DEMO_SEAL_KEY
         self.root = DEMO_ROOT
+        self.versions = versions
         self.waiting: KeyStore | None = None
         self.begin_boot()
 
@@ -181,6 +193,7 @@ class Service:
             "finish": self.enter,
             "leave": self.leave,
             "abort": self.abort,
+            "upgradeKey": self.upgrade_key,
             "getKeyEntry": self.get_key_entry,
             "deleteKey": self.delete_key,
             "grant": self.grant,
@@ -268,7 +281,7 @@ class Service:
         if descriptor["domain"] != BLOB:
             self.store.check_place(owner, descriptor["alias"])
         material = self.entropy.draw(one(params, "KEY_SIZE") // 8) if imported is None else imported
-        kept = kept_list(params, imported, event["wall"])
+        kept = kept_list(params, imported, event["wall"], self.versions)
         sealed = Sealed(self.root, one(params, "APPLICATION_ID"), one(params, "APPLICATION_DATA"), kept, material)
         blob = sealed_blob(self.seal_key, self.entropy.draw(BLOB_NONCE_BYTES), sealed)
         if descriptor["domain"] == BLOB:
@@ -313,6 +326,37 @@ class Service:
         if not bits & permission:
             raise Denied(6, "A6")
         return key, bits
+
+    def key_to_upgrade(self, event: Event) -> Key | None:
+        """The key of an upgrade, or None for a blob, by A1 to A6."""
+        descriptor = event["key"]
+        if descriptor["domain"] != BLOB:
+            return self.key_of_call(event, is_stored, REBIND)[0]
+        uid = self.uid_of(event["client"])
+        if uid is None:
+            raise Denied(20, "A1")
+        if not is_blob(descriptor):
+            raise Denied(20, "A2")
+        if not (self.store.row(uid, descriptor["nspace"]) or 0) & MANAGE_BLOB:
+            raise Denied(6, "A6")
+        return None
+
+    def upgrade_key(self, event: Event) -> Reply:
+        """Seals a key anew over its list with the versions of the device's system, where the list has others."""
+        key = self.key_to_upgrade(event)
+        asked = read_params(event["params"], "A11")
+        blob = event["key"]["blob"] if key is None else key.blob
+        opened = opened_blob(self.seal_key, blob, "A12")
+        check_sealed_for(asked, opened, self.root, "A13")
+        kept = with_versions(opened.params, self.versions)
+        longer = len(write_list(kept)) - len(write_list(opened.params))
+        check_upgrade(opened.params, len(write_list(kept)), len(blob) + longer, self.versions)
+        if versions_in(opened.params) != self.versions:
+            nonce = self.entropy.draw(BLOB_NONCE_BYTES)
+            blob = sealed_blob(self.seal_key, nonce, replace(opened, params=kept))
+            if key is not None:
+                key.params, key.blob = kept, blob
+        return {"blob": blob.hex()} if key is None else {}
 
     def get_key_entry(self, event: Event) -> Reply:
         key, _ = self.key_of_call(event, is_stored, GET_INFO)
@@ -426,10 +470,11 @@ class Service:
     # Operations.
 
     def begin_facts(self, event: Event, uid: int, key: Key | None, kept: Params) -> BeginFacts:
-        """What B10 to B16 read, of a begin on a key, or on a blob, which has no begins before."""
+        """What B23 and B10 to B16 read, of a begin on a key, or on a blob, which has no begins before."""
         user = uid // UIDS_OF_A_USER
         return BeginFacts(
             kept=kept,
+            versions=self.versions,
             wall=event["wall"],
             user=user,
             is_early_over=self.is_early_over,
@@ -582,8 +627,11 @@ def main() -> None:
     parser.add_argument("--fail", type=numbers_of, default=set(), metavar="N,N,..", help="draws that fail, from 1")
     parser.add_argument("--slots", type=int, default=16, metavar="N", help="how many operations may be open")
     parser.add_argument("--trace", action="store_true", help="writes the lines of a trace in place of replies")
+    for name, place, what in (("--os", 0, "operating system"), ("--patch", 1, "patches")):
+        form = {"type": int, "default": DEMO_VERSIONS[place], "metavar": "N"}
+        parser.add_argument(name, help=f"the version of the device's {what}", **form)
     words = parser.parse_args()
-    service = Service(words.fail, words.slots)
+    service = Service(words.fail, words.slots, versions=(words.os, words.patch))
     for line in sys.stdin.buffer:
         text = line.removesuffix(b"\n")
         lines = trace_lines(service, text) if words.trace else [reply_line(service, text)]

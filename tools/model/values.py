@@ -21,6 +21,8 @@ NONCE_BYTES = {CBC: 16, CTR: 16, GCM: 12}
 
 MOST_LIST_BYTES = 4096
 MOST_ID_BYTES = 1024
+# The most bytes of a list that a key keeps, and of a blob.
+MOST_KEPT_BYTES, MOST_BLOB_BYTES = 4140, 6327
 MOST_STEP_BYTES = 32768
 MOST_OPERATION_BYTES = 1048576
 
@@ -40,6 +42,8 @@ MOST_TRIPLES = 256
 CHALLENGE_BYTES = 8
 # The demo device: the key of its blobs, the one that its authenticators share with the service, and its root of trust.
 DEMO_SEAL_KEY, DEMO_TOKEN_KEY, DEMO_ROOT = b"\1" * 32, b"\2" * 32, b"\3" * 32
+# Its system: the version of the operating system, and that of its patches.
+DEMO_VERSIONS = (140000, 202406)
 # The policy of the program: the bits of a uid in a namespace.
 DEMO_POLICY = {(1000, 100): 509, (1000, 0): REQ_FORCED_OP}
 
@@ -99,10 +103,11 @@ class Plan:
 
 @dataclass
 class BeginFacts:
-    """What B9 to B21 read beside the operation's list: the key's list, the wall clock, the caller's user and the
-    device."""
+    """What B23 and B9 to B21 read beside the operation's list: the key's list, the versions of the device's system, the
+    wall clock, the caller's user and the device."""
 
     kept: Params
+    versions: tuple[int, int]
     wall: int
     user: int
     is_early_over: bool

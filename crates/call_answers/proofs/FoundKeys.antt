@@ -1,12 +1,10 @@
 -- The one look-up of a descriptor finds what its four look-ups find, and the key that access gives is the one of that number.
-use Rattle.std.proofs.Common.{◌≡◌, ℕ, Bool, true, false, ◌==◌, List, Option, Some, None, refl, sym, ap, ◌∙◌, inl, inr, if◌then◌else◌}
+use Rattle.std.proofs.Common.{◌≡◌, ℕ, ◌==◌, List, Option, Some, None, refl, sym, ap, inl, inr}
 use Rattle.std.specs.Prelude.{find}
 use Rattle.std.specs.Option.{option_and_then, option_map}
 use Rattle.std.proofs.lemmas.Bool.{cases_Bool}
 use Rattle.tags.specs.declared.descriptor.Descriptor.{Descriptor}
 use Rattle.tags.specs.declared.policy.PolicyRow.{PolicyRow}
-use Rattle.key_domains.specs.declared.access.Access.{Access}
-use Rattle.key_domains.specs.declared.access.Access.TheVariants.{Found, Nothing}
 use Rattle.key_domains.specs.declared.view.KeyRow.{KeyRow}
 use Rattle.key_domains.specs.declared.view.GrantedRow.{GrantedRow}
 use Rattle.key_domains.specs.Access.{access, by_grant, by_number, found}
@@ -16,9 +14,9 @@ use Rattle.grants.specs.declared.row.GrantRow.{GrantRow}
 use Rattle.grants.specs.Rows.{is_numbered}
 use Rattle.journal_records.specs.declared.record.KeyRecord.{KeyRecord}
 use Rattle.journal_records.specs.LastingPart.{Lasting}
-use Rattle.journal_records.specs.Lookups.{granted_in, granted_of, key_of_id, key_of_name, numbered_in, row_of, shared_in}
+use Rattle.journal_records.specs.Lookups.{granted_of, key_of_id, key_of_name, numbered_in, row_of, shared_in}
 use Rattle.rule_model.specs.Access.{access_of, key_in}
-use Rattle.call_answers.specs.Found.{IsFoundAgain, given, key_by_alias, key_for, key_granted, shared_of, view_for}
+use Rattle.call_answers.specs.Found.{IsFoundAgain, given, key_by_alias, key_for, shared_of, view_for}
 
 -- a map behind a look-up by an alias is a look-up of what it gives
 map_then : (f : KeyRecord → KeyRow) (g : List ℕ → Option KeyRecord) (alias : Option (List ℕ)) → option_map f (option_and_then g alias) ≡ option_and_then (λ x. option_map f (g x)) alias

@@ -1,3 +1,4 @@
 pub mod BeginKeys
 pub mod FoundKeys
 pub mod Listings
+pub mod UpgradeKeys

@@ -1,5 +1,5 @@
 -- What a begin reads of its key, and what its rules admit.
-use Rattle.std.specs.Prelude.{◌≡◌, ℕ, Bool, true, List, [], Option, Result, Ok, Err, ⊤, length, unwrap_or}
+use Rattle.std.specs.Prelude.{◌≡◌, ℕ, Bool, true, List, [], Result, Ok, Err, ⊤, length, unwrap_or}
 use Rattle.tags.specs.declared.descriptor.Descriptor.{Descriptor}
 use Rattle.tags.specs.declared.policy.PolicyRow.{PolicyRow}
 use Rattle.tags.specs.declared.secrets.DeviceSecrets.{DeviceSecrets}
@@ -43,9 +43,9 @@ abbrev pub IsUsable : OwnKey → Type 0
 IsUsable own = own.opened.fits ≡ true → IsKey (unwrap_or own.opened.list []) (length own.opened.material)
 
 -- what the rules of a begin on it read
-abbrev pub facts_of : List PolicyRow → OwnKey → Caller → Bool → Conditions → BeginFacts
-facts_of policy own caller forced conditions =
-    facts_by policy own.found own.opened.list own.opened.fits own.access caller own.key own.asked forced conditions
+abbrev pub facts_of : DeviceSecrets → List PolicyRow → OwnKey → Caller → Bool → Conditions → BeginFacts
+facts_of device policy own caller forced conditions =
+    facts_by device policy own.found own.opened.list own.opened.fits own.access caller own.key own.asked forced conditions
 
 -- what no rule denies, on this key, where the rules read these facts
 pub record IsAdmitted (admitted : AdmittedBegin) (own : OwnKey) (facts : BeginFacts) : Type 0 where

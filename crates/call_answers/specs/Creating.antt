@@ -4,6 +4,7 @@ use Rattle.std.specs.Option.{option_map}
 use Rattle.tags.specs.declared.descriptor.Descriptor.{Descriptor}
 use Rattle.tags.specs.declared.policy.PolicyRow.{PolicyRow}
 use Rattle.tags.specs.declared.secrets.DeviceSecrets.{DeviceSecrets}
+use Rattle.tags.specs.declared.limits.TheConstants.{KEPT_LIST_BYTES}
 use Rattle.journal_records.specs.declared.change.Change.{Change}
 use Rattle.journal_records.specs.declared.change.Change.TheVariants.{Create}
 use Rattle.journal_records.specs.LastingPart.{Lasting}
@@ -48,32 +49,32 @@ material_of (Some import) drawn = import.material
 -- ---- whether it may be made
 
 -- what the rules read of a caller's key
-abbrev pub facts_of : List PolicyRow → Caller → AskedKey → Bool → NewFacts
-facts_of policy caller asked early_ended =
-    new_facts policy caller asked.key asked.params (option_map facts_of_import asked.import) early_ended
+abbrev pub facts_of : DeviceSecrets → List PolicyRow → Caller → AskedKey → Bool → NewFacts
+facts_of device policy caller asked early_ended =
+    new_facts device policy caller asked.key asked.params (option_map facts_of_import asked.import) early_ended
 
 -- what no rule denies, as it was planned, where there is a place
-pub record IsAdmitted (policy : List PolicyRow) (part : Lasting) (caller : Caller) (asked : AskedKey) (early_ended : Bool) (admitted : AdmittedKey) : Type 0 where
-  pub planned_is : planned (facts_of policy caller asked early_ended) ≡ Ok admitted.new
-  pub fit : IsFit (facts_of policy caller asked early_ended) admitted.new.plan
-  pub listed : length admitted.new.list ≤ 4132
+pub record IsAdmitted (device : DeviceSecrets) (policy : List PolicyRow) (part : Lasting) (caller : Caller) (asked : AskedKey) (early_ended : Bool) (admitted : AdmittedKey) : Type 0 where
+  pub planned_is : planned (facts_of device policy caller asked early_ended) ≡ Ok admitted.new
+  pub fit : IsFit (facts_of device policy caller asked early_ended) admitted.new.plan
+  pub listed : length admitted.new.list ≤ KEPT_LIST_BYTES
   pub place : has_key_place part (owner_of caller) asked.key ≡ true
   pub uid_is : admitted.uid ≡ owner_of caller
   pub key_is : admitted.key ≡ asked.key
   pub import_is : admitted.import ≡ asked.import
 
 -- no rule denies it, and there is no place
-pub record IsFull (policy : List PolicyRow) (part : Lasting) (caller : Caller) (asked : AskedKey) (early_ended : Bool) : Type 0 where
+pub record IsFull (device : DeviceSecrets) (policy : List PolicyRow) (part : Lasting) (caller : Caller) (asked : AskedKey) (early_ended : Bool) : Type 0 where
   pub new : NewKey
-  pub planned_is : planned (facts_of policy caller asked early_ended) ≡ Ok new
+  pub planned_is : planned (facts_of device policy caller asked early_ended) ≡ Ok new
   pub no_place : has_key_place part (owner_of caller) asked.key ≡ false
 
 -- what may be made, or what stands against it, unless memory ran out
-abbrev pub GivesAdmitted : List PolicyRow → Lasting → Caller → AskedKey → Bool → Result AdmittedKey KeyFault → Type 0
-GivesAdmitted policy part caller asked early_ended (Ok admitted) = IsAdmitted policy part caller asked early_ended admitted
-GivesAdmitted policy part caller asked early_ended (Err (Broken rule code)) = planned (facts_of policy caller asked early_ended) ≡ Err (rule, code)
-GivesAdmitted policy part caller asked early_ended (Err Full) = IsFull policy part caller asked early_ended
-GivesAdmitted policy part caller asked early_ended (Err Memory) = ⊤
+abbrev pub GivesAdmitted : DeviceSecrets → List PolicyRow → Lasting → Caller → AskedKey → Bool → Result AdmittedKey KeyFault → Type 0
+GivesAdmitted device policy part caller asked early_ended (Ok admitted) = IsAdmitted device policy part caller asked early_ended admitted
+GivesAdmitted device policy part caller asked early_ended (Err (Broken rule code)) = planned (facts_of device policy caller asked early_ended) ≡ Err (rule, code)
+GivesAdmitted device policy part caller asked early_ended (Err Full) = IsFull device policy part caller asked early_ended
+GivesAdmitted device policy part caller asked early_ended (Err Memory) = ⊤
 
 -- ---- what it is made into
 

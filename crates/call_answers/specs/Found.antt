@@ -5,13 +5,12 @@ use Rattle.tags.specs.declared.descriptor.Descriptor.{Descriptor}
 use Rattle.key_domains.specs.declared.access.Access.{Access}
 use Rattle.key_domains.specs.declared.access.Access.TheVariants.{Found, Blob, Nothing}
 use Rattle.key_domains.specs.declared.view.KeyDatabaseView.{KeyDatabaseView}
-use Rattle.key_domains.specs.declared.view.KeyRow.{KeyRow}
-use Rattle.key_domains.specs.Domains.{domain_app, domain_grant, domain_selinux, domain_blob, domain_key_id}
+use Rattle.key_domains.specs.Domains.{domain_app, domain_grant, domain_selinux, domain_key_id}
 use Rattle.grants.specs.declared.row.GrantRow.{GrantRow}
 use Rattle.grants.specs.Rows.{is_numbered}
 use Rattle.journal_records.specs.declared.record.KeyRecord.{KeyRecord}
 use Rattle.journal_records.specs.LastingPart.{Lasting}
-use Rattle.journal_records.specs.Lookups.{granted_in, key_of_id, key_of_name, numbered_in, row_of, shared_in}
+use Rattle.journal_records.specs.Lookups.{granted_in, key_of_id, key_of_name, row_of, shared_in}
 
 -- a key that was found is found again by its number
 abbrev pub IsFoundAgain : Lasting → Option KeyRecord → Type 0

@@ -1,3 +1,4 @@
 pub mod Found
 pub mod Creating
 pub mod Beginning
+pub mod Upgrading

@@ -63,7 +63,11 @@ pub struct AdmittedBegin {
 }
 
 /// The blob of the stored key, or the one that is handed in; no bytes, which open nowhere, where there is none.
-fn blob_for<'a>(access: &Access, stored: Option<&'a KeyRecord>, key: &'a Descriptor) -> &'a [u8]
+pub(crate) fn blob_for<'a>(
+    access: &Access,
+    stored: Option<&'a KeyRecord>,
+    key: &'a Descriptor,
+) -> &'a [u8]
     ensures { result.now ≡ model.blob_for access.now (option_copied stored.entry) key.now }
 {
     match (access, &key.blob, stored) {
@@ -87,7 +91,7 @@ fn limited_by(access: &Access, stored: Option<&KeyRecord>, list: &Option<AuthLis
 }
 
 /// Whether there is a key: a blob that is handed in always is one.
-fn is_found(access: &Access, stored: Option<&KeyRecord>) -> bool
+pub(crate) fn is_found(access: &Access, stored: Option<&KeyRecord>) -> bool
     ensures { result ≡ model.is_found access.now (option_copied stored.entry) }
 {
     match access {
@@ -97,7 +101,7 @@ fn is_found(access: &Access, stored: Option<&KeyRecord>) -> bool
 }
 
 /// The number of the stored key.
-fn id_of(stored: Option<&KeyRecord>) -> Option<u64>
+pub(crate) fn id_of(stored: Option<&KeyRecord>) -> Option<u64>
     ensures { result ≡ users.id_of (option_copied stored.entry) }
 {
     match stored {
@@ -147,12 +151,13 @@ impl BeginKey {
     /// What the rules of a begin read, under these conditions, and the key's material.
     fn into_facts(
         self,
+        device: &DeviceSecrets,
         policy: &Policy,
         caller: Caller,
         forced: bool,
         conditions: Conditions,
     ) -> (BeginFacts, Material)
-        ensures facts { result.0 ≡ spec.facts_of policy.now self caller forced conditions }
+        ensures facts { result.0 ≡ spec.facts_of device.now policy.now self caller forced conditions }
         ensures material { result.1 ≡ self.opened.material }
     {
         let BeginKey {
@@ -180,6 +185,8 @@ impl BeginKey {
             asked,
             opened: list,
             fits,
+            os: device.os,
+            patch: device.patch,
             wall: caller.reading.wall,
             user: user_of(caller),
             early_ended: conditions.early_ended,
@@ -195,20 +202,21 @@ impl BeginKey {
     pub fn admit(
         self,
         alloc: Global,
+        device: &DeviceSecrets,
         policy: &Policy,
         caller: Caller,
         forced: bool,
         conditions: Conditions,
     ) -> Result<AdmittedBegin, BeginFault>
         requires { spec.IsUsable self }
-        ensures gives { spec.GivesAdmitted result self (spec.facts_of policy.now self caller forced conditions) }
+        ensures gives { spec.GivesAdmitted result self (spec.facts_of device.now policy.now self caller forced conditions) }
         ensures room { IfOk result (λ admitted. conditions.room ≡ true) }
         ensures fits { IfOk result (λ admitted. (drawn : List ℕ) → length drawn ≡ admitted.begin.wanted →
             Fits admitted.begin.plan admitted.material (nonce_used admitted.begin.nonce drawn)) }
         ensures few { IfOk result (λ admitted. admitted.begin.wanted + admitted.challenge < 2 ^ 62) }
     {
         let (id, limited) = (self.id, self.limited);
-        let (facts, material) = self.into_facts(policy, caller, forced, conditions);
+        let (facts, material) = self.into_facts(device, policy, caller, forced, conditions);
         let begin = plan_begin(alloc, &facts, material.as_slice())?;
         let challenge = challenge_wanted(&facts);
         Ok(AdmittedBegin {

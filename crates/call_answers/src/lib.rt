@@ -1,5 +1,5 @@
 //! What a call reads of the keys and grants that last, and what it makes of them: the key that a descriptor finds with the
-//! caller's bits, the facts of new keys, begins and calls on keys, a new key's blob and change, entries, listings and counts,
+//! caller's bits, the facts of new keys, begins and calls on keys, a new key's blob and change, upgrades, entries, listings and counts,
 //! and the places of grants.
 //!
 //! Its contract: each of these is the word of `rule_model` for it, over the lasting part of a `LastingTable` (`lasting_in`),
@@ -15,6 +15,7 @@ mod grant_places;
 mod key_calls;
 mod listing;
 mod new_keys;
+mod upgrades;
 
 pub use begins::{AdmittedBegin, BeginKey};
 pub use callers::{owner_of, row_for, system_facts, user_of};
@@ -24,3 +25,4 @@ pub use grant_places::{grant_place, grant_to};
 pub use key_calls::{entry_fields, key_call};
 pub use listing::{count_entries, list_entries};
 pub use new_keys::{AdmittedKey, AskedKey, Import, KeyFault, NONCE_BYTES, SealedKey};
+pub use upgrades::{AdmittedUpgrade, KeyPlace, UpgradeFault, admit_upgrade};

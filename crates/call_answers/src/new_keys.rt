@@ -7,6 +7,7 @@ ghost use Rattle.lasting_table.specs.TableView.{lasting_in};
 ghost use Rattle.rule_model.specs.NewFacts as model;
 ghost use Rattle.rule_model.specs.Places.{has_key_place};
 ghost use Rattle.call_answers.specs.Creating as spec;
+ghost use Rattle.tags.specs.declared.limits.TheConstants.{BLOB_BYTES};
 
 use crate::callers::{owner_of, row_for};
 use crate::descriptors::{alias_bytes, into_alias, owner_for};
@@ -89,6 +90,7 @@ fn import_facts(import: &Option<Import>) -> Option<ImportFacts>
 
 /// What the rules of a new key read.
 fn new_facts(
+    device: &DeviceSecrets,
     policy: &Policy,
     caller: Caller,
     key: Descriptor,
@@ -96,7 +98,7 @@ fn new_facts(
     import: &Option<Import>,
     early_ended: bool,
 ) -> NewFacts
-    ensures { result ≡ model.new_facts policy.now caller key params (option_map spec.facts_of_import import.now) early_ended }
+    ensures { result ≡ model.new_facts device.now policy.now caller key params (option_map spec.facts_of_import import.now) early_ended }
 {
     let row = row_for(policy, caller, key.nspace);
     NewFacts {
@@ -107,6 +109,8 @@ fn new_facts(
         import: import_facts(import),
         early_ended,
         wall: caller.reading.wall,
+        os: device.os,
+        patch: device.patch,
     }
 }
 
@@ -148,12 +152,13 @@ impl AskedKey {
     pub fn admit(
         self,
         alloc: Global,
+        device: &DeviceSecrets,
         policy: &Policy,
         table: &LastingTable,
         caller: Caller,
         early_ended: bool,
     ) -> Result<AdmittedKey, KeyFault>
-        ensures gives { spec.GivesAdmitted policy.now (lasting_in table.now) caller self early_ended result }
+        ensures gives { spec.GivesAdmitted device.now policy.now (lasting_in table.now) caller self early_ended result }
         ensures small { IfOk result (λ admitted. admitted.uid < 2 ^ 32) }
     {
         let AskedKey {
@@ -161,7 +166,7 @@ impl AskedKey {
             params,
             import,
         } = self;
-        let facts = new_facts(policy, caller, key, params, &import, early_ended);
+        let facts = new_facts(device, policy, caller, key, params, &import, early_ended);
         let new = match plan_key(alloc, &facts) {
             Ok(new) => new,
             Err(NewFault::Broken(rule, code)) => return Err(KeyFault::Broken(rule, code)),
@@ -194,7 +199,7 @@ impl AdmittedKey {
         requires small { IsSmall self.new.plan }
         requires short { length (spec.material_of self.import generated) ≤ 64 }
         ensures sealed { IfOk result (λ sealed. spec.IsSealed device.now self generated nonce sealed) }
-        ensures few { IfOk result (λ sealed. length sealed.blob ≤ 6319) }
+        ensures few { IfOk result (λ sealed. length sealed.blob ≤ BLOB_BYTES) }
     {
         let AdmittedKey {
             uid,

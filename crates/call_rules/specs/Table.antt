@@ -1,15 +1,16 @@
 -- Table A, the calls that have no table of their own: each call with its rules in their order, and the answer is the first
 -- that does not hold.
-use Rattle.std.specs.Prelude.{ℕ, Bool, not, List, [], ◌∷◌, ◌++◌, Option}
-use Rattle.tags.specs.declared.code.Code.TheVariants.{InvalidArgument, KeyNotFound, OperationBusy, PermissionDenied, VerificationFailed}
+use Rattle.std.specs.Prelude.{ℕ, Bool, not, List, [], ◌∷◌, ◌++◌, Option, is_ok}
+use Rattle.tags.specs.declared.code.Code.TheVariants.{InvalidArgument, InvalidInputLength, InvalidKeyArgument, InvalidKeyBlob, KeyNotFound, OperationBusy, PermissionDenied, VerificationFailed}
 use Rattle.tags.specs.declared.descriptor.Descriptor.{Descriptor}
 use Rattle.tags.specs.Table.{Check, check}
 use Rattle.key_domains.specs.declared.permission.Permission.{Permission}
 use Rattle.key_domains.specs.declared.permission.Permission.TheVariants.{Delete, GetInfo, Grant}
 use Rattle.key_domains.specs.Bits.{can_share, has}
 use Rattle.call_rules.specs.declared.facts.KeyCallFacts.{KeyCallFacts}
+use Rattle.call_rules.specs.declared.facts.UpgradeFacts.{UpgradeFacts}
 use Rattle.call_rules.specs.declared.facts.SystemCallFacts.{SystemCallFacts}
-use Rattle.call_rules.specs.Rules.{is_in_policy, is_owned, is_shared, is_user, may_list, names_key, names_owner}
+use Rattle.call_rules.specs.Rules.{fault_of, has_room, is_in_policy, is_no_newer, is_owned, is_shared, is_user, may_list, names_any_key, names_key, names_owner, upgrade_permission}
 
 -- disconnect
 abbrev pub disconnect_rules : Bool → Bool → List Check
@@ -20,7 +21,7 @@ disconnect_rules connected busy =
 
 -- ---- a stored key
 
--- a call on a stored key, by the form of its descriptor and the permission that it takes
+-- a call on a key, by the form of its descriptor and the permission that it takes
 abbrev pub key_call_rules : Bool → Permission → Descriptor → KeyCallFacts → List Check
 key_call_rules form permission key facts =
     check 1 InvalidArgument facts.connected ∷  -- the client is connected
@@ -51,6 +52,20 @@ ungrant_rules key shared facts =
     key_call_rules (is_shared key.domain) Grant key facts ++
     check 9 KeyNotFound shared ∷  -- the key is shared with the uid
     []
+
+-- the rules of an upgrade behind those of the call
+abbrev pub upgrade_rules : UpgradeFacts → List Check
+upgrade_rules facts =
+    check 11 (fault_of facts.asked) (is_ok facts.asked) ∷  -- the call's list reads
+    check 12 InvalidKeyBlob facts.opens ∷  -- the key's blob opens
+    check 13 InvalidKeyBlob facts.same ∷  -- for this device and these ids
+    check 14 InvalidKeyArgument (is_no_newer facts) ∷  -- no version goes down
+    check 14 InvalidInputLength (has_room facts) ∷  -- and the new list and blob are no longer than a key's may be
+    []
+
+-- upgradeKey
+abbrev pub upgrade_key_rules : Descriptor → UpgradeFacts → List Check
+upgrade_key_rules key facts = key_call_rules (names_any_key key) (upgrade_permission key.domain) key facts.call ++ upgrade_rules facts
 
 -- getNumberOfEntries and listEntriesBatched
 abbrev pub listing_rules : Bool → ℕ → Option ℕ → List Check

@@ -10,8 +10,9 @@ mod facts;
 mod rules;
 mod table;
 
-pub use facts::{KeyCallFacts, SystemCallFacts};
+pub use facts::{KeyCallFacts, SystemCallFacts, UpgradeFacts};
 pub use table::{
     check_clear_namespace, check_delete_key, check_disconnect, check_get_key_entry, check_grant,
-    check_listing, check_system_call, check_token, check_ungrant, check_user_call,
+    check_listing, check_system_call, check_token, check_ungrant, check_upgrade_key,
+    check_user_call,
 };

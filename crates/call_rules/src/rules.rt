@@ -3,8 +3,12 @@
 ghost use Rattle.std.specs.Prelude.{◌≡◌, ◌≤◌, true};
 ghost use Rattle.call_rules.specs.Rules as spec;
 
+use crate::UpgradeFacts;
 use key_domains::{Permission, Permissions};
-use tags::{DOMAIN_APP, DOMAIN_GRANT, DOMAIN_KEY_ID, DOMAIN_SELINUX, Descriptor, MOST_USER};
+use tags::{
+    BLOB_BYTES, DOMAIN_APP, DOMAIN_BLOB, DOMAIN_GRANT, DOMAIN_KEY_ID, DOMAIN_SELINUX, Descriptor,
+    KEPT_LIST_BYTES, MOST_USER,
+};
 
 fn is_by_alias(domain: u32) -> bool
     ensures { result ≡ spec.is_by_alias domain }
@@ -23,6 +27,44 @@ pub fn names_key(key: &Descriptor) -> bool
     ensures { result ≡ spec.names_key key.now }
 {
     is_by_alias(key.domain) && key.has_alias() || is_by_number(key.domain)
+}
+
+fn hands_blob(key: &Descriptor) -> bool
+    ensures { result ≡ spec.hands_blob key.now }
+{
+    key.domain == DOMAIN_BLOB && key.blob.is_some()
+}
+
+/// Whether the descriptor has the form of a domain that finds a key, stored or handed in.
+pub fn names_any_key(key: &Descriptor) -> bool
+    ensures { result ≡ spec.names_any_key key.now }
+{
+    names_key(key) || hands_blob(key)
+}
+
+/// What an upgrade of a key of the domain takes.
+pub fn upgrade_permission(domain: u32) -> Permission
+    ensures { result ≡ spec.upgrade_permission domain }
+{
+    if domain == DOMAIN_BLOB {
+        Permission::ManageBlob
+    } else {
+        Permission::Rebind
+    }
+}
+
+/// Whether neither version of the opened list is greater than the device's.
+pub fn is_no_newer(facts: &UpgradeFacts) -> bool
+    ensures { result ≡ spec.is_no_newer facts.now }
+{
+    facts.key_os <= facts.os && facts.key_patch <= facts.patch
+}
+
+/// Whether the new list and the new blob have no more bytes than a key's may have.
+pub fn has_room(facts: &UpgradeFacts) -> bool
+    ensures { result ≡ spec.has_room facts.now }
+{
+    facts.list <= KEPT_LIST_BYTES as u64 && facts.blob <= BLOB_BYTES as u64
 }
 
 /// Whether the domain is one whose keys are shared; a grant is shared no further.

@@ -1,14 +1,17 @@
 //! Table A, walked in its order for each call.
 
-ghost use Rattle.std.specs.Prelude.{◌≡◌, ◌≤◌, ◌++◌, false, true, List, Err, IfErr, OnOk};
+ghost use Rattle.std.specs.Prelude.{◌≡◌, ◌≤◌, ◌++◌, false, true, List, Err, IfErr, OnOk, is_ok};
 ghost use Rattle.tags.specs.declared.rule.RuleTable.TheVariants.{A};
 ghost use Rattle.tags.specs.Table.{Check, first_broken, rule_of};
 ghost use Rattle.call_rules.specs.Rules as rules;
 ghost use Rattle.call_rules.specs.Table as spec;
-ghost use Rattle.tags.specs.declared.limits.TheConstants.{MOST_USER};
+ghost use Rattle.tags.specs.declared.limits.TheConstants.{BLOB_BYTES, KEPT_LIST_BYTES, MOST_USER};
 
-use crate::rules::{is_in_policy, is_owned, is_shared, is_user, may_list, names_key, names_owner};
-use crate::{KeyCallFacts, SystemCallFacts};
+use crate::rules::{
+    has_room, is_in_policy, is_no_newer, is_owned, is_shared, is_user, may_list, names_any_key,
+    names_key, names_owner, upgrade_permission,
+};
+use crate::{KeyCallFacts, SystemCallFacts, UpgradeFacts};
 use key_domains::{Permission, Permissions};
 use tags::{Code, Descriptor, Rule, RuleTable, Ruling, check};
 
@@ -30,7 +33,7 @@ pub fn check_disconnect(connected: bool, busy: bool) -> Ruling
     Ok(())
 }
 
-/// The rules of a call on a stored key, by whether its descriptor has the call's form and by the permission that the call
+/// The rules of a call on a key, by whether its descriptor has the call's form and by the permission that the call
 /// takes.
 fn check_key_call(
     form: bool,
@@ -95,6 +98,50 @@ pub fn check_ungrant(key: &Descriptor, shared: bool, facts: &KeyCallFacts) -> Ru
 {
     match check_key_call(is_shared(key.domain), Permission::Grant, key, facts) {
         Ok(()) => check(rule(9), Code::KeyNotFound, shared),
+        Err(broken) => Err(broken),
+    }
+}
+
+/// The rules of an upgrade behind those of the call.
+fn check_upgrade(facts: &UpgradeFacts) -> Ruling
+    ensures first { result ≡ first_broken A (spec.upgrade_rules facts.now) }
+    ensures asked { OnOk result (is_ok facts.now.asked ≡ true) }
+    ensures opens { OnOk result (facts.now.opens ≡ true) }
+    ensures same { OnOk result (facts.now.same ≡ true) }
+    ensures newer { OnOk result (rules.is_no_newer facts.now ≡ true) }
+    ensures list { OnOk result (facts.now.list ≤ KEPT_LIST_BYTES) }
+    ensures blob { OnOk result (facts.now.blob ≤ BLOB_BYTES) }
+{
+    if let Err(code) = facts.asked {
+        return Err((rule(11), code));
+    }
+    check(rule(12), Code::InvalidKeyBlob, facts.opens)?;
+    check(rule(13), Code::InvalidKeyBlob, facts.same)?;
+    check(rule(14), Code::InvalidKeyArgument, is_no_newer(facts))?;
+    check(rule(14), Code::InvalidInputLength, has_room(facts))?;
+    Ok(())
+}
+
+/// The rules of upgradeKey. Where none is broken the key is found, its blob opens for this device and the call's ids, no version
+/// goes down, and the new list and blob are no longer than a key's may be.
+pub fn check_upgrade_key(key: &Descriptor, facts: &UpgradeFacts) -> Ruling
+    ensures first { result ≡ first_broken A (spec.upgrade_key_rules key.now facts.now) }
+    ensures connected { OnOk result (facts.now.call.connected ≡ true) }
+    ensures found { OnOk result (facts.now.call.found ≡ true) }
+    ensures asked { OnOk result (is_ok facts.now.asked ≡ true) }
+    ensures opens { OnOk result (facts.now.opens ≡ true) }
+    ensures same { OnOk result (facts.now.same ≡ true) }
+    ensures newer { OnOk result (rules.is_no_newer facts.now ≡ true) }
+    ensures list { OnOk result (facts.now.list ≤ KEPT_LIST_BYTES) }
+    ensures blob { OnOk result (facts.now.blob ≤ BLOB_BYTES) }
+{
+    match check_key_call(
+        names_any_key(key),
+        upgrade_permission(key.domain),
+        key,
+        &facts.call,
+    ) {
+        Ok(()) => check_upgrade(facts),
         Err(broken) => Err(broken),
     }
 }

@@ -12,7 +12,7 @@ use std::{fmt, fs, io};
 use tags::{DeviceSecrets, Policy};
 
 /// The most bytes of a device file.
-pub const DEVICE_BYTES: u64 = 96;
+pub const DEVICE_BYTES: u64 = 104;
 
 /// The most bytes of a policy file: 256 rows take some eleven thousand, and the rest is for blanks.
 pub const POLICY_BYTES: u64 = 1 << 20;
@@ -24,8 +24,8 @@ pub enum FileTrouble {
     Unread(Error),
     /// it has more bytes than the file can have
     TooLong { most: u64 },
-    /// a device file has so many bytes, and not as many as it must
-    Short { bytes: u64, wanted: u64 },
+    /// a device file has so many bytes, and neither 96 nor 104
+    WrongLength { bytes: u64 },
     /// this is wrong in a policy
     Policy(PolicyFault),
     /// want of memory, and nothing else
@@ -47,8 +47,8 @@ impl Display for FileTrouble {
         match self {
             FileTrouble::Unread(error) => Display::fmt(error, f),
             FileTrouble::TooLong { most } => write!(f, "it has more than {most} bytes"),
-            FileTrouble::Short { bytes, wanted } => {
-                write!(f, "it has {bytes} bytes, and must have {wanted}")
+            FileTrouble::WrongLength { bytes } => {
+                write!(f, "it has {bytes} bytes, and must have 96 or 104")
             }
             FileTrouble::Policy(fault) => Display::fmt(fault, f),
             FileTrouble::Memory => f.write_str("want of memory"),
@@ -81,9 +81,8 @@ pub fn device_of(bytes: &[u8]) -> Result<DeviceSecrets, FileTrouble>
 {
     match device_in(bytes) {
         Some(device) => Ok(device),
-        None => Err(FileTrouble::Short {
+        None => Err(FileTrouble::WrongLength {
             bytes: bytes.len() as u64,
-            wanted: DEVICE_BYTES,
         }),
     }
 }

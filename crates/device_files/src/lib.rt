@@ -1,4 +1,4 @@
-//! What the two files of a device spell: its secrets, and the policy that stands in place of SELinux.
+//! What the two files of a device spell: its secrets with the versions of its system, and the policy that stands in place of SELinux.
 //!
 //! Its one contract: `device_in` and `policy_in` answer what the definitions of `specs/` say of the bytes of `device.key` and
 //! `policy.json`, and a fault exactly where these say nothing; `device_of` and `policy_of` say what is wrong there. JSON is that of

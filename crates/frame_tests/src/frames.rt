@@ -11,7 +11,7 @@ use tags::{Bytes, Code, Rule, RuleTable};
 use wire_frames::{FrameFault, Frames, frame_length, reply_frame, reply_length, request_frame};
 
 /// One frame of each act, in the order of their numbers, and the act in words.
-static FRAMES: [(&[u8], &str); 20] = [
+static FRAMES: [(&[u8], &str); 21] = [
     (
         b"\x00\x00\x00\x05\x01\x00\x00\x27\x11",
         "Connect { uid: 10001 }",
@@ -89,6 +89,10 @@ static FRAMES: [(&[u8], &str); 20] = [
         b"\x00\x00\x00\x05\x15\x00\x00\x00\x0a",
         "UserRemoved { user: 10 }",
     ),
+    (
+        b"\x00\x00\x00\x1a\x18\x00\x00\x00\x00\x00\x00\x00\x00\x00\x00\x27\x11\x01\x00\x00\x00\x01\x6d\x00\x00\x00\x00\x02\x00\x03",
+        "UpgradeKey { key: Descriptor { domain: 0, nspace: 10001, alias: Some(Bytes { bytes: [109] }), blob: None }, params: Bytes { bytes: [0, 3] } }",
+    ),
 ];
 
 /// The frames of the replies of `reply_at`.
@@ -113,7 +117,7 @@ static BAD: [(&[u8], usize, u64); 15] = [
         0,
     ),
     (b"\x00\x00\x00\x02\x17\x00", 0, 0),
-    (b"\x00\x00\x00\x01\x18", 0, 0),
+    (b"\x00\x00\x00\x01\x19", 0, 0),
     // a flag of 2
     (
         b"\x00\x00\x00\x14\x05\x00\x00\x00\x00\x00\x00\x00\x00\x00\x00\x00\x00\x00\x00\x00\x00\x00\x00\x02",

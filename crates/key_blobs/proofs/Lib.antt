@@ -1,3 +1,4 @@
 mod TextLemmas
 mod BlobLemmas
+mod Materials
 pub mod BlobSizes

@@ -4,6 +4,10 @@ use Rattle.std.specs.Option.{ok_or}
 use Rattle.std.specs.Str.{bytes_eq}
 use Rattle.aes_core.specs.Cipher.{cipher}
 use Rattle.gcm_mode.specs.Gcm.{gcm_seal, gcm_open}
+use Rattle.tags.specs.declared.param.Param.{Param}
+use Rattle.tags.specs.declared.secrets.DeviceSecrets.{DeviceSecrets}
+use Rattle.tags.specs.declared.tag.Tag.TheVariants.{ApplicationId, ApplicationData}
+use Rattle.tag_lists.specs.Lookups.{bytes_of}
 use Rattle.key_blobs.specs.declared.sealed.Sealed.{Sealed}
 use Rattle.key_blobs.specs.declared.sealed.Opened.{Opened}
 use Rattle.key_blobs.specs.declared.fault.BlobFault.{BlobFault}
@@ -18,6 +22,17 @@ START = 75 ∷ 83 ∷ 66 ∷ 49 ∷ []
 -- tag of 16 bytes
 unfoldable pub blob_of : List ℕ → List ℕ → Sealed → List ℕ
 blob_of key nonce x = START ++ (nonce ++ gcm_seal (cipher key) nonce 16 START (text_of x))
+
+-- what is sealed for a device with its root of trust, and for the application id and data of a list: the kept list and the
+-- material
+abbrev pub sealed_for : DeviceSecrets → List Param → List Param → List ℕ → Sealed
+sealed_for device ids list material = record {
+  root = device.root;
+  app_id = bytes_of ApplicationId ids;
+  app_bytes = bytes_of ApplicationData ids;
+  list = list;
+  material = material;
+}
 
 -- the bytes have the form of a blob
 abbrev pub is_blob : List ℕ → Bool

@@ -36,6 +36,10 @@ id_size (Some bytes) = 3 + length bytes
 abbrev pub text_size : Sealed → ℕ
 text_size x = 37 + (id_size x.app_id + (id_size x.app_bytes + (length (spelling x.list) + length x.material)))
 
+-- how many bytes the blob of what is sealed has: beside its text, four of its start, twelve of the nonce and sixteen of the tag
+abbrev pub blob_size : Sealed → ℕ
+blob_size x = 32 + text_size x
+
 -- the parts of a text
 pub record Parts : Type 0 where
   pub root : List ℕ

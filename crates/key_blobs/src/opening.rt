@@ -1,6 +1,6 @@
 //! Opening a blob.
 
-ghost use Rattle.std.specs.Prelude.{◌≡◌, ◌≤◌, ◌+◌, length, take, MatchResult, Some, None};
+ghost use Rattle.std.specs.Prelude.{◌≡◌, ◌≤◌, ◌+◌, length, take, IfOk, MatchResult, Some, None};
 ghost use Rattle.std.specs.Option.{option_copied};
 ghost use Rattle.key_blobs.specs.Text.{lent, with_list};
 ghost use Rattle.key_blobs.specs.Blobs as spec;
@@ -78,7 +78,9 @@ fn compared(
     parts: TextParts,
     list: AuthList,
 ) -> Result<Opened, BlobFault>
-    ensures { Says (λ opened. opened) result (spec.compared root.now (option_copied app_id.entry) (option_copied app_bytes.entry) (with_list (lent parts.entry) list)) }
+    requires { length (lent parts).material ≤ 255 }
+    ensures says { Says (λ opened. opened) result (spec.compared root.now (option_copied app_id.entry) (option_copied app_bytes.entry) (with_list (lent parts.entry) list)) }
+    ensures short { IfOk result (λ opened. length opened.material ≤ 255) }
 {
     if !same_bytes(parts.root, root) {
         return Err(BlobFault::Root);
@@ -101,7 +103,8 @@ fn read(
     app_bytes: Option<&[u8]>,
     text: &[u8],
 ) -> Result<Opened, BlobFault>
-    ensures { Says (λ opened. opened) result (spec.answered root.now (option_copied app_id.entry) (option_copied app_bytes.entry) text.now) }
+    ensures says { Says (λ opened. opened) result (spec.answered root.now (option_copied app_id.entry) (option_copied app_bytes.entry) text.now) }
+    ensures short { IfOk result (λ opened. length opened.material ≤ 255) }
 {
     let (parts, list) = sealed_in(alloc, text)?;
     compared(alloc, root, app_id, app_bytes, parts, list)
@@ -113,7 +116,7 @@ fn read(
 /// Of several faults the first is given: the bytes are no blob (`Format`); the tag is wrong (`Tag`); the opened text is no
 /// sealed text (`Format`); another root of trust (`Root`); another application id or other application data (`App`).
 /// `Memory` comes where memory is wanting, and then nothing is said. The opened text is given back before the call ends, and
-/// the material is copied once, into the answer.
+/// the material, of at most 255 bytes, is copied once, into the answer.
 pub fn unseal(
     alloc: Global,
     device: &DeviceSecrets,
@@ -121,7 +124,8 @@ pub fn unseal(
     app_id: Option<&[u8]>,
     app_bytes: Option<&[u8]>,
 ) -> Result<Opened, BlobFault>
-    ensures { Says (λ opened. opened) result (spec.unsealed device.now.seal device.now.root (option_copied app_id.entry) (option_copied app_bytes.entry) blob.now) }
+    ensures says { Says (λ opened. opened) result (spec.unsealed device.now.seal device.now.root (option_copied app_id.entry) (option_copied app_bytes.entry) blob.now) }
+    ensures short { IfOk result (λ opened. length opened.material ≤ 255) }
 {
     let text = text_of_blob(alloc, &device.seal, blob)?;
     read(alloc, &device.root, app_id, app_bytes, &text)

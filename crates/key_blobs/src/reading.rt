@@ -1,6 +1,6 @@
 //! Reading the text inside a blob.
 
-ghost use Rattle.std.specs.Prelude.{Result};
+ghost use Rattle.std.specs.Prelude.{◌≤◌, Result, IfOk, length};
 ghost use Rattle.std.specs.Option.{ok_or};
 ghost use Rattle.tag_lists.specs.Reading.{listed};
 ghost use Rattle.key_blobs.specs.declared.fault.BlobFault.TheVariants.{Format};
@@ -26,7 +26,8 @@ pub(crate) struct TextParts<'a> {
 /// The parts of a text, where nothing stands behind them.
 #[tactic(auto, unfolding(crate::specs::Text::parts_at))]
 fn parts_in(text: &[u8]) -> Result<TextParts<'_>, Short>
-    ensures { readers.Says (λ parts. spec.lent parts) result (spec.parts_in text.now) }
+    ensures says { readers.Says (λ parts. spec.lent parts) result (spec.parts_in text.now) }
+    ensures short { IfOk result (λ parts. length parts.material.now ≤ 255) }
 {
     let (root, rest) = bytes_at(32, text)?;
     let (app_id, rest) = optional_u16_at(rest)?;
@@ -64,7 +65,8 @@ fn canonical_in(alloc: Global, bytes: &[u8]) -> Result<AuthList, BlobFault>
 
 /// What a text holds: its parts, and the list that theirs is.
 pub(crate) fn sealed_in(alloc: Global, text: &[u8]) -> Result<(TextParts<'_>, AuthList), BlobFault>
-    ensures { Says (λ x. spec.with_list (spec.lent x.0) x.1) result (ok_or (spec.sealed_in text.now) Format) }
+    ensures says { Says (λ x. spec.with_list (spec.lent x.0) x.1) result (ok_or (spec.sealed_in text.now) Format) }
+    ensures short { IfOk result (λ x. length x.0.material.now ≤ 255) }
 {
     let parts = parts_in(text)?;
     let list = canonical_in(alloc, parts.list)?;

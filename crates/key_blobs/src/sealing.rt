@@ -7,7 +7,7 @@ ghost use Rattle.aes_wide.specs.WideKey.{wide_key_of};
 ghost use Rattle.gcm_mode.specs.Gcm.{gcm_seal, gcm_open};
 ghost use Rattle.key_blobs.specs.declared.sealed.Sealed.{Sealed};
 ghost use Rattle.byte_strings.specs.Fields.{optional};
-ghost use Rattle.key_blobs.specs.Text.{text_of, sealed_in, text_size, IsShort, IsSealable};
+ghost use Rattle.key_blobs.specs.Text.{blob_size, text_of, sealed_in, text_size, IsShort, IsSealable};
 ghost use Rattle.key_blobs.specs.Blobs.{START, blob_of, opened};
 
 use crate::sealed::Sealed;
@@ -115,7 +115,7 @@ pub fn seal(
     requires { IsSealable sealed.now }
     ensures blob { IfOk result (λ blob. blob ≡ blob_of device.now.seal nonce sealed.now) }
     ensures opens { IfOk result (λ blob. opened device.now.seal blob ≡ Ok sealed.now) }
-    ensures len { IfOk result (λ blob. length blob ≡ text_size sealed.now + 32) }
+    ensures len { IfOk result (λ blob. length blob ≡ blob_size sealed.now) }
 {
     let text = text_of(alloc, sealed)?;
     let mut blob = vec![in alloc; 0; text.len() + 32]?;

@@ -1,6 +1,5 @@
 pub mod Lengths
 pub mod Dropped
-pub mod Limits
 pub mod Walks
 pub mod Keys
 pub mod Ids

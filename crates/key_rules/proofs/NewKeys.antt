@@ -9,28 +9,28 @@ use Rattle.tags.specs.declared.param.ParamValue.TheVariants.{Number}
 use Rattle.tags.specs.declared.rule.Rule.{Rule}
 use Rattle.tags.specs.declared.rule.RuleTable.TheVariants.{K}
 use Rattle.tags.specs.declared.tag.Tag.{Tag}
-use Rattle.tags.specs.declared.tag.Tag.TheVariants.{ApplicationData, ApplicationId, CreationDatetime, KeySize, Origin}
+use Rattle.tags.specs.declared.tag.Tag.TheVariants.{ApplicationData, ApplicationId, CreationDatetime, KeySize, Origin, OsPatchlevel, OsVersion}
 use Rattle.tags.specs.Descriptor.{has_alias, has_alias_in}
 use Rattle.tags.specs.Table.{Ruling, first_broken, where_all_hold}
 use Rattle.tags.specs.Tag.{type_of}
 use Rattle.key_domains.specs.Domains.{domain_blob}
 use Rattle.tag_lists.specs.declared.fault.ListFault.{ListFault}
-use Rattle.tag_lists.specs.declared.shape.Shape.{Shape}
-use Rattle.tag_lists.specs.declared.shape.Shape.TheVariants.{Short, Long, Truth, Sized}
 use Rattle.tag_lists.specs.Lookups.{is_of, stands, without}
 use Rattle.tag_lists.specs.Order.{shape_of}
 use Rattle.tag_lists.specs.Reading.{listed}
-use Rattle.tag_lists.specs.Spelling.{spelled, spelled_value, spelling}
+use Rattle.tag_lists.specs.Spelling.{spelling}
+use Rattle.tag_lists.specs.Versions.{set}
 use Rattle.tag_lists.proofs.ReadSizes.{listed_small}
 use Rattle.tag_lists.proofs.Sizes.{small_filter, small_with}
 use Rattle.key_rules.specs.declared.facts.ImportFacts.{ImportFacts}
 use Rattle.key_rules.specs.declared.facts.NewFacts.{NewFacts}
 use Rattle.key_rules.specs.Creation.{IsFit, drawn_size, new_key, plan_of}
-use Rattle.key_rules.specs.KeptLists.{is_kept, kept, origin, own, set, set_missing, with_size}
+use Rattle.key_rules.specs.KeptLists.{is_kept, kept, most_bytes, origin, own, set_missing, with_size}
 use Rattle.key_rules.specs.Rules.{each_short, has_allowed_size, has_short_ids, is_by_alias, list_in, names_algorithm, names_new_key, names_place, read_or_empty, takes_format}
 use Rattle.key_rules.specs.Table.{list_rules, rules_of}
 use Rattle.key_rules.proofs.Ids.{short_id}
 use Rattle.key_rules.proofs.Keys.{bits_few, generated_short}
+use Rattle.key_rules.proofs.Lengths.{number_bytes}
 use Rattle.tags.specs.declared.limits.TheConstants.{LIST_BYTES}
 
 -- ---- the rows that hold
@@ -93,47 +93,38 @@ named_short key e stored =
 
 -- ---- the kept list
 
-number_few : (shape : Shape) (n : ℕ) → length (spelled_value shape (Number n)) ≤ 8
-number_few Short n = omega arith
-number_few Long n = omega arith
-number_few Truth n = omega arith
-number_few Sized n = omega arith
-
--- four bytes of tag
-tagged : (p : Param) → length (spelled p) ≡ 4 + length (spelled_value (shape_of (type_of p.tag)) p.value)
-tagged p = omega arith
-
-set_few : (tag : Tag) (n : ℕ) (list : List Param) → length (spelling (set tag n list)) ≤ length (spelling list) + 12
+set_few : (tag : Tag) (n : ℕ) (list : List Param) → length (spelling (set tag n list)) ≤ length (spelling list) + most_bytes (shape_of (type_of tag))
 set_few tag n list =
-    let p : Param = record { tag = tag; value = Number n } in
     omega (
       arith,
-      small_with p (without tag list),
+      small_with (record { tag = tag; value = Number n }) (without tag list),
       small_filter (λ q. not (is_of tag q)) list,
-      tagged p,
-      number_few (shape_of (type_of tag)) n,
+      number_bytes tag n,
     )
 
-missing_few : (tag : Tag) (n : ℕ) (list : List Param) → length (spelling (set_missing tag n list)) ≤ length (spelling list) + 12
+missing_few : (tag : Tag) (n : ℕ) (list : List Param) → length (spelling (set_missing tag n list)) ≤ length (spelling list) + most_bytes (shape_of (type_of tag))
 missing_few tag n list = by_stands (stands tag list) where
-  by_stands : (b : Bool) → length (spelling (if b then list else set tag n list)) ≤ length (spelling list) + 12
+  by_stands : (b : Bool) → length (spelling (if b then list else set tag n list)) ≤ length (spelling list) + most_bytes (shape_of (type_of tag))
   by_stands true = omega arith
   by_stands false = set_few tag n list
 
-size_few : (import : Option ImportFacts) (list : List Param) → length (spelling (with_size import list)) ≤ length (spelling list) + 12
+size_few : (import : Option ImportFacts) (list : List Param) → length (spelling (with_size import list)) ≤ length (spelling list) + 8
 size_few None list = omega arith
 size_few (Some import) list = missing_few KeySize (8 * import.length) list
 
-kept_few : (import : Option ImportFacts) (wall : ℕ) (list : List Param) → length (spelling (kept import wall list)) ≤ length (spelling list) + 36
+kept_few : (import : Option ImportFacts) (wall os patch : ℕ) (list : List Param) → length (spelling (kept import wall os patch list)) ≤ length (spelling list) + 44
 unfolding kept
-kept_few import wall list =
+kept_few import wall os patch list =
     let dated : List Param = set_missing CreationDatetime wall (own list) in
+    let origined : List Param = set Origin (origin import) (with_size import dated) in
     omega (
       arith,
       small_filter is_kept list,
       missing_few CreationDatetime wall (own list),
       size_few import dated,
       set_few Origin (origin import) (with_size import dated),
+      set_few OsVersion os origined,
+      set_few OsPatchlevel patch (set OsVersion os origined),
     )
 
 read_few : (params : List ℕ) (found : Result (List Param) ListFault) → listed params ≡ found → is_ok found ≡ true → length (spelling (read_or_empty found)) ≤ length params
@@ -165,7 +156,7 @@ fit_if_ok facts e =
       short = import_few facts.import list through.size;
       small = record {
         drawn = drawn_few facts.import list through.size;
-        listed = omega (arith, kept_few facts.import facts.wall list, list_few facts.params through.reads, through.few);
+        listed = omega (arith, kept_few facts.import facts.wall facts.os facts.patch list, list_few facts.params through.reads, through.few);
         id = short_id ApplicationId list ids.0;
         bytes = short_id ApplicationData list ids.1;
       };

@@ -5,6 +5,7 @@ use Rattle.tags.specs.declared.param.Param.{Param}
 use Rattle.tags.specs.declared.rule.Rule.{Rule}
 use Rattle.tags.specs.declared.rule.RuleTable.TheVariants.{K}
 use Rattle.tags.specs.declared.tag.Tag.TheVariants as tags
+use Rattle.tags.specs.declared.limits.TheConstants.{KEPT_LIST_BYTES}
 use Rattle.tags.specs.Table.{first_broken, where_all_hold}
 use Rattle.tag_lists.specs.Spelling.{spelling}
 use Rattle.tag_lists.specs.Lookups.{bytes_of, number_of}
@@ -25,18 +26,18 @@ drawn_size None list = material_size list
 drawn_size (Some import) list = 0
 
 -- the plan of a list
-abbrev pub plan_for : Option ImportFacts → ℕ → List Param → KeyPlan
-plan_for import wall list = record {
-  list = kept import wall list;
+abbrev pub plan_for : NewFacts → List Param → KeyPlan
+plan_for facts list = record {
+  list = kept facts.import facts.wall facts.os facts.patch list;
   app_id = bytes_of tags.ApplicationId list;
   app_bytes = bytes_of tags.ApplicationData list;
   limit = limit list;
-  size = drawn_size import list;
+  size = drawn_size facts.import list;
 }
 
 -- the plan of a new key
 abbrev pub plan_of : NewFacts → KeyPlan
-plan_of facts = plan_for facts.import facts.wall (list_in facts.params)
+plan_of facts = plan_for facts (list_in facts.params)
 
 -- the first broken rule of table K, or else the plan
 abbrev pub new_key : NewFacts → Result KeyPlan (Rule × Code)
@@ -51,10 +52,10 @@ key_size (Some import) list = import.length
 abbrev pub IsShortId : Option (List ℕ) → Type 0
 IsShortId id = IfSome id (λ bytes. length bytes ≤ 1024)
 
--- a drawn material has at most 64 bytes, the kept list is spelled in at most 4,132, and each of the ids has at most 1,024
+-- a drawn material has at most 64 bytes, the kept list is spelled in at most as many as one has, and each of the ids has at most 1,024
 pub record IsSmall (plan : KeyPlan) : Type 0 where
   pub drawn : plan.size ≤ 64
-  pub listed : length (spelling plan.list) ≤ 4132
+  pub listed : length (spelling plan.list) ≤ KEPT_LIST_BYTES
   pub id : IsShortId plan.app_id
   pub bytes : IsShortId plan.app_bytes
 

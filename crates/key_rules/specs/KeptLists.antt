@@ -2,12 +2,13 @@
 use Rattle.std.specs.Prelude.{ℕ, ◌*◌, Bool, not, List, [], ◌∷◌, Option, Some, None, if◌then◌else◌, unwrap_or}
 use Rattle.std.specs.List.{filter, list_all}
 use Rattle.tags.specs.declared.param.Param.{Param}
-use Rattle.tags.specs.declared.param.ParamValue.TheVariants.{Number}
 use Rattle.tags.specs.declared.tag.Tag.{Tag}
 use Rattle.tags.specs.declared.tag.Tag.TheVariants as tags
 use Rattle.tags.specs.Values.{GENERATED, IMPORTED}
-use Rattle.tag_lists.specs.Lookups.{is_of, number_of, stands, without}
-use Rattle.tag_lists.specs.Order.{with_param}
+use Rattle.tag_lists.specs.declared.shape.Shape.{Shape}
+use Rattle.tag_lists.specs.declared.shape.Shape.TheVariants.{Short}
+use Rattle.tag_lists.specs.Lookups.{is_of, number_of, stands}
+use Rattle.tag_lists.specs.Versions.{set, with_versions}
 use Rattle.key_rules.specs.declared.facts.ImportFacts.{ImportFacts}
 
 -- the tags whose parameters are not the caller's to keep
@@ -20,10 +21,6 @@ is_kept p = list_all (λ tag. not (is_of tag p)) dropped
 -- the caller's parameters that are kept
 abbrev pub own : List Param → List Param
 own list = filter is_kept list
-
--- the list with this number as the tag's one parameter
-abbrev pub set : Tag → ℕ → List Param → List Param
-set tag number list = with_param (record { tag = tag; value = Number number }) (without tag list)
 
 -- the list with this number where the tag is not there
 abbrev pub set_missing : Tag → ℕ → List Param → List Param
@@ -40,9 +37,14 @@ origin None = GENERATED
 origin (Some import) = IMPORTED
 
 -- The kept list: the caller's without the tags that are dropped, with CREATION_DATETIME and an import's KEY_SIZE where
--- the caller gave none, and with ORIGIN.
-unfoldable pub kept : Option ImportFacts → ℕ → List Param → List Param
-kept import wall list = set tags.Origin (origin import) (with_size import (set_missing tags.CreationDatetime wall (own list)))
+-- the caller gave none, with ORIGIN, and with OS_VERSION and OS_PATCHLEVEL of the device.
+unfoldable pub kept : Option ImportFacts → ℕ → ℕ → ℕ → List Param → List Param
+kept import wall os patch list = with_versions os patch (set tags.Origin (origin import) (with_size import (set_missing tags.CreationDatetime wall (own list))))
+
+-- the most bytes of a parameter with a number of this shape: four of the tag, and the number's 32 bits or a date's 64
+abbrev pub most_bytes : Shape → ℕ
+most_bytes Short = 8
+most_bytes _ = 12
 
 -- the use limit, or 0
 unfoldable pub limit : List Param → ℕ

@@ -52,25 +52,20 @@ fn id_in(alloc: Global, list: &AuthList, tag: Tag) -> Result<Option<Bytes>, NoMe
 }
 
 /// The plan of a key that meets the rules.
-fn plan(
-    alloc: Global,
-    list: AuthList,
-    import: Option<ImportFacts>,
-    wall: u64,
-) -> Result<KeyPlan, NewFault>
+fn plan(alloc: Global, list: AuthList, facts: &NewFacts) -> Result<KeyPlan, NewFault>
     requires ids { has_short_ids list ≡ true }
-    requires short { IfSome import (λ facts. facts.length ≤ 64) }
-    requires size { has_allowed_size import list ≡ true }
+    requires short { IfSome facts.now.import (λ import. import.length ≤ 64) }
+    requires size { has_allowed_size facts.now.import list ≡ true }
     requires few { length list ≤ LIST_BYTES }
     requires small { length (spelling list) ≤ LIST_BYTES }
-    ensures plan { Gives (λ plan. plan) result (Ok (spec.plan_for import wall list)) }
+    ensures plan { Gives (λ plan. plan) result (Ok (spec.plan_for facts.now list)) }
     ensures small { IfOk result spec.IsSmall }
 {
     let limit = limit(&list);
-    let size = drawn_size(import, &list);
+    let size = drawn_size(facts.import, &list);
     let app_id = id_in(alloc, &list, Tag::ApplicationId)?;
     let app_bytes = id_in(alloc, &list, Tag::ApplicationData)?;
-    let list = kept(list, import, wall)?;
+    let list = kept(list, facts.import, facts.wall, facts.os, facts.patch)?;
     Ok(KeyPlan {
         list,
         app_id,
@@ -89,7 +84,7 @@ pub fn check_new(alloc: Global, facts: &NewFacts) -> Result<KeyPlan, NewFault>
     ensures fit { IfOk result (λ plan. spec.IsFit facts.now plan) }
 {
     let list = check_facts(alloc, facts)?;
-    plan(alloc, list, facts.import, facts.wall)
+    plan(alloc, list, facts)
 }
 
 /// Whether a list and a material of so many bytes are a key's: they meet K5 and K7 to K12 as an import, and then they are a

@@ -28,4 +28,8 @@ pub struct NewFacts {
     pub early_ended: bool,
     /// the wall reading, in milliseconds
     pub wall: u64,
+    /// the version of the device's operating system
+    pub os: u32,
+    /// the version of its patches
+    pub patch: u32,
 }

@@ -2,8 +2,10 @@
 
 ghost use Rattle.std.specs.Prelude.{◌≡◌, ◌≤◌, ◌<◌, ◌+◌, length, IfOk, IfSome};
 ghost use Rattle.tags.specs.declared.param.ParamValue.TheVariants.{Number};
-ghost use Rattle.tag_lists.specs.Order.{Fits};
+ghost use Rattle.tag_lists.specs.Order.{Fits, shape_of};
+ghost use Rattle.tags.specs.Tag.{type_of};
 ghost use Rattle.tag_lists.specs.Spelling.{spelling};
+ghost use Rattle.tag_lists.specs.Versions as versions;
 ghost use Rattle.key_rules.specs.KeptLists as spec;
 ghost use Rattle.tags.specs.declared.limits.TheConstants.{LIST_BYTES};
 
@@ -16,9 +18,9 @@ use tags::{NoMemory, Param, ParamValue, Tag};
 fn set(list: AuthList, tag: Tag, number: u64) -> Result<AuthList, NoMemory>
     requires fits { Fits (record { tag = tag; value = Number number }) }
     requires room { length list < 65535 }
-    ensures set { IfOk result (λ new. new ≡ spec.set tag number list) }
+    ensures set { IfOk result (λ new. new ≡ versions.set tag number list) }
     ensures room { IfOk result (λ new. length new ≤ length list + 1) }
-    ensures small { IfOk result (λ new. length (spelling new) ≤ length (spelling list) + 12) }
+    ensures small { IfOk result (λ new. length (spelling new) ≤ length (spelling list) + spec.most_bytes (shape_of (type_of tag))) }
 {
     list.with(Param {
         tag,
@@ -32,7 +34,7 @@ fn set_missing(list: AuthList, tag: Tag, number: u64) -> Result<AuthList, NoMemo
     requires room { length list < 65535 }
     ensures set { IfOk result (λ new. new ≡ spec.set_missing tag number list) }
     ensures room { IfOk result (λ new. length new ≤ length list + 1) }
-    ensures small { IfOk result (λ new. length (spelling new) ≤ length (spelling list) + 12) }
+    ensures small { IfOk result (λ new. length (spelling new) ≤ length (spelling list) + spec.most_bytes (shape_of (type_of tag))) }
 {
     if list.stands(tag) {
         Ok(list)
@@ -47,7 +49,7 @@ fn with_size(list: AuthList, import: Option<ImportFacts>) -> Result<AuthList, No
     requires room { length list < 65535 }
     ensures set { IfOk result (λ new. new ≡ spec.with_size import list) }
     ensures room { IfOk result (λ new. length new ≤ length list + 1) }
-    ensures small { IfOk result (λ new. length (spelling new) ≤ length (spelling list) + 12) }
+    ensures small { IfOk result (λ new. length (spelling new) ≤ length (spelling list) + 8) }
 {
     match import {
         None => Ok(list),
@@ -86,15 +88,18 @@ pub(crate) fn kept(
     list: AuthList,
     import: Option<ImportFacts>,
     wall: u64,
+    os: u32,
+    patch: u32,
 ) -> Result<AuthList, NoMemory>
     requires short { IfSome import (λ facts. facts.length ≤ 64) }
     requires few { length list ≤ LIST_BYTES }
-    ensures kept { IfOk result (λ new. new ≡ spec.kept import wall list) }
-    ensures small { IfOk result (λ new. length (spelling new) ≤ length (spelling list) + 36) }
+    ensures kept { IfOk result (λ new. new ≡ spec.kept import wall os patch list) }
+    ensures small { IfOk result (λ new. length (spelling new) ≤ length (spelling list) + 44) }
 {
     let dated = set_missing(own(list), Tag::CreationDatetime, wall)?;
     let sized = with_size(dated, import)?;
-    set(sized, Tag::Origin, origin(import))
+    let origined = set(sized, Tag::Origin, origin(import))?;
+    origined.with_versions(os, patch)
 }
 
 /// The use limit, or 0.
@@ -102,6 +107,5 @@ pub(crate) fn kept(
 pub(crate) fn limit(list: &AuthList) -> u32
     ensures { result ≡ spec.limit list.now }
 {
-    let _params = list.params();
-    list.number(Tag::UsageCountLimit).unwrap_or(0) as u32
+    list.version(Tag::UsageCountLimit)
 }

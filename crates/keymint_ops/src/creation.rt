@@ -6,6 +6,7 @@ ghost use Rattle.key_rules.specs.Gives.{Gives};
 ghost use Rattle.key_blobs.specs.Blobs.{blob_of, opened};
 ghost use Rattle.key_blobs.specs.Text.{IsSealable, text_size};
 ghost use Rattle.keymint_ops.specs.Creation as spec;
+ghost use Rattle.tags.specs.declared.limits.TheConstants.{BLOB_BYTES, KEPT_LIST_BYTES};
 
 use key_blobs::{Sealed, seal};
 use key_rules::{KeyPlan, NewFacts, NewFault, check_new};
@@ -17,7 +18,7 @@ use tags::{Bytes, DeviceSecrets, Material, NoMemory};
 pub struct NewKey {
     /// the plan, with the kept list and the caller's ids, which are sealed with the material
     pub plan: KeyPlan,
-    /// the kept list, encoded, at most 4,132 bytes
+    /// the kept list, encoded, at most 4,140 bytes
     pub list: Bytes,
 }
 
@@ -35,7 +36,7 @@ fn spelled(alloc: Global, plan: KeyPlan) -> Result<NewKey, NewFault>
 pub fn plan_key(alloc: Global, facts: &NewFacts) -> Result<NewKey, NewFault>
     ensures key { Gives (λ key. key) result (spec.planned facts.now) }
     ensures fit { IfOk result (λ key. IsFit facts.now key.plan) }
-    ensures listed { IfOk result (λ key. length key.list ≤ 4132) }
+    ensures listed { IfOk result (λ key. length key.list ≤ KEPT_LIST_BYTES) }
 {
     let plan = check_new(alloc, facts)?;
     spelled(alloc, plan)
@@ -47,7 +48,7 @@ fn sealed_as(root: [u8; 32], plan: KeyPlan, material: Material) -> Sealed
     requires short { length material ≤ 64 }
     ensures sealed { result ≡ spec.sealed_as root plan material }
     ensures sealable { IsSealable result }
-    ensures few { text_size result ≤ 6287 }
+    ensures few { text_size result ≤ 6295 }
 {
     let KeyPlan {
         list,
@@ -66,7 +67,7 @@ fn sealed_as(root: [u8; 32], plan: KeyPlan, material: Material) -> Sealed
 }
 
 /// The blob of a planned key with this material, of at most 64 bytes: sealed under the device's key for its root of trust,
-/// with these 12 bytes as the nonce, which must be drawn anew for each. The blob has at most 6,319 bytes. The material is given
+/// with these 12 bytes as the nonce, which must be drawn anew for each. The blob has at most 6,327 bytes. The material is given
 /// back before the call ends.
 pub fn seal_key(
     alloc: Global,
@@ -79,7 +80,7 @@ pub fn seal_key(
     requires short { length material ≤ 64 }
     ensures blob { IfOk result (λ blob. blob ≡ blob_of device.now.seal nonce (spec.sealed_as device.now.root plan material)) }
     ensures opens { IfOk result (λ blob. opened device.now.seal blob ≡ Ok (spec.sealed_as device.now.root plan material)) }
-    ensures few { IfOk result (λ blob. length blob ≤ 6319) }
+    ensures few { IfOk result (λ blob. length blob ≤ BLOB_BYTES) }
 {
     let sealed = sealed_as(device.root, plan, material);
     seal(alloc, device, nonce, &sealed)

@@ -131,9 +131,9 @@ admitted_over (Err Fault.Memory) own key gathered facts is e told = tt
 -- the facts that were gathered are those of what the descriptor finds
 pub gathered_facts : (device : DeviceSecrets) (policy : List PolicyRow) (part : Lasting) (caller : Caller) (key : Descriptor) (params : List ℕ) (own : OwnKey) (forced : Bool) (conditions : Conditions)
     → OpensKey device policy part caller key params own
-    → answers.facts_of policy own caller forced conditions ≡ facts_by policy own.found own.opened.list own.opened.fits (access_by policy part caller key) caller key (asked params) forced conditions
+    → answers.facts_of device policy own caller forced conditions ≡ facts_by device policy own.found own.opened.list own.opened.fits (access_by policy part caller key) caller key (asked params) forced conditions
 gathered_facts device policy part caller key params own forced conditions is =
-    λ i. facts_by policy own.found own.opened.list own.opened.fits (is.access_is i) caller (is.key_is i) (is.asked_is i) forced conditions
+    λ i. facts_by device policy own.found own.opened.list own.opened.fits (is.access_is i) caller (is.key_is i) (is.asked_is i) forced conditions
 
 -- what the choice of the operation that gives way reads of a slot is what it reads of the open operation
 facts_alike : (slot : Slot CipherState) (o : Open) → IsSlot slot o → seen.facts slot ≡ facts_of_open o
@@ -238,17 +238,18 @@ module _ (setup : Setup) (past : History) (tables : Tables) (caller : Caller) (k
   pub facts_are : (own : OwnKey) (access : Access) (room : Bool) (told : Result (List Param) Code) (conditions : Conditions) → IsBeginKey own Key
       → access ≡ access_by tables.policy (lasting tables.keys) caller key → told ≡ asked params → room ≡ has_room setup past (owner_of caller) forced
       → conditions ≡ conditions_in tables.boot caller own.opened.list own.id room
-      → facts_by tables.policy own.found own.opened.list own.opened.fits access caller key told forced conditions ≡ Facts
+      → facts_by tables.device tables.policy own.found own.opened.list own.opened.fits access caller key told forced conditions ≡ Facts
   facts_are own access room told conditions is at same_list has met_told =
       let met : conditions ≡ conditions_on setup past caller Key (has_room setup past (owner_of caller) forced) =
       met_told ∙ conditions_are setup past tables.boot stands.boot caller Key own.opened.list own.id room (has_room setup past (owner_of caller) forced) is.list_is is.id_is has in
-      ap (λ p. facts_by p own.found own.opened.list own.opened.fits access caller key told forced conditions) stands.keys.policy_is
-      ∙ ap (λ f. facts_by setup.policy f own.opened.list own.opened.fits access caller key told forced conditions) is.found_is
-      ∙ ap (λ l. facts_by setup.policy Key.found l own.opened.fits access caller key told forced conditions) is.list_is
-      ∙ ap (λ f. facts_by setup.policy Key.found (list_read Key.opened) f access caller key told forced conditions) is.fits_is
-      ∙ ap (λ a. facts_by setup.policy Key.found (list_read Key.opened) (fits_key Key.opened) a caller key told forced conditions) (at ∙ access_is)
-      ∙ ap (λ l. facts_by setup.policy Key.found (list_read Key.opened) (fits_key Key.opened) (access_at setup past caller key) caller key l forced conditions) same_list
-      ∙ ap (facts_by setup.policy Key.found (list_read Key.opened) (fits_key Key.opened) (access_at setup past caller key) caller key (asked params) forced) met
+      ap (λ d. facts_by d tables.policy own.found own.opened.list own.opened.fits access caller key told forced conditions) stands.keys.device_is
+      ∙ ap (λ p. facts_by setup.device p own.found own.opened.list own.opened.fits access caller key told forced conditions) stands.keys.policy_is
+      ∙ ap (λ f. facts_by setup.device setup.policy f own.opened.list own.opened.fits access caller key told forced conditions) is.found_is
+      ∙ ap (λ l. facts_by setup.device setup.policy Key.found l own.opened.fits access caller key told forced conditions) is.list_is
+      ∙ ap (λ f. facts_by setup.device setup.policy Key.found (list_read Key.opened) f access caller key told forced conditions) is.fits_is
+      ∙ ap (λ a. facts_by setup.device setup.policy Key.found (list_read Key.opened) (fits_key Key.opened) a caller key told forced conditions) (at ∙ access_is)
+      ∙ ap (λ l. facts_by setup.device setup.policy Key.found (list_read Key.opened) (fits_key Key.opened) (access_at setup past caller key) caller key l forced conditions) same_list
+      ∙ ap (facts_by setup.device setup.policy Key.found (list_read Key.opened) (fits_key Key.opened) (access_at setup past caller key) caller key (asked params) forced) met
 
   answered : (drawn : List ℕ) (reply : Reply) → length drawn ≡ size_of (wanted_by_begin Answer Facts)
       → reply ≡ answer_by_rules (CreateOperation key params forced) setup past caller drawn → IsTrue (is_ready past (CreateOperation key params forced)) → MayFollow setup past Beginning drawn reply

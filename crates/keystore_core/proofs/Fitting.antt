@@ -1,29 +1,37 @@
 -- Each reply fits the room that is taken for it before the step.
-use Rattle.std.proofs.Common.{◌≡◌, ℕ, zero, suc, ◌+◌, ◌≤◌, Bool, true, false, ◌==◌, if◌then◌else◌, List, [], ◌∷◌, length, length-drop, length-take, take, drop, filter, Option, Some, None, Result, Ok, Err, is_ok, refl, sym, subst, arith}
+use Rattle.std.proofs.Common.{◌≡◌, ℕ, zero, suc, ◌+◌, ◌≤◌, Bool, true, false, ◌==◌, if◌then◌else◌, List, [], ◌∷◌, length, length-drop, length-take, take, drop, filter, Option, Some, None, Result, Ok, Err, is_ok, refl, sym, ap, subst, arith}
 use Rattle.std.specs.Ordering.{is_gt}
-use Rattle.std.specs.Prelude.{IfOk, IfSome, All}
+use Rattle.std.specs.Prelude.{IfOk, IfSome, All, unwrap_or}
 use Rattle.std.proofs.lemmas.List.Elements.{All-cons, All-nil}
 use Rattle.tags.specs.declared.code.Code.{Code}
 use Rattle.tags.specs.declared.code.Code.TheVariants.{StoreFull, TokensFull}
 use Rattle.tags.specs.declared.descriptor.Descriptor.{Descriptor}
 use Rattle.tags.specs.declared.param.Param.{Param}
 use Rattle.tags.specs.declared.rule.Rule.{Rule}
-use Rattle.tags.specs.declared.rule.RuleTable.TheVariants.{K}
+use Rattle.tags.specs.declared.policy.PolicyRow.{PolicyRow}
+use Rattle.tags.specs.declared.rule.RuleTable.TheVariants.{A, K}
 use Rattle.tags.specs.declared.secrets.DeviceSecrets.{DeviceSecrets}
 use Rattle.tags.specs.declared.settled.Settled.{Settled}
 use Rattle.tags.specs.Table.{Ruling, first_broken, where_all_hold}
+use Rattle.tag_lists.specs.Versions.{is_no_older}
 use Rattle.auth_tokens.specs.declared.token.AuthToken.{AuthToken}
 use Rattle.key_domains.specs.declared.access.Access.{Access}
 use Rattle.key_domains.specs.declared.access.Access.TheVariants.{Found, Blob, Nothing}
 use Rattle.key_domains.specs.Domains.{domain_blob}
+use Rattle.key_blobs.specs.declared.fault.BlobFault.{BlobFault}
+use Rattle.key_blobs.specs.declared.sealed.Opened.{Opened}
 use Rattle.key_blobs.specs.declared.sealed.Sealed.{Sealed}
+use Rattle.key_blobs.specs.Blobs.{blob_of}
 use Rattle.key_blobs.proofs.BlobSizes.{blob_few}
+use Rattle.key_rules.specs.Asked.{asked as asked_in}
 use Rattle.key_rules.specs.declared.facts.NewFacts.{NewFacts}
 use Rattle.key_rules.specs.declared.plan.KeyPlan.{KeyPlan}
 use Rattle.key_rules.specs.Creation.{IsFit, plan_of}
 use Rattle.key_rules.specs.Table.{rules_of}
 use Rattle.key_rules.proofs.NewKeys.{fit_if_ok}
 use Rattle.keymint_ops.proofs.BlobSizes.{id_few}
+use Rattle.call_rules.specs.declared.facts.KeyCallFacts.{KeyCallFacts}
+use Rattle.call_rules.specs.Table.{upgrade_key_rules}
 use Rattle.use_rules.specs.Plans.{nonce_wanted}
 use Rattle.use_rules.specs.Rules.{is_gcm}
 use Rattle.use_rules.specs.Table as begin_table
@@ -37,21 +45,22 @@ use Rattle.journal_records.specs.Lookups.{alias_cmp, is_listed, least, lesser, n
 use Rattle.journal_records.specs.Storable.{IsStorable}
 use Rattle.rule_model.specs.declared.entry.Entry.TheVariants.{Settling}
 use Rattle.rule_model.specs.declared.event.Act.{Act}
-use Rattle.rule_model.specs.declared.event.Act.TheVariants.{GenerateKey, ImportKey, CreateOperation, EnterAad, EnterUpdate, EnterFinish, Abort, Disconnect, GetKeyEntry, DeleteKey, Grant, Ungrant, GetNumberOfEntries, ListEntriesBatched, ClearNamespace, UserRemoved, AddAuthToken, DeviceLocked, DeviceUnlocked, EarlyBootEnded, Leave}
+use Rattle.rule_model.specs.declared.event.Act.TheVariants.{GenerateKey, ImportKey, CreateOperation, EnterAad, EnterUpdate, EnterFinish, Abort, Disconnect, GetKeyEntry, DeleteKey, Grant, Ungrant, GetNumberOfEntries, ListEntriesBatched, ClearNamespace, UserRemoved, AddAuthToken, DeviceLocked, DeviceUnlocked, EarlyBootEnded, Leave, UpgradeKey}
 use Rattle.rule_model.specs.declared.event.Event.{Event}
 use Rattle.rule_model.specs.declared.facts.Caller.{Caller}
 use Rattle.rule_model.specs.declared.field_sizes.FieldSizes.{FieldSizes}
 use Rattle.rule_model.specs.declared.reply.Reply.{Reply}
 use Rattle.rule_model.specs.declared.reply.Reply.TheVariants.{Done, Stopped}
-use Rattle.rule_model.specs.Access.{id_by, key_in, owner_of}
+use Rattle.rule_model.specs.Access.{access_by, id_by, key_in, owner_of}
 use Rattle.rule_model.specs.Acts.{fixed_for, is_begin}
-use Rattle.rule_model.specs.Answer.{answer_by_rules, begun_with, drawn_nonce, given_or, leaving}
-use Rattle.rule_model.specs.Blobs.{device_at, kept_as, root_of}
+use Rattle.rule_model.specs.Answer.{answer_by_rules, begun_with, drawn_nonce, given_or, leaving, upgraded_with}
+use Rattle.rule_model.specs.BeginFacts.{blob_for}
+use Rattle.rule_model.specs.Blobs.{device_at, kept_as, opened_for, root_of}
 use Rattle.rule_model.specs.Boot.{has_early_ended, last_tokens, other_triples}
 use Rattle.rule_model.specs.Calls.{accepted_in, add_auth_token_ruling, clear_namespace_ruling, counted_in, delete_key_ruling, disconnect_ruling, early_boot_ended_ruling, get_key_entry_ruling, grant_ruling, granted_in, key_entry, listed_in, listing_ruling, ungrant_ruling, user_call_ruling}
 use Rattle.rule_model.specs.Changes.{grant_number, new_blob, owner_for}
 use Rattle.rule_model.specs.Clients.{caller_of}
-use Rattle.rule_model.specs.Drawn.{no_pieces, size_of, wanted_by_key, wanted_by_rules}
+use Rattle.rule_model.specs.Drawn.{no_pieces, size_of, wanted_by_key, wanted_by_rules, wanted_by_upgrade}
 use Rattle.rule_model.specs.Entries.{History, count_of}
 use Rattle.rule_model.specs.Kept.{access_at, has_busy, kept, key_found, operation_at}
 use Rattle.rule_model.specs.Legal.{Legal, MayFollow, MayStep, Answered, WithoutMemory, WithoutEntropy, Faulted, NotSettled, NotRestarted}
@@ -67,8 +76,11 @@ use Rattle.rule_model.specs.StepFacts.{brought_by, brought_by_abort, step_facts}
 use Rattle.rule_model.specs.declared.operation.Entered.{Entered}
 use Rattle.rule_model.specs.Tickets.{next_ticket, ticket_at}
 use Rattle.rule_model.specs.Tokens.{token_of}
+use Rattle.rule_model.specs.Upgrades.{list_opened, upgrade_call_facts, upgrade_facts, upgrade_in, upgraded}
 use Rattle.rule_model.proofs.Bounds.{Each, each_found, each_left}
+use Rattle.rule_model.proofs.HandedKeys.{lies_where}
 use Rattle.rule_model.proofs.KeySizes.{AreShort, IsShort, kept_short}
+use Rattle.rule_model.proofs.UpgradedKeys.{found_held, upgrade_fits}
 use Rattle.keystore_core.specs.Outputs.{HasOutRoom, output_out}
 use Rattle.tags.specs.declared.limits.TheConstants.{ALIAS_BYTES, BLOB_BYTES, LISTED, MOST_TRIPLES}
 
@@ -113,7 +125,7 @@ key_fits (Ok done) plan true false blob number drawn few drew = record { alias =
 generated_fits : (setup : Setup) (past : History) (caller : Caller) (key : Descriptor) (params drawn : List ℕ) → length (root_of setup past) ≡ 32
     → length drawn ≡ size_of (wanted_by_rules (GenerateKey key params) setup past caller) → Fits (sizes_of (GenerateKey key params) 0) (answer_by_rules (GenerateKey key params) setup past caller drawn)
 generated_fits setup past caller key params drawn long drew =
-    let facts : NewFacts = new_facts setup.policy caller key params None (has_early_ended setup past) in
+    let facts : NewFacts = new_facts setup.device setup.policy caller key params None (has_early_ended setup past) in
     let plan : KeyPlan = plan_of facts in
     key_fits (first_broken K (rules_of facts)) plan (has_key_place (kept setup past) (owner_of caller) key) (key.domain == domain_blob) (new_blob (device_at setup past) plan None drawn) (kept setup past).next_key drawn
     (λ through sized. let fit : IsFit facts plan = fit_if_ok facts through in blob_fits (device_at setup past) plan facts (take plan.size drawn) drawn long fit (omega (arith, take_few plan.size drawn, fit.small.drawn)) sized)
@@ -122,11 +134,49 @@ generated_fits setup past caller key params drawn long drew =
 imported_fits : (setup : Setup) (past : History) (caller : Caller) (key : Descriptor) (params : List ℕ) (format : ℕ) (material drawn : List ℕ) → length (root_of setup past) ≡ 32
     → length drawn ≡ size_of (wanted_by_rules (ImportKey key params format material) setup past caller) → Fits (sizes_of (ImportKey key params format material) 0) (answer_by_rules (ImportKey key params format material) setup past caller drawn)
 imported_fits setup past caller key params format material drawn long drew =
-    let facts : NewFacts = new_facts setup.policy caller key params (import_of format material) (has_early_ended setup past) in
+    let facts : NewFacts = new_facts setup.device setup.policy caller key params (import_of format material) (has_early_ended setup past) in
     let plan : KeyPlan = plan_of facts in
     key_fits (first_broken K (rules_of facts)) plan (has_key_place (kept setup past) (owner_of caller) key) (key.domain == domain_blob) (new_blob (device_at setup past) plan (Some material) drawn) (kept setup past).next_key drawn
     (λ through sized. let fit : IsFit facts plan = fit_if_ok facts through in blob_fits (device_at setup past) plan facts material drawn long fit fit.short sized)
     drew
+
+-- ---- an upgrade
+
+told_fits : (handed : Bool) (blob : List ℕ) → (handed ≡ true → length blob ≤ BLOB_BYTES) → Fits (record no_sizes { blob = BLOB_BYTES }) (Done (if handed then record no_fields { blob = Some blob } else no_fields))
+told_fits true blob few = record { alias = tt; nonce = tt; out = tt; blob = few refl; list = tt; entries = tt }
+told_fits false blob few = record { alias = tt; nonce = tt; out = tt; blob = tt; list = tt; entries = tt }
+
+-- the blob that is handed back, or the new one, of a device whose root of trust has 32 bytes
+module _ (device : DeviceSecrets) (policy : List PolicyRow) (part : Lasting) (caller : Caller) (key : Descriptor) (params : List ℕ) where
+  abbrev Reached : Access
+  Reached = access_by policy part caller key
+
+  abbrev Given : List ℕ
+  Given = blob_for Reached (key_in part Reached) key
+
+  abbrev Read : Result Opened BlobFault
+  Read = opened_for device (asked_in params) Given
+
+  abbrev Call : KeyCallFacts
+  Call = upgrade_call_facts policy Reached (key_in part Reached) caller key
+
+  abbrev Walk : Ruling
+  Walk = first_broken A (upgrade_key_rules key (upgrade_facts device Call (asked_in params) Given Read))
+
+  upgraded_fits : (drawn : List ℕ) → length device.root ≡ 32 → length drawn ≡ size_of (wanted_by_upgrade (upgrade_in device policy part caller key params))
+      → Fits (record no_sizes { blob = BLOB_BYTES }) (upgraded_with device key drawn (upgrade_in device policy part caller key params))
+  upgraded_fits drawn long drew = by_ruling Walk refl (is_no_older device.os device.patch (list_opened Read)) drew where
+    by_ruling : (ruling : Ruling) → Walk ≡ ruling → (older : Bool) → length drawn ≡ size_of (wanted_by_upgrade (where_all_hold ruling (if older then None else Some (upgraded device (asked_in params) Read))))
+        → Fits (record no_sizes { blob = BLOB_BYTES }) (upgraded_with device key drawn (where_all_hold ruling (if older then None else Some (upgraded device (asked_in params) Read))))
+    by_ruling (Err (rule, code)) e older drew = tt
+    by_ruling (Ok done) e true drew =
+        let fits = upgrade_fits device Call key (asked_in params) Given Read (ap is_ok e) in
+        let lies = lies_where policy part caller key (found_held key (upgrade_facts device Call (asked_in params) Given Read) (ap is_ok e)) in
+        told_fits (key.domain == domain_blob) (unwrap_or key.blob []) (λ handed. subst (λ blob. length blob ≤ BLOB_BYTES) (lies.given handed) fits.handed)
+    by_ruling (Ok done) e false drew =
+        let fits = upgrade_fits device Call key (asked_in params) Given Read (ap is_ok e) in
+        told_fits (key.domain == domain_blob) (blob_of device.seal drawn (upgraded device (asked_in params) Read))
+        (λ handed. omega (arith, blob_few device.seal drawn (upgraded device (asked_in params) Read) drew long, fits.sized))
 
 -- ---- a begin
 
@@ -257,6 +307,8 @@ rules_fit (DeviceUnlocked user) setup past caller drawn out short long drew room
     broken_fits no_sizes (user_call_ruling caller user) (Done no_fields) (record { alias = tt; nonce = tt; out = tt; blob = tt; list = tt; entries = tt })
 rules_fit EarlyBootEnded setup past caller drawn out short long drew room =
     broken_fits no_sizes (early_boot_ended_ruling caller) (Done no_fields) (record { alias = tt; nonce = tt; out = tt; blob = tt; list = tt; entries = tt })
+rules_fit (UpgradeKey key params) setup past caller drawn out short long drew room =
+    upgraded_fits (device_at setup past) setup.policy (kept setup past) caller key params drawn long drew
 rules_fit (Leave ticket) setup past caller drawn out short long drew room = leave_fits setup past ticket out (ticket_at past ticket) room
 rules_fit _ setup past caller drawn out short long drew room = record { alias = tt; nonce = tt; out = tt; blob = tt; list = tt; entries = tt }
 

@@ -10,6 +10,7 @@ pub mod Storing
 pub mod Settled
 pub mod Reading
 pub mod Making
+pub mod Upgraded
 pub mod Begun
 pub mod Restarted
 pub mod Stepped

@@ -74,17 +74,17 @@ use Rattle.keystore_core.proofs.Opened.{stays_same}
 use Rattle.keystore_core.proofs.Standing.{called, clients_stay, denied_tables, operations_stay, quiet, same_tables, slots_stay, tickets_stay}
 use Rattle.tags.specs.declared.limits.TheConstants.{BLOB_BYTES, KEPT_LIST_BYTES}
 
-abbrev facts_of : List PolicyRow → Caller → Descriptor → List ℕ → Option Import → Bool → NewFacts
-facts_of policy caller key params import early_ended = new_facts policy caller key params (option_map facts_of_import import) early_ended
+abbrev facts_of : DeviceSecrets → List PolicyRow → Caller → Descriptor → List ℕ → Option Import → Bool → NewFacts
+facts_of device policy caller key params import early_ended = new_facts device policy caller key params (option_map facts_of_import import) early_ended
 
 making_answer : (setup : Setup) (past : History) (caller : Caller) (key : Descriptor) (params : List ℕ) (import : Option Import) (drawn : List ℕ)
-    → answer_by_rules (making key params import) setup past caller drawn ≡ broken_or (new_key (facts_of setup.policy caller key params import (has_early_ended setup past)))
-    (made_in (kept setup past) caller key (blob_made (device_at setup past) (plan_of (facts_of setup.policy caller key params import (has_early_ended setup past))) import drawn))
+    → answer_by_rules (making key params import) setup past caller drawn ≡ broken_or (new_key (facts_of setup.device setup.policy caller key params import (has_early_ended setup past)))
+    (made_in (kept setup past) caller key (blob_made (device_at setup past) (plan_of (facts_of setup.device setup.policy caller key params import (has_early_ended setup past))) import drawn))
 making_answer setup past caller key params None drawn = refl
 making_answer setup past caller key params (Some import) drawn = refl
 
 making_wanted : (setup : Setup) (past : History) (caller : Caller) (key : Descriptor) (params : List ℕ) (import : Option Import)
-    → wanted_by_rules (making key params import) setup past caller ≡ wanted_by_key (new_key (facts_of setup.policy caller key params import (has_early_ended setup past))) (has_key_place (kept setup past) (owner_of caller) key)
+    → wanted_by_rules (making key params import) setup past caller ≡ wanted_by_key (new_key (facts_of setup.device setup.policy caller key params import (has_early_ended setup past))) (has_key_place (kept setup past) (owner_of caller) key)
 making_wanted setup past caller key params None = refl
 making_wanted setup past caller key params (Some import) = refl
 
@@ -171,9 +171,9 @@ or_left true b e none = cc
 or_left false b e none = e
 
 -- what is made may be made: its need is met, and there is room for it
-pub may_keep : (policy : List PolicyRow) (caller : Caller) (key : Descriptor) (params : List ℕ) (import : Option Import) (early_ended : Bool) (held : KeyDatabase) (plan : KeyPlan) (blob list : List ℕ) (limit : ℕ) → HasRoomForKey (table_of held) → has_key_place (lasting held) (owner_of caller) key ≡ true → owner_of caller < 2 ^ 32
-    → IsFit (facts_of policy caller key params import early_ended) plan → length blob ≤ 6319 → length list ≤ 4132 → CanKeep (table_of held) (owner_of caller) key blob list limit
-may_keep policy caller key params import early_ended held plan blob list limit room place small fit few short = λ stored.
+pub may_keep : (device : DeviceSecrets) (policy : List PolicyRow) (caller : Caller) (key : Descriptor) (params : List ℕ) (import : Option Import) (early_ended : Bool) (held : KeyDatabase) (plan : KeyPlan) (blob list : List ℕ) (limit : ℕ) → HasRoomForKey (table_of held) → has_key_place (lasting held) (owner_of caller) key ≡ true → owner_of caller < 2 ^ 32
+    → IsFit (facts_of device policy caller key params import early_ended) plan → length blob ≤ BLOB_BYTES → length list ≤ KEPT_LIST_BYTES → CanKeep (table_of held) (owner_of caller) key blob list limit
+may_keep device policy caller key params import early_ended held plan blob list limit room place small fit few short = λ stored.
     let part : Lasting = lasting held in
     let owner : ℕ × ℕ = owner_for (owner_of caller) key.domain key.nspace in
     let placed = and_parts (is_number_left part.next_key) (has_place_for owner.0 owner.1 (alias_of key) part)
@@ -183,8 +183,8 @@ may_keep policy caller key params import early_ended held plan blob list limit r
         placed.0,
         owned (owner_of caller) key.domain key.nspace small,
         alias_named key fit.named stored,
-        le-leb (length blob) BLOB_BYTES (omega (arith, few)),
-        le-leb (length list) KEPT_LIST_BYTES (omega (arith, short)),
+        le-leb (length blob) BLOB_BYTES few,
+        le-leb (length list) KEPT_LIST_BYTES short,
         placed.1,
       ) refl,
       (λ e. room, λ e. cc),
@@ -195,7 +195,7 @@ abbrev imported : Option Import → Option (List ℕ)
 imported import = option_map (λ (i : Import). i.material) import
 
 -- what is known of the store goes on by the change of a new key
-planned_change : (tables : Tables) (caller : Caller) (key : Descriptor) (params : List ℕ) (i : Option Import) (early_ended : Bool) (plan : NewKey) (part : Lasting) (drawn : List ℕ) → IsPlanned (facts_of tables.policy caller key params i early_ended) plan
+planned_change : (tables : Tables) (caller : Caller) (key : Descriptor) (params : List ℕ) (i : Option Import) (early_ended : Bool) (plan : NewKey) (part : Lasting) (drawn : List ℕ) → IsPlanned (facts_of tables.device tables.policy caller key params i early_ended) plan
     → keeping part (owner_of caller) key (blob_made tables.device plan.plan i drawn) plan.list plan.plan.limit ≡ option_or (use_by tables (making key params i)) (change_of (making key params i) tables.device tables.policy part [] caller drawn)
 planned_change tables caller key params None early_ended plan part drawn is =
     ap (λ (p : NewKey). keeping part (owner_of caller) key (blob_made tables.device p.plan None drawn) p.list p.plan.limit) is.plan_is
@@ -207,11 +207,11 @@ no_restart key params None = refl
 no_restart key params (Some i) = refl
 
 pub keeps_goes : {D : Type 0} (g : Ghosts D) (tables : Tables) (middle new : KeyDatabase) (disk later : D) (caller : Caller) (key : Descriptor) (params : List ℕ) (import : Option Import) (early_ended : Bool) (plan : NewKey) (drawn : List ℕ) (reply : Reply)
-    → planned (facts_of tables.policy caller key params import early_ended) ≡ Ok plan → SameStore tables.keys middle
+    → planned (facts_of tables.device tables.policy caller key params import early_ended) ≡ Ok plan → SameStore tables.keys middle
     → StoreGoes g middle new disk later false (keeping (lasting middle) (owner_of caller) key (blob_made tables.device plan.plan import drawn) plan.list plan.plan.limit) reply
     → StoreGoes g tables.keys new disk later (is_restart (making key params import)) (option_or (use_by tables (making key params import)) (change_of (making key params import) tables.device tables.policy (lasting tables.keys) [] caller drawn)) reply
 keeps_goes g tables middle new disk later caller key params import early_ended plan drawn reply e same goes =
-    let is = is_planned (facts_of tables.policy caller key params import early_ended) plan e in
+    let is = is_planned (facts_of tables.device tables.policy caller key params import early_ended) plan e in
     let change : Option Change = keeping (lasting middle) (owner_of caller) key (blob_made tables.device plan.plan import drawn) plan.list plan.plan.limit in
     let change_is : change ≡ option_or (use_by tables (making key params import)) (change_of (making key params import) tables.device tables.policy (lasting tables.keys) [] caller drawn) =
     ap (λ part. keeping part (owner_of caller) key (blob_made tables.device plan.plan import drawn) plan.list plan.plan.limit) same.lasting_is
@@ -226,7 +226,7 @@ blob_is device plan (Some import) drawn = refl
 
 module _ (setup : Setup) (past : History) (tables : Tables) (caller : Caller) (key : Descriptor) (params : List ℕ) (import : Option Import) (stands : TablesStand setup tables past) (is_caller : IsCaller tables caller) where
   abbrev Facts : NewFacts
-  Facts = facts_of setup.policy caller key params import (has_early_ended setup past)
+  Facts = facts_of setup.device setup.policy caller key params import (has_early_ended setup past)
 
   abbrev Making : Event
   Making = event_by caller (making key params import)
@@ -244,10 +244,11 @@ module _ (setup : Setup) (past : History) (tables : Tables) (caller : Caller) (k
   unticketed reply = same_tickets Making reply (no_tickets key params import)
 
   -- what the tables read is that of the history
-  pub planned_as : (result : Result NewKey (Rule × Code)) → planned (facts_of tables.policy caller key params import (early_in tables.boot.device)) ≡ result → planned Facts ≡ result
+  pub planned_as : (result : Result NewKey (Rule × Code)) → planned (facts_of tables.device tables.policy caller key params import (early_in tables.boot.device)) ≡ result → planned Facts ≡ result
   planned_as result e =
-      ap (λ early. planned (facts_of setup.policy caller key params import early)) (sym stands.boot.device.early)
-      ∙ ap (λ policy. planned (facts_of policy caller key params import (early_in tables.boot.device))) (sym stands.keys.policy_is) ∙ e
+      ap (λ early. planned (facts_of setup.device setup.policy caller key params import early)) (sym stands.boot.device.early)
+      ∙ ap (λ policy. planned (facts_of setup.device policy caller key params import (early_in tables.boot.device))) (sym stands.keys.policy_is)
+      ∙ ap (λ device. planned (facts_of device tables.policy caller key params import (early_in tables.boot.device))) (sym stands.keys.device_is) ∙ e
 
   pub place_is : has_key_place (lasting tables.keys) (owner_of caller) key ≡ HasPlace
   place_is = ap (λ part. has_key_place part (owner_of caller) key) stands.keys.lasting_is
@@ -355,8 +356,8 @@ module _ (setup : Setup) (past : History) (tables : Tables) (caller : Caller) (k
   -- the change of an entry that makes a key
   made_change : (i : Option Import) (part : Lasting) (drawn : List ℕ)
       → change_of (making key params i) (device_at setup past) setup.policy part (open_of setup past) caller drawn
-      ≡ keeping part (owner_of caller) key (blob_made (device_at setup past) (plan_of (facts_of setup.policy caller key params i (has_early_ended setup past))) i drawn)
-      (spelling (plan_of (facts_of setup.policy caller key params i (has_early_ended setup past))).list) (plan_of (facts_of setup.policy caller key params i (has_early_ended setup past))).limit
+      ≡ keeping part (owner_of caller) key (blob_made (device_at setup past) (plan_of (facts_of setup.device setup.policy caller key params i (has_early_ended setup past))) i drawn)
+      (spelling (plan_of (facts_of setup.device setup.policy caller key params i (has_early_ended setup past))).list) (plan_of (facts_of setup.device setup.policy caller key params i (has_early_ended setup past))).limit
   made_change None part drawn = refl
   made_change (Some i) part drawn = refl
 

@@ -24,6 +24,8 @@ use Rattle.auth_tokens.specs.declared.token.AuthToken.{AuthToken}
 use Rattle.key_domains.specs.Domains.{domain_blob}
 use Rattle.tags.specs.declared.plan.Plan.TheVariants.{Ecb, Cbc, Ctr, Gcm, HmacSign, HmacVerify}
 use Rattle.tags.specs.declared.rule.Rule.{Rule}
+use Rattle.tags.specs.declared.secrets.DeviceSecrets.{DeviceSecrets}
+use Rattle.key_blobs.specs.declared.sealed.Sealed.{Sealed}
 use Rattle.tags.specs.declared.code.Code.TheVariants.{StoreFull, TokensFull, VerificationFailed}
 use Rattle.block_modes.specs.declared.fault.ModeFault.{ModeFault}
 use Rattle.block_modes.specs.declared.fault.ModeFault.TheVariants.{Length, Padding}
@@ -33,13 +35,13 @@ use Rattle.cipher_ops.specs.Output.{behind, coded, is_signature, verified, whole
 use Rattle.journal_records.specs.declared.record.KeyRecord.{KeyRecord}
 use Rattle.journal_records.specs.LastingPart.{Lasting}
 use Rattle.rule_model.specs.declared.event.Act.{Act}
-use Rattle.rule_model.specs.declared.event.Act.TheVariants.{GenerateKey, ImportKey, CreateOperation, EnterAad, EnterUpdate, EnterFinish, Abort, Disconnect, GetKeyEntry, DeleteKey, Grant, Ungrant, GetNumberOfEntries, ListEntriesBatched, ClearNamespace, UserRemoved, AddAuthToken, DeviceLocked, DeviceUnlocked, EarlyBootEnded, Leave}
+use Rattle.rule_model.specs.declared.event.Act.TheVariants.{GenerateKey, ImportKey, CreateOperation, EnterAad, EnterUpdate, EnterFinish, Abort, Disconnect, GetKeyEntry, DeleteKey, Grant, Ungrant, GetNumberOfEntries, ListEntriesBatched, ClearNamespace, UserRemoved, AddAuthToken, DeviceLocked, DeviceUnlocked, EarlyBootEnded, Leave, UpgradeKey}
 use Rattle.rule_model.specs.declared.event.Event.{Event}
 use Rattle.rule_model.specs.declared.facts.Caller.{Caller}
 use Rattle.rule_model.specs.declared.reply.Reply.{Reply}
 use Rattle.rule_model.specs.declared.reply.Reply.TheVariants.{Done, Stopped}
 use Rattle.rule_model.specs.Acts.{is_restart}
-use Rattle.rule_model.specs.Answer.{answer_by_rules, begun_with, drawn_nonce, given_or, leaving, made_in}
+use Rattle.rule_model.specs.Answer.{answer_by_rules, begun_with, drawn_nonce, given_or, leaving, made_in, upgraded_with}
 use Rattle.rule_model.specs.Access.{owner_of}
 use Rattle.rule_model.specs.Boot.{last_tokens, other_triples}
 use Rattle.rule_model.specs.Calls.{accepted_in, granted_in, key_entry}
@@ -55,6 +57,7 @@ use Rattle.rule_model.specs.Setup.{Setup}
 use Rattle.rule_model.specs.declared.operation.Entered.{Entered}
 use Rattle.rule_model.specs.Tickets.{ticket_at}
 use Rattle.rule_model.specs.Tokens.{token_of}
+use Rattle.rule_model.specs.Upgrades.{upgrade_in}
 use Rattle.keystore_core.specs.Restarting.{is_other_code, is_other_store}
 use Rattle.tags.specs.declared.limits.TheConstants.{MOST_TRIPLES}
 
@@ -130,10 +133,14 @@ made_not part caller key blob =
 accepted_not : (tokens : List AuthToken) (token : AuthToken) → is_other_store (accepted_in tokens token) ≡ false
 accepted_not tokens token = if_not (length (other_triples token tokens) == MOST_TRIPLES) (Stopped TokensFull) (Done no_fields) refl refl
 
+upgraded_not : (device : DeviceSecrets) (key : Descriptor) (drawn : List ℕ) (ruled : Result (Option Sealed) (Rule × Code)) → is_other_store (upgraded_with device key drawn ruled) ≡ false
+upgraded_not device key drawn (Ok change) = refl
+upgraded_not device key drawn (Err (rule, code)) = refl
+
 -- no answer by the rules is that
 rules_not : (act : Act) (setup : Setup) (past : History) (caller : Caller) (drawn : List ℕ) → is_other_store (answer_by_rules act setup past caller drawn) ≡ false
-rules_not (GenerateKey key params) setup past caller drawn = broken_not (new_key (new_facts setup.policy caller key params None (has_early_ended setup past))) (made_in (kept setup past) caller key (new_blob (device_at setup past) (planned setup.policy caller key params None) None drawn)) (made_not (kept setup past) caller key _)
-rules_not (ImportKey key params format material) setup past caller drawn = broken_not (new_key (new_facts setup.policy caller key params (import_of format material) (has_early_ended setup past))) (made_in (kept setup past) caller key (new_blob (device_at setup past) (planned setup.policy caller key params (import_of format material)) (Some material) drawn)) (made_not (kept setup past) caller key _)
+rules_not (GenerateKey key params) setup past caller drawn = broken_not (new_key (new_facts setup.device setup.policy caller key params None (has_early_ended setup past))) (made_in (kept setup past) caller key (new_blob (device_at setup past) (planned setup.device setup.policy caller key params None) None drawn)) (made_not (kept setup past) caller key _)
+rules_not (ImportKey key params format material) setup past caller drawn = broken_not (new_key (new_facts setup.device setup.policy caller key params (import_of format material) (has_early_ended setup past))) (made_in (kept setup past) caller key (new_blob (device_at setup past) (planned setup.device setup.policy caller key params (import_of format material)) (Some material) drawn)) (made_not (kept setup past) caller key _)
 rules_not (CreateOperation key params forced) setup past caller drawn = broken_not (begin_table.answer (begin_facts setup past caller key params forced)) (begun_with (count_of is_begin past + 1) (challenge_of (begin_facts setup past caller key params forced) drawn) (drawn_nonce (begin_facts setup past caller key params forced) drawn) (pruned_for setup past (owner_of caller) forced)) refl
 rules_not (EnterAad op input) setup past caller drawn = broken_not (step_table.answer (step_facts setup past caller op (brought_by (Aad input)))) (Done (record no_fields { ticket = Some (next_ticket past) })) refl
 rules_not (EnterUpdate op input) setup past caller drawn = broken_not (step_table.answer (step_facts setup past caller op (brought_by (Text input)))) (Done (record no_fields { ticket = Some (next_ticket past) })) refl
@@ -152,6 +159,7 @@ rules_not (AddAuthToken challenge user authenticator kind time mac) setup past c
 rules_not (DeviceLocked user) setup past caller drawn = broken_not (user_call_ruling caller user) (Done no_fields) refl
 rules_not (DeviceUnlocked user) setup past caller drawn = broken_not (user_call_ruling caller user) (Done no_fields) refl
 rules_not EarlyBootEnded setup past caller drawn = broken_not (early_boot_ended_ruling caller) (Done no_fields) refl
+rules_not (UpgradeKey key params) setup past caller drawn = upgraded_not (device_at setup past) key drawn (upgrade_in (device_at setup past) setup.policy (kept setup past) caller key params)
 rules_not (Leave ticket) setup past caller drawn = leaving_not setup past (ticket_at past ticket)
 rules_not _ setup past caller drawn = refl
 

@@ -4,6 +4,8 @@ use Rattle.tags.specs.declared.code.Code.{Code}
 use Rattle.tags.specs.declared.code.Code.TheVariants.{StoreFull, TokensFull}
 use Rattle.tags.specs.declared.descriptor.Descriptor.{Descriptor}
 use Rattle.tags.specs.declared.rule.Rule.{Rule}
+use Rattle.tags.specs.declared.secrets.DeviceSecrets.{DeviceSecrets}
+use Rattle.key_blobs.specs.declared.sealed.Sealed.{Sealed}
 use Rattle.auth_tokens.specs.declared.token.AuthToken.{AuthToken}
 use Rattle.key_domains.specs.Domains.{domain_blob}
 use Rattle.key_rules.specs.Creation.{new_key}
@@ -13,7 +15,7 @@ use Rattle.cipher_ops.specs.declared.room.Work.{Work}
 use Rattle.journal_records.specs.declared.record.KeyRecord.{KeyRecord}
 use Rattle.journal_records.specs.LastingPart.{Lasting}
 use Rattle.rule_model.specs.declared.event.Act.{Act}
-use Rattle.rule_model.specs.declared.event.Act.TheVariants.{GenerateKey, ImportKey, CreateOperation, EnterAad, EnterUpdate, EnterFinish, Abort, Disconnect, GetKeyEntry, DeleteKey, Grant, Ungrant, GetNumberOfEntries, ListEntriesBatched, ClearNamespace, UserRemoved, AddAuthToken, DeviceLocked, DeviceUnlocked, EarlyBootEnded, Leave}
+use Rattle.rule_model.specs.declared.event.Act.TheVariants.{GenerateKey, ImportKey, CreateOperation, EnterAad, EnterUpdate, EnterFinish, Abort, Disconnect, GetKeyEntry, DeleteKey, Grant, Ungrant, GetNumberOfEntries, ListEntriesBatched, ClearNamespace, UserRemoved, AddAuthToken, DeviceLocked, DeviceUnlocked, EarlyBootEnded, Leave, UpgradeKey}
 use Rattle.rule_model.specs.declared.event.Event.{Event}
 use Rattle.rule_model.specs.declared.facts.Caller.{Caller}
 use Rattle.rule_model.specs.declared.reply.Fields.{Fields}
@@ -21,7 +23,7 @@ use Rattle.rule_model.specs.declared.reply.Reply.{Reply}
 use Rattle.rule_model.specs.declared.reply.Reply.TheVariants.{Done, Broken, Stopped}
 use Rattle.rule_model.specs.Access.{id_by, owner_of}
 use Rattle.rule_model.specs.Acts.{is_begin, is_enter}
-use Rattle.rule_model.specs.Answer.{answer_by_rules, begun_with, drawn_nonce, given_or, leaving, made_in}
+use Rattle.rule_model.specs.Answer.{answer_by_rules, begun_with, drawn_nonce, given_or, leaving, made_in, upgraded_with}
 use Rattle.rule_model.specs.Blobs.{device_at}
 use Rattle.rule_model.specs.Boot.{has_early_ended, last_tokens, other_triples}
 use Rattle.rule_model.specs.Calls.{accepted_in, add_auth_token_ruling, clear_namespace_ruling, counted_in, delete_key_ruling, disconnect_ruling, early_boot_ended_ruling, get_key_entry_ruling, grant_ruling, granted_in, key_entry, listed_in, listing_ruling, ungrant_ruling, user_call_ruling}
@@ -40,6 +42,7 @@ use Rattle.rule_model.specs.StepFacts.{brought_by_abort, step_facts}
 use Rattle.rule_model.specs.declared.operation.Entered.{Entered}
 use Rattle.rule_model.specs.Tickets.{ticket_at}
 use Rattle.rule_model.specs.Tokens.{token_of}
+use Rattle.rule_model.specs.Upgrades.{blob_behind, upgrade_in}
 use Rattle.rule_model.proofs.Admitted.{answered_done}
 use Rattle.tags.specs.declared.limits.TheConstants.{MOST_TRIPLES}
 
@@ -84,9 +87,16 @@ made_untold part caller key blob =
 accepted_untold : (tokens : List AuthToken) (token : AuthToken) → tells_ticket (accepted_in tokens token) ≡ false
 accepted_untold tokens token = if_untold (length (other_triples token tokens) == MOST_TRIPLES) (Stopped TokensFull) (Done no_fields) refl refl
 
+upgraded_untold : (device : DeviceSecrets) (key : Descriptor) (drawn : List ℕ) (ruled : Result (Option Sealed) (Rule × Code)) → tells_ticket (upgraded_with device key drawn ruled) ≡ false
+upgraded_untold device key drawn (Ok change) = by_domain (key.domain == domain_blob) where
+  by_domain : (handed : Bool) → tells_ticket (Done (if handed then record no_fields { blob = Some (blob_behind device key drawn change) } else no_fields)) ≡ false
+  by_domain true = refl
+  by_domain false = refl
+upgraded_untold device key drawn (Err (rule, code)) = refl
+
 rules_untold : (act : Act) (setup : Setup) (past : History) (caller : Caller) (drawn : List ℕ) → is_enter act ≡ false → tells_ticket (answer_by_rules act setup past caller drawn) ≡ false
-rules_untold (GenerateKey key params) setup past caller drawn e = broken_untold (new_key (new_facts setup.policy caller key params None (has_early_ended setup past))) (made_in (kept setup past) caller key (new_blob (device_at setup past) (planned setup.policy caller key params None) None drawn)) (made_untold (kept setup past) caller key _)
-rules_untold (ImportKey key params format material) setup past caller drawn e = broken_untold (new_key (new_facts setup.policy caller key params (import_of format material) (has_early_ended setup past))) (made_in (kept setup past) caller key (new_blob (device_at setup past) (planned setup.policy caller key params (import_of format material)) (Some material) drawn)) (made_untold (kept setup past) caller key _)
+rules_untold (GenerateKey key params) setup past caller drawn e = broken_untold (new_key (new_facts setup.device setup.policy caller key params None (has_early_ended setup past))) (made_in (kept setup past) caller key (new_blob (device_at setup past) (planned setup.device setup.policy caller key params None) None drawn)) (made_untold (kept setup past) caller key _)
+rules_untold (ImportKey key params format material) setup past caller drawn e = broken_untold (new_key (new_facts setup.device setup.policy caller key params (import_of format material) (has_early_ended setup past))) (made_in (kept setup past) caller key (new_blob (device_at setup past) (planned setup.device setup.policy caller key params (import_of format material)) (Some material) drawn)) (made_untold (kept setup past) caller key _)
 rules_untold (CreateOperation key params forced) setup past caller drawn e = broken_untold (begin_table.answer (begin_facts setup past caller key params forced)) (begun_with (count_of is_begin past + 1) (challenge_of (begin_facts setup past caller key params forced) drawn) (drawn_nonce (begin_facts setup past caller key params forced) drawn) (pruned_for setup past (owner_of caller) forced)) refl
 rules_untold (EnterAad op input) setup past caller drawn e = cc
 rules_untold (EnterUpdate op input) setup past caller drawn e = cc
@@ -105,6 +115,7 @@ rules_untold (AddAuthToken challenge user authenticator kind time mac) setup pas
 rules_untold (DeviceLocked user) setup past caller drawn e = broken_untold (user_call_ruling caller user) (Done no_fields) refl
 rules_untold (DeviceUnlocked user) setup past caller drawn e = broken_untold (user_call_ruling caller user) (Done no_fields) refl
 rules_untold EarlyBootEnded setup past caller drawn e = broken_untold (early_boot_ended_ruling caller) (Done no_fields) refl
+rules_untold (UpgradeKey key params) setup past caller drawn e = upgraded_untold (device_at setup past) key drawn (upgrade_in (device_at setup past) setup.policy (kept setup past) caller key params)
 rules_untold (Leave ticket) setup past caller drawn e = leaving_untold setup past (ticket_at past ticket)
 rules_untold _ setup past caller drawn e = refl
 

@@ -231,7 +231,14 @@ impl Tables {
             params,
         )?;
         let conditions = conditions(&self.boot, caller, &own, room);
-        own.admit(alloc, &self.policy, caller, forced, conditions)
+        own.admit(
+            alloc,
+            &self.device,
+            &self.policy,
+            caller,
+            forced,
+            conditions,
+        )
     }
 
     /// A client begins an operation on a key that its descriptor finds.

@@ -5,6 +5,7 @@ ghost use Rattle.call_answers.specs.Creating as spec;
 ghost use Rattle.lasting_table.specs.TableView.{HasRoomForKey};
 ghost use Rattle.key_database.specs.Stands.{SameStore, is_unsettled, lasting, table_of};
 ghost use Rattle.key_rules.specs.Creation.{IsSmall};
+ghost use Rattle.tags.specs.declared.limits.TheConstants.{BLOB_BYTES};
 ghost use Rattle.keystore_core.specs.Drawn.{DrewForResult, pieces_in};
 ghost use Rattle.keystore_core.specs.Keys.{AreSettled};
 ghost use Rattle.keystore_core.specs.Room.{room_in};
@@ -24,7 +25,7 @@ use std::alloc::Global;
 use tags::{Code, DOMAIN_BLOB, DeviceSecrets, Material, NoMemory};
 
 /// The nonce of a blob.
-fn nonce_in(drawn: &[u8]) -> [u8; 12]
+pub(crate) fn nonce_in(drawn: &[u8]) -> [u8; 12]
     requires { length drawn.now ≡ 12 }
     ensures { result ≡ drawn.now }
 {
@@ -62,7 +63,7 @@ fn sealed(
     requires room { room_in room ≡ admitted.new.plan.size }
     requires whole { length drawn.now ≡ admitted.new.plan.size + 12 }
     ensures sealed { IfOk result (λ key. spec.IsMade device.now admitted drawn.now key) }
-    ensures few { IfOk result (λ key. length key.blob ≤ 6319) }
+    ensures few { IfOk result (λ key. length key.blob ≤ BLOB_BYTES) }
 {
     let (front, back) = drawn.split_at(admitted.new.plan.size);
     let generated = Material::of(room.filled(front));
@@ -110,6 +111,7 @@ impl Tables {
         let early_ended = self.boot.device.has_early_ended();
         let admitted = match asked.admit(
             alloc,
+            &self.device,
             &self.policy,
             self.keys.table(),
             caller,

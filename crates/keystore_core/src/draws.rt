@@ -51,7 +51,7 @@ fn draw_pieces<N: Entropy>(entropy: &mut N, first: &mut [u8], second: &mut [u8])
 
 impl DrawRoom {
     /// Room for these pieces.
-    fn of(alloc: Global, pieces: Pieces) -> Result<DrawRoom, NoMemory>
+    pub fn of(alloc: Global, pieces: Pieces) -> Result<DrawRoom, NoMemory>
         requires { size_of pieces < 2 ^ 62 }
         ensures { IfOk result (λ room. pieces_in room ≡ size_of pieces) }
     {

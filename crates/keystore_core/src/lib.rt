@@ -22,6 +22,7 @@ mod settling;
 mod stepping;
 mod tables;
 mod token_calls;
+mod upgrading;
 mod victims;
 mod writing;
 

@@ -194,6 +194,9 @@ impl Tables {
             Act::EarlyBootEnded => Ok(self.early_boot_ended(alloc, caller)),
             Act::Leave { .. } => unreachable!(),
             Act::Restart { root } => self.restart(alloc, disk, caller, root),
+            Act::UpgradeKey { key, params } => {
+                self.upgrade_key(alloc, disk, entropy, caller, key, &params)
+            }
         }
     }
 

@@ -14,7 +14,7 @@ module _ {P I O S R T Q L : Type 0} (p : SystemGhosts P I O S R T Q L) (system :
   policy_found bytes (Err troubles.Memory) file reads = Wanting refl
   policy_found bytes (Err (troubles.Unread error)) file reads = Spoilt bytes file reads
   policy_found bytes (Err (troubles.TooLong most)) file reads = Spoilt bytes file reads
-  policy_found bytes (Err (troubles.Short count wanted)) file reads = Spoilt bytes file reads
+  policy_found bytes (Err (troubles.WrongLength count)) file reads = Spoilt bytes file reads
   policy_found bytes (Err (troubles.Policy fault)) file reads = Spoilt bytes file reads
 
   pub secrets_found : (bytes : List ℕ) (result : Result (DeviceSecrets × Bool) FileTrouble) → p.has_file system (codes "device.key") (Some bytes) → ReadsSecrets bytes result → FindsSecrets p system result

@@ -1,6 +1,6 @@
 -- What a process does: which of its files, store, input, output, random device, clock and port reach what its words ask for, and the number
 -- that it ends with.
-use Rattle.std.specs.Prelude.{◌≡◌, ◌↔◌, ◌⊎◌, ℕ, Bool, true, false, ◌&&◌, List, [], ◌∷◌, Option, Some, None, is_none, Result, Ok, Err, replicate, codes}
+use Rattle.std.specs.Prelude.{◌≡◌, ◌↔◌, ◌⊎◌, ℕ, Bool, true, false, ◌&&◌, List, [], ◌∷◌, Option, Some, None, is_none, Result, Ok, Err, codes}
 use Rattle.std.specs.declared.string.String.{String}
 use Rattle.std.specs.declared.alloc.Global.{Global}
 use Rattle.ks_outside.specs.declared.clock.Reading.{Reading}
@@ -12,6 +12,7 @@ use Rattle.ks_outside.specs.declared.sink.Sink.{Ghosts as SinkGhosts}
 use Rattle.ks_outside.specs.declared.source.Source.{Ghosts as SourceGhosts}
 use Rattle.tags.specs.declared.policy.PolicyRow.{PolicyRow}
 use Rattle.tags.specs.declared.secrets.DeviceSecrets.{DeviceSecrets}
+use Rattle.tags.specs.Secrets.{demo_device}
 use Rattle.device_files.specs.Device.{device_in}
 use Rattle.device_files.specs.Policy.{policy_in}
 use Rattle.device_files.specs.declared.files.FileTrouble.{FileTrouble}
@@ -72,7 +73,7 @@ Traces k (Some book) old new status = (result : Result (Unit {0}) BookFault) × 
 
 -- the secrets of the bytes of a device's file; the demo device's where there is no file
 abbrev pub secrets_of : Option (List ℕ) → Option DeviceSecrets
-secrets_of None = Some (record { seal = replicate 32 1; token = replicate 32 2; root = replicate 32 3 })
+secrets_of None = Some demo_device
 secrets_of (Some bytes) = device_in bytes
 
 -- the secrets that bytes spell, which are not those of the demo device, or none where they spell none

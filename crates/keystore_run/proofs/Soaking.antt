@@ -1,5 +1,5 @@
 -- The lines of a load, served one after another over an empty store.
-use Rattle.std.proofs.Common.{◌≡◌, ℕ, ℤ, zero, suc, ◌+◌, ◌≤◌, ◌<◌, inl, inr, Bool, true, false, ◌||◌, List, [], ◌∷◌, ◌++◌, length, drop, max, take, replicate, Option, Some, None, Ok, is_some, refl, sym, ap, ◌∙◌, subst, arith, append_assoc, append-nil, length-append, length-drop, length-take}
+use Rattle.std.proofs.Common.{◌≡◌, ℕ, ℤ, zero, suc, ◌+◌, ◌≤◌, ◌<◌, inl, inr, Bool, true, false, ◌||◌, List, [], ◌∷◌, ◌++◌, length, drop, max, take, Option, Some, None, Ok, is_some, refl, sym, ap, ◌∙◌, subst, arith, append_assoc, append-nil, length-append, length-drop, length-take}
 use Rattle.ks_outside.specs.Draws.{Draws}
 use Rattle.ks_outside.specs.Images.{AllImages, tells}
 use Rattle.ks_outside.specs.Seeded.{bytes_from}
@@ -13,6 +13,7 @@ use Rattle.rand_chacha.specs.ChaCha.{of_seed}
 use Rattle.tags.specs.declared.code.Code.{Code}
 use Rattle.tags.specs.declared.policy.PolicyRow.{PolicyRow}
 use Rattle.tags.specs.declared.secrets.DeviceSecrets.{DeviceSecrets}
+use Rattle.tags.specs.Secrets.{demo_device}
 use Rattle.tags.specs.declared.settled.Settled.{Settled}
 use Rattle.journal_records.specs.LastingPart.{empty_lasting}
 use Rattle.key_database.specs.Store.{StandsFor as IsStoreOf}
@@ -41,7 +42,7 @@ use Rattle.keystore_run.specs.Jobs.{JobsStand}
 use Rattle.keystore_run.specs.Loading.{IsEmptyDisk, IsLoadSession, IsLoaded}
 use Rattle.keystore_run.specs.Runs.{disk_told}
 use Rattle.keystore_run.specs.Session.{Serves, StandsFor, devices, engine_of, jobs_of}
-use Rattle.keystore_run.specs.Soak.{AreLasting, IsLoadSetup, IsSummaryOf, Soaks, demo_device, demo_policy, is_failure, number_of, numbers_of, tells_failure, text_of}
+use Rattle.keystore_run.specs.Soak.{AreLasting, IsLoadSetup, IsSummaryOf, Soaks, demo_policy, is_failure, number_of, numbers_of, tells_failure, text_of}
 use Rattle.keystore_run.proofs.DrawLemmas.{drew_none, drew_on}
 use Rattle.keystore_run.proofs.LineLemmas.{follows_more}
 use Rattle.keystore_run.proofs.Openings.{session_stands}
@@ -143,12 +144,6 @@ no_image calls image none is = subst (λ (made : List DiskCall). IsImage made im
 
 pub no_moment : (calls : List DiskCall) (t : ℕ) (image : List ℕ) → calls ≡ [] → WasImage calls t image → image ≡ []
 no_moment calls t image none was = (subst (λ (made : List DiskCall). WasImage made t image) none was).1
-
-pub demo_is : (device : DeviceSecrets) → device.seal ≡ replicate 32 1 → device.token ≡ replicate 32 2 → device.root ≡ replicate 32 3 → device ≡ demo_device
-demo_is device seal token root =
-    subst (λ (bytes : List ℕ). device ≡ record { seal = bytes; token = replicate 32 2; root = replicate 32 3 }) seal
-    (subst (λ (bytes : List ℕ). device ≡ record { seal = device.seal; token = bytes; root = replicate 32 3 }) token
-    (subst (λ (bytes : List ℕ). device ≡ record { seal = device.seal; token = device.token; root = bytes }) root refl))
 
 module _ {D : Type 0} (d : DiskGhosts D) where
   -- the session over it

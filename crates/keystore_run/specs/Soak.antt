@@ -1,5 +1,5 @@
 -- What the load of a seed leaves: the summary of the text with which a legal history over an empty store follows its lines.
-use Rattle.std.specs.Prelude.{◌≡◌, ℕ, ℤ, pos, Bool, true, false, ◌||◌, is_some, List, [], ◌∷◌, ◌++◌, Option, Some, None, map, replicate}
+use Rattle.std.specs.Prelude.{◌≡◌, ℕ, ℤ, pos, Bool, true, false, ◌||◌, is_some, List, [], ◌∷◌, ◌++◌, Option, Some, None, map}
 use Rattle.ks_outside.specs.Draws.{followed}
 use Rattle.ks_outside.specs.Seeded.{bytes_from}
 use Rattle.ks_outside.specs.Shown.{Put}
@@ -8,7 +8,7 @@ use Rattle.rand_chacha.specs.ChaCha.{of_seed}
 use Rattle.tags.specs.declared.code.Code.{Code}
 use Rattle.tags.specs.declared.code.Code.TheVariants.{MemoryAllocationFailed, SystemError, EntropyFault}
 use Rattle.tags.specs.declared.policy.PolicyRow.{PolicyRow}
-use Rattle.tags.specs.declared.secrets.DeviceSecrets.{DeviceSecrets}
+use Rattle.tags.specs.Secrets.{demo_device}
 use Rattle.tags.specs.Code.{code_number}
 use Rattle.journal_records.specs.LastingPart.{empty_lasting}
 use Rattle.rule_model.specs.declared.reply.Reply.{Reply}
@@ -25,10 +25,7 @@ use Rattle.keystore_run.specs.declared.status.Status.TheVariants as statuses
 use Rattle.keystore_run.specs.Answers.{code_of}
 use Rattle.keystore_run.specs.Follows.{Follows}
 
--- the device and the policy of a load: those for demonstrations
-abbrev pub demo_device : DeviceSecrets
-demo_device = record { seal = replicate 32 1; token = replicate 32 2; root = replicate 32 3 }
-
+-- the policy of a load: that for demonstrations
 abbrev pub demo_policy : List PolicyRow
 demo_policy = record { uid = 1000; nspace = 100; bits = 509 } ∷ record { uid = 1000; nspace = 0; bits = 64 } ∷ []
 

@@ -222,3 +222,77 @@ fn a_key_works_when_and_for_whom_it_is_made(rt: HostRuntime) {
         assert_eq!(rt; met, (true, false), "in row {row}");
     }
 }
+
+/// A key of macs of the system 140000 with the patches 202406, and one of a system of which it has no patches.
+const VERSIONED: Pairs = &[
+    (Tag::Purpose, 2),
+    (Tag::Algorithm, 128),
+    (Tag::Digest, 4),
+    (Tag::MinMacLength, 64),
+    (Tag::OsVersion, 140000),
+    (Tag::OsPatchlevel, 202406),
+];
+
+const UNPATCHED: Pairs = &[
+    (Tag::Purpose, 2),
+    (Tag::Algorithm, 128),
+    (Tag::Digest, 4),
+    (Tag::MinMacLength, 64),
+    (Tag::OsVersion, 140000),
+];
+
+const ROLLED_BACK: Broken = Some((23, Code::InvalidKeyBlob));
+
+const TO_UPGRADE: Broken = Some((23, Code::KeyRequiresUpgrade));
+
+/// The operation's list and the key's, whether the key fits, the versions of the device, and the rule that is broken first.
+type System = (Pairs, Pairs, bool, (u32, u32), Broken);
+
+static SYSTEMS: [System; 15] = [
+    (SIGN, VERSIONED, true, (140000, 202406), None),
+    (SIGN, MAC_KEY, true, (0, 0), None),
+    // one number or both are less than the device's, or are not there
+    (SIGN, VERSIONED, true, (140000, 202407), TO_UPGRADE),
+    (SIGN, VERSIONED, true, (140001, 202406), TO_UPGRADE),
+    (SIGN, VERSIONED, true, (u32::MAX, u32::MAX), TO_UPGRADE),
+    (SIGN, UNPATCHED, true, (140000, 202406), TO_UPGRADE),
+    (SIGN, MAC_KEY, true, (0, 1), TO_UPGRADE),
+    (SIGN, MAC_KEY, true, (1, 0), TO_UPGRADE),
+    // one number is greater, whatever the other is
+    (SIGN, VERSIONED, true, (140000, 202405), ROLLED_BACK),
+    (SIGN, VERSIONED, true, (139999, 202406), ROLLED_BACK),
+    (SIGN, VERSIONED, true, (140001, 202405), ROLLED_BACK),
+    (SIGN, VERSIONED, true, (139999, 202407), ROLLED_BACK),
+    (SIGN, UNPATCHED, true, (0, 202406), ROLLED_BACK),
+    // the rule before it, and the one behind it
+    (
+        SIGN,
+        VERSIONED,
+        false,
+        (140000, 202407),
+        Some((8, Code::InvalidKeyBlob)),
+    ),
+    (&[], VERSIONED, true, (140000, 202407), TO_UPGRADE),
+];
+
+/// Whether a begin on a device of these versions breaks this rule first, or none.
+fn meets_system(alloc: Global, system: &System) -> bool {
+    let (asked, key, fits, (os, patch), broken) = system;
+    let facts = BeginFacts {
+        fits: *fits,
+        os: *os,
+        patch: *patch,
+        ..begin(alloc, asked, key)
+    };
+    let met = breaks_so(&facts, *broken);
+    drop(facts);
+    met
+}
+
+#[test]
+fn a_key_is_of_the_devices_system_alone(rt: HostRuntime) {
+    for (row, system) in SYSTEMS.iter().enumerate() {
+        let met = meets_system(rt.alloc(), system);
+        assert!(rt; met, "in row {row}");
+    }
+}

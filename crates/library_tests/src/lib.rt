@@ -55,6 +55,8 @@ mod steps;
 #[cfg(test)]
 mod token_macs;
 #[cfg(test)]
+mod upgrades;
+#[cfg(test)]
 mod victims;
 #[cfg(test)]
 mod whole_texts;

@@ -141,7 +141,7 @@ pub fn key_list(alloc: Global, params: Pairs, dropped: &[Tag]) -> Option<AuthLis
 }
 
 /// The facts of a begin by an app under an alias, on a key that opens to a list or does not: at the wall reading 1000, without a user or a
-/// token, in early boot, on a locked device, with a slot that is free.
+/// token, in early boot, on a locked device whose system has no versions, with a slot that is free.
 pub fn begin_facts(
     alloc: Global,
     asked: Result<AuthList, Code>,
@@ -161,6 +161,8 @@ pub fn begin_facts(
         asked,
         opened,
         fits,
+        os: 0,
+        patch: 0,
         wall: 1000,
         user: 0,
         early_ended: false,
@@ -196,5 +198,7 @@ pub fn new_facts(
         import,
         early_ended: false,
         wall,
+        os: 0,
+        patch: 0,
     }
 }

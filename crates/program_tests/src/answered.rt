@@ -3,7 +3,7 @@
 
 ghost use Rattle.std.specs.Prelude.{◌≡◌, ◌≤◌, ℕ, None, length, IfOk};
 
-use crate::script::{ROOM, run_on, words_of};
+use crate::script::{DEMO_SYSTEM, ROOM, run_on, words_of};
 use disk_model::MemoryDisk;
 use keystore_run::Status;
 use ks_outside::{Failed, FaultCount, Sink, Source};
@@ -108,6 +108,7 @@ fn answered(alloc: Global) -> Option<(Status, usize)> {
     };
     let status = run_on(
         alloc,
+        DEMO_SYSTEM,
         words.as_slice(),
         &policy,
         &mut source,

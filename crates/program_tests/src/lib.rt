@@ -11,7 +11,9 @@ mod blocks;
 #[cfg(test)]
 mod draws;
 #[cfg(test)]
-mod faults;
+mod fates;
+#[cfg(test)]
+mod images;
 #[cfg(test)]
 mod lines;
 #[cfg(test)]
@@ -29,6 +31,12 @@ mod sharing;
 #[cfg(test)]
 mod stores;
 #[cfg(test)]
+mod streams;
+#[cfg(test)]
+mod sweeps;
+#[cfg(test)]
+mod swept;
+#[cfg(test)]
 mod tickets;
 #[cfg(test)]
 mod tokens;
@@ -36,5 +44,7 @@ mod tokens;
 mod trace_runs;
 #[cfg(test)]
 mod traces;
+#[cfg(test)]
+mod upgrades;
 #[cfg(test)]
 mod uses;

@@ -10,7 +10,7 @@ use tags::Bytes;
 
 /// Lines of one HMAC key, from the client to the mac, and a line of each act with all its members; the reading of the clock since boot and
 /// the client of each, and its act in words. A member that no act has is not looked at, and of two of one name the last counts.
-static LINES: [(&str, (u64, u64), &str); 31] = [
+static LINES: [(&str, (u64, u64), &str); 32] = [
     (
         r#"{"t":[0,1000],"do":"connect","uid":10001,"x":1}"#,
         (0, 0),
@@ -165,6 +165,11 @@ static LINES: [(&str, (u64, u64), &str); 31] = [
         r#"{"t":[0,1000],"do":"restart","root":"0404040404040404040404040404040404040404040404040404040404040405"}"#,
         (0, 0),
         "Restart { root: Some([4, 4, 4, 4, 4, 4, 4, 4, 4, 4, 4, 4, 4, 4, 4, 4, 4, 4, 4, 4, 4, 4, 4, 4, 4, 4, 4, 4, 4, 4, 4, 5]) }",
+    ),
+    (
+        r#"{"t":[0,1000],"c":1,"do":"upgradeKey","key":{"domain":3,"nspace":100,"blob":"4b53"},"params":[["APPLICATION_ID","6162"]]}"#,
+        (0, 1),
+        "UpgradeKey { key: Descriptor { domain: 3, nspace: 100, alias: None, blob: Some(Bytes { bytes: [75, 83] }) }, params: Bytes { bytes: [0, 1, 144, 0, 2, 89, 0, 2, 97, 98] } }",
     ),
 ];
 

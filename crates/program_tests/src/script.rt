@@ -54,11 +54,18 @@ pub const NO_KEY: &str = r#"{"code":7,"rule":"B4"}"#;
 
 pub const NOT_OPEN: &str = r#"{"code":-28,"rule":"S1"}"#;
 
-/// What stands outside of a run but for its disk: its words, its script, and which reads, writes and draws fail, by
-/// their numbers from 1.
+/// The versions of a device's system: of the operating system, and of its patches.
+pub type System = (u32, u32);
+
+/// Those of the demo device.
+pub const DEMO_SYSTEM: System = (140_000, 202_406);
+
+/// What stands outside of a run but for its disk: its words, the system of its device, its script, and which reads, writes
+/// and draws fail, by their numbers from 1.
 #[derive(Clone, Copy)]
 pub struct Outside<'a> {
     pub words: &'a str,
+    pub system: System,
     pub script: &'a str,
     pub reads: &'a [u64],
     pub writes: &'a [u64],
@@ -68,6 +75,7 @@ pub struct Outside<'a> {
 /// A run over a fresh store in which nothing fails.
 pub const FRESH: Outside<'static> = Outside {
     words: "run --fresh",
+    system: DEMO_SYSTEM,
     script: "",
     reads: &[],
     writes: &[],
@@ -82,6 +90,8 @@ pub struct Ended<'a> {
     sink: MemorySink<'a>,
     /// how many bytes of the script were not read
     pub left: usize,
+    /// how many reads of the script and writes of its replies failed
+    pub faults: u64,
 }
 
 impl Ended<'_> {
@@ -102,9 +112,10 @@ pub fn words_of(alloc: Global, text: &str) -> Vec<String> {
     words
 }
 
-/// Runs words over the demo device.
+/// Runs words over the demo device, with the versions of a system.
 pub fn run_on<S: Source, K: Sink, D: Disk>(
     alloc: Global,
+    (os, patch): System,
     words: &[String],
     policy: &Policy,
     source: &mut S,
@@ -113,10 +124,11 @@ pub fn run_on<S: Source, K: Sink, D: Disk>(
     draws: &[u64],
 ) -> Status {
     let mut entropy = MemoryEntropy::failing(draws);
+    let demo = DeviceSecrets::demo();
     run_words(
         alloc,
         words,
-        &DeviceSecrets::demo(),
+        &DeviceSecrets { os, patch, ..demo },
         policy,
         source,
         sink,
@@ -126,7 +138,7 @@ pub fn run_on<S: Source, K: Sink, D: Disk>(
 }
 
 impl<'a> Outside<'a> {
-    /// Runs over a disk, with the demo device and policy, where there is memory for what stands outside.
+    /// Runs over a disk, with the demo device's secrets and policy, where there is memory for what stands outside.
     pub fn run<D: Disk>(&self, alloc: Global, disk: &mut D) -> Option<Ended<'a>> {
         let room = self.script.len().saturating_add(16_384);
         let policy = Policy::demo(alloc).ok()?;
@@ -135,6 +147,7 @@ impl<'a> Outside<'a> {
         let mut source = MemorySource::new(self.script.as_bytes(), self.reads);
         let status = run_on(
             alloc,
+            self.system,
             words.as_slice(),
             &policy,
             &mut source,
@@ -145,7 +158,13 @@ impl<'a> Outside<'a> {
         drop(policy);
         drop(words);
         let left = source.left().len();
-        Some(Ended { status, sink, left })
+        let faults = source.faults().saturating_add(sink.faults());
+        Some(Ended {
+            status,
+            sink,
+            left,
+            faults,
+        })
     }
 
     /// Whether a run over a disk ends with this status and this text; words that are no form read nothing.
@@ -268,14 +287,20 @@ pub fn check_each(rt: &impl Abort, alloc: Global, cases: &[&[Row]]) {
 }
 
 /// The numbers of the first run and line in which another reply comes, of runs in turn over one disk, whose calls with these numbers fail,
-/// the first over a fresh store.
-fn other_in(alloc: Global, failing: &[u64], runs: &[&[Row]]) -> Option<(usize, usize)> {
+/// the first over a fresh store, each on its system or, where it has none, on the demo device's.
+fn other_in(
+    alloc: Global,
+    failing: &[u64],
+    systems: &[System],
+    runs: &[&[Row]],
+) -> Option<(usize, usize)> {
     let Ok(mut disk) = MemoryDisk::with_room(alloc, ROOM, failing) else {
         return Some((0, 0));
     };
     let mut outside = FRESH;
     let mut other = None;
     for (number, rows) in runs.iter().enumerate() {
+        outside.system = systems.get(number).copied().unwrap_or(DEMO_SYSTEM);
         if let Some(row) = other_on(alloc, outside, rows, &mut disk) {
             other = other.or(Some((number, row)));
         }
@@ -287,6 +312,12 @@ fn other_in(alloc: Global, failing: &[u64], runs: &[&[Row]]) -> Option<(usize, u
 
 /// Makes such runs, and compares what each line gets.
 pub fn check_runs(rt: &impl Abort, alloc: Global, failing: &[u64], runs: &[&[Row]]) {
-    let other = other_in(alloc, failing, runs);
+    let other = other_in(alloc, failing, &[], runs);
+    assert_eq!(rt; other, None, "a line gets another reply");
+}
+
+/// The same of runs on these systems, over a disk on which no call fails.
+pub fn check_systems(rt: &impl Abort, alloc: Global, systems: &[System], runs: &[&[Row]]) {
+    let other = other_in(alloc, &[], systems, runs);
     assert_eq!(rt; other, None, "a line gets another reply");
 }

@@ -198,11 +198,27 @@ fn is_sealed(alloc: Global, text: &str, begin: &str, end: &str) -> bool {
     }
 }
 
-/// Whether 20,480 bytes are.
+/// How often the counting bytes stand in the text of the usual app, which has 20,480 bytes.
+const REPEATS: usize = 80;
+
+/// A usual app: it makes a key, seals a text in pieces, opens it again, and ends the key.
+pub fn usual_app(alloc: Global) -> Option<String> {
+    let text = COUNTING.repeat(alloc, REPEATS).ok()?;
+    let sealed = sealed_of(alloc, text.as_str());
+    let script = match &sealed {
+        Some(sealed) => Some(script_of(alloc, text.as_str(), sealed.as_str())),
+        None => None,
+    };
+    drop(text);
+    drop(sealed);
+    script
+}
+
+/// Whether its text is sealed.
 fn is_file_sealed(alloc: Global) -> bool {
     let begin = "52fc27156694e2cb3ec197ed37ee6417";
     let end = "b5088d127906caefa5e7df825b2b625b";
-    match COUNTING.repeat(alloc, 80) {
+    match COUNTING.repeat(alloc, REPEATS) {
         Ok(text) => is_sealed(alloc, text.as_str(), begin, end),
         Err(_) => false,
     }

@@ -34,7 +34,7 @@ const NONE_LEFT: &str = r#"{"code":-56,"rule":"B16"}"#;
 
 /// The key after its first use.
 const ONE_USE_LEFT: &str =
-    r#"{"alias":"m","code":0,"domain":0,"key":1,"list":"000a20000001000000022000000100000003100000020000008030000003000000a0200000050000000430000008000000403000019500000002700001f701600002bd00000000000003e8100002be00000002","nspace":10001,"uses":1}"#;
+    r#"{"alias":"m","code":0,"domain":0,"key":1,"list":"000c20000001000000022000000100000003100000020000008030000003000000a0200000050000000430000008000000403000019500000002700001f701600002bd00000000000003e8100002be00000002300002c1000222e0300002c2000316a6","nspace":10001,"uses":1}"#;
 
 const SHOW: &str = r#"{"t":[0,1000],"c":1,"do":"getKeyEntry","key":{"domain":0,"alias":"m"}}"#;
 
@@ -135,25 +135,10 @@ const LOST: Runs = &[
 
 /// Calls of the disk that fail, by their numbers from 1, and the runs: formatting makes six calls, the opening of an empty store six,
 /// and each record four.
-static FAULTED: [(&[u64], Runs); 6] = [
+static FAULTED: [(&[u64], Runs); 4] = [
     (&[20], KEPT),
     (&[17], LOST),
     (&[19], LOST),
-    (
-        &[20],
-        &[
-            &[
-                // A restart settles first.
-                (CONNECT, CONNECTED),
-                (IMPORT_ONCE, IMPORTED),
-                (BEGIN, BEGUN),
-                (FINISH_EMPTY, FAILED),
-                (RESTART, "{\"settled\":\"kept\"}\n{\"code\":0}"),
-                (CONNECT, SECOND_CONNECTED),
-            ],
-            GONE,
-        ],
-    ),
     (
         &[18],
         &[
@@ -184,25 +169,6 @@ static FAULTED: [(&[u64], Runs); 6] = [
             GONE,
         ],
     ),
-    (
-        &[17, 18],
-        &[
-            &[
-                // Settling fails too: the act is not made, the finish leaves its operation open, and the next act settles.
-                (CONNECT, CONNECTED),
-                (IMPORT_ONCE, IMPORTED),
-                (BEGIN, BEGUN),
-                (BEGIN, BEGUN_AGAIN),
-                (FINISH_EMPTY, FAILED),
-                (FINISH_SECOND, FAILED),
-                (
-                    FINISH_SECOND,
-                    "{\"settled\":\"lost\"}\n{\"code\":0,\"out\":\"999a901219f032cd497cadb5e6051e97b6a29ab297bd6ae722bd6062a2f59542\"}",
-                ),
-            ],
-            GONE,
-        ],
-    ),
 ];
 
 #[test]
@@ -210,34 +176,6 @@ fn a_use_whose_record_failed_is_kept_or_lost_as_it_is_told(rt: HostRuntime) {
     let alloc = rt.alloc();
     for (failing, runs) in &FAULTED {
         check_runs(&rt, alloc, failing, runs);
-    }
-}
-
-/// Which call fails of the six that a restart makes, to sync and to read, the front, the selector, the records, and twice nothing more; sixteen
-/// came before it: formatting made six, the opening six, and the record four.
-static UNREAD: [&[u64]; 6] = [&[17], &[18], &[19], &[20], &[21], &[22]];
-
-/// A restart that could not read the store has not happened, and nothing waits: the client, its operation and the key are there, the next
-/// use is written, and the next restart is made.
-static NOT_RESTARTED: [&[Row]; 2] = [
-    &[
-        (CONNECT, CONNECTED),
-        (IMPORT_ONCE, IMPORTED),
-        (BEGIN, BEGUN),
-        (RESTART, FAILED),
-        (FINISH, MAC),
-        (BEGIN, NO_KEY),
-        (RESTART, DONE),
-        (CONNECT, SECOND_CONNECTED),
-    ],
-    GONE,
-];
-
-#[test]
-fn a_restart_that_could_not_read_the_store_has_not_happened(rt: HostRuntime) {
-    let alloc = rt.alloc();
-    for failing in &UNREAD {
-        check_runs(&rt, alloc, failing, &NOT_RESTARTED);
     }
 }
 

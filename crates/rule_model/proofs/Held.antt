@@ -1,5 +1,5 @@
 -- The uses of a key over a legal history, and what each lasting part that it may leave has of it.
-use Rattle.std.proofs.Common.{◌≡◌, ◌⊎◌, inl, inr, ℕ, ◌+◌, ◌<◌, Bool, true, false, ◌==◌, ◌&&◌, ◌||◌, not, if◌then◌else◌, List, [], ◌∷◌, Option, Some, None, option_map, IsTrue, refl, sym, ap, ◌∙◌, subst, arith}
+use Rattle.std.proofs.Common.{◌≡◌, ◌⊎◌, inl, inr, ℕ, ◌+◌, ◌<◌, Bool, true, false, ◌==◌, ◌&&◌, ◌||◌, not, if◌then◌else◌, List, [], ◌∷◌, Option, Some, None, option_map, Result, Ok, Err, IsTrue, refl, sym, ap, ◌∙◌, subst, arith}
 use Rattle.std.proofs.lemmas.Bool.{eqb-true}
 use Rattle.std.specs.Option.{option_and_then}
 use Rattle.key_domains.specs.Domains.{domain_blob}
@@ -10,6 +10,7 @@ use Rattle.tags.specs.declared.secrets.DeviceSecrets.{DeviceSecrets}
 use Rattle.tags.specs.declared.rule.Rule.{Rule}
 use Rattle.tags.specs.declared.settled.Settled.{Settled}
 use Rattle.tags.specs.declared.settled.Settled.TheVariants.{Kept, Lost}
+use Rattle.key_blobs.specs.declared.sealed.Sealed.{Sealed}
 use Rattle.key_rules.specs.declared.plan.KeyPlan.{KeyPlan}
 use Rattle.journal_records.specs.declared.change.Change.{Change}
 use Rattle.journal_records.specs.declared.change.Change.TheVariants as changes
@@ -17,7 +18,7 @@ use Rattle.journal_records.specs.LastingPart.{Lasting, some_has_id}
 use Rattle.rule_model.specs.declared.entry.Entry.{Entry}
 use Rattle.rule_model.specs.declared.entry.Entry.TheVariants.{Acted, Settling}
 use Rattle.rule_model.specs.declared.event.Act.{Act}
-use Rattle.rule_model.specs.declared.event.Act.TheVariants.{GenerateKey, ImportKey, EnterFinish, DeleteKey, Grant, Ungrant, ClearNamespace, UserRemoved, Disconnect, Leave}
+use Rattle.rule_model.specs.declared.event.Act.TheVariants.{GenerateKey, ImportKey, EnterFinish, DeleteKey, Grant, Ungrant, ClearNamespace, UserRemoved, Disconnect, Leave, UpgradeKey}
 use Rattle.rule_model.specs.declared.event.Event.{Event}
 use Rattle.rule_model.specs.declared.facts.Caller.{Caller}
 use Rattle.rule_model.specs.declared.reply.Fields.{Fields}
@@ -27,7 +28,7 @@ use Rattle.rule_model.specs.Access.{id_by, owner_of}
 use Rattle.rule_model.specs.Acts.{fixed_for}
 use Rattle.rule_model.specs.Answer.{answer, answer_by_rules}
 use Rattle.rule_model.specs.Blobs.{device_at}
-use Rattle.rule_model.specs.Changes.{after_change, change_of, creating, grant_of, granting, planned}
+use Rattle.rule_model.specs.Changes.{after_change, change_of, creating, grant_of, granting, planned, upgrading}
 use Rattle.rule_model.specs.Clients.{caller_of}
 use Rattle.rule_model.specs.Entries.{History, gives, is_done}
 use Rattle.rule_model.specs.Kept.{is_live, kept, kept_after, kept_settled, open_of}
@@ -39,6 +40,7 @@ use Rattle.rule_model.specs.Settling.{is_faulted, is_kept, is_unsettled}
 use Rattle.rule_model.specs.Setup.{Setup}
 use Rattle.rule_model.specs.StepFacts.{has_ended}
 use Rattle.rule_model.specs.Stored.{May, MayWhere}
+use Rattle.rule_model.specs.Upgrades.{upgrade_in}
 use Rattle.rule_model.specs.Uses.{HasLimit, Stood, one_if, used_by, uses_made}
 use Rattle.rule_model.proofs.Admitted.{IsEntered, answered_done, entered}
 use Rattle.rule_model.proofs.Bounds.{Bounded, Goes, TakesNext, goes_counted, goes_on, has_limit_within}
@@ -59,17 +61,26 @@ takes_mapped : {X : Type 0} (part : Lasting) (change : X → Change) → ((x : X
 takes_mapped part change takes None = tt
 takes_mapped part change takes (Some x) = takes x
 
+takes_upgrading : (device : DeviceSecrets) (part : Lasting) (drawn : List ℕ) (ruled : Result (Option Sealed) (Rule × Code)) (found : Option ℕ)
+    → TakesNextIn part (upgrading ruled found device drawn)
+takes_upgrading device part drawn (Err broken) found = tt
+takes_upgrading device part drawn (Ok None) found = tt
+takes_upgrading device part drawn (Ok (Some sealed)) None = tt
+takes_upgrading device part drawn (Ok (Some sealed)) (Some id) = tt
+
 change_takes : (act : Act) (device : DeviceSecrets) (policy : List PolicyRow) (part : Lasting) (opened : List Open) (caller : Caller) (drawn : List ℕ) → TakesNextIn part (change_of act device policy part opened caller drawn)
 change_takes (GenerateKey key params) device policy part opened caller drawn =
-    takes_stored device part (owner_of caller) key (planned policy caller key params None) None drawn (key.domain == domain_blob)
+    takes_stored device part (owner_of caller) key (planned device policy caller key params None) None drawn (key.domain == domain_blob)
 change_takes (ImportKey key params format material) device policy part opened caller drawn =
-    takes_stored device part (owner_of caller) key (planned policy caller key params (import_of format material)) (Some material) drawn (key.domain == domain_blob)
+    takes_stored device part (owner_of caller) key (planned device policy caller key params (import_of format material)) (Some material) drawn (key.domain == domain_blob)
 change_takes (EnterFinish op input signature) device policy part opened caller drawn = takes_mapped part changes.Use (λ id. tt) (used_key op opened)
 change_takes (DeleteKey key) device policy part opened caller drawn = takes_mapped part changes.Delete (λ id. tt) (id_by policy part caller key)
 change_takes (Grant key uid bits) device policy part opened caller drawn = takes_mapped part (granting part uid bits) (λ id. tt) (id_by policy part caller key)
 change_takes (Ungrant key uid) device policy part opened caller drawn = takes_mapped part changes.Ungrant (λ id. tt) (grant_of part (id_by policy part caller key) uid)
 change_takes (ClearNamespace domain nspace) device policy part opened caller drawn = tt
 change_takes (UserRemoved user) device policy part opened caller drawn = tt
+change_takes (UpgradeKey key params) device policy part opened caller drawn =
+    takes_upgrading device part drawn (upgrade_in device policy part caller key params) (id_by policy part caller key)
 change_takes _ device policy part opened caller drawn = tt
 
 goes_by : (id made limit : ℕ) (part : Lasting) (change : Option Change) → TakesNextIn part change → Bounded id made limit part → Goes id limit made part (after_change change part)

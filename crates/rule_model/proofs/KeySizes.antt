@@ -1,14 +1,19 @@
 -- The alias and the list of each key that lasts are short: those of a new key are by its rules, and no change makes them longer.
-use Rattle.std.proofs.Common.{◌≡◌, ℕ, ◌-◌, ◌≤◌, Bool, true, false, ◌==◌, ◌&&◌, not, if◌then◌else◌, List, [], ◌∷◌, filter, find, length, Option, Some, None, option_map, Result, Ok, Err, is_ok, refl, subst, arith}
+use Rattle.std.proofs.Common.{◌≡◌, ℕ, ◌-◌, ◌≤◌, Bool, true, false, ◌==◌, ◌&&◌, not, if◌then◌else◌, List, [], ◌∷◌, filter, find, length, Option, Some, None, option_map, Result, Ok, Err, is_ok, refl, ap, subst, arith}
 use Rattle.std.specs.Prelude.{nat_le}
 use Rattle.std.specs.Str.{is_utf8}
 use Rattle.std.proofs.lemmas.Bool.{and_parts, leb-true}
 use Rattle.tags.specs.declared.code.Code.{Code}
 use Rattle.tags.specs.declared.code.Code.TheVariants.{EntropyFault, MemoryAllocationFailed}
+use Rattle.tags.specs.declared.descriptor.Descriptor.{Descriptor}
+use Rattle.tags.specs.declared.param.Param.{Param}
 use Rattle.tags.specs.declared.rule.Rule.{Rule}
+use Rattle.tags.specs.declared.rule.RuleTable.TheVariants.{A}
 use Rattle.tags.specs.declared.secrets.DeviceSecrets.{DeviceSecrets}
 use Rattle.tags.specs.declared.settled.Settled.{Settled}
 use Rattle.tags.specs.Descriptor.{is_alias}
+use Rattle.tags.specs.Table.{Ruling, first_broken, where_all_hold}
+use Rattle.tag_lists.specs.Versions.{is_no_older}
 use Rattle.key_domains.specs.Domains.{domain_blob}
 use Rattle.grants.specs.declared.row.GrantRow.{GrantRow}
 use Rattle.grants.specs.Rows.{is_for}
@@ -19,21 +24,27 @@ use Rattle.journal_records.specs.declared.record.KeyRecord.{KeyRecord}
 use Rattle.journal_records.specs.Effects.{after, granted, is_last_use, with_blob, with_use}
 use Rattle.journal_records.specs.LastingPart.{Lasting, has_id, is_named, is_of_user, is_owned}
 use Rattle.journal_records.specs.Storable.{IsStorable, IsStorableKey}
+use Rattle.key_blobs.specs.declared.fault.BlobFault.{BlobFault}
+use Rattle.key_blobs.specs.declared.sealed.Opened.{Opened}
 use Rattle.key_rules.specs.declared.facts.NewFacts.{NewFacts}
+use Rattle.key_rules.specs.Asked.{asked as asked_in}
 use Rattle.key_rules.specs.Creation.{new_key, plan_of}
 use Rattle.key_rules.proofs.NewKeys.{fit_if_ok, named_short}
+use Rattle.call_rules.specs.declared.facts.KeyCallFacts.{KeyCallFacts}
+use Rattle.call_rules.specs.Table.{upgrade_key_rules}
 use Rattle.rule_model.specs.declared.entry.Entry.TheVariants.{Acted, Settling}
 use Rattle.rule_model.specs.declared.event.Act.{Act}
-use Rattle.rule_model.specs.declared.event.Act.TheVariants.{GenerateKey, ImportKey, EnterFinish, DeleteKey, Grant, Ungrant, ClearNamespace, UserRemoved}
+use Rattle.rule_model.specs.declared.event.Act.TheVariants.{GenerateKey, ImportKey, EnterFinish, DeleteKey, Grant, Ungrant, ClearNamespace, UserRemoved, UpgradeKey}
 use Rattle.rule_model.specs.declared.event.Event.{Event}
 use Rattle.rule_model.specs.declared.facts.Caller.{Caller}
 use Rattle.rule_model.specs.declared.reply.Reply.{Reply}
 use Rattle.rule_model.specs.declared.reply.Reply.TheVariants.{Done, Broken, Stopped}
-use Rattle.rule_model.specs.Access.{id_by, owner_of}
+use Rattle.rule_model.specs.Access.{access_by, id_by, key_in, owner_of}
 use Rattle.rule_model.specs.Answer.{answer_by_rules, made_in}
-use Rattle.rule_model.specs.Blobs.{device_at}
+use Rattle.rule_model.specs.BeginFacts.{blob_for}
+use Rattle.rule_model.specs.Blobs.{device_at, opened_for}
 use Rattle.rule_model.specs.Boot.{has_early_ended}
-use Rattle.rule_model.specs.Changes.{after_change, change_of, creating, grant_of, granting, new_blob, planned}
+use Rattle.rule_model.specs.Changes.{after_change, change_of, creating, grant_of, granting, new_blob, planned, upgrading}
 use Rattle.rule_model.specs.Clients.{caller_of}
 use Rattle.rule_model.specs.Entries.{History, is_done}
 use Rattle.rule_model.specs.Kept.{kept, kept_settled, open_of}
@@ -44,9 +55,11 @@ use Rattle.rule_model.specs.Operations.{used_key}
 use Rattle.rule_model.specs.Replies.{broken_or}
 use Rattle.rule_model.specs.Settling.{is_faulted, is_kept, is_unsettled}
 use Rattle.rule_model.specs.Setup.{Setup}
+use Rattle.rule_model.specs.Upgrades.{list_opened, upgrade_by, upgrade_call_facts, upgrade_facts, upgraded}
 use Rattle.rule_model.proofs.Admitted.{answered_done, broken_done}
 use Rattle.rule_model.proofs.Bounds.{Each, each_as, each_changed, each_left, each_more}
 use Rattle.rule_model.proofs.Kept.{restart_unfaulted, waiting_unfaulted}
+use Rattle.rule_model.proofs.UpgradedKeys.{upgrade_fits}
 use Rattle.tags.specs.declared.limits.TheConstants.{ALIAS_BYTES, KEPT_LIST_BYTES}
 
 -- ---- over a change
@@ -113,8 +126,8 @@ short_from part is = each_as (IsStorableKey part.next_key) IsShort (λ key one. 
 
 -- the rules let a new key through
 abbrev MakesKey : Act → Setup → History → Caller → Type 0
-MakesKey (GenerateKey key params) setup past caller = is_ok (new_key (new_facts setup.policy caller key params None (has_early_ended setup past))) ≡ true
-MakesKey (ImportKey key params format material) setup past caller = is_ok (new_key (new_facts setup.policy caller key params (import_of format material) (has_early_ended setup past))) ≡ true
+MakesKey (GenerateKey key params) setup past caller = is_ok (new_key (new_facts setup.device setup.policy caller key params None (has_early_ended setup past))) ≡ true
+MakesKey (ImportKey key params format material) setup past caller = is_ok (new_key (new_facts setup.device setup.policy caller key params (import_of format material) (has_early_ended setup past))) ≡ true
 MakesKey _ setup past caller = Unit {0}
 
 short_new : (device : DeviceSecrets) (part : Lasting) (uid : ℕ) (facts : NewFacts) (import : Option (List ℕ)) (drawn : List ℕ) → is_ok (new_key facts) ≡ true → (b : Bool) → (facts.descriptor.domain == domain_blob) ≡ b
@@ -128,28 +141,45 @@ short_mapped : {X : Type 0} (change : X → Change) → ((x : X) → IsShortChan
 short_mapped change short None = tt
 short_mapped change short (Some x) = short x
 
-change_short : (act : Act) (setup : Setup) (past : History) (device : DeviceSecrets) (part : Lasting) (opened : List Open) (caller : Caller) (drawn : List ℕ) → MakesKey act setup past caller
-    → IsShortIn (change_of act device setup.policy part opened caller drawn)
-change_short (GenerateKey key params) setup past device part opened caller drawn through =
-    short_new device part (owner_of caller) (new_facts setup.policy caller key params None (has_early_ended setup past)) None drawn through (key.domain == domain_blob) refl
-change_short (ImportKey key params format material) setup past device part opened caller drawn through =
-    short_new device part (owner_of caller) (new_facts setup.policy caller key params (import_of format material) (has_early_ended setup past)) (Some material) drawn through (key.domain == domain_blob) refl
-change_short (EnterFinish op input signature) setup past device part opened caller drawn through = short_mapped changes.Use (λ id. tt) (used_key op opened)
-change_short (DeleteKey key) setup past device part opened caller drawn through = short_mapped changes.Delete (λ id. tt) (id_by setup.policy part caller key)
-change_short (Grant key uid bits) setup past device part opened caller drawn through = short_mapped (granting part uid bits) (λ id. tt) (id_by setup.policy part caller key)
-change_short (Ungrant key uid) setup past device part opened caller drawn through = short_mapped changes.Ungrant (λ id. tt) (grant_of part (id_by setup.policy part caller key) uid)
-change_short (ClearNamespace domain nspace) setup past device part opened caller drawn through = tt
-change_short (UserRemoved user) setup past device part opened caller drawn through = tt
-change_short _ setup past device part opened caller drawn through = tt
+-- an upgrade that seals anew, over the part that it changes
+short_upgrading : (device : DeviceSecrets) (call : KeyCallFacts) (key : Descriptor) (asked : Result (List Param) Code) (given : List ℕ) (opened : Result Opened BlobFault) (found : Option ℕ) (drawn : List ℕ)
+    → IsShortIn (upgrading (upgrade_by device call key asked given opened) found device drawn)
+short_upgrading device call key asked given opened found drawn =
+    by_ruling (first_broken A (upgrade_key_rules key (upgrade_facts device call asked given opened))) refl (is_no_older device.os device.patch (list_opened opened)) found where
+      by_ruling : (ruling : Ruling) → first_broken A (upgrade_key_rules key (upgrade_facts device call asked given opened)) ≡ ruling → (older : Bool) (id : Option ℕ)
+          → IsShortIn (upgrading (where_all_hold ruling (if older then None else Some (upgraded device asked opened))) id device drawn)
+      by_ruling (Err broken) e older id = tt
+      by_ruling (Ok done) e true id = tt
+      by_ruling (Ok done) e false None = tt
+      by_ruling (Ok done) e false (Some id) = (upgrade_fits device call key asked given opened (ap is_ok e)).listed
+
+change_short : (act : Act) (setup : Setup) (past : History) (part : Lasting) (opened : List Open) (caller : Caller) (drawn : List ℕ) → MakesKey act setup past caller
+    → IsShortIn (change_of act (device_at setup past) setup.policy part opened caller drawn)
+change_short (GenerateKey key params) setup past part opened caller drawn through =
+    short_new (device_at setup past) part (owner_of caller) (new_facts setup.device setup.policy caller key params None (has_early_ended setup past)) None drawn through (key.domain == domain_blob) refl
+change_short (ImportKey key params format material) setup past part opened caller drawn through =
+    short_new (device_at setup past) part (owner_of caller) (new_facts setup.device setup.policy caller key params (import_of format material) (has_early_ended setup past)) (Some material) drawn through (key.domain == domain_blob) refl
+change_short (EnterFinish op input signature) setup past part opened caller drawn through = short_mapped changes.Use (λ id. tt) (used_key op opened)
+change_short (DeleteKey key) setup past part opened caller drawn through = short_mapped changes.Delete (λ id. tt) (id_by setup.policy part caller key)
+change_short (Grant key uid bits) setup past part opened caller drawn through = short_mapped (granting part uid bits) (λ id. tt) (id_by setup.policy part caller key)
+change_short (Ungrant key uid) setup past part opened caller drawn through = short_mapped changes.Ungrant (λ id. tt) (grant_of part (id_by setup.policy part caller key) uid)
+change_short (ClearNamespace domain nspace) setup past part opened caller drawn through = tt
+change_short (UserRemoved user) setup past part opened caller drawn through = tt
+change_short (UpgradeKey key params) setup past part opened caller drawn through =
+    short_upgrading (device_at setup past) (upgrade_call_facts setup.policy (access_by setup.policy part caller key) (key_in part (access_by setup.policy part caller key)) caller key) key (asked_in params)
+    (blob_for (access_by setup.policy part caller key) (key_in part (access_by setup.policy part caller key)) key)
+    (opened_for (device_at setup past) (asked_in params) (blob_for (access_by setup.policy part caller key) (key_in part (access_by setup.policy part caller key)) key))
+    (id_by setup.policy part caller key) drawn
+change_short _ setup past part opened caller drawn through = tt
 
 -- an act that is admitted
 makes_done : (act : Act) (setup : Setup) (past : History) (caller : Caller) (drawn : List ℕ) → is_done (answer_by_rules act setup past caller drawn) ≡ true → MakesKey act setup past caller
 makes_done (GenerateKey key params) setup past caller drawn e =
-    broken_done (new_key (new_facts setup.policy caller key params None (has_early_ended setup past)))
-    (made_in (kept setup past) caller key (new_blob (device_at setup past) (planned setup.policy caller key params None) None drawn)) e
+    broken_done (new_key (new_facts setup.device setup.policy caller key params None (has_early_ended setup past)))
+    (made_in (kept setup past) caller key (new_blob (device_at setup past) (planned setup.device setup.policy caller key params None) None drawn)) e
 makes_done (ImportKey key params format material) setup past caller drawn e =
-    broken_done (new_key (new_facts setup.policy caller key params (import_of format material) (has_early_ended setup past)))
-    (made_in (kept setup past) caller key (new_blob (device_at setup past) (planned setup.policy caller key params (import_of format material)) (Some material) drawn)) e
+    broken_done (new_key (new_facts setup.device setup.policy caller key params (import_of format material) (has_early_ended setup past)))
+    (made_in (kept setup past) caller key (new_blob (device_at setup past) (planned setup.device setup.policy caller key params (import_of format material)) (Some material) drawn)) e
 makes_done _ setup past caller drawn e = tt
 
 -- an answer that is no broken rule
@@ -159,11 +189,11 @@ stopped_ok (Err broken) reply code e = cc
 
 makes_stopped : (act : Act) (setup : Setup) (past : History) (caller : Caller) (drawn : List ℕ) (code : Code) → Stopped code ≡ answer_by_rules act setup past caller drawn → MakesKey act setup past caller
 makes_stopped (GenerateKey key params) setup past caller drawn code e =
-    stopped_ok (new_key (new_facts setup.policy caller key params None (has_early_ended setup past)))
-    (made_in (kept setup past) caller key (new_blob (device_at setup past) (planned setup.policy caller key params None) None drawn)) code e
+    stopped_ok (new_key (new_facts setup.device setup.policy caller key params None (has_early_ended setup past)))
+    (made_in (kept setup past) caller key (new_blob (device_at setup past) (planned setup.device setup.policy caller key params None) None drawn)) code e
 makes_stopped (ImportKey key params format material) setup past caller drawn code e =
-    stopped_ok (new_key (new_facts setup.policy caller key params (import_of format material) (has_early_ended setup past)))
-    (made_in (kept setup past) caller key (new_blob (device_at setup past) (planned setup.policy caller key params (import_of format material)) (Some material) drawn)) code e
+    stopped_ok (new_key (new_facts setup.device setup.policy caller key params (import_of format material) (has_early_ended setup past)))
+    (made_in (kept setup past) caller key (new_blob (device_at setup past) (planned setup.device setup.policy caller key params (import_of format material)) (Some material) drawn)) code e
 makes_stopped _ setup past caller drawn code e = tt
 
 both_ways : {A : Type 0} (b : Bool) → b ≡ true → b ≡ false → A
@@ -191,7 +221,7 @@ module _ (setup : Setup) (past : History) (event : Event) (drawn : List ℕ) whe
       → AreShort (after_change (change_of event.act (device_at setup past) setup.policy (kept_settled setup verdict past) (open_of setup past) (caller_of past event) drawn) (kept_settled setup verdict past))
   over verdict through short =
       short_changed (change_of event.act (device_at setup past) setup.policy (kept_settled setup verdict past) (open_of setup past) (caller_of past event) drawn) (kept_settled setup verdict past)
-      (change_short event.act setup past (device_at setup past) (kept_settled setup verdict past) (open_of setup past) (caller_of past event) drawn through) short
+      (change_short event.act setup past (kept_settled setup verdict past) (open_of setup past) (caller_of past event) drawn through) short
 
   stopped_over : (verdict : Option Settled) (faulted counting : Bool) → (faulted ≡ true → MakesKey event.act setup past (caller_of past event)) → ((v : Option Settled) → AreShort (kept_settled setup v past))
       → AreShort (if faulted && counting

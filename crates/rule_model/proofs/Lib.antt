@@ -5,6 +5,7 @@ pub mod Bounds
 pub mod Clients
 pub mod CopyLemmas
 pub mod Counting
+pub mod HandedKeys
 pub mod Held
 pub mod Kept
 pub mod KeySizes
@@ -13,5 +14,6 @@ pub mod Operations
 pub mod Outputs
 pub mod Returned
 pub mod Tickets
+pub mod UpgradedKeys
 pub mod Uses
 pub mod UsesMet

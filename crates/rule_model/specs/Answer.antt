@@ -2,6 +2,9 @@
 use Rattle.std.specs.Prelude.{ℕ, ◌+◌, ◌==◌, List, Option, Some, None, Result, Ok, Err, if◌then◌else◌, take}
 use Rattle.tags.specs.declared.code.Code.{Code}
 use Rattle.tags.specs.declared.code.Code.TheVariants.{NoTicket, StoreFull}
+use Rattle.tags.specs.declared.rule.Rule.{Rule}
+use Rattle.tags.specs.declared.secrets.DeviceSecrets.{DeviceSecrets}
+use Rattle.key_blobs.specs.declared.sealed.Sealed.{Sealed}
 use Rattle.tags.specs.declared.descriptor.Descriptor.{Descriptor}
 use Rattle.key_domains.specs.Domains.{domain_blob}
 use Rattle.journal_records.specs.LastingPart.{Lasting}
@@ -13,10 +16,10 @@ use Rattle.cipher_ops.specs.declared.room.Work.{Work}
 use Rattle.cipher_ops.specs.declared.room.Work.TheVariants.{Aad, Text, Last}
 use Rattle.rule_model.specs.declared.event.Event.{Event}
 use Rattle.rule_model.specs.declared.event.Act.{Act}
-use Rattle.rule_model.specs.declared.event.Act.TheVariants.{Connect, Disconnect, GenerateKey, ImportKey, CreateOperation, EnterAad, EnterUpdate, EnterFinish, Abort, GetKeyEntry, DeleteKey, Grant, Ungrant, GetNumberOfEntries, ListEntriesBatched, AddAuthToken, DeviceLocked, DeviceUnlocked, EarlyBootEnded, ClearNamespace, UserRemoved, Leave, Restart}
+use Rattle.rule_model.specs.declared.event.Act.TheVariants.{Connect, Disconnect, GenerateKey, ImportKey, CreateOperation, EnterAad, EnterUpdate, EnterFinish, Abort, GetKeyEntry, DeleteKey, Grant, Ungrant, GetNumberOfEntries, ListEntriesBatched, AddAuthToken, DeviceLocked, DeviceUnlocked, EarlyBootEnded, ClearNamespace, UserRemoved, Leave, Restart, UpgradeKey}
 use Rattle.rule_model.specs.declared.facts.Caller.{Caller}
 use Rattle.rule_model.specs.declared.reply.Reply.{Reply}
-use Rattle.rule_model.specs.declared.reply.Reply.TheVariants.{Done, Stopped}
+use Rattle.rule_model.specs.declared.reply.Reply.TheVariants.{Broken, Done, Stopped}
 use Rattle.rule_model.specs.Acts.{is_begin, is_connect}
 use Rattle.rule_model.specs.Boot.{has_early_ended, last_tokens}
 use Rattle.rule_model.specs.Calls.{accepted_in, add_auth_token_ruling, clear_namespace_ruling, counted_in, delete_key_ruling, disconnect_ruling, early_boot_ended_ruling, get_key_entry_ruling, grant_ruling, granted_in, key_entry, listed_in, listing_ruling, ungrant_ruling, user_call_ruling}
@@ -36,6 +39,7 @@ use Rattle.rule_model.specs.StepFacts.{brought_by, brought_by_abort, step_facts}
 use Rattle.rule_model.specs.declared.operation.Entered.{Entered}
 use Rattle.rule_model.specs.Tickets.{next_ticket, ticket_at}
 use Rattle.rule_model.specs.Tokens.{token_of}
+use Rattle.rule_model.specs.Upgrades.{blob_behind, upgrade_in}
 
 -- the nonce that a begin drew
 abbrev pub drawn_nonce : BeginFacts → List ℕ → Option (List ℕ)
@@ -73,16 +77,22 @@ made_in part caller key blob =
     then Done (if key.domain == domain_blob then record no_fields { blob = Some blob } else record no_fields { key = Some part.next_key })
     else Stopped StoreFull
 
+-- what an upgrade answers: the first broken rule, or in BLOB the blob, which is the given one where nothing is sealed anew
+abbrev pub upgraded_with : DeviceSecrets → Descriptor → List ℕ → Result (Option Sealed) (Rule × Code) → Reply
+upgraded_with device key drawn (Err (rule, code)) = Broken rule code
+upgraded_with device key drawn (Ok change) =
+    Done (if key.domain == domain_blob then record no_fields { blob = Some (blob_behind device key drawn change) } else no_fields)
+
 -- The answer by the rules: the first broken one of the call's table, or the reply with its fields.
 abbrev pub answer_by_rules : Act → Setup → History → Caller → List ℕ → Reply
 answer_by_rules (Connect uid) setup past caller drawn = Done (record no_fields { client = Some (count_of is_connect past + 1) })
 answer_by_rules (GenerateKey key params) setup past caller drawn =
-    broken_or (new_key (new_facts setup.policy caller key params None (has_early_ended setup past)))
-    (made_in (kept setup past) caller key (new_blob (device_at setup past) (planned setup.policy caller key params None) None drawn))
+    broken_or (new_key (new_facts setup.device setup.policy caller key params None (has_early_ended setup past)))
+    (made_in (kept setup past) caller key (new_blob (device_at setup past) (planned setup.device setup.policy caller key params None) None drawn))
 answer_by_rules (ImportKey key params format material) setup past caller drawn =
-    broken_or (new_key (new_facts setup.policy caller key params (import_of format material) (has_early_ended setup past)))
+    broken_or (new_key (new_facts setup.device setup.policy caller key params (import_of format material) (has_early_ended setup past)))
     (made_in (kept setup past) caller key
-    (new_blob (device_at setup past) (planned setup.policy caller key params (import_of format material)) (Some material) drawn))
+    (new_blob (device_at setup past) (planned setup.device setup.policy caller key params (import_of format material)) (Some material) drawn))
 answer_by_rules (CreateOperation key params forced) setup past caller drawn =
     broken_or (begin_table.answer (begin_facts setup past caller key params forced))
     (begun_with (count_of is_begin past + 1) (challenge_of (begin_facts setup past caller key params forced) drawn)
@@ -99,6 +109,8 @@ answer_by_rules (DeleteKey key) setup past caller drawn = broken_or (delete_key_
 answer_by_rules (Grant key uid bits) setup past caller drawn =
     broken_or (grant_ruling setup.policy (kept setup past) caller key bits) (granted_in (kept setup past) (id_by setup.policy (kept setup past) caller key) uid)
 answer_by_rules (Ungrant key uid) setup past caller drawn = broken_or (ungrant_ruling setup.policy (kept setup past) caller key uid) (Done no_fields)
+answer_by_rules (UpgradeKey key params) setup past caller drawn =
+    upgraded_with (device_at setup past) key drawn (upgrade_in (device_at setup past) setup.policy (kept setup past) caller key params)
 answer_by_rules (GetNumberOfEntries domain nspace) setup past caller drawn =
     broken_or (listing_ruling setup.policy caller domain nspace) (counted_in (kept setup past) (owner_for (owner_of caller) domain nspace))
 answer_by_rules (ListEntriesBatched domain nspace behind) setup past caller drawn =

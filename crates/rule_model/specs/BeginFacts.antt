@@ -60,10 +60,10 @@ begin_key device access stored key asked = record {
 
 -- ---- the facts
 
--- the facts of a caller's call, by whether there is a key, the list in its blob and whether it fits, the caller's bits, the
+-- the facts of a caller's call on a device, by whether there is a key, the list in its blob and whether it fits, the caller's bits, the
 -- operation's list, and the conditions
-abbrev pub facts_by : List PolicyRow → Bool → Option (List Param) → Bool → Access → Caller → Descriptor → Result (List Param) Code → Bool → Conditions → BeginFacts
-facts_by policy found opened fits access caller key asked forced conditions = record {
+abbrev pub facts_by : DeviceSecrets → List PolicyRow → Bool → Option (List Param) → Bool → Access → Caller → Descriptor → Result (List Param) Code → Bool → Conditions → BeginFacts
+facts_by device policy found opened fits access caller key asked forced conditions = record {
   connected = is_some caller.uid;
   descriptor = key;
   row = row_for policy caller key.nspace;
@@ -73,6 +73,8 @@ facts_by policy found opened fits access caller key asked forced conditions = re
   asked = asked;
   opened = opened;
   fits = fits;
+  os = device.os;
+  patch = device.patch;
   wall = caller.reading.wall;
   user = user_of caller;
   early_ended = conditions.early_ended;
@@ -83,6 +85,6 @@ facts_by policy found opened fits access caller key asked forced conditions = re
 }
 
 -- by the key of the begin
-abbrev pub facts_on : List PolicyRow → BeginKey → Access → Caller → Descriptor → List ℕ → Bool → Conditions → BeginFacts
-facts_on policy begun access caller key params forced conditions =
-    facts_by policy begun.found (list_read begun.opened) (fits_key begun.opened) access caller key (asked_in params) forced conditions
+abbrev pub facts_on : DeviceSecrets → List PolicyRow → BeginKey → Access → Caller → Descriptor → List ℕ → Bool → Conditions → BeginFacts
+facts_on device policy begun access caller key params forced conditions =
+    facts_by device policy begun.found (list_read begun.opened) (fits_key begun.opened) access caller key (asked_in params) forced conditions

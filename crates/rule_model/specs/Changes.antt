@@ -1,8 +1,10 @@
 -- The change that a counting entry makes of the lasting part.
-use Rattle.std.specs.Prelude.{ℕ, false, ◌==◌, List, [], Option, Some, None, if◌then◌else◌, unwrap_or, take, drop, find}
+use Rattle.std.specs.Prelude.{ℕ, false, ◌==◌, List, [], Option, Some, None, Result, Ok, if◌then◌else◌, unwrap_or, take, drop, find}
 use Rattle.std.specs.Option.{option_and_then, option_map, option_map_or}
 use Rattle.tags.specs.declared.descriptor.Descriptor.{Descriptor}
+use Rattle.tags.specs.declared.code.Code.{Code}
 use Rattle.tags.specs.declared.policy.PolicyRow.{PolicyRow}
+use Rattle.tags.specs.declared.rule.Rule.{Rule}
 use Rattle.tags.specs.declared.secrets.DeviceSecrets.{DeviceSecrets}
 use Rattle.tag_lists.specs.Spelling.{spelling}
 use Rattle.key_domains.specs.Domains.{domain_app, domain_blob, domain_selinux}
@@ -12,15 +14,18 @@ use Rattle.journal_records.specs.declared.change.Change.{Change}
 use Rattle.journal_records.specs.declared.change.Change.TheVariants as changes
 use Rattle.journal_records.specs.Effects.{after}
 use Rattle.journal_records.specs.LastingPart.{Lasting}
+use Rattle.key_blobs.specs.declared.sealed.Sealed.{Sealed}
+use Rattle.key_blobs.specs.Blobs.{blob_of}
 use Rattle.key_rules.specs.declared.facts.ImportFacts.{ImportFacts}
 use Rattle.key_rules.specs.declared.plan.KeyPlan.{KeyPlan}
 use Rattle.key_rules.specs.Creation.{plan_of}
 use Rattle.rule_model.specs.declared.event.Act.{Act}
-use Rattle.rule_model.specs.declared.event.Act.TheVariants.{GenerateKey, ImportKey, EnterFinish, DeleteKey, Grant, Ungrant, ClearNamespace, UserRemoved}
+use Rattle.rule_model.specs.declared.event.Act.TheVariants.{GenerateKey, ImportKey, EnterFinish, DeleteKey, Grant, Ungrant, ClearNamespace, UserRemoved, UpgradeKey}
 use Rattle.rule_model.specs.declared.facts.Caller.{Caller}
 use Rattle.rule_model.specs.Access.{id_by, owner_of}
 use Rattle.rule_model.specs.Blobs.{kept_as}
 use Rattle.rule_model.specs.NewFacts.{import_of, new_facts}
+use Rattle.rule_model.specs.Upgrades.{upgrade_in}
 use Rattle.rule_model.specs.declared.operation.Open.{Open}
 use Rattle.rule_model.specs.Operations.{used_key}
 
@@ -69,23 +74,31 @@ abbrev pub granting : Lasting → ℕ → ℕ → ℕ → Change
 granting part uid bits key = changes.Grant (record { grant = grant_number part key uid; key = key; uid = uid; bits = bits })
 
 -- the plan of a new key, which is the same whether or not early boot has ended
-abbrev pub planned : List PolicyRow → Caller → Descriptor → List ℕ → Option ImportFacts → KeyPlan
-planned policy caller key params import = plan_of (new_facts policy caller key params import false)
+abbrev pub planned : DeviceSecrets → List PolicyRow → Caller → Descriptor → List ℕ → Option ImportFacts → KeyPlan
+planned device policy caller key params import = plan_of (new_facts device policy caller key params import false)
+
+-- an upgrade of a stored key that changes its blob; one that is handed in is not stored
+abbrev pub upgrading : Result (Option Sealed) (Rule × Code) → Option ℕ → DeviceSecrets → List ℕ → Option Change
+upgrading (Ok (Some sealed)) (Some id) device drawn = Some (changes.Upgrade id (blob_of device.seal drawn sealed) (spelling sealed.list))
+upgrading _ id device drawn = None
 
 -- A key is made by generateKey and importKey outside domain BLOB and ends by deleteKey; a grant is made by grant, and ends by
 -- ungrant. Many keys end by clearNamespace and userRemoved. A finish on an operation of a stored key that has a use limit uses it
--- once. No other act changes what lasts.
+-- once. An upgradeKey outside domain BLOB changes the blob and the list of a key, where these are not of the device's system. No
+-- other act changes what lasts.
 abbrev pub change_of : Act → DeviceSecrets → List PolicyRow → Lasting → List Open → Caller → List ℕ → Option Change
 change_of (GenerateKey key params) device policy part opened caller drawn =
-    storing device part (owner_of caller) key (planned policy caller key params None) None drawn
+    storing device part (owner_of caller) key (planned device policy caller key params None) None drawn
 change_of (ImportKey key params format material) device policy part opened caller drawn =
-    storing device part (owner_of caller) key (planned policy caller key params (import_of format material)) (Some material) drawn
+    storing device part (owner_of caller) key (planned device policy caller key params (import_of format material)) (Some material) drawn
 change_of (EnterFinish op input signature) device policy part opened caller drawn = option_map changes.Use (used_key op opened)
 change_of (DeleteKey key) device policy part opened caller drawn = option_map changes.Delete (id_by policy part caller key)
 change_of (Grant key uid bits) device policy part opened caller drawn = option_map (granting part uid bits) (id_by policy part caller key)
 change_of (Ungrant key uid) device policy part opened caller drawn = option_map changes.Ungrant (grant_of part (id_by policy part caller key) uid)
 change_of (ClearNamespace domain nspace) device policy part opened caller drawn = Some (changes.Clear domain nspace)
 change_of (UserRemoved user) device policy part opened caller drawn = Some (changes.Removed user)
+change_of (UpgradeKey key params) device policy part opened caller drawn =
+    upgrading (upgrade_in device policy part caller key params) (id_by policy part caller key) device drawn
 change_of _ device policy part opened caller drawn = None
 
 -- the lasting part after that change

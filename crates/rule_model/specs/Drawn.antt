@@ -1,9 +1,10 @@
 -- The bytes that are drawn for an event, and those that were drawn for the entries of a history.
-use Rattle.std.specs.Prelude.{ℕ, ◌+◌, Bool, true, false, List, [], ◌∷◌, ◌++◌, None, Result, Ok, Err, if◌then◌else◌}
+use Rattle.std.specs.Prelude.{ℕ, ◌+◌, Bool, true, false, List, [], ◌∷◌, ◌++◌, Option, Some, None, Result, Ok, Err, if◌then◌else◌}
 use Rattle.tags.specs.declared.code.Code.{Code}
 use Rattle.tags.specs.declared.code.Code.TheVariants.{EntropyFault}
 use Rattle.tags.specs.declared.plan.Plan.{Plan}
 use Rattle.tags.specs.declared.rule.Rule.{Rule}
+use Rattle.key_blobs.specs.declared.sealed.Sealed.{Sealed}
 use Rattle.key_rules.specs.declared.plan.KeyPlan.{KeyPlan}
 use Rattle.key_rules.specs.Creation.{new_key}
 use Rattle.use_rules.specs.declared.facts.BeginFacts.{BeginFacts}
@@ -14,13 +15,14 @@ use Rattle.rule_model.specs.declared.entry.Entry.{Entry}
 use Rattle.rule_model.specs.declared.entry.Entry.TheVariants.{Acted, Settling}
 use Rattle.rule_model.specs.declared.event.Event.{Event}
 use Rattle.rule_model.specs.declared.event.Act.{Act}
-use Rattle.rule_model.specs.declared.event.Act.TheVariants.{GenerateKey, ImportKey, CreateOperation}
+use Rattle.rule_model.specs.declared.event.Act.TheVariants.{GenerateKey, ImportKey, CreateOperation, UpgradeKey}
 use Rattle.rule_model.specs.declared.facts.Caller.{Caller}
 use Rattle.rule_model.specs.declared.facts.Pieces.{Pieces}
 use Rattle.rule_model.specs.declared.reply.Reply.{Reply}
 use Rattle.rule_model.specs.declared.reply.Reply.TheVariants.{Done, Broken, Stopped}
 use Rattle.rule_model.specs.Access.{owner_of}
 use Rattle.rule_model.specs.Acts.{fixed_for}
+use Rattle.rule_model.specs.Blobs.{device_at}
 use Rattle.rule_model.specs.Boot.{has_early_ended}
 use Rattle.rule_model.specs.Clients.{caller_of}
 use Rattle.rule_model.specs.Entries.{History}
@@ -29,6 +31,7 @@ use Rattle.rule_model.specs.NewFacts.{import_of, new_facts}
 use Rattle.rule_model.specs.Places.{has_key_place}
 use Rattle.rule_model.specs.Setup.{Setup}
 use Rattle.rule_model.specs.Slots.{begin_facts}
+use Rattle.rule_model.specs.Upgrades.{upgrade_in}
 
 -- how many bytes the pieces have
 abbrev pub size_of : Pieces → ℕ
@@ -49,14 +52,21 @@ abbrev pub wanted_by_begin : Result Plan (Rule × Code) → BeginFacts → Piece
 wanted_by_begin (Err broken) facts = no_pieces
 wanted_by_begin (Ok plan) facts = record { first = nonce_wanted (asked_of facts) (key_of facts); second = challenge_wanted (key_of facts) }
 
--- the lengths of what is drawn: for a new key its material and the nonce of its blob, for a begin its nonce and then its challenge
+-- what an upgrade draws: the 12 bytes of a nonce, where it seals anew
+abbrev pub wanted_by_upgrade : Result (Option Sealed) (Rule × Code) → Pieces
+wanted_by_upgrade (Ok (Some sealed)) = record { first = 12; second = 0 }
+wanted_by_upgrade _ = no_pieces
+
+-- the lengths of what is drawn: for a new key its material and the nonce of its blob, for a begin its nonce and then its challenge,
+-- and for an upgrade a nonce
 abbrev pub wanted_by_rules : Act → Setup → History → Caller → Pieces
 wanted_by_rules (GenerateKey key params) setup past caller =
-    wanted_by_key (new_key (new_facts setup.policy caller key params None (has_early_ended setup past))) (has_key_place (kept setup past) (owner_of caller) key)
+    wanted_by_key (new_key (new_facts setup.device setup.policy caller key params None (has_early_ended setup past))) (has_key_place (kept setup past) (owner_of caller) key)
 wanted_by_rules (ImportKey key params format material) setup past caller =
-    wanted_by_key (new_key (new_facts setup.policy caller key params (import_of format material) (has_early_ended setup past))) (has_key_place (kept setup past) (owner_of caller) key)
+    wanted_by_key (new_key (new_facts setup.device setup.policy caller key params (import_of format material) (has_early_ended setup past))) (has_key_place (kept setup past) (owner_of caller) key)
 wanted_by_rules (CreateOperation key params forced) setup past caller =
     wanted_by_begin (begin_table.answer (begin_facts setup past caller key params forced)) (begin_facts setup past caller key params forced)
+wanted_by_rules (UpgradeKey key params) setup past caller = wanted_by_upgrade (upgrade_in (device_at setup past) setup.policy (kept setup past) caller key params)
 wanted_by_rules _ setup past caller = no_pieces
 
 -- what is drawn for an event: nothing for an act that draws none, and nothing where a rule is broken

@@ -10,6 +10,7 @@ pub mod Settling
 pub mod BeginFacts
 pub mod Tickets
 pub mod Operations
+pub mod Upgrades
 pub mod Changes
 pub mod Kept
 pub mod Stored

@@ -2,6 +2,7 @@
 use Rattle.std.specs.Prelude.{ℕ, Bool, List, Option, Some, is_some, length}
 use Rattle.tags.specs.declared.descriptor.Descriptor.{Descriptor}
 use Rattle.tags.specs.declared.policy.PolicyRow.{PolicyRow}
+use Rattle.tags.specs.declared.secrets.DeviceSecrets.{DeviceSecrets}
 use Rattle.key_rules.specs.declared.facts.ImportFacts.{ImportFacts}
 use Rattle.key_rules.specs.declared.facts.NewFacts.{NewFacts}
 use Rattle.rule_model.specs.declared.facts.Caller.{Caller}
@@ -11,9 +12,9 @@ use Rattle.rule_model.specs.Access.{row_for}
 abbrev pub import_of : ℕ → List ℕ → Option ImportFacts
 import_of format material = Some (record { format = format; length = length material })
 
--- the facts of a caller's call, by whether early boot has ended
-abbrev pub new_facts : List PolicyRow → Caller → Descriptor → List ℕ → Option ImportFacts → Bool → NewFacts
-new_facts policy caller key params import early_ended = record {
+-- the facts of a caller's call on a device, by whether early boot has ended
+abbrev pub new_facts : DeviceSecrets → List PolicyRow → Caller → Descriptor → List ℕ → Option ImportFacts → Bool → NewFacts
+new_facts device policy caller key params import early_ended = record {
   connected = is_some caller.uid;
   descriptor = key;
   row = row_for policy caller key.nspace;
@@ -21,4 +22,6 @@ new_facts policy caller key params import early_ended = record {
   import = import;
   early_ended = early_ended;
   wall = caller.reading.wall;
+  os = device.os;
+  patch = device.patch;
 }

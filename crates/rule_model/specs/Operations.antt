@@ -99,7 +99,7 @@ begin_key_in device policy part caller key params =
 -- a begin's facts over a lasting part, from which its plan and its nonce follow
 abbrev pub begin_facts_in : DeviceSecrets → List PolicyRow → Lasting → Caller → Descriptor → List ℕ → BeginFacts
 begin_facts_in device policy part caller key params =
-    facts_on policy (begin_key_in device policy part caller key params) (access_by policy part caller key) caller key params false no_conditions
+    facts_on device policy (begin_key_in device policy part caller key params) (access_by policy part caller key) caller key params false no_conditions
 
 -- an admitted begin opens the operation of its number, in the place of the one that gives way
 abbrev pub opens : BeginKey → BeginFacts → Caller → Fields → List ℕ → OperationChange

@@ -53,5 +53,5 @@ conditions_on setup past caller key room = record {
 -- what the rules read of a caller's begin
 abbrev pub begin_facts : Setup → History → Caller → Descriptor → List ℕ → Bool → BeginFacts
 begin_facts setup past caller key params forced =
-    facts_on setup.policy (begin_key_at setup past caller key params) (access_at setup past caller key) caller key params forced
+    facts_on setup.device setup.policy (begin_key_at setup past caller key params) (access_at setup past caller key) caller key params forced
     (conditions_on setup past caller (begin_key_at setup past caller key params) (has_room setup past (owner_of caller) forced))

@@ -32,6 +32,7 @@ pub enum ActKind {
     UserRemoved,
     Leave,
     Restart,
+    UpgradeKey,
 }
 
 /// What is fixed for the acts of a kind.
@@ -72,7 +73,7 @@ const CALL: ActRow = ActRow {
 
 impl ActKind {
     /// The kinds in the order of their numbers.
-    pub const ALL: [ActKind; 23] = [
+    pub const ALL: [ActKind; 24] = [
         ActKind::Connect,
         ActKind::Disconnect,
         ActKind::GenerateKey,
@@ -96,6 +97,7 @@ impl ActKind {
         ActKind::UserRemoved,
         ActKind::Leave,
         ActKind::Restart,
+        ActKind::UpgradeKey,
     ];
 
     /// What is fixed for the kind.
@@ -200,6 +202,11 @@ impl ActKind {
                 has_client: false,
                 ..CALL
             },
+            ActKind::UpgradeKey => ActRow {
+                number: 24,
+                draws: true,
+                ..CALL
+            },
         }
     }
 
@@ -231,6 +238,7 @@ impl ActKind {
             ActKind::UserRemoved => "userRemoved",
             ActKind::Leave => "leave",
             ActKind::Restart => "restart",
+            ActKind::UpgradeKey => "upgradeKey",
         }
     }
 
@@ -284,6 +292,7 @@ impl Act {
             Act::UserRemoved { .. } => ActKind::UserRemoved,
             Act::Leave { .. } => ActKind::Leave,
             Act::Restart { .. } => ActKind::Restart,
+            Act::UpgradeKey { .. } => ActKind::UpgradeKey,
         }
     }
 

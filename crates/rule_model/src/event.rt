@@ -107,6 +107,11 @@ pub enum Act {
     Restart {
         root: Option<[u8; 32]>,
     },
+    /// A key is sealed anew for the versions of the device's system, where its list has others.
+    UpgradeKey {
+        key: Descriptor,
+        params: Bytes,
+    },
 }
 
 /// An act, with who makes it and when. A connect, a leave and a restart have client 0.

@@ -40,6 +40,16 @@ fn generate_key(alloc: Global, key: &Descriptor, params: &Bytes) -> Result<Act, 
     })
 }
 
+fn upgrade_key(alloc: Global, key: &Descriptor, params: &Bytes) -> Result<Act, NoMemory>
+    ensures { IfOk result (λ copy. copy ≡ act.UpgradeKey key.now params.now) }
+{
+    let params = Bytes::copy_of(alloc, params.as_slice())?;
+    Ok(Act::UpgradeKey {
+        key: descriptor(alloc, key)?,
+        params,
+    })
+}
+
 fn import_key(
     alloc: Global,
     key: &Descriptor,
@@ -177,6 +187,7 @@ fn act_of(alloc: Global, source: &Act) -> Result<Act, NoMemory>
         Act::UserRemoved { user } => Ok(Act::UserRemoved { user: *user }),
         Act::Leave { ticket } => Ok(Act::Leave { ticket: *ticket }),
         Act::Restart { root } => Ok(Act::Restart { root: *root }),
+        Act::UpgradeKey { key, params } => upgrade_key(alloc, key, params),
     }
 }
 

@@ -42,6 +42,10 @@ impl FieldSizes {
                 blob: BLOB_BYTES,
                 ..NO_SIZES
             },
+            Act::UpgradeKey { .. } => FieldSizes {
+                blob: BLOB_BYTES,
+                ..NO_SIZES
+            },
             Act::CreateOperation { .. } => FieldSizes {
                 nonce: 16,
                 ..NO_SIZES

@@ -5,7 +5,7 @@ use Rattle.tags.specs.Rule.{rule_text}
 use Rattle.tags.specs.declared.descriptor.Descriptor.{Descriptor}
 use Rattle.rule_model.specs.Acts.{kind_of, row_of, text_of}
 use Rattle.rule_model.specs.declared.event.Act.{Act}
-use Rattle.rule_model.specs.declared.event.Act.TheVariants.{Connect, Disconnect, GenerateKey, ImportKey, CreateOperation, EnterAad, EnterUpdate, EnterFinish, Abort, GetKeyEntry, DeleteKey, Grant, Ungrant, GetNumberOfEntries, ListEntriesBatched, AddAuthToken, DeviceLocked, DeviceUnlocked, EarlyBootEnded, ClearNamespace, UserRemoved, Leave, Restart}
+use Rattle.rule_model.specs.declared.event.Act.TheVariants.{Connect, Disconnect, GenerateKey, ImportKey, CreateOperation, EnterAad, EnterUpdate, EnterFinish, Abort, GetKeyEntry, DeleteKey, Grant, Ungrant, GetNumberOfEntries, ListEntriesBatched, AddAuthToken, DeviceLocked, DeviceUnlocked, EarlyBootEnded, ClearNamespace, UserRemoved, Leave, Restart, UpgradeKey}
 use Rattle.rule_model.specs.declared.event.Event.{Event}
 use Rattle.rule_model.specs.declared.reply.Fields.{Fields}
 use Rattle.rule_model.specs.declared.reply.Reply.{Reply}
@@ -53,6 +53,7 @@ act_depth (ClearNamespace domain nspace) ms h = flat _ _ 2 _ refl (flat _ _ 2 _ 
 act_depth (UserRemoved user) ms h = flat _ _ 2 _ refl h
 act_depth (Leave ticket) ms h = flat _ _ 2 _ refl h
 act_depth (Restart root) ms h = if_there hex_data _ root 2 _ (λ x. least 2) h
+act_depth (UpgradeKey key params) ms h = flat _ _ 2 _ refl (keyed key ms h)
 
 client_depth : (b : Bool) (with without : Members) → members_depth with ≤ 2 → members_depth without ≤ 2 → members_depth (if b then with else without) ≤ 2
 client_depth true with without h k = h

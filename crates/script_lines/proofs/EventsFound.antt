@@ -140,6 +140,10 @@ act_found names.Leave members act h =
 act_found names.Restart members act h =
     let root = both_found (optional hex_32_of (codes "root") members) _ act h in
     given names.Restart (acts.Restart root.0) act root.2 (record { kind = refl; fields = optional_found Is32Bytes hex_32_of (codes "root") members root.0 hex_32_found root.1 })
+act_found names.UpgradeKey members act h =
+    let key = both_found (key_of Text members) _ act h in
+    let params = both_found (params_of members) _ act key.2 in
+    given names.UpgradeKey (acts.UpgradeKey key.0 params.0) act params.2 (record { kind = refl; fields = (key_found members key.0 key.1, params_found members params.0 params.1) })
 
 -- ---- events
 

@@ -13,7 +13,7 @@ use Rattle.line_members.specs.declared.alias_form.AliasForm.{AliasForm}
 use Rattle.line_members.specs.declared.alias_form.AliasForm.TheVariants.{Text}
 use Rattle.script_lines.specs.Params.{params_of}
 use Rattle.rule_model.specs.declared.act_kind.ActKind.{ActKind}
-use Rattle.rule_model.specs.declared.act_kind.ActKind.TheVariants.{Connect, Disconnect, GenerateKey, ImportKey, CreateOperation, UpdateAad, Update, Finish, Abort, GetKeyEntry, DeleteKey, Grant, Ungrant, GetNumberOfEntries, ListEntriesBatched, AddAuthToken, DeviceLocked, DeviceUnlocked, EarlyBootEnded, ClearNamespace, UserRemoved, Leave, Restart}
+use Rattle.rule_model.specs.declared.act_kind.ActKind.TheVariants.{Connect, Disconnect, GenerateKey, ImportKey, CreateOperation, UpdateAad, Update, Finish, Abort, GetKeyEntry, DeleteKey, Grant, Ungrant, GetNumberOfEntries, ListEntriesBatched, AddAuthToken, DeviceLocked, DeviceUnlocked, EarlyBootEnded, ClearNamespace, UserRemoved, Leave, Restart, UpgradeKey}
 
 -- a descriptor: an object with a domain, a namespace, an alias and a blob in hex
 abbrev pub descriptor_of : AliasForm → Data → Option Descriptor
@@ -34,6 +34,12 @@ generate_key form members = do
   key ← key_of form members
   params ← params_of members
   Some (acts.GenerateKey key params)
+
+abbrev pub upgrade_key : AliasForm → Data → Option Act
+upgrade_key form members = do
+  key ← key_of form members
+  params ← params_of members
+  Some (acts.UpgradeKey key params)
 
 abbrev pub import_key : AliasForm → Data → Option Act
 import_key form members = do
@@ -154,6 +160,7 @@ act_of form ClearNamespace members = clear_namespace members
 act_of form UserRemoved members = user_of members >>= λ user. Some (acts.UserRemoved user)
 act_of form Leave members = needed u64_of (codes "ticket") members >>= λ ticket. Some (acts.Leave ticket)
 act_of form Restart members = optional hex_32_of (codes "root") members >>= λ root. Some (acts.Restart root)
+act_of form UpgradeKey members = upgrade_key form members
 
 -- an act without an alias, which is read alike in both forms
 abbrev pub plain_act_of : ActKind → Data → Option Act

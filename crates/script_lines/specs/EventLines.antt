@@ -4,7 +4,7 @@ use Rattle.ks_outside.specs.declared.clock.Reading.{Reading}
 use Rattle.tags.specs.declared.descriptor.Descriptor.{Descriptor}
 use Rattle.rule_model.specs.Acts.{kind_of, row_of, text_of}
 use Rattle.rule_model.specs.declared.event.Act.{Act}
-use Rattle.rule_model.specs.declared.event.Act.TheVariants.{Connect, Disconnect, GenerateKey, ImportKey, CreateOperation, EnterAad, EnterUpdate, EnterFinish, Abort, GetKeyEntry, DeleteKey, Grant, Ungrant, GetNumberOfEntries, ListEntriesBatched, AddAuthToken, DeviceLocked, DeviceUnlocked, EarlyBootEnded, ClearNamespace, UserRemoved, Leave, Restart}
+use Rattle.rule_model.specs.declared.event.Act.TheVariants.{Connect, Disconnect, GenerateKey, ImportKey, CreateOperation, EnterAad, EnterUpdate, EnterFinish, Abort, GetKeyEntry, DeleteKey, Grant, Ungrant, GetNumberOfEntries, ListEntriesBatched, AddAuthToken, DeviceLocked, DeviceUnlocked, EarlyBootEnded, ClearNamespace, UserRemoved, Leave, Restart, UpgradeKey}
 use Rattle.rule_model.specs.declared.event.Event.{Event}
 use Rattle.serde_json.specs.Data.{Data, string, boolean, array, object, item, no_items, Members, no_members, put}
 use Rattle.serde_json.specs.Written.{compact_text}
@@ -74,6 +74,7 @@ with_act (ClearNamespace domain nspace) members = with_owner domain nspace membe
 with_act (UserRemoved user) members = with_number (codes "user") user members
 with_act (Leave ticket) members = with_number (codes "ticket") ticket members
 with_act (Restart root) members = with_field hex_data (codes "root") root members
+with_act (UpgradeKey key params) members = with_params params (with_key key members)
 
 -- ---- an event
 

@@ -5,7 +5,7 @@ ghost use Rattle.script_lines.specs.EventLines.{with_act};
 ghost use Rattle.line_members.specs.Objects.{members_in};
 
 use crate::key_acts::{
-    put_create_operation, put_generate_key, put_grant, put_import_key, put_key,
+    put_create_operation, put_grant, put_import_key, put_key, put_key_and_params,
     put_list_entries_batched, put_owner, put_ungrant,
 };
 use crate::service_acts::{put_auth_token, put_restart, put_user};
@@ -21,7 +21,7 @@ pub fn put_act(object: &mut WrittenObject, act: &Act) -> Result<(), AllocError>
     match act {
         Act::Connect { uid } => object.put_number("uid", u64::from(*uid)),
         Act::Disconnect | Act::EarlyBootEnded => Ok(()),
-        Act::GenerateKey { key, params } => put_generate_key(object, key, params),
+        Act::GenerateKey { key, params } => put_key_and_params(object, key, params),
         Act::ImportKey {
             key,
             params,
@@ -65,5 +65,6 @@ pub fn put_act(object: &mut WrittenObject, act: &Act) -> Result<(), AllocError>
         Act::UserRemoved { user } => put_user(object, *user),
         Act::Leave { ticket } => object.put_number("ticket", *ticket),
         Act::Restart { root } => put_restart(object, root),
+        Act::UpgradeKey { key, params } => put_key_and_params(object, key, params),
     }
 }

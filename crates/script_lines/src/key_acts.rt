@@ -6,7 +6,7 @@ ghost use Rattle.line_members.specs.Reads.{Gives};
 ghost use Rattle.rule_model.specs.declared.act_kind.ActKind.TheVariants as names;
 ghost use Rattle.script_lines.specs.Acts.{act_of, plain_act_of, descriptor_of as spec_descriptor_of, key_of as spec_key_of};
 ghost use Rattle.rule_model.specs.declared.event.Act.TheVariants as acts;
-ghost use Rattle.script_lines.specs.EventLines.{key_members, with_act, with_key, with_owner};
+ghost use Rattle.script_lines.specs.EventLines.{key_members, with_act, with_key, with_owner, with_params};
 ghost use Rattle.line_members.specs.Objects.{members_in};
 
 use crate::params::params_of;
@@ -71,13 +71,13 @@ pub fn generate_key(alloc: Global, form: AliasForm, object: &Value) -> Result<Ac
     Ok(Act::GenerateKey { key, params })
 }
 
-/// The members of a generateKey.
-pub fn put_generate_key(
+/// The members of a generateKey and of an upgradeKey.
+pub fn put_key_and_params(
     object: &mut WrittenObject,
     key: &Descriptor,
     params: &Bytes,
 ) -> Result<(), AllocError>
-    ensures { OnOk result (members_in object.new ≡ with_act (acts.GenerateKey key.now params.now) (members_in object.old)) }
+    ensures { OnOk result (members_in object.new ≡ with_params params.now (with_key key.now (members_in object.old))) }
 {
     put_key(object, key)?;
     object.put_hex("params", params.as_slice())
@@ -109,7 +109,7 @@ pub fn put_import_key(
 ) -> Result<(), AllocError>
     ensures { OnOk result (members_in object.new ≡ with_act (acts.ImportKey key.now params.now format material.now) (members_in object.old)) }
 {
-    put_generate_key(object, key, params)?;
+    put_key_and_params(object, key, params)?;
     object.put_number("format", u64::from(format))?;
     object.put_hex("material", material.as_slice())
 }
@@ -137,8 +137,17 @@ pub fn put_create_operation(
 ) -> Result<(), AllocError>
     ensures { OnOk result (members_in object.new ≡ with_act (acts.CreateOperation key.now params.now forced) (members_in object.old)) }
 {
-    put_generate_key(object, key, params)?;
+    put_key_and_params(object, key, params)?;
     object.put_flag("forced", forced)
+}
+
+/// An upgradeKey: its members `key` and `params`.
+pub fn upgrade_key(alloc: Global, form: AliasForm, object: &Value) -> Result<Act, LineFault>
+    ensures { Gives result (act_of form names.UpgradeKey (view object.now)) }
+{
+    let key = key_of(alloc, form, object)?;
+    let params = params_of(alloc, object)?;
+    Ok(Act::UpgradeKey { key, params })
 }
 
 /// A getKeyEntry: its member `key`.

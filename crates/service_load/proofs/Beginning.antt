@@ -1,8 +1,8 @@
 -- How a service begins, and what that makes of its book.
 use Rattle.std.proofs.Common.{◌≡◌, ℕ, List, [], refl, subst, arith}
-use Rattle.std.specs.Prelude.{replicate}
 use Rattle.tags.specs.declared.policy.PolicyRow.{PolicyRow}
 use Rattle.tags.specs.declared.secrets.DeviceSecrets.{DeviceSecrets}
+use Rattle.tags.specs.Secrets.{demo_device}
 use Rattle.journal_records.specs.LastingPart.{empty_lasting}
 use Rattle.keystore_core.specs.declared.engine.Engine.{Engine}
 use Rattle.keystore_core.specs.Engine.{Stands, StandsAtFirst, lasting_of}
@@ -10,21 +10,15 @@ use Rattle.keystore_core.specs.Opening.{setup_of}
 use Rattle.service_book.specs.declared.entry.BookEntry.{BookEntry}
 use Rattle.shared_service.specs.Passes.{start_of}
 use Rattle.service_load.specs.declared.service.Service.{Service}
-use Rattle.service_load.specs.Services.{BeganNew, DrewFrom, IsBookBy, IsBookOf, IsNewEngine, count_of, demo_device, demo_policy}
+use Rattle.service_load.specs.Services.{BeganNew, DrewFrom, IsBookBy, IsBookOf, IsNewEngine, count_of, demo_policy}
 use Rattle.tags.specs.declared.limits.TheConstants.{MOST_SLOTS}
 
-demo_is : (device : DeviceSecrets) → device.seal ≡ replicate 32 1 → device.token ≡ replicate 32 2 → device.root ≡ replicate 32 3 → device ≡ demo_device
-demo_is device seal token root =
-    subst (λ (bytes : List ℕ). device ≡ record { seal = bytes; token = replicate 32 2; root = replicate 32 3 }) seal
-    (subst (λ (bytes : List ℕ). device ≡ record { seal = device.seal; token = bytes; root = replicate 32 3 }) token
-    (subst (λ (bytes : List ℕ). device ≡ record { seal = device.seal; token = device.token; root = bytes }) root refl))
-
 -- one that was opened over an empty store, by the device and the policy for demonstrations
-pub new_engine : (device : DeviceSecrets) (policy : List PolicyRow) (engine : Engine) → device.seal ≡ replicate 32 1 → device.token ≡ replicate 32 2 → device.root ≡ replicate 32 3 → policy ≡ demo_policy
+pub new_engine : (device : DeviceSecrets) (policy : List PolicyRow) (engine : Engine) → device ≡ demo_device → policy ≡ demo_policy
     → Stands (setup_of device policy MOST_SLOTS engine) engine [] → lasting_of engine ≡ empty_lasting → IsNewEngine engine
-new_engine device policy engine seal token root rows stands empty = record {
+new_engine device policy engine demo rows stands empty = record {
   setup = setup_of device policy MOST_SLOTS engine;
-  is_demo = record { device_is = demo_is device seal token root; policy_is = rows; slots_are = refl; empty = empty };
+  is_demo = record { device_is = demo; policy_is = rows; slots_are = refl; empty = empty };
   stands = stands;
 }
 

@@ -1,10 +1,10 @@
 -- The service, as threads call it: how it begins, which passes are its own, and the book that it ends with.
-use Rattle.std.specs.Prelude.{◌≡◌, ◌≤◌, ℕ, List, [], ◌∷◌, Option, Some, replicate}
+use Rattle.std.specs.Prelude.{◌≡◌, ◌≤◌, ℕ, List, [], ◌∷◌, Option, Some}
 use Rattle.ks_outside.specs.Draws.{Draws, counting_from}
 use Rattle.ks_outside.specs.declared.counting.SteadyEntropy.{SteadyEntropy}
 use Rattle.ks_outside.specs.contracts.counting.SteadyEntropyEntropy.TheImpl.{ghosts as entropy_ghosts}
 use Rattle.tags.specs.declared.policy.PolicyRow.{PolicyRow}
-use Rattle.tags.specs.declared.secrets.DeviceSecrets.{DeviceSecrets}
+use Rattle.tags.specs.Secrets.{demo_device}
 use Rattle.journal_records.specs.LastingPart.{empty_lasting}
 use Rattle.rule_model.specs.Legal.{Legal}
 use Rattle.rule_model.specs.Setup.{Setup}
@@ -31,10 +31,7 @@ count_of service = passes_of service.shared
 
 -- ---- how it begins
 
--- the device and the policy for demonstrations
-abbrev pub demo_device : DeviceSecrets
-demo_device = record { seal = replicate 32 1; token = replicate 32 2; root = replicate 32 3 }
-
+-- the policy for demonstrations
 abbrev pub demo_policy : List PolicyRow
 demo_policy = record { uid = 1000; nspace = 100; bits = 509 } ∷ record { uid = 1000; nspace = 0; bits = 64 } ∷ []
 

@@ -3,12 +3,14 @@ use Rattle.std.proofs.Common.{◌≡◌, ◌≢◌, ℕ, ◌+◌, Bool, true, fa
 use Rattle.std.specs.Prelude.{IfErr, IsTrue}
 use Rattle.tags.specs.declared.code.Code.{Code}
 use Rattle.tags.specs.declared.code.Code.TheVariants.{MemoryAllocationFailed, NoTicket, StoreFull, TokensFull, EntropyFault, SystemError, ValueCorrupted, VerificationFailed, InvalidKeyArgument}
+use Rattle.tags.specs.declared.descriptor.Descriptor.{Descriptor}
 use Rattle.tags.specs.declared.rule.Rule.{Rule}
 use Rattle.tags.specs.declared.rule.RuleTable.TheVariants.{A}
+use Rattle.tags.specs.declared.secrets.DeviceSecrets.{DeviceSecrets}
 use Rattle.tags.specs.declared.settled.Settled.{Settled}
 use Rattle.tags.specs.Table.{first_broken}
 use Rattle.call_rules.specs.Table.{disconnect_rules}
-use Rattle.journal_records.specs.declared.change.Change.{Change}
+use Rattle.key_blobs.specs.declared.sealed.Sealed.{Sealed}
 use Rattle.cipher_ops.specs.declared.job.Done.{Done as JobDone}
 use Rattle.cipher_ops.specs.Jobs.{is_refusal}
 use Rattle.cipher_ops.specs.declared.room.Work.{Work}
@@ -16,7 +18,7 @@ use Rattle.cipher_ops.specs.declared.room.Work.TheVariants.{Aad, Text, Last}
 use Rattle.journal_records.specs.declared.record.KeyRecord.{KeyRecord}
 use Rattle.journal_records.specs.LastingPart.{Lasting}
 use Rattle.rule_model.specs.declared.event.Act.{Act}
-use Rattle.rule_model.specs.declared.event.Act.TheVariants.{Connect, Disconnect, GenerateKey, ImportKey, CreateOperation, EnterAad, EnterUpdate, EnterFinish, Abort, GetKeyEntry, DeleteKey, Grant, Ungrant, GetNumberOfEntries, ListEntriesBatched, AddAuthToken, DeviceLocked, DeviceUnlocked, EarlyBootEnded, ClearNamespace, UserRemoved, Leave, Restart}
+use Rattle.rule_model.specs.declared.event.Act.TheVariants.{Connect, Disconnect, GenerateKey, ImportKey, CreateOperation, EnterAad, EnterUpdate, EnterFinish, Abort, GetKeyEntry, DeleteKey, Grant, Ungrant, GetNumberOfEntries, ListEntriesBatched, AddAuthToken, DeviceLocked, DeviceUnlocked, EarlyBootEnded, ClearNamespace, UserRemoved, Leave, UpgradeKey}
 use Rattle.rule_model.specs.declared.event.Event.{Event}
 use Rattle.rule_model.specs.declared.facts.Caller.{Caller}
 use Rattle.rule_model.specs.declared.reply.Fields.{Fields}
@@ -24,7 +26,8 @@ use Rattle.rule_model.specs.declared.reply.Reply.{Reply}
 use Rattle.rule_model.specs.declared.reply.Reply.TheVariants.{Done, Broken, Stopped}
 use Rattle.rule_model.specs.Access.{id_by}
 use Rattle.rule_model.specs.Acts.{fixed_for, is_connect, is_disconnect, is_enter, is_leave, is_restart}
-use Rattle.rule_model.specs.Answer.{answer, answer_by_rules, given_or, leaving, out_of}
+use Rattle.rule_model.specs.Answer.{answer, answer_by_rules, given_or, leaving, out_of, upgraded_with}
+use Rattle.rule_model.specs.Blobs.{device_at}
 use Rattle.rule_model.specs.Calls.{disconnect_ruling, grant_ruling, granted_in, key_entry}
 use Rattle.rule_model.specs.Clients.{caller_of, uid_of}
 use Rattle.rule_model.specs.Drawn.{size_of, wanted}
@@ -37,6 +40,7 @@ use Rattle.rule_model.specs.Legal.{IsAnswered, MayFollow, MaySettleFirst, is_res
 use Rattle.rule_model.specs.Replies.{broken_or, no_fields}
 use Rattle.rule_model.specs.Setup.{Setup}
 use Rattle.rule_model.specs.Stored.{change_by}
+use Rattle.rule_model.specs.Upgrades.{upgrade_in}
 use Rattle.rule_model.specs.declared.entry_change.TicketChange.TheVariants.{ComesBack}
 use Rattle.rule_model.specs.declared.operation.Entered.{Entered}
 use Rattle.rule_model.specs.Tickets.{next_ticket, stopped_ticket, ticket_at, ticket_change, admitted_ticket}
@@ -192,6 +196,10 @@ made_no b fields = if_no b (Done fields) (Stopped StoreFull) (done_lacks fields)
 token_no : (b : Bool) → Lacks (if b then Stopped TokensFull else Done no_fields)
 token_no b = if_no b (Stopped TokensFull) (Done no_fields) tokens_full (done_lacks no_fields)
 
+upgrade_no : (device : DeviceSecrets) (key : Descriptor) (drawn : List ℕ) (ruling : Result (Option Sealed) (Rule × Code)) → Lacks (upgraded_with device key drawn ruling)
+upgrade_no device key drawn (Err (rule, code)) = broken_lacks rule code
+upgrade_no device key drawn (Ok change) = done_lacks _
+
 rules_no : (act : Act) (setup : Setup) (past : History) (caller : Caller) (drawn : List ℕ) → is_leave act ≡ false → Lacks (answer_by_rules act setup past caller drawn)
 rules_no (GenerateKey key params) setup past caller drawn l = broken_no _ _ (made_no _ _)
 rules_no (ImportKey key params format material) setup past caller drawn l = broken_no _ _ (made_no _ _)
@@ -214,6 +222,8 @@ rules_no (AddAuthToken challenge user authenticator kind time mac) setup past ca
 rules_no (DeviceLocked user) setup past caller drawn l = broken_no _ _ (done_lacks _)
 rules_no (DeviceUnlocked user) setup past caller drawn l = broken_no _ _ (done_lacks _)
 rules_no EarlyBootEnded setup past caller drawn l = broken_no _ _ (done_lacks _)
+rules_no (UpgradeKey key params) setup past caller drawn l =
+    upgrade_no (device_at setup past) key drawn (upgrade_in (device_at setup past) setup.policy (kept setup past) caller key params)
 rules_no (Leave ticket) setup past caller drawn l = cc
 rules_no _ setup past caller drawn l = done_lacks _
 

@@ -6,12 +6,15 @@ use Rattle.cipher_ops.specs.declared.job.Job.{Job}
 use Rattle.ks_outside.specs.declared.clock.Reading.{Reading}
 use Rattle.tags.specs.declared.code.Code.{Code}
 use Rattle.tags.specs.declared.code.Code.TheVariants.{MemoryAllocationFailed, NoTicket}
+use Rattle.tags.specs.declared.descriptor.Descriptor.{Descriptor}
 use Rattle.tags.specs.declared.rule.Rule.{Rule}
+use Rattle.tags.specs.declared.secrets.DeviceSecrets.{DeviceSecrets}
 use Rattle.tags.specs.declared.settled.Settled.{Settled}
+use Rattle.key_blobs.specs.declared.sealed.Sealed.{Sealed}
 use Rattle.journal_records.specs.declared.record.KeyRecord.{KeyRecord}
 use Rattle.journal_records.specs.LastingPart.{Lasting}
 use Rattle.rule_model.specs.declared.event.Act.{Act}
-use Rattle.rule_model.specs.declared.event.Act.TheVariants.{Connect, Disconnect, GenerateKey, ImportKey, CreateOperation, EnterAad, EnterUpdate, EnterFinish, Abort, GetKeyEntry, DeleteKey, Grant, Ungrant, GetNumberOfEntries, ListEntriesBatched, AddAuthToken, DeviceLocked, DeviceUnlocked, EarlyBootEnded, ClearNamespace, UserRemoved, Leave, Restart}
+use Rattle.rule_model.specs.declared.event.Act.TheVariants.{Connect, Disconnect, GenerateKey, ImportKey, CreateOperation, EnterAad, EnterUpdate, EnterFinish, Abort, GetKeyEntry, DeleteKey, Grant, Ungrant, GetNumberOfEntries, ListEntriesBatched, AddAuthToken, DeviceLocked, DeviceUnlocked, EarlyBootEnded, ClearNamespace, UserRemoved, Leave, Restart, UpgradeKey}
 use Rattle.rule_model.specs.declared.event.Event.{Event}
 use Rattle.rule_model.specs.declared.facts.Caller.{Caller}
 use Rattle.rule_model.specs.declared.field_sizes.FieldSizes.{FieldSizes}
@@ -20,7 +23,8 @@ use Rattle.rule_model.specs.declared.reply.Reply.{Reply}
 use Rattle.rule_model.specs.declared.reply.Reply.TheVariants.{Done, Broken, Stopped}
 use Rattle.rule_model.specs.Access.{id_by}
 use Rattle.rule_model.specs.Acts.{fixed_for, is_connect, is_enter, is_leave}
-use Rattle.rule_model.specs.Answer.{answer_by_rules, leaving}
+use Rattle.rule_model.specs.Answer.{answer_by_rules, leaving, upgraded_with}
+use Rattle.rule_model.specs.Blobs.{device_at}
 use Rattle.rule_model.specs.Calls.{disconnect_ruling, grant_ruling, granted_in, key_entry}
 use Rattle.rule_model.specs.Clients.{caller_of}
 use Rattle.rule_model.specs.Entries.{History, after_settling, after_step, count_of, is_done}
@@ -30,6 +34,7 @@ use Rattle.rule_model.specs.Legal.{Legal, MayFollow, MayStep}
 use Rattle.rule_model.specs.Replies.{broken_or, no_fields}
 use Rattle.rule_model.specs.Setup.{Setup}
 use Rattle.rule_model.specs.Tickets.{ticket_at}
+use Rattle.rule_model.specs.Upgrades.{upgrade_in}
 use Rattle.rule_model.specs.Acts.{is_asked}
 use Rattle.keystore_core.specs.declared.engine.Engine.{Engine}
 use Rattle.keystore_core.specs.Engine.{Stands}
@@ -99,6 +104,10 @@ grant_ticket : (part : Lasting) (id : Option ℕ) (uid : ℕ) (fields : Fields) 
 grant_ticket part None uid fields e = ticket_of_done no_fields fields e
 grant_ticket part (Some id) uid fields e = ticket_of_done _ fields (if_done _ _ fields _ e)
 
+upgrade_ticket : (device : DeviceSecrets) (key : Descriptor) (drawn : List ℕ) (ruling : Result (Option Sealed) (Rule × Code)) (fields : Fields) → Done fields ≡ upgraded_with device key drawn ruling → fields.ticket ≡ None
+upgrade_ticket device key drawn (Err (rule, code)) fields e = cc
+upgrade_ticket device key drawn (Ok change) fields e = ticket_of_done _ fields e ∙ made_ticket _ _ _ refl refl
+
 -- an act that enters no operation gives none
 pub ticket_enters : (setup : Setup) (past : History) (event : Event) (drawn : List ℕ) (fields : Fields) (ticket : ℕ) → is_leave event.act ≡ false → MayFollow setup past event drawn (Done fields) → fields.ticket ≡ Some ticket → is_enter event.act ≡ true
 ticket_enters setup past event drawn fields ticket l may given = by_act event.act (caller_of past event) l (by_rules setup past event drawn fields may) where
@@ -128,6 +137,8 @@ ticket_enters setup past event drawn fields ticket l may given = by_act event.ac
   by_act (DeviceLocked user) caller l e = differ (none_given _ _ fields refl e)
   by_act (DeviceUnlocked user) caller l e = differ (none_given _ _ fields refl e)
   by_act EarlyBootEnded caller l e = differ (none_given _ _ fields refl e)
+  by_act (UpgradeKey key params) caller l e =
+      differ (upgrade_ticket (device_at setup past) key drawn (upgrade_in (device_at setup past) setup.policy (kept setup past) caller key params) fields e)
   by_act (Leave ticket) caller l e = cc
   by_act _ caller l e = differ (ticket_of_done no_fields fields e)
 

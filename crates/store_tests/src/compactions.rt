@@ -21,17 +21,17 @@ const SELECTOR: u64 = 268_435_456;
 
 const AREA_B: u64 = 1_342_181_376;
 
-/// A key of uid 10001 under the alias `m`, with a blob of 239 bytes and a list of 2: a record of 281 bytes.
-fn rebound(id: u64) -> [u8; 281] {
-    let mut record = [0; 281];
-    record[..6].copy_from_slice(b"\x4b\x00\x00\x01\x14\x01");
+/// A key of uid 10001 under the alias `m`, with a blob of 255 bytes and a list of 18: a record of 313 bytes.
+fn rebound(id: u64) -> [u8; 313] {
+    let mut record = [0; 313];
+    record[..6].copy_from_slice(b"\x4b\x00\x00\x01\x34\x01");
     record[6..14].copy_from_slice(&id.to_be_bytes());
     record[21] = 0x27;
     record[22] = 0x11;
     record[26] = 1;
     record[27] = b'm';
-    record[31] = 239;
-    record[274] = 2;
+    record[31] = 255;
+    record[290] = 18;
     record
 }
 
@@ -58,7 +58,7 @@ fn byte_at(disk: &mut MemoryDisk, at: u64) -> Option<u8> {
     }
 }
 
-/// Whether 300 keys under one alias leave the last, in area B, with 18,291 bytes of records.
+/// Whether 300 keys under one alias leave the last, in area B, with 27,883 bytes of records.
 fn import_all(alloc: Global, disk: &mut MemoryDisk) -> bool {
     let Some(mut database) = fresh(alloc, disk) else {
         return false;
@@ -67,7 +67,7 @@ fn import_all(alloc: Global, disk: &mut MemoryDisk) -> bool {
     drop(database);
     let selected = byte_at(disk, SELECTOR) == Some(0x42);
     let begins = byte_at(disk, AREA_B) == Some(0x4b);
-    let ends = byte_at(disk, AREA_B + 18_291) == Some(0);
+    let ends = byte_at(disk, AREA_B + 27_883) == Some(0);
     let anew = told_anew(alloc, disk) == Some(((1, 0), 0, (301, 1)));
     made & selected & begins & ends & anew
 }
@@ -90,7 +90,7 @@ fn refuses_one(
     settled: Settled,
     next: u64,
 ) -> bool {
-    let made = apply(alloc, database, disk, &rebound(237));
+    let made = apply(alloc, database, disk, &rebound(213));
     if made != Some(Err(ApplyFault::Device)) || database.is_settled() {
         return false;
     }
@@ -113,20 +113,20 @@ fn refuses_at(alloc: Global, call: u64, settled: Settled, next: u64) -> bool {
         drop(disk);
         return false;
     };
-    let made = import(alloc, &mut database, &mut disk, 1, 237);
+    let made = import(alloc, &mut database, &mut disk, 1, 213);
     let refused = refuses_one(alloc, &mut database, &mut disk, settled, next);
     drop(database);
     drop(disk);
     made & refused
 }
 
-/// The calls 957 to 962 write the store anew, and 963 to 966 the change.
+/// The calls 861 to 866 write the store anew, and 867 to 870 the change.
 #[test]
 fn each_call_of_a_compaction_fails(rt: HostRuntime) {
     let mut all = true;
-    for call in 957..966 {
-        all &= refuses_at(rt.alloc(), call, Settled::Lost, 237);
+    for call in 861..870 {
+        all &= refuses_at(rt.alloc(), call, Settled::Lost, 213);
     }
-    all &= refuses_at(rt.alloc(), 966, Settled::Kept, 238);
+    all &= refuses_at(rt.alloc(), 870, Settled::Kept, 214);
     assert!(rt; all);
 }

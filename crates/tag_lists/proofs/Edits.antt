@@ -15,7 +15,7 @@ all_cond : (P : Param → Type 0) (b : Bool) (x : Param) (ys : List Param) → P
 all_cond P true x ys hx h = (hx, h)
 all_cond P false x ys hx h = h
 
-all_filter : (P : Param → Type 0) (t : Param → Bool) (xs : List Param) → AllByRecursion P xs → AllByRecursion P (filter t xs)
+pub all_filter : (P : Param → Type 0) (t : Param → Bool) (xs : List Param) → AllByRecursion P xs → AllByRecursion P (filter t xs)
 all_filter P t [] h = tt
 all_filter P t (x ∷ xs) h = all_cond P (t x) x (filter t xs) h.0 (all_filter P t xs h.1)
 
@@ -43,7 +43,7 @@ others_cond : (tag : Tag) (b : Bool) (x : Param) (ys : List Param) → is_of tag
 others_cond tag true x ys is h = h
 others_cond tag false x ys is h = (is, h)
 
-others : (tag : Tag) (xs : List Param) → AllByRecursion (λ q. is_of tag q ≡ false) (without tag xs)
+pub others : (tag : Tag) (xs : List Param) → AllByRecursion (λ q. is_of tag q ≡ false) (without tag xs)
 others tag [] = tt
 others tag (x ∷ xs) = others_cond tag (is_of tag x) x (without tag xs) refl (others tag xs)
 

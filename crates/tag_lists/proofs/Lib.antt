@@ -8,3 +8,5 @@ pub mod Lookups
 pub mod Members
 pub mod Sizes
 pub mod ReadSizes
+mod Numbers
+mod VersionSizes

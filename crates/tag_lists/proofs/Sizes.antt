@@ -15,10 +15,10 @@ use Rattle.tag_lists.specs.Spelling.{IsListOf, spelled, spelling}
 use Rattle.byte_strings.specs.Codecs.{IsBytes}
 use Rattle.tag_lists.proofs.Laws.{is_found}
 
-size : Param → ℕ
+unfoldable pub size : Param → ℕ
 size p = length (spelled p)
 
-size_is : (ps : List Param) → length (spelling ps) ≡ 2 + sum_by size ps
+pub size_is : (ps : List Param) → length (spelling ps) ≡ 2 + sum_by size ps
 unfolding size
 size_is ps =
     length-append (big_bytes 2 (length ps)) (flat_map spelled ps) ∙ ap (λ n. n + length (flat_map spelled ps)) (length-bytes_high_first 2 (length ps))

@@ -19,6 +19,7 @@ mod fault;
 mod list;
 mod reading;
 mod shape;
+mod versions;
 mod writing;
 
 pub use fault::ListFault;

@@ -1,6 +1,6 @@
 //! An authorization list, and what it says of a tag.
 
-ghost use Rattle.std.specs.Prelude.{◌≡◌, ℕ, ◌+◌, ◌*◌, ◌<◌, ◌≤◌, List, [], length, drop, IfOk, Ok};
+ghost use Rattle.std.specs.Prelude.{◌≡◌, ℕ, ◌+◌, ◌*◌, ◌<◌, ◌≤◌, List, [], length, drop, IfOk, IfSome, Ok};
 ghost use Rattle.std.specs.Option.{option_copied};
 ghost use Rattle.std.specs.List.{list_all, list_any};
 ghost use Rattle.tags.specs.declared.param.Param.{Param};
@@ -233,8 +233,10 @@ impl AuthList {
 
     /// The bytes of the tag's first parameter. It takes no memory.
     pub fn bytes(&self, tag: Tag) -> Option<&[u8]>
-        ensures { option_copied result ≡ spec.bytes_of tag self.now }
+        ensures bytes { option_copied result ≡ spec.bytes_of tag self.now }
+        ensures short { IfSome (option_copied result) (λ bytes. length bytes ≤ 65535) }
     {
+        let _params = self.params();
         match self.one(tag) {
             Some(param) => param.value.as_bytes(),
             None => None,

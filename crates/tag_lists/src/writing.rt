@@ -33,6 +33,30 @@ fn put_param(out: &mut Vec<u8>, param: &Param) -> Result<(), AllocError>
     put_value(out, shape_of(param.tag.kind()), &param.value)
 }
 
+/// How many bytes a value takes.
+fn value_size(shape: Shape, value: &ParamValue) -> u64
+    requires { FitsShape shape value.now }
+    ensures size { result ≡ length (spec.spelled_value shape value.now) }
+    ensures few { result ≤ 65537 }
+{
+    match (shape, value) {
+        (Shape::Short, ParamValue::Number(_)) => 4,
+        (Shape::Long, ParamValue::Number(_)) => 8,
+        (Shape::Truth, ParamValue::Flag) => 1,
+        (Shape::Sized, ParamValue::Raw(bytes)) => 2 + bytes.len() as u64,
+        _ => 0,
+    }
+}
+
+/// How many bytes a parameter takes.
+pub(crate) fn param_size(param: &Param) -> u64
+    requires { Fits param.now }
+    ensures size { result ≡ length (spec.spelled param.now) }
+    ensures few { result ≤ 65541 }
+{
+    4 + value_size(shape_of(param.tag.kind()), &param.value)
+}
+
 /// The spelling of a list.
 pub(crate) fn spelling(alloc: Global, params: &[Param]) -> Result<Vec<u8>, AllocError>
     requires few { length params.now ≤ 65535 }

@@ -1,6 +1,6 @@
 use Rattle.std.specs.Prelude.{ℤ, pos, negsuc}
 use Rattle.tags.specs.declared.code.Code.{Code}
-use Rattle.tags.specs.declared.code.Code.TheVariants.{UnsupportedPurpose, IncompatiblePurpose, UnsupportedAlgorithm, UnsupportedKeySize, UnsupportedBlockMode, IncompatibleBlockMode, UnsupportedMacLength, UnsupportedPaddingMode, IncompatiblePaddingMode, UnsupportedDigest, IncompatibleDigest, InvalidUserId, UnsupportedKeyFormat, InvalidInputLength, KeyNotYetValid, KeyExpired, KeyUserNotAuthenticated, InvalidOperationHandle, VerificationFailed, InvalidKeyBlob, InvalidKeyArgument, UnsupportedTag, InvalidTag, MemoryAllocationFailed, ImportParameterMismatch, MissingNonce, InvalidNonce, MissingMacLength, CallerNonceProhibited, KeyMaxOpsExceeded, InvalidMacLength, MissingMinMacLength, UnsupportedMinMacLength, KeyRequiresUpgrade, DeviceLocked, EarlyBootEnded, SystemError, PermissionDenied, KeyNotFound, ValueCorrupted, BackendBusy, OperationBusy, InvalidArgument, TooMuchData, RunFull, StoreFull, JournalFull, TokensFull, EntropyFault, NoTicket}
+use Rattle.tags.specs.declared.code.Code.TheVariants.{UnsupportedPurpose, IncompatiblePurpose, UnsupportedAlgorithm, UnsupportedKeySize, UnsupportedBlockMode, IncompatibleBlockMode, UnsupportedMacLength, UnsupportedPaddingMode, IncompatiblePaddingMode, UnsupportedDigest, IncompatibleDigest, InvalidUserId, UnsupportedKeyFormat, InvalidInputLength, KeyNotYetValid, KeyExpired, KeyUserNotAuthenticated, InvalidOperationHandle, VerificationFailed, InvalidKeyBlob, InvalidKeyArgument, UnsupportedTag, InvalidTag, MemoryAllocationFailed, ImportParameterMismatch, MissingNonce, InvalidNonce, MissingMacLength, CallerNonceProhibited, KeyMaxOpsExceeded, InvalidMacLength, MissingMinMacLength, UnsupportedMinMacLength, KeyRequiresUpgrade, DeviceLocked, EarlyBootEnded, SystemError, PermissionDenied, KeyNotFound, ValueCorrupted, BackendBusy, OperationBusy, InvalidArgument, TooMuchData, RunFull, StoreFull, TokensFull, EntropyFault, NoTicket}
 
 -- the number of each code
 abbrev pub code_number : Code → ℤ
@@ -50,7 +50,6 @@ code_number InvalidArgument = pos 20
 code_number TooMuchData = pos 21
 code_number RunFull = pos 1001
 code_number StoreFull = pos 1002
-code_number JournalFull = pos 1003
 code_number TokensFull = pos 1004
 code_number EntropyFault = pos 1005
 code_number NoTicket = pos 1006

@@ -8,3 +8,4 @@ pub mod Table
 pub mod Plan
 pub mod Descriptor
 pub mod Policy
+pub mod Secrets

@@ -15,6 +15,9 @@ SIGN = 2
 abbrev pub VERIFY : ℕ
 VERIFY = 3
 
+abbrev pub WRAP_KEY : ℕ
+WRAP_KEY = 5
+
 -- ALGORITHM
 abbrev pub AES : ℕ
 AES = 32
@@ -61,6 +64,9 @@ GENERATED = 0
 
 abbrev pub IMPORTED : ℕ
 IMPORTED = 2
+
+abbrev pub SECURELY_IMPORTED : ℕ
+SECURELY_IMPORTED = 4
 
 -- the format of an import
 abbrev pub RAW : ℕ

@@ -99,8 +99,6 @@ pub enum Code {
     RunFull,
     /// STORE_FULL, 1002
     StoreFull,
-    /// JOURNAL_FULL, 1003
-    JournalFull,
     /// TOKENS_FULL, 1004
     TokensFull,
     /// ENTROPY_FAULT, 1005
@@ -161,7 +159,6 @@ impl Code {
             Code::TooMuchData => 21,
             Code::RunFull => 1001,
             Code::StoreFull => 1002,
-            Code::JournalFull => 1003,
             Code::TokensFull => 1004,
             Code::EntropyFault => 1005,
             Code::NoTicket => 1006,

@@ -11,6 +11,8 @@ pub const DECRYPT: u64 = 1;
 pub const SIGN: u64 = 2;
 /// PURPOSE: to compare a mac.
 pub const VERIFY: u64 = 3;
+/// PURPOSE: to open keys that come in wrapped.
+pub const WRAP_KEY: u64 = 5;
 
 /// ALGORITHM: AES (FIPS 197).
 pub const AES: u64 = 32;
@@ -44,6 +46,8 @@ pub const SHA_512: u64 = 6;
 pub const GENERATED: u64 = 0;
 /// ORIGIN: the caller gave the key.
 pub const IMPORTED: u64 = 2;
+/// ORIGIN: the key came in wrapped under another one.
+pub const SECURELY_IMPORTED: u64 = 4;
 
 /// The format of an imported key whose material is its bytes.
 pub const RAW: u32 = 3;

@@ -242,7 +242,6 @@ code_back codes_of.InvalidArgument = record { number = refl; no_success = refl; 
 code_back codes_of.TooMuchData = record { number = refl; no_success = refl; same = refl }
 code_back codes_of.RunFull = record { number = refl; no_success = refl; same = refl }
 code_back codes_of.StoreFull = record { number = refl; no_success = refl; same = refl }
-code_back codes_of.JournalFull = record { number = refl; no_success = refl; same = refl }
 code_back codes_of.TokensFull = record { number = refl; no_success = refl; same = refl }
 code_back codes_of.EntropyFault = record { number = refl; no_success = refl; same = refl }
 code_back codes_of.NoTicket = record { number = refl; no_success = refl; same = refl }

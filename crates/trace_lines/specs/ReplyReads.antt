@@ -21,7 +21,7 @@ use Rattle.line_members.specs.Members.{◌>>=◌, u32_of, u64_of, hex_of, two_of
 
 -- every code, once
 abbrev pub all_codes : List Code
-all_codes = codes.UnsupportedPurpose ∷ codes.IncompatiblePurpose ∷ codes.UnsupportedAlgorithm ∷ codes.UnsupportedKeySize ∷ codes.UnsupportedBlockMode ∷ codes.IncompatibleBlockMode ∷ codes.UnsupportedMacLength ∷ codes.UnsupportedPaddingMode ∷ codes.IncompatiblePaddingMode ∷ codes.UnsupportedDigest ∷ codes.IncompatibleDigest ∷ codes.InvalidUserId ∷ codes.UnsupportedKeyFormat ∷ codes.InvalidInputLength ∷ codes.KeyNotYetValid ∷ codes.KeyExpired ∷ codes.KeyUserNotAuthenticated ∷ codes.InvalidOperationHandle ∷ codes.VerificationFailed ∷ codes.InvalidKeyBlob ∷ codes.InvalidKeyArgument ∷ codes.UnsupportedTag ∷ codes.InvalidTag ∷ codes.MemoryAllocationFailed ∷ codes.ImportParameterMismatch ∷ codes.MissingNonce ∷ codes.InvalidNonce ∷ codes.MissingMacLength ∷ codes.CallerNonceProhibited ∷ codes.KeyMaxOpsExceeded ∷ codes.InvalidMacLength ∷ codes.MissingMinMacLength ∷ codes.UnsupportedMinMacLength ∷ codes.KeyRequiresUpgrade ∷ codes.DeviceLocked ∷ codes.EarlyBootEnded ∷ codes.SystemError ∷ codes.PermissionDenied ∷ codes.KeyNotFound ∷ codes.ValueCorrupted ∷ codes.BackendBusy ∷ codes.OperationBusy ∷ codes.InvalidArgument ∷ codes.TooMuchData ∷ codes.RunFull ∷ codes.StoreFull ∷ codes.JournalFull ∷ codes.TokensFull ∷ codes.EntropyFault ∷ codes.NoTicket ∷ []
+all_codes = codes.UnsupportedPurpose ∷ codes.IncompatiblePurpose ∷ codes.UnsupportedAlgorithm ∷ codes.UnsupportedKeySize ∷ codes.UnsupportedBlockMode ∷ codes.IncompatibleBlockMode ∷ codes.UnsupportedMacLength ∷ codes.UnsupportedPaddingMode ∷ codes.IncompatiblePaddingMode ∷ codes.UnsupportedDigest ∷ codes.IncompatibleDigest ∷ codes.InvalidUserId ∷ codes.UnsupportedKeyFormat ∷ codes.InvalidInputLength ∷ codes.KeyNotYetValid ∷ codes.KeyExpired ∷ codes.KeyUserNotAuthenticated ∷ codes.InvalidOperationHandle ∷ codes.VerificationFailed ∷ codes.InvalidKeyBlob ∷ codes.InvalidKeyArgument ∷ codes.UnsupportedTag ∷ codes.InvalidTag ∷ codes.MemoryAllocationFailed ∷ codes.ImportParameterMismatch ∷ codes.MissingNonce ∷ codes.InvalidNonce ∷ codes.MissingMacLength ∷ codes.CallerNonceProhibited ∷ codes.KeyMaxOpsExceeded ∷ codes.InvalidMacLength ∷ codes.MissingMinMacLength ∷ codes.UnsupportedMinMacLength ∷ codes.KeyRequiresUpgrade ∷ codes.DeviceLocked ∷ codes.EarlyBootEnded ∷ codes.SystemError ∷ codes.PermissionDenied ∷ codes.KeyNotFound ∷ codes.ValueCorrupted ∷ codes.BackendBusy ∷ codes.OperationBusy ∷ codes.InvalidArgument ∷ codes.TooMuchData ∷ codes.RunFull ∷ codes.StoreFull ∷ codes.TokensFull ∷ codes.EntropyFault ∷ codes.NoTicket ∷ []
 
 -- the code of a number
 abbrev pub code_numbered : ℤ → Option Code

@@ -10,7 +10,7 @@ use std::alloc::Global;
 use tags::{Code, Rule, RuleTable};
 
 /// Every code, in the order of `Code`.
-static CODES: [Code; 50] = [
+static CODES: [Code; 49] = [
     Code::UnsupportedPurpose,
     Code::IncompatiblePurpose,
     Code::UnsupportedAlgorithm,
@@ -57,7 +57,6 @@ static CODES: [Code; 50] = [
     Code::TooMuchData,
     Code::RunFull,
     Code::StoreFull,
-    Code::JournalFull,
     Code::TokensFull,
     Code::EntropyFault,
     Code::NoTicket,

@@ -1,12 +1,13 @@
 -- Table B, the beginning of an operation: a list of rules in its order, and the answer is the first that does not hold.
 use Rattle.std.specs.Prelude.{◌≡◌, Bool, true, List, [], ◌∷◌, ◌++◌, Result, Ok, Err, is_some, is_ok, unwrap_or}
 use Rattle.tags.specs.declared.code.Code.{Code}
-use Rattle.tags.specs.declared.code.Code.TheVariants.{InvalidArgument, KeyNotFound, PermissionDenied, InvalidTag, InvalidKeyBlob, UnsupportedPurpose, IncompatiblePurpose, KeyNotYetValid, KeyExpired, InvalidUserId, EarlyBootEnded, DeviceLocked, KeyUserNotAuthenticated, KeyMaxOpsExceeded, UnsupportedBlockMode, IncompatibleBlockMode, UnsupportedPaddingMode, IncompatiblePaddingMode, UnsupportedDigest, IncompatibleDigest, MissingMacLength, UnsupportedMacLength, InvalidMacLength, CallerNonceProhibited, MissingNonce, InvalidNonce, BackendBusy}
+use Rattle.tags.specs.declared.code.Code.TheVariants.{InvalidArgument, KeyNotFound, PermissionDenied, InvalidTag, InvalidKeyBlob, KeyRequiresUpgrade, UnsupportedPurpose, IncompatiblePurpose, KeyNotYetValid, KeyExpired, InvalidUserId, EarlyBootEnded, DeviceLocked, KeyUserNotAuthenticated, KeyMaxOpsExceeded, UnsupportedBlockMode, IncompatibleBlockMode, UnsupportedPaddingMode, IncompatiblePaddingMode, UnsupportedDigest, IncompatibleDigest, MissingMacLength, UnsupportedMacLength, InvalidMacLength, CallerNonceProhibited, MissingNonce, InvalidNonce, BackendBusy}
 use Rattle.tags.specs.declared.param.Param.{Param}
 use Rattle.tags.specs.declared.plan.Plan.{Plan}
 use Rattle.tags.specs.declared.rule.Rule.{Rule}
 use Rattle.tags.specs.declared.rule.RuleTable.TheVariants.{B}
 use Rattle.tags.specs.Table.{Check, check, first_broken, where_all_hold}
+use Rattle.tag_lists.specs.Versions.{is_no_newer, is_no_older}
 use Rattle.use_rules.specs.declared.facts.BeginFacts.{BeginFacts}
 use Rattle.use_rules.specs.Rules.{names_key, is_in_policy, may_begin, names_purpose, key_has_purpose, is_active, is_unexpired, is_of_user, is_early, is_unlocked, is_authenticated, has_begins_left, names_mode, key_has_mode, names_padding, takes_padding, names_digest, key_has_digest, gives_length, takes_length, reaches_least, may_give_nonce, has_nonce, fits_nonce}
 use Rattle.use_rules.specs.Plans.{plan_of}
@@ -41,9 +42,11 @@ call_rules facts =
     check 8 InvalidKeyBlob facts.fits ∷  -- for this device and these ids, to a list and a material that are usable
     []
 
--- the rules of what the key is for, when, and for whom
+-- the rules of the system that the key is of, and of what it is for, when, and for whom
 unfoldable pub key_rules : BeginFacts → List Param → List Param → List Check
 key_rules facts asked key =
+    check 23 InvalidKeyBlob (is_no_newer facts.os facts.patch key) ∷  -- neither of its versions is greater than the system's
+    check 23 KeyRequiresUpgrade (is_no_older facts.os facts.patch key) ∷  -- and neither is less
     check 9 UnsupportedPurpose (names_purpose asked key) ∷  -- one purpose, of the key's algorithm
     check 9 IncompatiblePurpose (key_has_purpose asked key) ∷  -- which the key has
     check 10 KeyNotYetValid (is_active key facts.wall) ∷  -- the key is active

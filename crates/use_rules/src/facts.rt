@@ -25,6 +25,10 @@ pub struct BeginFacts {
     /// the blob was sealed for the device's root of trust, and for the application id and data of the operation's list, of
     /// which an absent one is equal to an absent one alone; and its list and material are usable
     pub fits: bool,
+    /// the version of the device's operating system
+    pub os: u32,
+    /// the version of its patches
+    pub patch: u32,
     /// the wall reading, in milliseconds since 1970
     pub wall: u64,
     /// the caller's user: its uid divided by 100,000

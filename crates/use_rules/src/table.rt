@@ -5,6 +5,7 @@ ghost use Rattle.tags.specs.declared.rule.RuleTable.TheVariants.{B};
 ghost use Rattle.tags.specs.Plan.{IsWorkable, takes_key};
 ghost use Rattle.tags.specs.Table.{Check, first_broken, rule_of, where_all_hold};
 ghost use Rattle.tag_lists.specs.Lookups.{IsKey};
+ghost use Rattle.tag_lists.specs.Versions.{is_no_newer, is_no_older};
 ghost use Rattle.use_rules.specs.Plans.{NonceFits, plan_of as plan_by};
 ghost use Rattle.use_rules.specs.Rules.{key_has_purpose as has_purpose, names_purpose as names_purpose_of};
 ghost use Rattle.use_rules.specs.Table as spec;
@@ -27,14 +28,26 @@ fn rule(number: u8) -> Rule
     RuleTable::B.rule(number)
 }
 
-/// The rules of what the key is for, when, and for whom.
+/// The rules of the system that the key is of, and of what it is for, when, and for whom.
 #[tactic(auto, unfolding(crate::specs::Table::key_rules))]
 fn check_conditions(facts: &BeginFacts, asked: &AuthList, key: &AuthList) -> Ruling
     ensures stops { IfErr result (λ broken. (later : List Check) → first_broken B (spec.key_rules facts.now asked.now key.now ++ later) ≡ Err broken) }
     ensures goes_on { OnOk result ((later : List Check) → first_broken B (spec.key_rules facts.now asked.now key.now ++ later) ≡ first_broken B later) }
+    ensures newer { OnOk result (is_no_newer facts.now.os facts.now.patch key.now ≡ true) }
+    ensures older { OnOk result (is_no_older facts.now.os facts.now.patch key.now ≡ true) }
     ensures purpose { OnOk result (names_purpose_of asked.now key.now ≡ true) }
     ensures own_purpose { OnOk result (has_purpose asked.now key.now ≡ true) }
 {
+    check(
+        rule(23),
+        Code::InvalidKeyBlob,
+        key.is_no_newer(facts.os, facts.patch),
+    )?;
+    check(
+        rule(23),
+        Code::KeyRequiresUpgrade,
+        key.is_no_older(facts.os, facts.patch),
+    )?;
     check(rule(9), Code::UnsupportedPurpose, names_purpose(asked, key))?;
     check(
         rule(9),
@@ -122,6 +135,8 @@ fn check_lists(asked: &AuthList, key: &AuthList, room: bool) -> Ruling
 #[tactic(auto, using(crate::proofs::Begun::workable, crate::proofs::Begun::takes, crate::proofs::Begun::nonce_fits))]
 fn begun(facts: &BeginFacts, asked: &AuthList, key: &AuthList) -> Result<Plan, (Rule, Code)>
     ensures first { result ≡ where_all_hold (first_broken B (spec.key_rules facts.now asked.now key.now ++ spec.list_rules asked.now key.now facts.now.room)) (plan_by asked.now key.now) }
+    ensures newer { OnOk result (is_no_newer facts.now.os facts.now.patch key.now ≡ true) }
+    ensures older { OnOk result (is_no_older facts.now.os facts.now.patch key.now ≡ true) }
     ensures room { OnOk result (facts.now.room ≡ true) }
     ensures plan { IfOk result (λ plan. plan ≡ plan_by asked.now key.now) }
     ensures agree { OnOk result (spec.Agree asked.now key.now) }
@@ -135,7 +150,8 @@ fn begun(facts: &BeginFacts, asked: &AuthList, key: &AuthList) -> Result<Plan, (
 }
 
 /// The first rule of the table that the begin breaks, with its code, or else the operation's plan, which is that of the two
-/// lists. Then the key was found, both lists are there and agree, the key is usable, and there is a slot; the nonce that is
+/// lists. Then the key was found, both lists are there and agree, the key is usable and of the device's system, and there is a
+/// slot; the nonce that is
 /// given or drawn has the plan's bytes; and where list and material make a key of their cipher, the plan's numbers are those of the
 /// standards and it takes the material. It takes no memory.
 #[tactic(auto, unfolding(crate::specs::Table::answer))]
@@ -145,6 +161,8 @@ pub fn check_begin(facts: &BeginFacts) -> Result<Plan, (Rule, Code)>
     ensures asked { OnOk result (is_ok facts.now.asked ≡ true) }
     ensures opened { OnOk result (is_some facts.now.opened ≡ true) }
     ensures fits { OnOk result (facts.now.fits ≡ true) }
+    ensures newer { OnOk result (is_no_newer facts.now.os facts.now.patch (spec.key_of facts.now) ≡ true) }
+    ensures older { OnOk result (is_no_older facts.now.os facts.now.patch (spec.key_of facts.now) ≡ true) }
     ensures room { OnOk result (facts.now.room ≡ true) }
     ensures agree { OnOk result (spec.Agree (spec.asked_of facts.now) (spec.key_of facts.now)) }
     ensures plan { IfOk result (λ plan. plan ≡ plan_by (spec.asked_of facts.now) (spec.key_of facts.now)) }

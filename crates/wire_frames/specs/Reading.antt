@@ -6,7 +6,7 @@ use Rattle.rule_model.specs.declared.act_kind.ActKind.{ActKind}
 use Rattle.rule_model.specs.declared.act_kind.ActKind.TheVariants as kinds
 use Rattle.rule_model.specs.Acts.{kind_numbered}
 use Rattle.rule_model.specs.declared.event.Act.{Act}
-use Rattle.rule_model.specs.declared.event.Act.TheVariants.{Connect, GenerateKey, ImportKey, CreateOperation, EnterAad, EnterUpdate, EnterFinish, Abort, GetKeyEntry, DeleteKey, Grant, Ungrant, GetNumberOfEntries, ListEntriesBatched, AddAuthToken, DeviceLocked, DeviceUnlocked, EarlyBootEnded, ClearNamespace, UserRemoved}
+use Rattle.rule_model.specs.declared.event.Act.TheVariants.{Connect, GenerateKey, ImportKey, CreateOperation, EnterAad, EnterUpdate, EnterFinish, Abort, GetKeyEntry, DeleteKey, Grant, Ungrant, GetNumberOfEntries, ListEntriesBatched, AddAuthToken, DeviceLocked, DeviceUnlocked, EarlyBootEnded, ClearNamespace, UserRemoved, UpgradeKey}
 use Rattle.wire_frames.specs.declared.fault.BodyFault.{BodyFault}
 use Rattle.wire_frames.specs.declared.fault.BodyFault.TheVariants.{Bad, Memory}
 
@@ -155,6 +155,12 @@ removed_at = do
   user ← number_at 4
   done (UserRemoved user)
 
+abbrev pub upgraded_at : Reader Act
+upgraded_at = do
+  key ← key_at
+  params ← counted_at 4
+  done (UpgradeKey key params)
+
 -- no frame has such an act
 abbrev pub nothing_at : Reader Act
 nothing_at bytes = None
@@ -184,6 +190,7 @@ fields_of kinds.ClearNamespace = cleared_at
 fields_of kinds.UserRemoved = removed_at
 fields_of kinds.Leave = nothing_at
 fields_of kinds.Restart = nothing_at
+fields_of kinds.UpgradeKey = upgraded_at
 
 -- ---- bodies
 

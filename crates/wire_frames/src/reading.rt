@@ -108,6 +108,14 @@ fn created_at(alloc: Global, bytes: &[u8]) -> Result<(Act, &[u8]), BodyFault>
     Ok((act, rest))
 }
 
+fn upgraded_at(alloc: Global, bytes: &[u8]) -> Result<(Act, &[u8]), BodyFault>
+    ensures { Says (λ x. (x.0, x.1.now)) result (spec.upgraded_at bytes.now) }
+{
+    let (key, rest) = key_at(alloc, bytes)?;
+    let (params, rest) = copied_at(alloc, rest)?;
+    Ok((Act::UpgradeKey { key, params }, rest))
+}
+
 fn granted_at(alloc: Global, bytes: &[u8]) -> Result<(Act, &[u8]), BodyFault>
     ensures { Says (λ x. (x.0, x.1.now)) result (spec.granted_at bytes.now) }
 {
@@ -258,6 +266,7 @@ fn fields_at(alloc: Global, kind: ActKind, bytes: &[u8]) -> Result<(Act, &[u8]),
             let (user, rest) = u32_at(bytes)?;
             Ok((Act::UserRemoved { user }, rest))
         }
+        ActKind::UpgradeKey => upgraded_at(alloc, bytes),
         ActKind::Disconnect => Err(BodyFault::Bad),
         ActKind::Leave => Err(BodyFault::Bad),
         ActKind::Restart => Err(BodyFault::Bad),

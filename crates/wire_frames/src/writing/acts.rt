@@ -85,6 +85,10 @@ fn put_key_fields(out: &mut Vec<u8>, act: &Act) -> Result<(), AllocError>
             put_counted_u32(out, params.as_slice())?;
             put_flag(out, *forced)
         }
+        Act::UpgradeKey { key, params } => {
+            put_key(out, key)?;
+            put_counted_u32(out, params.as_slice())
+        }
         Act::GetKeyEntry { key } => put_key(out, key),
         Act::DeleteKey { key } => put_key(out, key),
         Act::Grant { key, uid, bits } => {

@@ -84,6 +84,7 @@ pub(crate) fn body_size(act: &Act) -> usize
         Act::EarlyBootEnded => 1,
         Act::ClearNamespace { .. } => 13,
         Act::UserRemoved { .. } => 5,
+        Act::UpgradeKey { key, params } => 1 + key_size(key) + counted_size(params),
         Act::Disconnect => 0,
         Act::Leave { .. } => 0,
         Act::Restart { .. } => 0,

@@ -1,5 +1,5 @@
 -- What the calls say one after another is what is said of the whole.
-use Rattle.std.proofs.Common.{◌≡◌, ◌-◌, ℕ, List, [], Some, drop, ap, sym, ◌∙◌, arith}
+use Rattle.std.proofs.Common.{◌≡◌, ℕ, List, [], Some, drop, ap, sym, ◌∙◌, arith}
 use Rattle.aes_core.specs.Cipher.{cipher}
 use Rattle.gcm_mode.specs.Gcm.{gcm_open}
 use Rattle.key_blobs.specs.Blobs.{START, text_in}

@@ -10,6 +10,6 @@ returns-in-Ok-open-clause-new g c =
     let device = c.demo-device.result in
     let policy = c.in-Ok.policy in
     let engine = c.in-Ok-open.engine in
-    new_engine device policy engine c.demo-device.ensures.seal c.demo-device.ensures.token c.demo-device.ensures.root c.in-Ok.ensures
+    new_engine device policy engine c.demo-device.ensures c.in-Ok.ensures
     (c.in-Ok-open.ensures.stands (setup_of device policy MOST_SLOTS engine) (is_opened device policy MOST_SLOTS engine))
     (c.in-Ok-open.ensures.finds empty_lasting c.in-Ok-format.ensures.formatted (c.in-Ok-format.ensures.goes.telling ∙ c.requires.telling))

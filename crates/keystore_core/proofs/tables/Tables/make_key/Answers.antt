@@ -55,7 +55,7 @@ keep-reply-requires-clause-can g c =
     ap (λ part. has_key_place part (owner_of c.args.caller) asked.key) c.in-Ok-make_ready.ensures.same.lasting_is ∙ is.place in
     let small : owner_of c.args.caller < 2 ^ 32 = rw is.uid_is at c.in-Ok.ensures.small in
     rw (made.uid_is, is.uid_is, made.key_is, is.key_is, made.list_is)
-    (may_keep c.args.self.now.policy c.args.caller asked.key asked.params asked.import _ c.make_ready.new.keys c.in-Ok.admitted.new.plan _ _ c.in-Ok.admitted.new.plan.limit c.in-Ok-make_ready.ensures.room place small
+    (may_keep c.args.self.now.device c.args.self.now.policy c.args.caller asked.key asked.params asked.import _ c.make_ready.new.keys c.in-Ok.admitted.new.plan _ _ c.in-Ok.admitted.new.plan.limit c.in-Ok-make_ready.ensures.room place small
     is.fit c.in-Ok-sealed.ensures.few is.listed)
 
 pub returns-clause-serves : goal.returns-clause-serves

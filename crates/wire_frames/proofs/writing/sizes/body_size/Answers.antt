@@ -25,6 +25,11 @@ returns-in-CreateOperation c =
     rw a.is (size_two 2 c.key_size-in-CreateOperation.result c.counted_size-in-CreateOperation.result (length (key_of a.key)) (length (counted a.params)) _ c.key_size-in-CreateOperation.ensures.size c.counted_size-in-CreateOperation.ensures.size
     (omega (arith, length-append (key_of a.key) tail, length-append (counted a.params) (flag a.forced), one)))
 
+pub returns-in-UpgradeKey : goal.returns-in-UpgradeKey
+returns-in-UpgradeKey c =
+    let a = c.in-UpgradeKey in
+    rw a.is (size_two 1 c.key_size-in-UpgradeKey.result c.counted_size-in-UpgradeKey.result (length (key_of a.key)) (length (counted a.params)) _ c.key_size-in-UpgradeKey.ensures.size c.counted_size-in-UpgradeKey.ensures.size (omega (arith, length-append (key_of a.key) (counted a.params))))
+
 pub returns-in-EnterAad : goal.returns-in-EnterAad
 returns-in-EnterAad c =
     let a = c.in-EnterAad in
