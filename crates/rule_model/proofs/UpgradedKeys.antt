@@ -17,7 +17,8 @@ use Rattle.key_blobs.specs.declared.sealed.Opened.{Opened}
 use Rattle.key_blobs.specs.Text.{blob_size}
 use Rattle.call_rules.specs.declared.facts.KeyCallFacts.{KeyCallFacts}
 use Rattle.call_rules.specs.declared.facts.UpgradeFacts.{UpgradeFacts}
-use Rattle.call_rules.specs.Rules.{has_room, is_in_policy, is_no_newer, names_any_key, upgrade_permission}
+use Rattle.key_domains.specs.Forms.{is_in_policy, names_any_key}
+use Rattle.call_rules.specs.Rules.{has_room, is_no_newer, upgrade_permission}
 use Rattle.call_rules.specs.Table.{key_call_rules, upgrade_key_rules, upgrade_rules}
 use Rattle.rule_model.specs.Upgrades.{longer, upgrade_facts, upgraded}
 
