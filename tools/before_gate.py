@@ -16,7 +16,7 @@ import build
 from keystore.harness import TOP, parser_of
 from make import layers
 
-MOST_EDITS = 7
+MOST_EDITS = 10
 
 
 def moved(crate):

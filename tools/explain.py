@@ -30,9 +30,26 @@ from keystore.script_events import Malformed, check_levels, check_texts
 
 MOST_LINE, MOST_PARAMS, MOST_BYTES = 262_144, (1 << 16) - 1, (1 << 16) - 1
 ALONE = {"connect", "leave", "restart"}
-MAY_BE_ABSENT = {"nspace", "params", "input", "forced", "hold", "alias", "blob", "past", "signature", "root"}
+MAY_BE_ABSENT = {
+    "nspace",
+    "params",
+    "unwrapping",
+    "input",
+    "forced",
+    "hold",
+    "alias",
+    "blob",
+    "past",
+    "signature",
+    "root",
+}
 HOLDING = {"update", "updateAad", "finish"}
 DESCRIPTOR = {"domain": "u32", "nspace": "u64", "alias": "text", "blob": "bytes"}
+# The members that name keys, and those that are lists.
+KEYS, LISTS = (
+    sorted({name for fields in ACTS.values() for name, its in fields.items() if its == form})
+    for form in ("key", "params")
+)
 TYPES = {kind: getattr(lists, kind) for kind, _ in TAGS.values()}
 
 
@@ -305,14 +322,14 @@ def notes_of(line):
         for it in members
         if it not in known
     ]
-    key = members.get("key")
-    if isinstance(key, dict) and "key" in known:
-        notes += [
-            f"`{it}` is no member of a key, and is not looked at; {nearest(it, DESCRIPTOR)}"
-            for it in key
-            if it not in DESCRIPTOR
-        ]
-    return notes
+    keys = (members.get(name) for name, form in ACTS[members["do"]].items() if form == "key")
+    return notes + [
+        f"`{it}` is no member of a key, and is not looked at; {nearest(it, DESCRIPTOR)}"
+        for key in keys
+        if isinstance(key, dict)
+        for it in key
+        if it not in DESCRIPTOR
+    ]
 
 
 # ---- Replies
@@ -361,25 +378,29 @@ def number_named(value, names):
     return names[value] if isinstance(value, str) and value in names else value
 
 
+def pair_written(pair):
+    """A pair of a list with a number in place of a value's name; all else as it is."""
+    if isinstance(pair, list) and len(pair) == 2 and isinstance(pair[0], str):
+        return [pair[0], number_named(pair[1], VALUES.get(pair[0], {}))]
+    return pair
+
+
 def written(line):
     """A line with numbers in place of names; one that has none, and one that is no JSON, as it is."""
     try:
         members = json.loads(line)
-        key, before = members.get("key"), json.dumps(members)
+        keys, before = [members.get(name) for name in KEYS], json.dumps(members)
     except (ValueError, AttributeError, RecursionError):
         return line
     for name, names in (("domain", DOMAINS), ("format", FORMATS), ("bits", BITS)):
         if name in members:
             members[name] = number_named(members[name], names)
-    if isinstance(key, dict) and "domain" in key:
-        key["domain"] = number_named(key["domain"], DOMAINS)
-    if isinstance(members.get("params"), list):
-        members["params"] = [
-            [it[0], number_named(it[1], VALUES.get(it[0], {}))]
-            if isinstance(it, list) and len(it) == 2 and isinstance(it[0], str)
-            else it
-            for it in members["params"]
-        ]
+    for key in keys:
+        if isinstance(key, dict) and "domain" in key:
+            key["domain"] = number_named(key["domain"], DOMAINS)
+    for name in LISTS:
+        if isinstance(members.get(name), list):
+            members[name] = [pair_written(it) for it in members[name]]
     return (
         line
         if json.dumps(members) == before

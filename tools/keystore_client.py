@@ -26,6 +26,8 @@ are a `ConnectionEnded`, and so is what comes where another program answers. The
     python3 tools/keystore_client.py connect --uid 10001
     python3 tools/keystore_client.py generate files --kind aes
     python3 tools/keystore_client.py import m --kind hmac --material-file secret.bin
+    python3 tools/keystore_client.py import w --kind wrapping --material-file wrapping.bin
+    python3 tools/keystore_client.py import_wrapped n w --kind hmac --wrapped-file secret.wrapped
     python3 tools/keystore_client.py entry m
     python3 tools/keystore_client.py mac m letter.txt
     python3 tools/keystore_client.py seal files letter.txt letter.sealed
@@ -45,7 +47,7 @@ written beside its place and takes it once it is whole and right. A name that is
 --replace, which ends the key that has it; and a key with a use limit is not used where it has fewer uses left than
 the file has pieces. Options may stand before or behind the command. The exit status is 0 where all was done, 1 where
 the call or the client refused, 2 for wrong words and files that are not to be had, 3 where no service answers, 4
-where a mac is wrong or a file is not as it was sealed."""
+where a mac is wrong, a wrapped key does not open or a file is not as it was sealed."""
 import argparse
 import contextlib
 import io
@@ -88,7 +90,8 @@ CODES = {
     -17: ("UNSUPPORTED_KEY_FORMAT", "the format of an import is not RAW"),
     -21: (
         "INVALID_INPUT_LENGTH",
-        "a list or an id is too long; all input is too long, or the text's length does not suit the mode",
+        "a list or an id is too long; a wrapped key cannot have this length; all input is too long, or the text's "
+        "length does not suit the mode",
     ),
     -24: ("KEY_NOT_YET_VALID", "the key is not active yet"),
     -25: ("KEY_EXPIRED", "the key has expired for this purpose"),
@@ -96,7 +99,8 @@ CODES = {
     -28: ("INVALID_OPERATION_HANDLE", "the operation is not open, or another client's"),
     -30: (
         "VERIFICATION_FAILED",
-        "a token's mac is wrong; at a finish, without a rule, the tag or the signature is wrong",
+        "a token's mac is wrong; a wrapped key does not open under the wrapping key; at a finish, without a rule, the "
+        "tag or the signature is wrong",
     ),
     -33: (
         "INVALID_KEY_BLOB",
@@ -108,7 +112,11 @@ CODES = {
         "KeyMint's: a tag that does not repeat stands twice; tags that do not go together, or a limit of 0; the key is "
         "of a newer system than the device's; at a finish, without a rule, the padding is none",
     ),
-    -39: ("UNSUPPORTED_TAG", "a key of domain 3 has a count that only stored keys have"),
+    -39: (
+        "UNSUPPORTED_TAG",
+        "a key of domain 3 has a count that only stored keys have; a key that wraps others has another purpose, or a "
+        "limit",
+    ),
     -40: ("INVALID_TAG", "the list does not read; additional data comes where none is taken"),
     -41: ("MEMORY_ALLOCATION_FAILED", "memory was wanting; the call changed nothing"),
     -44: ("IMPORT_PARAMETER_MISMATCH", "the material does not have the size that the list names"),
@@ -515,6 +523,11 @@ class Client:
     def importKey(self, key, params, material, form=3):
         return self.call(4, key.spelled(), counted(params), u32(form), counted(material))
 
+    def importWrappedKey(self, key, params, wrapping, wrapped, unwrapping=parameters()):
+        """Imports a key that comes wrapped under the key that `wrapping` names (`tools/wrap_key.py` wraps one);
+        `unwrapping` has the application's id and data of that one, where it was made for any."""
+        return self.call(25, key.spelled(), counted(params), wrapping.spelled(), counted(wrapped), counted(unwrapping))
+
     def createOperation(self, key, params, forced=False):
         return self.call(5, key.spelled(), counted(params), bytes([forced]))
 
@@ -700,6 +713,7 @@ KINDS = {
         "NO_AUTH_REQUIRED": True,
     },
     "hmac": {"ALGORITHM": 128, "PURPOSE": [2, 3], "DIGEST": [4], "MIN_MAC_LENGTH": 64, "NO_AUTH_REQUIRED": True},
+    "wrapping": {"ALGORITHM": 32, "PURPOSE": [5], "NO_AUTH_REQUIRED": True},
 }
 USE = 256
 OWN, SYSTEM = 10001, 1000
@@ -857,18 +871,26 @@ def do_generate(service, words):
     return client.generateKey(Key(alias=words.key), params).fields
 
 
-def material_of(words):
-    if words.material is not None:
-        return words.material
-    with opened(words.material_file) as (file, _):
+def given_bytes(data, name):
+    """The bytes that the words give, or those of a file."""
+    if data is not None:
+        return data
+    with opened(name) as (file, _):
         return file.read(MOST_INPUT)
 
 
 def do_import(service, words):
-    material, params = material_of(words), parameters(**KINDS[words.kind], **limits(words))
-    client = service.connected()
+    material = given_bytes(words.material, words.material_file)
+    params, client = parameters(**KINDS[words.kind], **limits(words)), service.connected()
     check_name(client, words)
     return client.importKey(Key(alias=words.key), params, material).fields
+
+
+def do_import_wrapped(service, words):
+    wrapped = given_bytes(words.wrapped, words.wrapped_file)
+    params, client = parameters(**KINDS[words.kind], **limits(words)), service.connected()
+    check_name(client, words)
+    return client.importWrappedKey(Key(alias=words.key), params, Key(alias=words.wrapping), wrapped).fields
 
 
 def do_mac(service, words):
@@ -1094,6 +1116,7 @@ def words_of(words):
     made = [
         command("generate", do_generate, "let the service draw a key", "key"),
         command("import", do_import, "bring a key's bytes", "key"),
+        command("import_wrapped", do_import_wrapped, "bring a key wrapped under another one", "key", "wrapping"),
     ]
     made[0].add_argument("--bits", type=number(32), default=256, help="the key's size (256)")
     material = made[1].add_mutually_exclusive_group(required=True)
@@ -1101,6 +1124,9 @@ def words_of(words):
         "--material", type=hex_bytes, metavar="HEX", help="the key's bytes, for all to see who may list processes"
     )
     material.add_argument("--material-file", metavar="FILE", help="a file of the key's bytes (- for standard input)")
+    wrapped = made[2].add_mutually_exclusive_group(required=True)
+    wrapped.add_argument("--wrapped", type=hex_bytes, metavar="HEX", help="the wrapped bytes")
+    wrapped.add_argument("--wrapped-file", metavar="FILE", help="a file of the wrapped bytes (- for standard input)")
     for one in made:
         one.add_argument("--kind", choices=sorted(KINDS), default="aes")
         one.add_argument("--uses", type=number(32), metavar="N", help="the key works N times")

@@ -26,12 +26,13 @@ from build import BUILT, digest, is_of
 from keystore.harness import TOP, folder_at, parser_of
 
 KEPT = ["README.md", "CHANGELOG.md", "SECURITY.md", "LICENSE", "docs", "examples"]
-# The client, and by which docs/EXAMPLES.md makes devices and hands in tokens.
+# The client, and by which docs/EXAMPLES.md makes devices, hands in tokens and wraps keys.
 TOOLS = [
     "keystore_client.py",
     "dialog.py",
     "make_device.py",
     "make_token.py",
+    "wrap_key.py",
     "keystore/__init__.py",
     "keystore/device.py",
     "keystore/harness.py",

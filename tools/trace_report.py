@@ -31,6 +31,7 @@ TOLD = {
     NO_ENTROPY: "no random bytes",
 }
 NO_CLIENT = "no client"
+MAKING = {"generateKey", "importKey", "importWrappedKey"}
 
 
 @dataclasses.dataclass
@@ -119,7 +120,7 @@ class Report:
         if "op" in event:
             return self.operations.get(event["op"], (None,))[0]
         descriptor = event.get("key")
-        if descriptor is None or event["act"] in ("importKey", "generateKey"):
+        if descriptor is None or event["act"] in MAKING:
             return None
         if descriptor["domain"] == GRANT:
             return self.grants.get(descriptor["nspace"])
@@ -136,7 +137,7 @@ class Report:
             self.clients, self.operations, self.tickets = {}, {}, {}
         elif act == "disconnect":
             self.operations = {op: it for op, it in self.operations.items() if it[1] != event["client"]}
-        elif "key" in reply and act in ("importKey", "generateKey"):
+        elif "key" in reply and act in MAKING:
             self.make(event, reply["key"], uid)
         elif act == "createOperation":
             self.operations.pop(reply.get("pruned"), None)

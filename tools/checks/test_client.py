@@ -48,6 +48,7 @@ def one_of_each(client):
     client.clearNamespace(2, 100)
     client.userRemoved(10)
     client.upgradeKey(alias, b"\x00\x03")
+    client.importWrappedKey(alias, b"\x00\x04", Key(None, 4, 9), b"\x22" * 24, b"\x00\x05\x06")
 
 
 def refusal(body):

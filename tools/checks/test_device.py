@@ -12,6 +12,7 @@ import time
 
 from keystore.cases import HAS_CIPHERS, Case, each, needs_ciphers
 from keystore.device import versions_of
+from keystore.every_act import WRAPPING, WRAPPING_KEY, comes_wrapped
 from keystore.harness import check, without_notices
 from keystore.lines import ASKED, BLOB, MAC_LIST, OK, PARAMS, begin, broken, call, connect, made, named, sealed, text_of
 from keystore.scratch import scratch_folder
@@ -221,38 +222,43 @@ class Rows(Case):
 # Blobs both ways: what the program seals opens here, and what is sealed here opens there, for its device alone.
 
 IDS = [(None, None), ("6162", None), (None, ""), ("", "00" * 1024)]
+# How many bits the keys have that are imported, drawn and come wrapped, and their ORIGIN.
+MADE = [(160, 2), (256, 0), (128, 4)]
 
 
 def lines_that_make():
     yield connect(1000)
+    yield made(1, named("wrap"), WRAPPING, WRAPPING_KEY)
     for app_id, app_data in IDS:
         ids = [["APPLICATION_ID", app_id]] * (app_id is not None) + [["APPLICATION_DATA", app_data]] * (
             app_data is not None
         )
-        yield made(1, {"domain": BLOB, "nspace": 100}, [*PARAMS, *ids])
-        yield call(1, "generateKey", key={"domain": BLOB, "nspace": 100}, params=[*PARAMS, ["KEY_SIZE", 256], *ids])
+        key = {"domain": BLOB, "nspace": 100}
+        yield made(1, key, [*PARAMS, *ids])
+        yield call(1, "generateKey", key=key, params=[*PARAMS, ["KEY_SIZE", 256], *ids])
+        yield comes_wrapped(1, key, [*PARAMS, *ids], named("wrap"))
 
 
 def check_made_blobs(program, device, files):
     output, status, fault = ended_run(program, files, RUN, lines_that_make())
     replies = [json.loads(line) for line in output.splitlines()]
-    check("blobs", (len(replies), status, fault), (1 + 2 * len(IDS), 0, ""))
+    check("blobs", (len(replies), status, fault), (2 + len(MADE) * len(IDS), 0, ""))
     nonces, materials = set(), set()
-    for number, reply in enumerate(replies[1:]):
-        ids = [None if it is None else bytes.fromhex(it) for it in IDS[number // 2]]
+    for number, reply in enumerate(replies[2:]):
+        ids = [None if it is None else bytes.fromhex(it) for it in IDS[number // len(MADE)]]
         blob = bytes.fromhex(reply["blob"])
         parts = blobs.parts_of(blobs.unsealed(device, blob))
-        more = [["KEY_SIZE", 160], ["ORIGIN", 2]] if number % 2 == 0 else [["KEY_SIZE", 256], ["ORIGIN", 0]]
-        kept = blobs.list_of([*PARAMS, *more, ["CREATION_DATETIME", 1000]])
+        size, origin = MADE[number % len(MADE)]
+        kept = blobs.list_of([*PARAMS, ["KEY_SIZE", size], ["ORIGIN", origin], ["CREATION_DATETIME", 1000]])
         kept = blobs.with_versions(kept, *versions_of(device))
         found = (parts["root"], parts["app_id"], parts["app_data"], parts["encoded"])
         check("ids", found, (device[64:96], *ids, kept))
         check("its bytes", blobs.blob_of(kept, parts["material"], *ids, nonce=blob[4:16], device=device), blob)
         nonces.add(blob[4:16])
         materials.add(parts["material"])
-    check("different nonces", len(nonces), 2 * len(IDS))
-    check("materials", sorted(map(len, materials)), [20] + [32] * len(IDS))
-    check("the imported one", min(materials, key=len), b"\x0b" * 20)
+    check("different nonces", len(nonces), len(MADE) * len(IDS))
+    check("materials", sorted(map(len, materials)), [16, 20] + [32] * len(IDS))
+    check("the imported ones", sorted(materials, key=len)[:2], [b"\x0b" * 16, b"\x0b" * 20])
 
 
 def check_foreign_blobs(program, device, files):

@@ -75,7 +75,7 @@ ONLY = {How.HAS_NO_ROOM: 1, How.IS_SHORT: 2}
 ASKED = [
     (uid, alias)
     for uid in (OWNER, OTHER, FAR)
-    for alias in ("free", "once", "twice", "drawn", "own", "far", "first", "second", "old")
+    for alias in ("free", "once", "twice", "drawn", "own", "far", "first", "second", "old", "wrap", "came")
 ]
 
 

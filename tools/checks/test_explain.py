@@ -13,7 +13,7 @@ import sys
 import unittest
 
 import keystore_client
-from explain import faults_of, fields_of, meaning_of, notes_of, replies_in, written
+from explain import KEYS, LISTS, faults_of, fields_of, meaning_of, notes_of, replies_in, written
 from keystore import lists
 from keystore.cases import Case, each
 from keystore.harness import TOOLS, TOP, check
@@ -116,6 +116,11 @@ NOTES = [
         AT + '"c":1,"do":"getKeyEntry","key":{"domain":0,"alais":"m"}}',
         "`alais` is no member of a key, and is not looked at; the nearest is alias",
     ),
+    (
+        AT
+        + '"c":1,"do":"importWrappedKey","key":{"domain":0,"alias":"m"},"wrapping":{"domain":4,"nspce":1},"wrapped":""}',
+        "`nspce` is no member of a key, and is not looked at; the nearest is nspace",
+    ),
 ]
 NAMED = [
     (
@@ -127,6 +132,10 @@ NAMED = [
         '{"t":[0,1],"key":{"domain":4,"nspace":1},"format":3}',
     ),
     ('{"bits":["USE","GET_INFO"],"domain":"SELINUX"}', '{"bits":260,"domain":2}'),
+    (
+        '{"wrapping":{"domain":"KEY_ID"},"unwrapping":[["PURPOSE","WRAP_KEY"]]}',
+        '{"wrapping":{"domain":4},"unwrapping":[["PURPOSE",5]]}',
+    ),
     ('{"bits": "USE"}', '{"bits":256}'),
     ('{"bits": 256}', '{"bits": 256}'),
     ("no JSON", "no JSON"),
@@ -186,12 +195,13 @@ def changed_lines():
             rest = {it: value for it, value in whole.items() if it != name}
             yield rest
             yield from ({**rest, name: odd} for odd in ODD)
-        for name in whole.get("key", {}):
-            rest = {it: value for it, value in whole["key"].items() if it != name}
-            yield {**whole, "key": rest}
-            yield from ({**whole, "key": {**rest, name: odd}} for odd in ODD)
-        if "params" in whole:
-            yield from ({**whole, "params": [[tag, odd]]} for tag in [*TAGS, "TAG", None] for odd in ODD)
+        for key in set(KEYS) & set(whole):
+            for name in whole[key]:
+                rest = {it: value for it, value in whole[key].items() if it != name}
+                yield {**whole, key: rest}
+                yield from ({**whole, key: {**rest, name: odd}} for odd in ODD)
+        for name in set(LISTS) & set(whole):
+            yield from ({**whole, name: [[tag, odd]]} for tag in [*TAGS, "TAG", None] for odd in ODD)
 
 
 def scripts():
@@ -293,7 +303,7 @@ class Names(unittest.TestCase):
 
     def test_the_acts_and_the_rules(self):
         check("the acts", set(ACTS), set(FIELDS))
-        check("the rules", [sum(it[0] == letter for it in RULES) for letter in "KBSAL"], [15, 23, 8, 14, 1])
+        check("the rules", [sum(it[0] == letter for it in RULES) for letter in "KBSAL"], [22, 23, 8, 14, 1])
 
 
 SCRIPT = TOP / "examples/hmac.jsonl"

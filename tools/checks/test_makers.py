@@ -12,7 +12,7 @@ from keystore.lines import FOLDER
 
 MAKERS = ["state_checks", "token_checks", "domain_checks", "vectors", "wrong_tags"]
 # These need the package.
-SEALING = ["blob_checks", "rule_checks", "cuttings"]
+SEALING = ["blob_checks", "rule_checks", "upgrade_checks", "wrapped_checks", "cuttings"]
 
 
 def files_of(folder):

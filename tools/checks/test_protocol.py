@@ -4,12 +4,15 @@
 mac is that of Python's own library. The service itself plays the session in the check `service`."""
 import hashlib
 import hmac
+import importlib
 import socket
 import subprocess
 import sys
 
-from keystore.cases import Case, needs_ciphers
+from keystore.cases import Case, each, needs_ciphers
 from keystore.harness import TOOLS, TOP, check
+from keystore.session import BAD_FRAMES, CLIENT, CONNECT, wrapped_frame
+from keystore.spelling import counted, u32
 from keystore_client import Client, Key, ServiceError, parameters
 
 PAGE = TOP / "docs/PROTOCOL.md"
@@ -118,3 +121,29 @@ class Protocol(Case):
         server = [sys.executable, TOOLS / "ks", "compare", "second_server", "--connections", "1"]
         with subprocess.Popen(server, stdout=subprocess.PIPE) as second:
             play(int(second.stdout.readline()), session_in(PAGE))
+
+
+def second_replies(stream):
+    """The frames that the second model's server gives to a stream."""
+    told = importlib.import_module("compare.fuzz_frames").Told(stream)
+    second = importlib.import_module("compare.second_server")
+    second.Connection(second.Service(), told).serve()
+    return told.replies
+
+
+@needs_ciphers
+@each(BAD_FRAMES.items())
+class BadFrames(Case):
+    """The second model's server gives the same as the service to what ends a connection: nothing."""
+
+    def show(self, frame):
+        check("the replies", second_replies(CONNECT + frame + CONNECT), [CLIENT])
+
+
+@needs_ciphers
+class GoodFrames(Case):
+    """The frame of which the bad ones are made is a good one."""
+
+    def test_a_wrapped_key_whose_wrapping_key_is_not_there(self):
+        refused = counted(u32(7) + b"K\x13")
+        check("the replies", second_replies(CONNECT + wrapped_frame() + wrapped_frame()), [CLIENT, refused, refused])

@@ -21,7 +21,7 @@ from keystore.harness import TOP
 # What an archive has of the repository, said here once more.
 FILES = re.compile(
     r"(README|CHANGELOG|SECURITY)\.md|LICENSE|docs/.+|examples/.+|tools/(keystore_client|dialog|make_device|make_token|"
-    r"keystore/(__init__|device|harness|spelling|tokens))\.py"
+    r"wrap_key|keystore/(__init__|device|harness|spelling|tokens))\.py"
 )
 ASKED = {
     "README.md",
@@ -155,7 +155,7 @@ class Release(Case):
         """What docs/EXAMPLES.md types of the archive's tools needs no other file."""
         said("tar", "xzf", self.archive.name, folder=self.archive.parent)
         tools = self.archive.parent / self.archive.name.removesuffix(".tar.gz") / "tools"
-        for name in ("keystore_client.py", "dialog.py", "make_device.py", "make_token.py"):
+        for name in ("keystore_client.py", "dialog.py", "make_device.py", "make_token.py", "wrap_key.py"):
             said("python3", str(tools / name), "--help", folder=tools.parent)
         need(
             b"addAuthToken" in said("python3", str(tools / "make_token.py"), "7", folder=tools.parent),

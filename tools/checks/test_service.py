@@ -63,6 +63,9 @@ BAD_SESSIONS = {
 # Words of the client behind a store in which two keys were made and have ended, what they write, and their status. The
 # mac is that of "Hi There" under twenty bytes 0b.
 MAC = "b0344c61d8db38535ca8afceaf0bf12b881dc200c9833da726e9376c2e32cff7"
+# That under 16 bytes 0b, and these wrapped under bytes 00 to 0f (RFC 3394).
+MAC_OF_WRAPPED = "492ce020fe2534a5789dc3848806c78f4f6711397f08e7e7a12ca5a4483c8aa6"
+WRAPPED = "4bfcdf431a6e8520e80c37265f00139117989610f0a27695"
 KEY_IS_THERE = "m is there, key 3: with --replace it ends, and all that is sealed under it with it"
 NOT_FOUND = '{"code": 7, "rule": "B4", "name": "KEY_NOT_FOUND"}\n'
 # What the client refuses before it calls.
@@ -133,6 +136,25 @@ TURNS = [
     (["mac", "m", "letter", "--json"], NOT_FOUND, 1),
     (["import", "m", "--kind", "hmac", "--material-file", "material"], "key 6\n", 0),
     (["mac", "m", "letter"], f"{MAC}\n", 0),
+    (["import", "w", "--kind", "wrapping", "--material-file", "wrapping"], "key 7\n", 0),
+    (["import_wrapped", "n", "w", "--kind", "hmac", "--wrapped", WRAPPED], "key 8\n", 0),
+    (["mac", "n", "letter", "--json"], f'{{"mac": "{MAC_OF_WRAPPED}"}}\n', 0),
+    (["import_wrapped", "m", "w", "--kind", "hmac", "--wrapped", WRAPPED], "", 1, KEY_IS_THERE.replace("3", "6")),
+    (
+        ["import_wrapped", "n", "w", "--replace", "--json", "--wrapped", f"{WRAPPED[:-1]}4"],
+        '{"code": -30, "rule": "K23", "name": "VERIFICATION_FAILED"}\n',
+        4,
+    ),
+    (
+        ["import_wrapped", "n", "m", "--replace", "--wrapped-file", "wrapped"],
+        "",
+        1,
+        "INCOMPATIBLE_PURPOSE (-3) by rule K22: the key does not have the purpose",
+    ),
+    (["import_wrapped", "n", "w", "--replace", "--kind", "hmac", "--wrapped-file", "wrapped"], "key 9\n", 0),
+    (["delete", "w"], "", 0),
+    (["mac", "n", "letter"], f"{MAC_OF_WRAPPED}\n", 0),
+    (["delete", "n"], "", 0),
     (["delete", "m"], "", 0),
 ]
 
@@ -165,6 +187,8 @@ def files_of_turns():
     yield "too-long", bytes(MOST_OPERATION + 1)
     yield "cut", FRONT + u32(TAG + 8) + bytes(NONCE + TAG)
     yield "material", b"\x0b" * 20
+    yield "wrapping", bytes(range(16))
+    yield "wrapped", bytes.fromhex(WRAPPED)
     token = {"challenge": 0, "user": 7, "authenticator": 0, "kind": 1, "time": 5000}
     yield "token", json.dumps({**token, "mac": mac_of(DEMO_KEY, token).hex()}).encode()
 

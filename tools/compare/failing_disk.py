@@ -85,9 +85,10 @@ int fdatasync(int file) { return synced(file, "fdatasync"); }
 """
 FAULT = text_of({"code": 4})
 SETTLED = {b'{"settled":"kept"}': True, b'{"settled":"lost"}': False}
-# Acts that settle nothing, and such as write a record where they are admitted.
+# Acts that settle nothing, such as make a key, and such as write a record where they are admitted.
 UNSETTLING = {"leave", "disconnect"}
-WRITING = {"generateKey", "importKey", "deleteKey", "grant", "ungrant", "clearNamespace", "userRemoved"}
+MAKING = {"generateKey", "importKey", "importWrappedKey"}
+WRITING = MAKING | {"deleteKey", "grant", "ungrant", "clearNamespace", "userRemoved"}
 
 
 class Differs(Exception):
@@ -149,9 +150,7 @@ def writes(event, service):
     if event["act"] == "upgradeKey":
         changed = copy.deepcopy(service)
         return changed.reply(event)["code"] == 0 and blobs_of(changed) != blobs_of(service)
-    return event["act"] in WRITING and not (
-        event["act"] in ("generateKey", "importKey") and event["key"]["domain"] == 3
-    )
+    return event["act"] in WRITING and not (event["act"] in MAKING and event["key"]["domain"] == 3)
 
 
 def faulted(service, event, settled):

@@ -35,7 +35,13 @@ OWNER, OTHER, SYSTEM = 10001, 10002, 1000
 ALIASES = [b"a", b"b", b"\xff", b"m" * 256]
 HMAC = {"PURPOSE": [2, 3], "ALGORITHM": 128, "DIGEST": [4], "MIN_MAC_LENGTH": 64, "NO_AUTH_REQUIRED": True}
 AES = {"PURPOSE": [0, 1], "ALGORITHM": 32, "BLOCK_MODE": [1], "PADDING": [1], "NO_AUTH_REQUIRED": True}
+# A wrapping key (RFC 3394 section 4.1), and what is wrapped under it: 16 bytes 0b, and with its last bit changed.
+WRAPPING_KEY = bytes(range(16))
+WRAPPED = bytes.fromhex("4bfcdf431a6e8520e80c37265f00139117989610f0a27695")
+WRAPPED_TEXTS = [WRAPPED, WRAPPED, WRAPPED[:-1] + b"\x94", WRAPPED[1:], b""]
+WRAPPING = parameters(PURPOSE=[5], ALGORITHM=32, NO_AUTH_REQUIRED=True)
 LISTS = [
+    WRAPPING,
     parameters(**HMAC),
     parameters(**AES),
     parameters(**HMAC, USAGE_COUNT_LIMIT=2),
@@ -88,10 +94,18 @@ class Maker:
             elif kind == "opt":
                 fields += optional(draws.choice([None, None, draws.randbytes(32), b"a"]))
             elif kind == "bytes":
-                fields += counted(draws.randbytes(draws.choice([16, 20, 32])) if name == "material" else self.text())
+                fields += counted(self.data(name))
             else:
                 fields += number(self.number(name), kind)
         return bytes([act]) + fields
+
+    def data(self, name):
+        """The bytes of a field."""
+        if name == "wrapped":
+            return self.draws.choice(WRAPPED_TEXTS)
+        if name != "material":
+            return self.text()
+        return WRAPPING_KEY if self.draws.random() < 0.3 else self.draws.randbytes(self.draws.choice([16, 20, 32]))
 
     def number(self, name):
         draws = self.draws
@@ -121,10 +135,20 @@ class Maker:
             return frame[:4] + bytes([draws.randrange(256)]) + frame[5:]
         return frame + frame[: draws.randint(1, len(frame))]
 
+    def comes_wrapped(self):
+        """A key that wraps, and one that comes under it, mostly so that it opens."""
+        alias = self.draws.choice(ALIASES)
+        key = u32(0) + u64(0) + optional(alias) + optional(None)
+        yield b"\x04" + key + counted(WRAPPING) + u32(3) + counted(WRAPPING_KEY)
+        wrapped = counted(self.data("wrapped")) + counted(self.draws.choice([b"\0\0", b"\0\0", b"\0\1"]))
+        yield b"\x19" + self.key() + counted(self.draws.choice(LISTS)) + key + wrapped
+
     def frames(self):
         """The bytes of some frames, of which one may be changed."""
         frames = [counted(self.body(1))] if self.draws.random() < 0.95 else []
         frames += [counted(self.body(act)) for act in self.acts()]
+        if self.draws.random() < 0.1:
+            frames += [counted(body) for body in self.comes_wrapped()]
         if frames and self.draws.random() < 0.5:
             place = self.draws.randrange(len(frames))
             frames[place] = self.changed(frames[place])
@@ -202,7 +226,7 @@ def check_form(request, reply):
 
 def table_of(act):
     """The letter of an act's table of rules."""
-    return {3: "K", 4: "K", 5: "B", 6: "S", 7: "S", 8: "S", 9: "S"}.get(act, "A")
+    return {3: "K", 4: "K", 25: "K", 5: "B", 6: "S", 7: "S", 8: "S", 9: "S"}.get(act, "A")
 
 
 def answers(port, pieces, wanted, is_reset):

@@ -39,6 +39,7 @@ ACTS = {
     20: ("clearNamespace", OWNER),
     21: ("userRemoved", [("user", U32)]),
     24: ("upgradeKey", KEYED),
+    25: ("importWrappedKey", [*KEYED, ("wrapping", "key"), ("wrapped", "bytes"), ("unwrapping", "params")]),
 }
 TOKEN = [("challenge", U64), ("user", U64), ("authenticator", U64), ("kind", U32), ("time", U64)]
 NUMBERS = {

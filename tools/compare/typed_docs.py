@@ -40,7 +40,7 @@ PASSED = re.compile(
     r"^(\.{1,2}/keystore2 build\b|rt |\.ci/run|git |tar |sha256sum |\S*python3 \S*tools/(build|release)\.py)",
     re.MULTILINE,
 )
-NEEDS_PACKAGE = re.compile(r"tools/(blobs\.py|ks compare second_(server|model))")
+NEEDS_PACKAGE = re.compile(r"tools/(blobs\.py|wrap_key\.py|ks compare second_(server|model))")
 # What names files of the top, for a block that is typed elsewhere.
 OF_TOP = re.compile(r"(?:^|[\s<=])\.?/?(keystore2|tools|examples|checks|docs)(?=[/\s]|$)")
 # A line of a script with its number, and the file that a command reads as its script.

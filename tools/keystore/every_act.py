@@ -9,6 +9,9 @@ from keystore.lines import APP, GRANT, PARAMS, begin, call, connect, made, named
 
 OWNER, OTHER, SYSTEM, FAR = 10001, 10002, 1000, 110001
 MESSAGE = "4869205468657265"
+# A key that wraps, and 16 bytes 0b wrapped under its bytes 00 to 0f.
+WRAPPING, WRAPPING_KEY = [["PURPOSE", 5], ["ALGORITHM", 32], ["NO_AUTH_REQUIRED", True]], bytes(range(16)).hex()
+WRAPPED = "4bfcdf431a6e8520e80c37265f00139117989610f0a27695"
 
 
 class Line(NamedTuple):
@@ -22,8 +25,16 @@ def writing(members: dict[str, Any]) -> Line:
     return Line(members, True)
 
 
+def with_limit(limit: int) -> list[Any]:
+    return [*PARAMS, ["USAGE_COUNT_LIMIT", limit]]
+
+
 def limited(client: int, alias: str, limit: int) -> Line:
-    return writing(made(client, named(alias), [*PARAMS, ["USAGE_COUNT_LIMIT", limit]]))
+    return writing(made(client, named(alias), with_limit(limit)))
+
+
+def comes_wrapped(client: int, key: dict[str, Any], params: list[Any], wrapping: dict[str, Any]) -> dict[str, Any]:
+    return call(client, "importWrappedKey", key=key, params=params, wrapping=wrapping, wrapped=WRAPPED)
 
 
 def finish(client: int, number: int, **members: Any) -> dict[str, Any]:
@@ -62,12 +73,21 @@ EVERY_ACT = [
     writing(call(1, "upgradeKey", key=named("old"))),
     Line(call(1, "upgradeKey", key=named("old"))),
     look(1, "old"),
+    writing(made(1, named("wrap"), WRAPPING, WRAPPING_KEY)),
+    writing(comes_wrapped(1, named("came"), with_limit(2), named("wrap"))),
+    writing(call(1, "deleteKey", key=named("wrap"))),
+    Line(begin(1, named("came"))),
+    writing(finish(1, 3)),
+    look(1, "came"),
     RESTART,
     *CONNECTS,
     look(5, "twice"),
     Line(begin(5, named("twice"))),
-    writing(finish(5, 3)),
+    writing(finish(5, 4)),
     look(5, "twice"),
+    Line(begin(5, named("came"))),
+    writing(finish(5, 5)),
+    look(5, "came"),
     writing(made(6, named("own"))),
     writing(call(7, "clearNamespace", domain=APP, nspace=OTHER)),
     writing(made(8, named("far"))),

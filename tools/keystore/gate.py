@@ -33,6 +33,7 @@ CHECKS = [
     "closed_streams",
     "protocol",
     "client",
+    "wrap_key",
     "slips",
     "service",
     "silent_clients",

@@ -9,7 +9,7 @@ from keystore.harness import TOP
 PAGE = TOP / "docs/RULES.md"
 NAMED = re.compile(r"([A-Z][A-Z0-9_-]*) ([0-9]+)")
 OWN_TYPE = {"key", "params", "forced"}
-FIELD = re.compile(r"`(\w+)`(?: (u32|u64|bytes|text|32 bytes))?")
+FIELD = re.compile(r"`(\w+)`(?: (u32|u64|bytes|text|32 bytes)| as `(key|params)`)?")
 
 
 def cells_of(line: str) -> list[str]:
@@ -31,12 +31,13 @@ def tables_in(text: str) -> dict[tuple[str, ...], list[list[str]]]:
 
 
 def fields_in(cell: str) -> dict[str, str | None]:
-    """The fields of an act, each with its type: of several behind which one type stands each has it, and `key`,
-    `params` and `forced` have their own."""
+    """The fields of an act, each with its type: of several behind which one type stands each has it, `key`, `params`
+    and `forced` have their own, and one may have that of `key` or `params`."""
     fields: dict[str, str | None] = {}
     found = FIELD.findall(cell)
-    for place, (name, _) in enumerate(found):
-        fields[name] = name if name in OWN_TYPE else next((it for _, it in found[place:] if it), None)
+    for place, (name, _, other) in enumerate(found):
+        own = name if name in OWN_TYPE else other
+        fields[name] = own or next((it for _, it, _ in found[place:] if it), None)
     return fields
 
 

@@ -135,8 +135,8 @@ def reading_of(members: Members) -> list[int]:
     return [number_of(clock, 64) for clock in reading]
 
 
-def descriptor_of(members: Members) -> Members:
-    key = needed(members, "key")
+def descriptor_of(members: Members, name: str = "key") -> Members:
+    key = needed(members, name)
     if not isinstance(key, dict):
         raise Malformed()
     return {
@@ -187,6 +187,15 @@ def import_fields(members: Members) -> Members:
         **key_fields(members),
         "format": number_of(needed(members, "format"), 32),
         "material": bytes_of(needed(members, "material")),
+    }
+
+
+def wrapped_fields(members: Members) -> Members:
+    return {
+        **key_fields(members),
+        "wrapping": descriptor_of(members, "wrapping"),
+        "wrapped": bytes_of(needed(members, "wrapped")),
+        "unwrapping": encoded_list(members.get("unwrapping", [])),
     }
 
 
@@ -264,6 +273,7 @@ FIELDS: dict[str, Callable[[Members], Members]] = {
     "disconnect": no_fields,
     "generateKey": key_fields,
     "importKey": import_fields,
+    "importWrappedKey": wrapped_fields,
     "createOperation": begin_fields,
     "updateAad": step_fields,
     "update": step_fields,

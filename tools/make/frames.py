@@ -53,9 +53,14 @@ def raw(name, value):
     return value, f"{name}: {list(value)}"
 
 
-def key(domain, nspace, alias, blob):
+def descriptor(name, domain, nspace, alias, blob):
     parts = [short("domain", domain), long("nspace", nspace), given("alias", alias), given("blob", blob)]
-    return b"".join(part for part, _ in parts), f"key: Descriptor {{ {', '.join(spelled for _, spelled in parts)} }}"
+    spelled = ", ".join(spelled for _, spelled in parts)
+    return b"".join(part for part, _ in parts), f"{name}: Descriptor {{ {spelled} }}"
+
+
+def key(*fields):
+    return descriptor("key", *fields)
 
 
 def act(number_of_act, name, *fields):
@@ -100,6 +105,15 @@ REQUESTS = [
     act(20, "ClearNamespace", short("domain", 2), long("nspace", 100)),
     act(21, "UserRemoved", short("user", 10)),
     act(24, "UpgradeKey", ALIAS, text("params", b"\x00\x03")),
+    act(
+        25,
+        "ImportWrappedKey",
+        ALIAS,
+        text("params", b"\x00\x04"),
+        descriptor("wrapping", 4, 9, None, None),
+        text("wrapped", b"\x22" * 24),
+        text("unwrapping", b"\x00\x05\x06"),
+    ),
 ]
 
 

@@ -1,7 +1,7 @@
 """The authorization lists that script_maker.py puts into its lines: those of new keys and those of begins."""
 import random
 
-from model.values import AES, CBC, CTR, DIGEST_BITS, ECB, GCM, HMAC, NO_PADDING, PKCS7, SIGN, one
+from model.values import AES, CBC, CTR, DIGEST_BITS, ECB, GCM, HMAC, NO_PADDING, PKCS7, SIGN, WRAP_KEY, one
 from keystore.lists import BOOL, BYTES, TAGS
 from keystore.script_events import encoded_list
 
@@ -28,6 +28,7 @@ HMAC_LIST = [
     ["NO_AUTH_REQUIRED", True],
 ]
 FREE = ["NO_AUTH_REQUIRED", True]
+WRAP_LIST = [["PURPOSE", WRAP_KEY], ["ALGORITHM", AES], FREE]
 TWICE_LIST = [*HMAC_LIST, ["USAGE_COUNT_LIMIT", 2]]
 WAITING_LIST = [pair for pair in HMAC_LIST if pair != FREE] + [["USER_SECURE_ID", 7]]
 
@@ -150,7 +151,8 @@ class ListMaker:
 
     def new_list(self, is_aes):
         """The list of a key of AES or of HMAC, mostly one that can be made."""
-        params = self.edited(self.restricted(AES_LIST if is_aes else HMAC_LIST), 0.25)
+        params = HMAC_LIST if not is_aes else WRAP_LIST if self.chance(0.1) else AES_LIST
+        params = self.edited(self.restricted(params), 0.25)
         if self.chance(0.15):
             params = params + [["USAGE_COUNT_LIMIT", self.random.choice([0, 1, 1, 1, 2, 2, 3, 4294967295])]]
         if self.chance(0.1):
@@ -162,6 +164,12 @@ class ListMaker:
         if self.chance(0.05):
             return self.random.choice([0, 7, 15, 17, 65])
         return self.random.choice([16, 24, 32] if is_aes else [8, 20, 64])
+
+    def text_size(self, is_aes):
+        """How many bytes a text has that is to be wrapped, mostly such as may be."""
+        if self.chance(0.05):
+            return self.random.choice([0, 8, 15, 17, 40, 72])
+        return self.random.choice([16, 24, 32] if is_aes else [16, 24, 64])
 
     def edited(self, params, share):
         """A copy of a list, with an edit in that share of the calls, and another one in that share of these."""

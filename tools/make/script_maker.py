@@ -4,6 +4,8 @@ import json
 import re
 from dataclasses import replace
 
+from cryptography.hazmat.primitives.keywrap import aes_key_wrap
+
 from keystore.blobs import list_of, seal, text_of as sealed_text
 from keystore.device import DEMO_DEVICE
 from dialog import OPEN, Told
@@ -24,11 +26,23 @@ from model.values import (
     MOST_SLOTS,
     MOST_STEP_BYTES,
     SELINUX,
+    WRAP_KEY,
+    WRAPPED_SIZES,
     Denied,
 )
 from keystore.lists import read_list
 from keystore.script_events import Malformed, encoded_list, event_of
-from make.script_lists import AES_LIST, HMAC_LIST, KINDS, SECURE_IDS, TIMEOUTS, TWICE_LIST, WAITING_LIST, ListMaker
+from make.script_lists import (
+    AES_LIST,
+    HMAC_LIST,
+    KINDS,
+    SECURE_IDS,
+    TIMEOUTS,
+    TWICE_LIST,
+    WAITING_LIST,
+    WRAP_LIST,
+    ListMaker,
+)
 from model.second_model import Service, reply_line
 
 # How many lines are tried for a script.
@@ -139,14 +153,15 @@ class Maker(ListMaker):
             self.outputs = [*self.outputs, output][-MOST_REMEMBERED:]
 
     def script(self):
-        """Puts all lines: clients, a key of AES, three of HMAC, one of which wants tokens and one has two uses, and
-        then anything."""
+        """Puts all lines: clients, a key of AES, three of HMAC, one of which wants tokens and one has two uses, one
+        that wraps for each app, and then anything."""
         self.connect_clients()
         keys = (
             (1, "a", AES_LIST, "00" * 16),
             (2, "a", HMAC_LIST, "0b" * 20),
             (2, "b", WAITING_LIST, "0b" * 20),
             (1, "c", TWICE_LIST, "0b" * 20),
+            *((client, "w", WRAP_LIST, "07" * 16) for client in (1, 2, 4)),
         )
         for client, alias, params, material in keys:
             members = {"t": [0, 0], "c": client, "do": "importKey", "key": {"domain": 0, "alias": alias}}
@@ -211,16 +226,19 @@ class Maker(ListMaker):
         connected = [number for number, uid in enumerate(uids, 1) if uid is not None]
         return self.random.choice(connected or [1])
 
+    def new_name(self, members):
+        """A descriptor for a new key, mostly one that can be made."""
+        if self.chance(0.15):
+            self.as_system(members)
+            return self.place_of_blobs()
+        key = self.descriptor()
+        return key if key["domain"] in (APP, SELINUX) or self.chance(0.2) else {"domain": APP, "alias": "a"}
+
     def new_key(self, members):
         """Imports a key, or generates one that has no purpose."""
         is_aes = self.chance(0.6)
         params, size = self.new_list(is_aes), self.size(is_aes)
-        members["key"] = self.descriptor()
-        if members["key"]["domain"] not in (APP, SELINUX) and self.chance(0.8):
-            members["key"] = {"domain": APP, "alias": "a"}
-        if self.chance(0.15):
-            self.as_system(members)
-            members["key"] = self.place_of_blobs()
+        members["key"] = self.new_name(members)
         if self.chance(0.85):
             members["do"] = "importKey"
             members["params"] = self.spelled(params)
@@ -277,10 +295,10 @@ class Maker(ListMaker):
             key["blob"] = blob.hex()
         return opened_or_none(blob)
 
-    def own_name(self, client, is_limited=False):
-        """The name of a key of the client's app, or of one that has a use limit, where it has one."""
+    def own_name(self, client, is_wanted=lambda key: True):
+        """The name of a key of the client's app that is wanted so, where it has one."""
         keys = self.service.store.keys_of((APP, self.service.uid_of(client)))
-        aliases = [key.alias for key in keys if not is_limited or key.uses is not None]
+        aliases = [key.alias for key in keys if is_wanted(key)]
         return {"domain": APP, "alias": self.random.choice(aliases).decode() if aliases else "a"}
 
     def use_stored(self, members):
@@ -308,6 +326,40 @@ class Maker(ListMaker):
         ids = [[name, value.hex()] for name, value in named if value is not None]
         members["params"] = self.spelled(self.edited(ids, 0.1))
 
+    def wrapped_key(self, members):
+        """Imports a key that comes wrapped, mostly under one that wraps and so that it opens."""
+        is_aes = self.chance(0.6)
+        members["key"] = self.new_name(members)
+        members["do"] = "importWrappedKey"
+        members["params"] = self.spelled(self.new_list(is_aes))
+        opened = self.use_wrapping(members)
+        text = bytes([self.random.choice([0, 7])]) * self.text_size(is_aes)
+        members["wrapped"] = self.wrapped(opened, text).hex()
+        ids = self.spelled(self.edited(self.ids_of(opened), 0.1))
+        if ids or self.chance(0.5):
+            members["unwrapping"] = ids
+
+    def use_wrapping(self, members):
+        """Names the key under which another one comes; what its blob opens to, where it is there."""
+        members["wrapping"] = self.descriptor()
+        if self.chance(0.9):
+            members["wrapping"] = self.own_name(
+                members["c"], lambda key: WRAP_KEY in key.params.get("PURPOSE", []) or self.chance(0.01)
+            )
+        key = self.found(members["c"], members["wrapping"])
+        if key is not None and self.chance(0.2):
+            members["wrapping"] = {"domain": KEY_ID, "nspace": key.number}
+        return None if key is None else opened_or_none(key.blob)
+
+    def wrapped(self, opened, text):
+        """A text wrapped under an opened key, where it may be; seldom with a wrong bit, and else bytes that open to
+        nothing."""
+        can_wrap = opened is not None and len(opened.material) in (16, 24, 32) and len(text) + 8 in WRAPPED_SIZES
+        if not can_wrap or self.chance(0.05):
+            return bytes(len(text) + 8)
+        wrapped = aes_key_wrap(opened.material, text)
+        return self.one_bit_off(wrapped) if self.chance(0.05) else wrapped
+
     def some_uid(self):
         """Mostly the uid of a client, so that a grant can be used."""
         uids = [uid for uid in self.service.uids if uid is not None]
@@ -320,7 +372,7 @@ class Maker(ListMaker):
         if self.found(members["c"], members["key"]) is None and self.chance(0.5):
             members["key"] = {"domain": APP, "alias": "a"}
         if members["do"] == "getKeyEntry" and self.chance(0.5):
-            members["key"] = self.own_name(members["c"], is_limited=True)
+            members["key"] = self.own_name(members["c"], lambda key: key.uses is not None)
         if members["do"] in ("grant", "ungrant"):
             members["uid"] = self.some_uid()
         if members["do"] == "grant":
@@ -505,19 +557,21 @@ class Maker(ListMaker):
             self.new_key(members)
         elif kind < 0.14:
             self.upgrade(members)
-        elif kind < 0.21:
+        elif kind < 0.16:
+            self.wrapped_key(members)
+        elif kind < 0.23:
             self.call_on_key(members)
-        elif kind < 0.235:
+        elif kind < 0.255:
             self.call_on_owner(members)
-        elif kind < 0.24:
+        elif kind < 0.26:
             self.call_of_system(members)
-        elif kind < 0.25:
+        elif kind < 0.27:
             self.call_of_device(members)
-        elif kind < 0.31:
+        elif kind < 0.33:
             self.token(members)
-        elif kind < 0.47 or len(self.service.operations) < min(4, self.slots) and self.chance(0.7):
+        elif kind < 0.49 or len(self.service.operations) < min(4, self.slots) and self.chance(0.7):
             self.begin(members)
-        elif kind < 0.54 or self.service.out and self.chance(0.2):
+        elif kind < 0.56 or self.service.out and self.chance(0.2):
             self.leave(members)
         else:
             self.step(members)

@@ -50,9 +50,9 @@ def command(clone, name, kept, jobs=1):
     return [*words, "--jobs", str(jobs), "--incremental", kept]
 
 
-def build_command(clone, name):
+def build_command(clone, name, jobs):
     """The same whose library is put into the clone, in the place of one that is there."""
-    words = command(clone, name, None)
+    words = command(clone, name, None, jobs)
     words[1] = "build"
     place = clone / f"crates/{name}/out/rlib/{name}.rlib"
     shutil.rmtree(place, ignore_errors=True)
@@ -78,7 +78,10 @@ def main():
     folder = TOP / "crates" / given.crate
     (folder / "out/over").mkdir(parents=True, exist_ok=True)
     clone = given.clone.resolve()
-    words = build_command(clone, given.crate) if given.build else command(clone, given.crate, "out/over", given.jobs)
+    if given.build:
+        words = build_command(clone, given.crate, given.jobs)
+    else:
+        words = command(clone, given.crate, "out/over", given.jobs)
     words += ["--empty-contracts", *[given.way] * bool(given.way)]
     words += ["--test"] * given.test + [word for path in given.only for word in ("--only", path)]
     start = time.time()

@@ -25,11 +25,42 @@ from model.values import (
     one,
 )
 
-# A domain and a uid or a namespace of it.
+# A domain and a uid or a namespace of it, and a descriptor by its members.
 Owner = tuple[int, int]
+Descriptor = dict[str, Any]
 # What a caller says of these is not kept.
 NOT_KEPT = ["APPLICATION_ID", "APPLICATION_DATA", "NONCE", "MAC_LENGTH", "ORIGIN", "OS_VERSION", "OS_PATCHLEVEL"]
-GENERATED, IMPORTED = 0, 2
+GENERATED, IMPORTED, SECURELY_IMPORTED = 0, 2, 4
+
+
+def is_text(data: bytes) -> bool:
+    """Whether bytes are UTF-8, as those of a frame may not be."""
+    try:
+        data.decode()
+    except UnicodeDecodeError:
+        return False
+    return True
+
+
+def has_alias(descriptor: Descriptor) -> bool:
+    """Whether a descriptor names a key in APP or SELINUX by its alias."""
+    alias = descriptor["alias"]
+    return descriptor["domain"] in (APP, SELINUX) and alias is not None and 1 <= len(alias) <= 256 and is_text(alias)
+
+
+def is_stored(descriptor: Descriptor) -> bool:
+    """Whether a descriptor names a stored key, by its alias or by a number."""
+    return has_alias(descriptor) or descriptor["domain"] in (GRANT, KEY_ID)
+
+
+def is_blob(descriptor: Descriptor) -> bool:
+    """Whether a descriptor has the key itself, sealed."""
+    return descriptor["domain"] == BLOB and descriptor["blob"] is not None
+
+
+def is_shared(descriptor: Descriptor) -> bool:
+    """Whether a descriptor may name a key that is to be granted."""
+    return descriptor["domain"] in (APP, SELINUX, KEY_ID)
 
 
 def with_versions(kept: Params, versions: tuple[int, int]) -> Params:
@@ -38,10 +69,10 @@ def with_versions(kept: Params, versions: tuple[int, int]) -> Params:
     return kept | {"OS_VERSION": [os], "OS_PATCHLEVEL": [patch]}
 
 
-def kept_list(params: Params, material: bytes | None, wall: int, versions: tuple[int, int]) -> Params:
+def kept_list(params: Params, material: bytes | None, origin: int, wall: int, versions: tuple[int, int]) -> Params:
     """The list that is kept with a new key; the material is None for one that is generated."""
     kept = {name: values for name, values in params.items() if name not in NOT_KEPT}
-    kept["ORIGIN"] = [GENERATED if material is None else IMPORTED]
+    kept["ORIGIN"] = [origin]
     if material is not None:
         kept.setdefault("KEY_SIZE", [8 * len(material)])
     kept.setdefault("CREATION_DATETIME", [wall])
@@ -93,7 +124,7 @@ class KeyStore:
         grant = self.grant_to(key, uid)
         return bits if grant is None else bits | grant.bits
 
-    def access(self, uid: int, descriptor: dict[str, Any]) -> tuple[Key | None, int]:
+    def access(self, uid: int, descriptor: Descriptor) -> tuple[Key | None, int]:
         """The stored key that a uid's descriptor finds, or None, and what the uid may do with it, or with a blob."""
         domain, nspace, alias = descriptor["domain"], descriptor["nspace"], descriptor["alias"]
         if domain == APP:

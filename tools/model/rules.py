@@ -1,8 +1,10 @@
-"""The rules of second_model.py that read lists, lengths and the device's state: K4 to K15, B6 to B23, S4 to S8
-and A14."""
+"""The rules of second_model.py that read lists, lengths and the device's state: K4 to K15 and K17, B6 to B23, S4 to
+S8, A14, and what K21 to K23 read of a wrapping key."""
 from __future__ import annotations
 
 from typing import Any
+
+from cryptography.hazmat.primitives.keywrap import InvalidUnwrap, aes_key_unwrap
 
 from keystore.lists import ListFault, Params, read_list
 from model.blobs import Sealed
@@ -16,6 +18,7 @@ from model.values import (
     ENCRYPT,
     GCM,
     HMAC,
+    KEY_PURPOSES,
     MOST_BLOB_BYTES,
     MOST_ID_BYTES,
     MOST_KEPT_BYTES,
@@ -27,7 +30,10 @@ from model.values import (
     PURPOSES,
     RAW,
     SIGN,
+    TAGS_OF_NO_WRAPPING_KEY,
     TAGS_OF_STORED_KEYS,
+    WRAP_KEY,
+    WRAPPED_SIZES,
     BeginFacts,
     Denied,
     Operation,
@@ -40,7 +46,7 @@ Event = dict[str, Any]
 
 
 def read_params(data: bytes, rule: str) -> Params:
-    """The list of a call, by K4 or B6."""
+    """The list of a call, by K4, K21, B6 or A11."""
     if len(data) > MOST_LIST_BYTES:
         raise Denied(-21, rule)
     try:
@@ -74,7 +80,7 @@ def check_size(algorithm: int, params: Params, material: bytes | None) -> None:
 
 def check_uses(algorithm: int, params: Params) -> None:
     """K8 to K11."""
-    if any(purpose not in PURPOSES[algorithm] for purpose in params.get("PURPOSE", [])):
+    if any(purpose not in KEY_PURPOSES[algorithm] for purpose in params.get("PURPOSE", [])):
         raise Denied(-2, "K8")
     if algorithm == AES:
         if any(mode not in (ECB, CBC, CTR, GCM) for mode in params.get("BLOCK_MODE", [])):
@@ -101,7 +107,7 @@ def check_least_mac(algorithm: int, params: Params) -> None:
 
 
 def check_restrictions(params: Params, is_blob: bool, is_early_over: bool) -> None:
-    """K13 to K15."""
+    """K13 to K15 and K17."""
     if "NO_AUTH_REQUIRED" in params and "USER_SECURE_ID" in params:
         raise Denied(-38, "K13")
     if one(params, "USAGE_COUNT_LIMIT") == 0:
@@ -110,6 +116,9 @@ def check_restrictions(params: Params, is_blob: bool, is_early_over: bool) -> No
         raise Denied(-39, "K14")
     if "EARLY_BOOT_ONLY" in params and is_early_over:
         raise Denied(-73, "K15")
+    purposes = params.get("PURPOSE", [])
+    if WRAP_KEY in purposes and (len(purposes) > 1 or any(name in params for name in TAGS_OF_NO_WRAPPING_KEY)):
+        raise Denied(-39, "K17")
 
 
 def check_algorithm(params: Params) -> None:
@@ -127,9 +136,9 @@ def check_key(params: Params, material: bytes | None) -> None:
 
 
 def check_new(event: Event, params: Params, material: bytes | None, is_early_over: bool) -> None:
-    """K5 to K15; the material is None for a key that is to be generated."""
+    """K5 to K15 and K17; the material is None for a key that is to be generated, and what is wrapped has no format."""
     check_algorithm(params)
-    if material is not None and event["format"] != RAW:
+    if event.get("format", RAW) != RAW:
         raise Denied(-17, "K6")
     check_key(params, material)
     check_restrictions(params, event["key"]["domain"] == BLOB, is_early_over)
@@ -145,14 +154,14 @@ def check_sealed_for(asked: Params, opened: Sealed, root: bytes, rule: str) -> N
         raise Denied(-33, rule)
 
 
-def check_opened(asked: Params, opened: Sealed, root: bytes) -> None:
-    """B8, for what stands in an opened blob."""
-    check_sealed_for(asked, opened, root, "B8")
+def check_opened(asked: Params, opened: Sealed, root: bytes, rule: str = "B8") -> None:
+    """B8, for what stands in an opened blob, and what K21 has of it."""
+    check_sealed_for(asked, opened, root, rule)
     try:
         check_algorithm(opened.params)
         check_key(opened.params, opened.material)
     except Denied:
-        raise Denied(-33, "B8")
+        raise Denied(-33, rule)
 
 
 def versions_in(kept: Params) -> tuple[int, int]:
@@ -165,12 +174,12 @@ def is_newer(kept: Params, versions: tuple[int, int]) -> bool:
     return any(own > device for own, device in zip(versions_in(kept), versions))
 
 
-def check_versions(kept: Params, versions: tuple[int, int]) -> None:
-    """B23."""
+def check_versions(kept: Params, versions: tuple[int, int], rule: str = "B23") -> None:
+    """B23, and what K21 has of it."""
     if is_newer(kept, versions):
-        raise Denied(-33, "B23")
+        raise Denied(-33, rule)
     if versions_in(kept) != versions:
-        raise Denied(-62, "B23")
+        raise Denied(-62, rule)
 
 
 def check_purpose(asked: Params, kept: Params) -> None:
@@ -300,6 +309,21 @@ def plan_of(asked: Params, kept: Params) -> Plan:
         least_mac_bytes=(one(kept, "MIN_MAC_LENGTH") or 0) // 8,
         is_limited="USAGE_COUNT_LIMIT" in kept,
     )
+
+
+# A key that comes wrapped under another one.
+
+
+def opened_text(wrapping: Sealed, wrapped: bytes) -> bytes:
+    """The text of a key that comes wrapped under an opened one, by K22 and K23."""
+    if WRAP_KEY not in wrapping.params.get("PURPOSE", []):
+        raise Denied(-3, "K22")
+    if len(wrapped) not in WRAPPED_SIZES:
+        raise Denied(-21, "K23")
+    try:
+        return aes_key_unwrap(wrapping.material, wrapped)
+    except InvalidUnwrap:
+        raise Denied(-30, "K23")
 
 
 # Table A.

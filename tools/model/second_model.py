@@ -3,11 +3,11 @@
     tools/ks compare second_model [--fail N,N,..] [--slots N] [--trace] [--os N] [--patch N] < SCRIPT
 
 It is written from docs/RULES.md's rules, apart from the proved code, so that the two can be compared. Its entropy
-counts 00, 01 .. ff, 00 ..; the draws whose numbers --fail gives, counted from 1, fail. AES, its modes and GCM are
+counts 00, 01 .. ff, 00 ..; the draws whose numbers --fail gives, counted from 1, fail. AES, its modes, GCM and KW are
 those of the Python package `cryptography`, the macs those of the standard library. Memory is never wanting here, and
 the limits of a line and of a script, which end the program's run, are not looked at. keystore/script_events.py reads
 the lines, rules.py has the rules of lists and lengths, keys.py the keys and grants, blobs.py their blobs, tokens.py
-the tokens, and outputs.py the outputs. Each reply is written before the next line is read. No disk stands behind it:
+the tokens, entropy.py the draws, and outputs.py the outputs. Each reply is written before the next line is read. No disk stands behind it:
 failing_disk.py tells it which changes failed, and what the settled lines say of them. With --trace it writes
 the lines of a trace in place of replies."""
 from __future__ import annotations
@@ -24,7 +24,21 @@ from keystore.harness import parser_of
 from keystore.lists import Params, write_list
 from keystore.script_events import Malformed, event_of
 from model.blobs import NONCE_BYTES as BLOB_NONCE_BYTES, Sealed, opened_blob, sealed_blob
-from model.keys import KeyStore, Owner, kept_list, owner_of, with_versions
+from model.entropy import Entropy
+from model.keys import (
+    GENERATED,
+    IMPORTED,
+    SECURELY_IMPORTED,
+    KeyStore,
+    Owner,
+    has_alias,
+    is_blob,
+    is_shared,
+    is_stored,
+    kept_list,
+    owner_of,
+    with_versions,
+)
 from model.outputs import front, raw_output, whole_output
 from model.rules import (
     ENDING,
@@ -34,7 +48,9 @@ from model.rules import (
     check_sealed_for,
     check_step,
     check_upgrade,
+    check_versions,
     is_authenticated_each,
+    opened_text,
     plan_of,
     read_params,
     versions_in,
@@ -50,8 +66,6 @@ from model.values import (
     DEMO_SEAL_KEY,
     DEMO_VERSIONS,
     GET_INFO,
-    GRANT,
-    KEY_ID,
     MANAGE_BLOB,
     MAY_GRANT,
     MOST_STEP_BYTES,
@@ -74,60 +88,6 @@ from model.values import (
 # An event and a reply, by their members.
 Event = dict[str, Any]
 Reply = dict[str, Any]
-
-
-def is_text(data: bytes) -> bool:
-    """Whether bytes are UTF-8, as those of a frame may not be."""
-    try:
-        data.decode()
-    except UnicodeDecodeError:
-        return False
-    return True
-
-
-def has_alias(descriptor: Event) -> bool:
-    """Whether a descriptor names a key in APP or SELINUX by its alias."""
-    alias = descriptor["alias"]
-    return descriptor["domain"] in (APP, SELINUX) and alias is not None and 1 <= len(alias) <= 256 and is_text(alias)
-
-
-def is_stored(descriptor: Event) -> bool:
-    """Whether a descriptor names a stored key, by its alias or by a number."""
-    return has_alias(descriptor) or descriptor["domain"] in (GRANT, KEY_ID)
-
-
-def is_blob(descriptor: Event) -> bool:
-    """Whether a descriptor has the key itself, sealed."""
-    return descriptor["domain"] == BLOB and descriptor["blob"] is not None
-
-
-def is_shared(descriptor: Event) -> bool:
-    """Whether a descriptor may name a key that is to be granted."""
-    return descriptor["domain"] in (APP, SELINUX, KEY_ID)
-
-
-class Entropy:
-    """Bytes that count up; the draws with the numbers `failing`, counted from 1, fail."""
-
-    def __init__(self, failing: Collection[int]) -> None:
-        self.failing = failing
-        self.draws = 0
-        self.next_byte = 0
-        self.drawn = b""
-
-    def draw(self, count: int) -> bytes:
-        self.draws += 1
-        if self.draws in self.failing:
-            raise Denied(1005)
-        drawn = bytes((self.next_byte + i) % 256 for i in range(count))
-        self.next_byte = (self.next_byte + count) % 256
-        self.drawn += drawn
-        return drawn
-
-    def taken(self) -> bytes:
-        """The bytes that were drawn since this was last asked."""
-        drawn, self.drawn = self.drawn, b""
-        return drawn
 
 
 class Service:
@@ -187,6 +147,7 @@ class Service:
             "disconnect": self.disconnect,
             "generateKey": self.make_key,
             "importKey": self.make_key,
+            "importWrappedKey": self.make_key,
             "createOperation": self.create_operation,
             "updateAad": self.enter,
             "update": self.enter,
@@ -263,8 +224,8 @@ class Service:
 
     # Keys.
 
-    def make_key(self, event: Event) -> Reply:
-        """Generates a key, or imports it where there is material."""
+    def uid_to_make(self, event: Event) -> int:
+        """The uid of a client that may make a key under a name, by K1 to K3."""
         uid = self.uid_of(event["client"])
         descriptor = event["key"]
         if uid is None:
@@ -274,14 +235,43 @@ class Service:
         wanted = {SELINUX: REBIND, BLOB: MANAGE_BLOB}.get(descriptor["domain"], 0)
         if wanted and not (self.store.row(uid, descriptor["nspace"]) or 0) & wanted:
             raise Denied(6, "K3")
+        return uid
+
+    def wrapping_key(self, uid: int, event: Event) -> Sealed:
+        """What opens of the key under which another one comes wrapped, by K18 to K21."""
+        descriptor = event["wrapping"]
+        if not is_stored(descriptor):
+            raise Denied(20, "K18")
+        self.check_row(uid, descriptor["domain"], descriptor["nspace"], "K18")
+        key, bits = self.store.access(uid, descriptor)
+        if key is None:
+            raise Denied(7, "K19")
+        if not bits & USE:
+            raise Denied(6, "K20")
+        asked = read_params(event["unwrapping"], "K21")
+        opened = opened_blob(self.seal_key, key.blob, "K21")
+        check_opened(asked, opened, self.root, "K21")
+        check_versions(opened.params, self.versions, "K21")
+        return opened
+
+    def material_given(self, uid: int, event: Event) -> tuple[bytes | None, int]:
+        """The material of a new key, or None for one that is generated, and where it comes from."""
+        if event["act"] == "importWrappedKey":
+            return opened_text(self.wrapping_key(uid, event), event["wrapped"]), SECURELY_IMPORTED
+        return (None, GENERATED) if event["act"] == "generateKey" else (event["material"], IMPORTED)
+
+    def make_key(self, event: Event) -> Reply:
+        """Generates a key, or imports it, in the clear or wrapped."""
+        uid = self.uid_to_make(event)
+        descriptor = event["key"]
+        given, origin = self.material_given(uid, event)
         params = read_params(event["params"], "K4")
-        imported = event.get("material")
-        check_new(event, params, imported, self.is_early_over)
+        check_new(event, params, given, self.is_early_over)
         owner = owner_of(uid, descriptor["domain"], descriptor["nspace"])
         if descriptor["domain"] != BLOB:
             self.store.check_place(owner, descriptor["alias"])
-        material = self.entropy.draw(one(params, "KEY_SIZE") // 8) if imported is None else imported
-        kept = kept_list(params, imported, event["wall"], self.versions)
+        material = self.entropy.draw(one(params, "KEY_SIZE") // 8) if given is None else given
+        kept = kept_list(params, given, origin, event["wall"], self.versions)
         sealed = Sealed(self.root, one(params, "APPLICATION_ID"), one(params, "APPLICATION_DATA"), kept, material)
         blob = sealed_blob(self.seal_key, self.entropy.draw(BLOB_NONCE_BYTES), sealed)
         if descriptor["domain"] == BLOB:
@@ -289,7 +279,7 @@ class Service:
         return {"key": self.store.put(owner, descriptor["alias"], kept, blob)}
 
     def check_row(self, uid: int, domain: int, nspace: int, rule: str) -> None:
-        """B3 and A4 for namespaces."""
+        """B3, A4 and what K18 has of it, for namespaces."""
         if domain == SELINUX and self.store.row(uid, nspace) is None:
             raise Denied(6, rule)
 

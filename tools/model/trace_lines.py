@@ -22,6 +22,8 @@ UNCALLED = {"connect", "leave", "restart"}
 # What an event has beside the fields of its act, and what a line has of none: a trace tells every enter apart from its
 # leave.
 OUTSIDE = {"act", "boot", "wall", "client", "hold", "root"}
+# The fields that name keys.
+DESCRIPTORS = ("key", "wrapping")
 
 
 def compact(value: Any) -> bytes:
@@ -46,7 +48,7 @@ def descriptor_of(key: Event) -> Event:
 
 
 def field_of(name: str, value: Any) -> Any:
-    if name == "key":
+    if name in DESCRIPTORS:
         return descriptor_of(value)
     if name == "past":
         return text_of(value)
@@ -98,16 +100,19 @@ def event_in(members: Event) -> Event:
     """The event of an object, as event_of of script_events.py gives one."""
     act = members["do"]
     boot, wall = (number_of(clock, 64) for clock in members["t"])
-    key, texts = members.get("key"), {}
-    if isinstance(key, dict) and "alias" in key:
-        texts["alias"] = text_in(key["alias"])
-        members = members | {"key": key | {"alias": ""}}
+    aliases, texts = {}, {}
+    for name in DESCRIPTORS:
+        key = members.get(name)
+        if isinstance(key, dict) and "alias" in key:
+            aliases[name] = text_in(key["alias"])
+            members = members | {name: key | {"alias": ""}}
     if "past" in members:
         texts["past"] = text_in(members["past"])
         members = members | {"past": ""}
     event = {"act": act, "boot": boot, "wall": wall, **FIELDS[act](members)}
-    if "alias" in texts:
-        event["key"]["alias"] = texts["alias"]
+    for name, alias in aliases.items():
+        if name in event:
+            event[name]["alias"] = alias
     if "past" in event and "past" in texts:
         event["past"] = texts["past"]
     if act not in UNCALLED:

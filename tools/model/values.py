@@ -8,12 +8,29 @@ from keystore.lists import Params
 
 # What a key that is kept in a blob alone cannot have.
 TAGS_OF_STORED_KEYS = ["USAGE_COUNT_LIMIT", "MAX_USES_PER_BOOT"]
+# What a key that wraps others cannot have.
+TAGS_OF_NO_WRAPPING_KEY = [
+    "EARLY_BOOT_ONLY",
+    "ACTIVE_DATETIME",
+    "ORIGINATION_EXPIRE_DATETIME",
+    "USAGE_EXPIRE_DATETIME",
+    "MAX_USES_PER_BOOT",
+    "USAGE_COUNT_LIMIT",
+    "USER_ID",
+    "USER_SECURE_ID",
+    "USER_AUTH_TYPE",
+    "AUTH_TIMEOUT",
+    "UNLOCKED_DEVICE_REQUIRED",
+]
 
 AES, HMAC = 32, 128
 ENCRYPT, DECRYPT, SIGN, VERIFY = range(4)
+WRAP_KEY = 5
 ECB, CBC, CTR, GCM = 1, 2, 3, 32
 NO_PADDING, PKCS7 = 1, 64
 RAW = 3
+# The purposes that a key may have, and those of an operation.
+KEY_PURPOSES = {AES: (ENCRYPT, DECRYPT, WRAP_KEY), HMAC: (SIGN, VERIFY)}
 PURPOSES = {AES: (ENCRYPT, DECRYPT), HMAC: (SIGN, VERIFY)}
 DIGEST_NAMES = {3: "sha224", 4: "sha256", 5: "sha384", 6: "sha512"}
 DIGEST_BITS = {3: 224, 4: 256, 5: 384, 6: 512}
@@ -23,6 +40,8 @@ MOST_LIST_BYTES = 4096
 MOST_ID_BYTES = 1024
 # The most bytes of a list that a key keeps, and of a blob.
 MOST_KEPT_BYTES, MOST_BLOB_BYTES = 4140, 6327
+# The lengths of a wrapped key: those of two to eight parts of a text, and of the one before them.
+WRAPPED_SIZES = range(24, 73, 8)
 MOST_STEP_BYTES = 32768
 MOST_OPERATION_BYTES = 1048576
 

@@ -1,18 +1,21 @@
 //! A new key: what its rules read, whether there is a place for it, its blob, and its change.
 
-ghost use Rattle.std.specs.Prelude.{◌≡◌, ◌≤◌, ◌<◌, ◌^◌, length, IfOk};
-ghost use Rattle.std.specs.Option.{option_map};
+ghost use Rattle.std.specs.Prelude.{◌≡◌, ℕ, ◌≤◌, ◌<◌, ◌^◌, List, Option, length, IfOk, IfSome};
 ghost use Rattle.key_rules.specs.Creation.{IsSmall};
 ghost use Rattle.lasting_table.specs.TableView.{lasting_in};
+ghost use Rattle.rule_model.specs.Changes.{material_of};
 ghost use Rattle.rule_model.specs.NewFacts as model;
 ghost use Rattle.rule_model.specs.Places.{has_key_place};
 ghost use Rattle.call_answers.specs.Creating as spec;
+ghost use Rattle.call_answers.specs.KeySources.{source_by};
+ghost use Rattle.call_answers.specs.declared.new_keys.KeyFault.TheVariants as faults;
 ghost use Rattle.tags.specs.declared.limits.TheConstants.{BLOB_BYTES};
 
 use crate::callers::{owner_of, row_for};
 use crate::descriptors::{alias_bytes, into_alias, owner_for};
+use crate::key_sources::{KeySource, ReadSource};
 use journal_records::Change;
-use key_rules::{ImportFacts, NewFacts, NewFault};
+use key_rules::{ImportFacts, NewFacts, NewFault, WrapFacts};
 use keymint_ops::{NewKey, plan_key, seal_key};
 use lasting_table::LastingTable;
 use rule_model::Caller;
@@ -25,20 +28,14 @@ use tags::{
 /// The bytes of the nonce that a key is sealed with.
 pub const NONCE_BYTES: usize = 12;
 
-/// The material of an imported key.
-#[derive(Drop)]
-pub struct Import {
-    pub format: u32,
-    pub material: Material,
-}
-
-/// A key that a call asks for: generated, or imported.
+/// A key that a call asks for.
 #[derive(Drop)]
 pub struct AskedKey {
     pub key: Descriptor,
     /// its list, encoded
     pub params: Bytes,
-    pub import: Option<Import>,
+    /// where its material comes from
+    pub source: KeySource,
 }
 
 /// Why no key is made.
@@ -52,6 +49,14 @@ pub enum KeyFault {
     Memory,
 }
 
+impl From<NoMemory> for KeyFault {
+    ghost from_gives = { λ _ fault. fault ≡ faults.Memory };
+
+    fn from(_: NoMemory) -> KeyFault {
+        KeyFault::Memory
+    }
+}
+
 /// A key that no rule denies and for which there is a place, before its bytes are drawn.
 #[derive(Drop)]
 pub struct AdmittedKey {
@@ -60,7 +65,8 @@ pub struct AdmittedKey {
     pub key: Descriptor,
     /// its plan, with the list that is kept
     pub new: NewKey,
-    pub import: Option<Import>,
+    /// its material, where that is not drawn
+    pub material: Option<Material>,
 }
 
 /// A key in its blob, before it is kept or handed out.
@@ -76,18 +82,6 @@ pub struct SealedKey {
     pub limit: u32,
 }
 
-fn import_facts(import: &Option<Import>) -> Option<ImportFacts>
-    ensures { result ≡ option_map spec.facts_of_import import.now }
-{
-    match import {
-        Some(import) => Some(ImportFacts {
-            format: import.format,
-            length: import.material.len() as u64,
-        }),
-        None => None,
-    }
-}
-
 /// What the rules of a new key read.
 fn new_facts(
     device: &DeviceSecrets,
@@ -95,10 +89,11 @@ fn new_facts(
     caller: Caller,
     key: Descriptor,
     params: Bytes,
-    import: &Option<Import>,
+    import: Option<ImportFacts>,
+    wrapped: Option<WrapFacts>,
     early_ended: bool,
 ) -> NewFacts
-    ensures { result ≡ model.new_facts device.now policy.now caller key params (option_map spec.facts_of_import import.now) early_ended }
+    ensures { (material : Option (List ℕ)) → result ≡ model.new_facts device.now policy.now caller key params (source_by import wrapped material) early_ended }
 {
     let row = row_for(policy, caller, key.nspace);
     NewFacts {
@@ -106,7 +101,8 @@ fn new_facts(
         descriptor: key,
         row,
         params,
-        import: import_facts(import),
+        import,
+        wrapped,
         early_ended,
         wall: caller.reading.wall,
         os: device.os,
@@ -132,22 +128,43 @@ fn has_key_place(table: &LastingTable, uid: u32, key: &Descriptor) -> bool
     table.next_numbers().0 < NUMBERS_END && table.has_place_for(domain, nspace, alias_bytes(key))
 }
 
-/// A new key's material: the imported one, or the one that was generated.
-fn material_of(import: Option<Import>, generated: Material) -> Material
-    ensures { result ≡ spec.material_of import generated }
-{
-    match import {
-        Some(
-            Import {
-                format: _,
-                material,
-            },
-        ) => material,
-        None => generated,
-    }
-}
-
 impl AskedKey {
+    /// What the rules read of the key, and its material, where that is not drawn.
+    fn into_facts(
+        self,
+        alloc: Global,
+        device: &DeviceSecrets,
+        policy: &Policy,
+        table: &LastingTable,
+        caller: Caller,
+        early_ended: bool,
+    ) -> Result<(NewFacts, Option<Material>), NoMemory>
+        ensures facts { IfOk result (λ own. own.0 ≡ spec.facts_of device.now policy.now (lasting_in table.now) caller self early_ended) }
+        ensures material { IfOk result (λ own. own.1 ≡ (spec.source_of device.now policy.now (lasting_in table.now) caller self).material) }
+    {
+        let AskedKey {
+            key,
+            params,
+            source,
+        } = self;
+        let ReadSource {
+            import,
+            wrapped,
+            material,
+        } = source.read(alloc, device, policy, table, caller)?;
+        let facts = new_facts(
+            device,
+            policy,
+            caller,
+            key,
+            params,
+            import,
+            wrapped,
+            early_ended,
+        );
+        Ok((facts, material))
+    }
+
     /// What a caller may make, by the rules and the places.
     pub fn admit(
         self,
@@ -160,13 +177,9 @@ impl AskedKey {
     ) -> Result<AdmittedKey, KeyFault>
         ensures gives { spec.GivesAdmitted device.now policy.now (lasting_in table.now) caller self early_ended result }
         ensures small { IfOk result (λ admitted. admitted.uid < 2 ^ 32) }
+        ensures short { IfOk result (λ admitted. IfSome admitted.material (λ material. length material ≤ 64)) }
     {
-        let AskedKey {
-            key,
-            params,
-            import,
-        } = self;
-        let facts = new_facts(device, policy, caller, key, params, &import, early_ended);
+        let (facts, material) = self.into_facts(alloc, device, policy, table, caller, early_ended)?;
         let new = match plan_key(alloc, &facts) {
             Ok(new) => new,
             Err(NewFault::Broken(rule, code)) => return Err(KeyFault::Broken(rule, code)),
@@ -176,7 +189,7 @@ impl AskedKey {
             uid: owner_of(caller),
             key: descriptor_of(facts),
             new,
-            import,
+            material,
         };
         if !has_key_place(table, admitted.uid, &admitted.key) {
             drop(admitted);
@@ -187,7 +200,7 @@ impl AskedKey {
 }
 
 impl AdmittedKey {
-    /// Seals the key in its blob: with the imported material, or else the one that was generated, and with these bytes as
+    /// Seals the key in its blob: with the material that came in, or else the one that was generated, and with these bytes as
     /// the nonce, which are drawn anew for each.
     pub fn seal(
         self,
@@ -197,7 +210,7 @@ impl AdmittedKey {
         nonce: [u8; 12],
     ) -> Result<SealedKey, NoMemory>
         requires small { IsSmall self.new.plan }
-        requires short { length (spec.material_of self.import generated) ≤ 64 }
+        requires short { length (material_of self.material generated) ≤ 64 }
         ensures sealed { IfOk result (λ sealed. spec.IsSealed device.now self generated nonce sealed) }
         ensures few { IfOk result (λ sealed. length sealed.blob ≤ BLOB_BYTES) }
     {
@@ -205,11 +218,11 @@ impl AdmittedKey {
             uid,
             key,
             new,
-            import,
+            material,
         } = self;
         let NewKey { plan, list } = new;
         let limit = plan.limit;
-        let material = material_of(import, generated);
+        let material = material.unwrap_or(generated);
         let Ok(blob) = seal_key(alloc, device, nonce, plan, material) else {
             drop(key);
             drop(list);

@@ -8,28 +8,10 @@ use Rattle.tags.specs.declared.code.Code.TheVariants.{InvalidTag}
 use Rattle.key_domains.specs.declared.permission.Permission.{Permission}
 use Rattle.key_domains.specs.declared.permission.Permission.TheVariants.{GetInfo, ManageBlob, Rebind}
 use Rattle.key_domains.specs.Bits.{has}
-use Rattle.key_domains.specs.Domains.{domain_app, domain_blob, domain_grant, domain_key_id, domain_selinux}
+use Rattle.key_domains.specs.Domains.{domain_app, domain_blob, domain_key_id, domain_selinux}
+use Rattle.key_domains.specs.Forms.{is_by_alias}
 use Rattle.tags.specs.declared.limits.TheConstants.{BLOB_BYTES, KEPT_LIST_BYTES, MOST_USER}
 use Rattle.call_rules.specs.declared.facts.UpgradeFacts.{UpgradeFacts}
-
--- APP and SELINUX find a key by its alias, GRANT and KEY_ID by a number
-abbrev pub is_by_alias : ℕ → Bool
-is_by_alias domain = (domain == domain_app) || (domain == domain_selinux)
-
-abbrev pub is_by_number : ℕ → Bool
-is_by_number domain = (domain == domain_grant) || (domain == domain_key_id)
-
--- the domain is APP or SELINUX with an alias of 1 to 256 bytes of UTF-8, or GRANT or KEY_ID
-abbrev pub names_key : Descriptor → Bool
-names_key key = (is_by_alias key.domain && has_alias key) || is_by_number key.domain
-
--- BLOB with a blob, of any bytes
-abbrev pub hands_blob : Descriptor → Bool
-hands_blob key = (key.domain == domain_blob) && is_some key.blob
-
--- the form of a stored key's descriptor, or BLOB with a blob
-abbrev pub names_any_key : Descriptor → Bool
-names_any_key key = names_key key || hands_blob key
 
 -- what an upgrade takes: in BLOB the right to hand in blobs, and else that to make a key anew
 abbrev pub upgrade_permission : ℕ → Permission
@@ -67,10 +49,6 @@ names_owner domain nspace = ((domain == domain_app) && nat_le nspace most_uid) |
 -- the user is at most that of the greatest uid
 abbrev pub is_user : ℕ → Bool
 is_user user = nat_le user MOST_USER
-
--- SELINUX: the policy has a row of the caller's uid and the namespace
-abbrev pub is_in_policy : ℕ → Option ℕ → Bool
-is_in_policy domain row = implies (domain == domain_selinux) (is_some row)
 
 -- the policy's row is there and has GET_INFO
 abbrev pub has_get_info : Option ℕ → Bool

@@ -7,10 +7,11 @@ use Rattle.tags.specs.Table.{Check, check}
 use Rattle.key_domains.specs.declared.permission.Permission.{Permission}
 use Rattle.key_domains.specs.declared.permission.Permission.TheVariants.{Delete, GetInfo, Grant}
 use Rattle.key_domains.specs.Bits.{can_share, has}
+use Rattle.key_domains.specs.Forms.{is_in_policy, names_any_key, names_key}
 use Rattle.call_rules.specs.declared.facts.KeyCallFacts.{KeyCallFacts}
 use Rattle.call_rules.specs.declared.facts.UpgradeFacts.{UpgradeFacts}
 use Rattle.call_rules.specs.declared.facts.SystemCallFacts.{SystemCallFacts}
-use Rattle.call_rules.specs.Rules.{fault_of, has_room, is_in_policy, is_no_newer, is_owned, is_shared, is_user, may_list, names_any_key, names_key, names_owner, upgrade_permission}
+use Rattle.call_rules.specs.Rules.{fault_of, has_room, is_no_newer, is_owned, is_shared, is_user, may_list, names_owner, upgrade_permission}
 
 -- disconnect
 abbrev pub disconnect_rules : Bool → Bool → List Check

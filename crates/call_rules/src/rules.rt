@@ -4,43 +4,11 @@ ghost use Rattle.std.specs.Prelude.{◌≡◌, ◌≤◌, true};
 ghost use Rattle.call_rules.specs.Rules as spec;
 
 use crate::UpgradeFacts;
-use key_domains::{Permission, Permissions};
+use key_domains::{Permission, Permissions, is_by_alias};
 use tags::{
     BLOB_BYTES, DOMAIN_APP, DOMAIN_BLOB, DOMAIN_GRANT, DOMAIN_KEY_ID, DOMAIN_SELINUX, Descriptor,
     KEPT_LIST_BYTES, MOST_USER,
 };
-
-fn is_by_alias(domain: u32) -> bool
-    ensures { result ≡ spec.is_by_alias domain }
-{
-    domain == DOMAIN_APP || domain == DOMAIN_SELINUX
-}
-
-fn is_by_number(domain: u32) -> bool
-    ensures { result ≡ spec.is_by_number domain }
-{
-    domain == DOMAIN_GRANT || domain == DOMAIN_KEY_ID
-}
-
-/// Whether the descriptor has the form of a domain that finds a stored key.
-pub fn names_key(key: &Descriptor) -> bool
-    ensures { result ≡ spec.names_key key.now }
-{
-    is_by_alias(key.domain) && key.has_alias() || is_by_number(key.domain)
-}
-
-fn hands_blob(key: &Descriptor) -> bool
-    ensures { result ≡ spec.hands_blob key.now }
-{
-    key.domain == DOMAIN_BLOB && key.blob.is_some()
-}
-
-/// Whether the descriptor has the form of a domain that finds a key, stored or handed in.
-pub fn names_any_key(key: &Descriptor) -> bool
-    ensures { result ≡ spec.names_any_key key.now }
-{
-    names_key(key) || hands_blob(key)
-}
 
 /// What an upgrade of a key of the domain takes.
 pub fn upgrade_permission(domain: u32) -> Permission
@@ -94,13 +62,6 @@ pub fn is_user(user: u32) -> bool
     ensures most { result ≡ true → user ≤ MOST_USER }
 {
     user <= MOST_USER
-}
-
-/// SELINUX: whether the policy has a row of the caller and the namespace.
-pub fn is_in_policy(domain: u32, row: Option<u32>) -> bool
-    ensures { result ≡ spec.is_in_policy domain row }
-{
-    domain != DOMAIN_SELINUX || row.is_some()
 }
 
 fn has_get_info(row: Option<u32>) -> bool

@@ -8,11 +8,10 @@ ghost use Rattle.call_rules.specs.Table as spec;
 ghost use Rattle.tags.specs.declared.limits.TheConstants.{BLOB_BYTES, KEPT_LIST_BYTES, MOST_USER};
 
 use crate::rules::{
-    has_room, is_in_policy, is_no_newer, is_owned, is_shared, is_user, may_list, names_any_key,
-    names_key, names_owner, upgrade_permission,
+    has_room, is_no_newer, is_owned, is_shared, is_user, may_list, names_owner, upgrade_permission,
 };
 use crate::{KeyCallFacts, SystemCallFacts, UpgradeFacts};
-use key_domains::{Permission, Permissions};
+use key_domains::{Permission, Permissions, is_in_policy, names_any_key, names_key};
 use tags::{Code, Descriptor, Rule, RuleTable, Ruling, check};
 
 /// A rule of the table by its number.

@@ -1,4 +1,5 @@
 pub mod Domains
+pub mod Forms
 pub mod Bits
 pub mod CallerBits
 pub mod View

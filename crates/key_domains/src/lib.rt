@@ -8,9 +8,11 @@
 
 mod access;
 mod caller;
+mod forms;
 mod permission;
 mod view;
 
 pub use access::{Access, find_key, resolve};
+pub use forms::{is_by_alias, is_in_policy, names_any_key, names_key};
 pub use permission::{Permission, Permissions};
 pub use view::{GrantedRow, KeyDatabaseView, KeyLookups, KeyRow};

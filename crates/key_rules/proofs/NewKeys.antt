@@ -1,6 +1,6 @@
 -- A new key that the rules let through: what its descriptor names, and how long its list, ids and material are.
-use Rattle.std.proofs.Common.{◌≡◌, ℕ, ◌+◌, ◌*◌, ◌≤◌, ◌==◌, Bool, true, false, not, ◌&&◌, ◌||◌, if◌then◌else◌, List, [], length, Option, Some, None, Result, Ok, Err, refl, arith}
-use Rattle.std.specs.Prelude.{IfSome, is_none, is_ok, nat_le, unwrap_or}
+use Rattle.std.proofs.Common.{◌≡◌, ℕ, ◌+◌, ◌*◌, ◌≤◌, ◌==◌, Bool, true, false, not, ◌&&◌, ◌||◌, if◌then◌else◌, List, [], ◌∷◌, ◌++◌, length, Option, Some, None, Result, Ok, Err, refl, arith}
+use Rattle.std.specs.Prelude.{IfSome, is_none, is_ok, is_some, nat_le, unwrap_or}
 use Rattle.std.proofs.lemmas.Bool.{and_parts, leb-true}
 use Rattle.tags.specs.declared.code.Code.{Code}
 use Rattle.tags.specs.declared.descriptor.Descriptor.{Descriptor}
@@ -11,9 +11,10 @@ use Rattle.tags.specs.declared.rule.RuleTable.TheVariants.{K}
 use Rattle.tags.specs.declared.tag.Tag.{Tag}
 use Rattle.tags.specs.declared.tag.Tag.TheVariants.{ApplicationData, ApplicationId, CreationDatetime, KeySize, Origin, OsPatchlevel, OsVersion}
 use Rattle.tags.specs.Descriptor.{has_alias, has_alias_in}
-use Rattle.tags.specs.Table.{Ruling, first_broken, where_all_hold}
+use Rattle.tags.specs.Table.{Check, Ruling, first_broken, where_all_hold}
 use Rattle.tags.specs.Tag.{type_of}
 use Rattle.key_domains.specs.Domains.{domain_blob}
+use Rattle.key_domains.specs.Forms.{is_by_alias}
 use Rattle.tag_lists.specs.declared.fault.ListFault.{ListFault}
 use Rattle.tag_lists.specs.Lookups.{is_of, stands, without}
 use Rattle.tag_lists.specs.Order.{shape_of}
@@ -26,8 +27,8 @@ use Rattle.key_rules.specs.declared.facts.ImportFacts.{ImportFacts}
 use Rattle.key_rules.specs.declared.facts.NewFacts.{NewFacts}
 use Rattle.key_rules.specs.Creation.{IsFit, drawn_size, new_key, plan_of}
 use Rattle.key_rules.specs.KeptLists.{is_kept, kept, most_bytes, origin, own, set_missing, with_size}
-use Rattle.key_rules.specs.Rules.{each_short, has_allowed_size, has_short_ids, is_by_alias, list_in, names_algorithm, names_new_key, names_place, read_or_empty, takes_format}
-use Rattle.key_rules.specs.Table.{list_rules, rules_of}
+use Rattle.key_rules.specs.Rules.{each_short, has_allowed_size, has_short_ids, list_in, names_algorithm, names_new_key, names_place, read_or_empty, takes_format}
+use Rattle.key_rules.specs.Table.{bytes_rules, list_rules, rules_of, wrapping_rules_if}
 use Rattle.key_rules.proofs.Ids.{short_id}
 use Rattle.key_rules.proofs.Keys.{bits_few, generated_short}
 use Rattle.key_rules.proofs.Lengths.{number_bytes}
@@ -39,6 +40,11 @@ use Rattle.tags.specs.declared.limits.TheConstants.{LIST_BYTES}
 held : (holds : Bool) (rest : Ruling) (broken : Rule × Code) → is_ok (if holds then rest else Err broken) ≡ true → (holds ≡ true) × (is_ok rest ≡ true)
 held true rest broken e = (refl, e)
 held false rest broken e = cc
+
+-- what comes behind rules that hold
+behind : (rules later : List Check) → is_ok (first_broken K (rules ++ later)) ≡ true → is_ok (first_broken K later) ≡ true
+behind [] later e = e
+behind (rule ∷ rules) later e = behind rules later (held _ _ _ e).1
 
 all_ok : {T : Type 0} (ruling : Ruling) (value : T) → is_ok (where_all_hold ruling value) ≡ true → is_ok ruling ≡ true
 all_ok (Ok done) value e = refl
@@ -67,7 +73,8 @@ let_through facts e =
     let first = held _ _ _ (all_ok (first_broken K (rules_of facts)) (plan_of facts) e) in
     let second = held _ _ _ first.1 in
     let third = held _ _ _ second.1 in
-    let short = held _ _ _ third.1 in
+    let own = bytes_rules facts.params ++ list_rules facts.import facts.descriptor.domain facts.early_ended (list_in facts.params) in
+    let short = held _ _ _ (behind (wrapping_rules_if facts.os facts.patch facts.wrapped) own third.1) in
     let reads = held _ _ _ short.1 in
     let ids = held _ _ _ reads.1 in
     record { named = second.0; few = leb-true (length facts.params) LIST_BYTES short.0; reads = reads.0; ids = ids.0; size = size_allowed facts.import facts.descriptor.domain facts.early_ended (list_in facts.params) ids.1 }
@@ -112,17 +119,17 @@ size_few : (import : Option ImportFacts) (list : List Param) → length (spellin
 size_few None list = omega arith
 size_few (Some import) list = missing_few KeySize (8 * import.length) list
 
-kept_few : (import : Option ImportFacts) (wall os patch : ℕ) (list : List Param) → length (spelling (kept import wall os patch list)) ≤ length (spelling list) + 44
+kept_few : (import : Option ImportFacts) (wrapped : Bool) (wall os patch : ℕ) (list : List Param) → length (spelling (kept import wrapped wall os patch list)) ≤ length (spelling list) + 44
 unfolding kept
-kept_few import wall os patch list =
+kept_few import wrapped wall os patch list =
     let dated : List Param = set_missing CreationDatetime wall (own list) in
-    let origined : List Param = set Origin (origin import) (with_size import dated) in
+    let origined : List Param = set Origin (origin import wrapped) (with_size import dated) in
     omega (
       arith,
       small_filter is_kept list,
       missing_few CreationDatetime wall (own list),
       size_few import dated,
-      set_few Origin (origin import) (with_size import dated),
+      set_few Origin (origin import wrapped) (with_size import dated),
       set_few OsVersion os origined,
       set_few OsPatchlevel patch (set OsVersion os origined),
     )
@@ -156,7 +163,7 @@ fit_if_ok facts e =
       short = import_few facts.import list through.size;
       small = record {
         drawn = drawn_few facts.import list through.size;
-        listed = omega (arith, kept_few facts.import facts.wall facts.os facts.patch list, list_few facts.params through.reads, through.few);
+        listed = omega (arith, kept_few facts.import (is_some facts.wrapped) facts.wall facts.os facts.patch list, list_few facts.params through.reads, through.few);
         id = short_id ApplicationId list ids.0;
         bytes = short_id ApplicationData list ids.1;
       };

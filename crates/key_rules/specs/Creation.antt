@@ -1,5 +1,5 @@
 -- What becomes of a call that makes a key.
-use Rattle.std.specs.Prelude.{◌≡◌, ℕ, ◌/◌, ◌≤◌, true, List, length, Option, Some, None, Result, unwrap_or, IfSome}
+use Rattle.std.specs.Prelude.{◌≡◌, ℕ, ◌/◌, ◌≤◌, true, List, length, Option, Some, None, Result, is_some, unwrap_or, IfSome}
 use Rattle.tags.specs.declared.code.Code.{Code}
 use Rattle.tags.specs.declared.param.Param.{Param}
 use Rattle.tags.specs.declared.rule.Rule.{Rule}
@@ -28,7 +28,7 @@ drawn_size (Some import) list = 0
 -- the plan of a list
 abbrev pub plan_for : NewFacts → List Param → KeyPlan
 plan_for facts list = record {
-  list = kept facts.import facts.wall facts.os facts.patch list;
+  list = kept facts.import (is_some facts.wrapped) facts.wall facts.os facts.patch list;
   app_id = bytes_of tags.ApplicationId list;
   app_bytes = bytes_of tags.ApplicationData list;
   limit = limit list;

@@ -4,7 +4,7 @@ use Rattle.std.specs.List.{filter, list_all}
 use Rattle.tags.specs.declared.param.Param.{Param}
 use Rattle.tags.specs.declared.tag.Tag.{Tag}
 use Rattle.tags.specs.declared.tag.Tag.TheVariants as tags
-use Rattle.tags.specs.Values.{GENERATED, IMPORTED}
+use Rattle.tags.specs.Values.{GENERATED, IMPORTED, SECURELY_IMPORTED}
 use Rattle.tag_lists.specs.declared.shape.Shape.{Shape}
 use Rattle.tag_lists.specs.declared.shape.Shape.TheVariants.{Short}
 use Rattle.tag_lists.specs.Lookups.{is_of, number_of, stands}
@@ -31,15 +31,15 @@ abbrev pub with_size : Option ImportFacts → List Param → List Param
 with_size None list = list
 with_size (Some import) list = set_missing tags.KeySize (8 * import.length) list
 
--- GENERATED or IMPORTED
-abbrev pub origin : Option ImportFacts → ℕ
-origin None = GENERATED
-origin (Some import) = IMPORTED
+-- GENERATED or IMPORTED; SECURELY_IMPORTED where the import came wrapped
+abbrev pub origin : Option ImportFacts → Bool → ℕ
+origin None wrapped = GENERATED
+origin (Some import) wrapped = if wrapped then SECURELY_IMPORTED else IMPORTED
 
 -- The kept list: the caller's without the tags that are dropped, with CREATION_DATETIME and an import's KEY_SIZE where
 -- the caller gave none, with ORIGIN, and with OS_VERSION and OS_PATCHLEVEL of the device.
-unfoldable pub kept : Option ImportFacts → ℕ → ℕ → ℕ → List Param → List Param
-kept import wall os patch list = with_versions os patch (set tags.Origin (origin import) (with_size import (set_missing tags.CreationDatetime wall (own list))))
+unfoldable pub kept : Option ImportFacts → Bool → ℕ → ℕ → ℕ → List Param → List Param
+kept import wrapped wall os patch list = with_versions os patch (set tags.Origin (origin import wrapped) (with_size import (set_missing tags.CreationDatetime wall (own list))))
 
 -- the most bytes of a parameter with a number of this shape: four of the tag, and the number's 32 bits or a date's 64
 abbrev pub most_bytes : Shape → ℕ

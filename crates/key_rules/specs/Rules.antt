@@ -5,7 +5,8 @@ use Rattle.std.specs.List.{list_all}
 use Rattle.key_domains.specs.declared.permission.Permission.{Permission}
 use Rattle.key_domains.specs.declared.permission.Permission.TheVariants.{ManageBlob, Rebind}
 use Rattle.key_domains.specs.Bits.{has}
-use Rattle.key_domains.specs.Domains.{domain_app, domain_blob, domain_selinux}
+use Rattle.key_domains.specs.Domains.{domain_blob, domain_selinux}
+use Rattle.key_domains.specs.Forms.{is_by_alias}
 use Rattle.tags.specs.declared.code.Code.{Code}
 use Rattle.tags.specs.declared.code.Code.TheVariants.{InvalidKeyArgument, InvalidTag}
 use Rattle.tags.specs.declared.descriptor.Descriptor.{Descriptor}
@@ -15,16 +16,13 @@ use Rattle.tags.specs.declared.param.ParamValue.TheVariants.{Number, Flag, Raw}
 use Rattle.tags.specs.declared.tag.Tag.{Tag}
 use Rattle.tags.specs.declared.tag.Tag.TheVariants as tags
 use Rattle.tags.specs.Descriptor.{has_alias}
-use Rattle.tags.specs.Values.{AES_PURPOSES, DIGESTS, GCM, HMAC_PURPOSES, MODES, PADDINGS, RAW, digest_bits, implies, is_whole_bytes, one_in, passes}
+use Rattle.tags.specs.Values.{DECRYPT, DIGESTS, ENCRYPT, GCM, HMAC_PURPOSES, MODES, PADDINGS, RAW, WRAP_KEY, digest_bits, implies, is_whole_bytes, one_in, passes}
 use Rattle.tag_lists.specs.declared.fault.ListFault.{ListFault}
 use Rattle.tag_lists.specs.declared.fault.ListFault.TheVariants as faults
 use Rattle.tag_lists.specs.Lookups.{all_of, each, has_number, is_aes, is_hmac, number_of, stands}
 use Rattle.tag_lists.specs.Reading.{listed}
 use Rattle.key_rules.specs.declared.facts.ImportFacts.{ImportFacts}
-
--- APP and SELINUX find a key by its alias
-abbrev pub is_by_alias : ℕ → Bool
-is_by_alias domain = (domain == domain_app) || (domain == domain_selinux)
+use Rattle.key_rules.specs.declared.facts.WrapFacts.{WrapFacts}
 
 -- APP and SELINUX with an alias of 1 to 256 bytes of UTF-8, or BLOB, whatever the alias
 abbrev pub names_place : Descriptor → Bool
@@ -97,10 +95,14 @@ abbrev pub has_own_size : Option ImportFacts → List Param → Bool
 has_own_size None list = true
 has_own_size (Some import) list = each tags.KeySize (one_in (8 * import.length ∷ [])) list
 
--- each PURPOSE is ENCRYPT or DECRYPT for AES, SIGN or VERIFY for HMAC
+-- the purposes that a key of AES may have: to encipher, to decipher, and to unwrap other keys
+abbrev pub AES_KEY_PURPOSES : List ℕ
+AES_KEY_PURPOSES = ENCRYPT ∷ DECRYPT ∷ WRAP_KEY ∷ []
+
+-- each PURPOSE is ENCRYPT, DECRYPT or WRAP_KEY for AES, SIGN or VERIFY for HMAC
 abbrev pub has_own_purposes : List Param → Bool
 has_own_purposes list =
-    implies (is_aes list) (each tags.Purpose (one_in AES_PURPOSES) list) &&
+    implies (is_aes list) (each tags.Purpose (one_in AES_KEY_PURPOSES) list) &&
     implies (is_hmac list) (each tags.Purpose (one_in HMAC_PURPOSES) list)
 
 -- AES: each BLOCK_MODE is ECB, CBC, CTR or GCM
@@ -161,3 +163,36 @@ has_own_counts domain list = implies (domain == domain_blob) (not (counts_uses l
 -- EARLY_BOOT_ONLY: early boot has not ended
 abbrev pub is_early : List Param → Bool → Bool
 is_early list early_ended = implies (stands tags.EarlyBootOnly list) (not early_ended)
+
+-- what a key that unwraps others is kept from: limits of when, how often and for whom it works
+abbrev pub RESTRICTIONS : List Tag
+RESTRICTIONS =
+    tags.EarlyBootOnly ∷ tags.ActiveDatetime ∷ tags.OriginationExpireDatetime ∷ tags.UsageExpireDatetime ∷ tags.MaxUsesPerBoot ∷ tags.UserId ∷
+    tags.UserSecureId ∷ tags.UserAuthType ∷ tags.AuthTimeout ∷ tags.UnlockedDeviceRequired ∷ tags.UsageCountLimit ∷ []
+
+-- it unwraps other keys
+abbrev pub wraps_keys : List Param → Bool
+wraps_keys list = has_number tags.Purpose WRAP_KEY list
+
+-- none of the tags is there
+abbrev pub has_none : List Param → List Tag → Bool
+has_none list none = list_all (λ tag. not (stands tag list)) none
+
+-- and does nothing else, without any of those limits
+abbrev pub wraps_alone : List Param → Bool
+wraps_alone list = each tags.Purpose (one_in (WRAP_KEY ∷ [])) list && has_none list RESTRICTIONS
+
+-- WRAP_KEY: it is the one purpose, and none of the limits is there
+abbrev pub has_lone_wrapping : List Param → Bool
+has_lone_wrapping list = implies (wraps_keys list) (wraps_alone list)
+
+-- ---- the wrapping key of an import
+
+-- why the list of ids does not read
+abbrev pub unread_code : Result (List Param) Code → Code
+unread_code (Ok list) = InvalidTag
+unread_code (Err code) = code
+
+-- the wrapping key's list; where its blob does not open, no parameters
+abbrev pub wrapping_list : WrapFacts → List Param
+wrapping_list facts = unwrap_or facts.opened []

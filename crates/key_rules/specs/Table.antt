@@ -1,13 +1,19 @@
 -- Table K, a new key: a list of rules in its order, and the answer is the first that does not hold.
-use Rattle.std.specs.Prelude.{ℕ, Bool, List, [], ◌∷◌, ◌++◌, Option, Some, length, nat_le, is_ok}
-use Rattle.tags.specs.declared.code.Code.TheVariants.{EarlyBootEnded, ImportParameterMismatch, InvalidArgument, InvalidInputLength, InvalidKeyArgument, MissingMinMacLength, PermissionDenied, UnsupportedAlgorithm, UnsupportedBlockMode, UnsupportedDigest, UnsupportedKeyFormat, UnsupportedKeySize, UnsupportedMinMacLength, UnsupportedPaddingMode, UnsupportedPurpose, UnsupportedTag}
+use Rattle.std.specs.Prelude.{ℕ, Bool, List, [], ◌∷◌, ◌++◌, Option, Some, None, length, nat_le, is_ok, is_some}
+use Rattle.tags.specs.declared.code.Code.TheVariants.{EarlyBootEnded, ImportParameterMismatch, IncompatiblePurpose, InvalidArgument, InvalidInputLength, InvalidKeyArgument, InvalidKeyBlob, KeyNotFound, KeyRequiresUpgrade, MissingMinMacLength, PermissionDenied, UnsupportedAlgorithm, UnsupportedBlockMode, UnsupportedDigest, UnsupportedKeyFormat, UnsupportedKeySize, UnsupportedMinMacLength, UnsupportedPaddingMode, UnsupportedPurpose, UnsupportedTag, VerificationFailed}
 use Rattle.tags.specs.declared.param.Param.{Param}
 use Rattle.tags.specs.Table.{Check, check}
 use Rattle.tags.specs.Values.{RAW}
+use Rattle.key_domains.specs.declared.permission.Permission.TheVariants.{Use}
+use Rattle.key_domains.specs.Bits.{has}
+use Rattle.key_domains.specs.Forms.{is_in_policy, names_key}
+use Rattle.key_wrap.specs.Lengths.{is_wrapped_length}
 use Rattle.tag_lists.specs.Reading.{listed}
+use Rattle.tag_lists.specs.Versions.{is_no_newer, is_no_older}
 use Rattle.key_rules.specs.declared.facts.ImportFacts.{ImportFacts}
 use Rattle.key_rules.specs.declared.facts.NewFacts.{NewFacts}
-use Rattle.key_rules.specs.Rules.{has_allowed_size, has_fit_length, has_known_modes, has_known_paddings, has_least_length, has_one_authority, has_one_digest, has_own_counts, has_own_purposes, has_own_size, has_short_ids, has_some_uses, is_early, list_in, may_make, names_algorithm, names_new_key, reading_code, takes_format}
+use Rattle.key_rules.specs.declared.facts.WrapFacts.{WrapFacts}
+use Rattle.key_rules.specs.Rules.{has_allowed_size, has_fit_length, has_known_modes, has_known_paddings, has_least_length, has_lone_wrapping, has_one_authority, has_one_digest, has_own_counts, has_own_purposes, has_own_size, has_short_ids, has_some_uses, is_early, list_in, may_make, names_algorithm, names_new_key, reading_code, takes_format, unread_code, wrapping_list, wraps_keys}
 use Rattle.tags.specs.declared.limits.TheConstants.{LIST_BYTES}
 
 -- the rule of an encoded list
@@ -38,6 +44,7 @@ last_rules domain early_ended list =
     check 14 InvalidKeyArgument (has_some_uses list) ∷  -- a use limit allows a use
     check 14 UnsupportedTag (has_own_counts domain list) ∷  -- BLOB: no count that only a stored key has
     check 15 EarlyBootEnded (is_early list early_ended) ∷  -- a key of early boot alone is made in it
+    check 17 UnsupportedTag (has_lone_wrapping list) ∷  -- a key that unwraps others does nothing else, and has no limit
     []
 
 -- the rules that read the list
@@ -48,14 +55,36 @@ list_rules import domain early_ended list =
     cipher_rules import list ++
     last_rules domain early_ended list
 
+-- the rules of the key under which an import comes wrapped, by the versions of the device's system
+unfoldable pub wrapping_rules : ℕ → ℕ → WrapFacts → List Check
+wrapping_rules os patch facts =
+    check 18 InvalidArgument (names_key facts.descriptor) ∷  -- its descriptor has the form of a stored key's
+    check 18 PermissionDenied (is_in_policy facts.descriptor.domain facts.row) ∷  -- SELINUX: the policy knows the caller there
+    check 19 KeyNotFound facts.found ∷  -- it is found
+    check 20 PermissionDenied (has facts.bits Use) ∷  -- the caller may use it
+    check 21 (unread_code facts.asked) (is_ok facts.asked) ∷  -- the list of its ids reads
+    check 21 InvalidKeyBlob (is_some facts.opened) ∷  -- its blob opens
+    check 21 InvalidKeyBlob facts.fits ∷  -- for this device and these ids, to a list and a material that are usable
+    check 21 InvalidKeyBlob (is_no_newer os patch (wrapping_list facts)) ∷  -- neither of its versions is greater than the system's
+    check 21 KeyRequiresUpgrade (is_no_older os patch (wrapping_list facts)) ∷  -- and neither is less
+    check 22 IncompatiblePurpose (wraps_keys (wrapping_list facts)) ∷  -- it unwraps other keys
+    check 23 InvalidInputLength (is_wrapped_length facts.length) ∷  -- a wrapped text may have this length
+    check 23 VerificationFailed facts.opens ∷  -- it opens
+    []
+
+-- and none where nothing comes wrapped
+abbrev pub wrapping_rules_if : ℕ → ℕ → Option WrapFacts → List Check
+wrapping_rules_if os patch None = []
+wrapping_rules_if os patch (Some facts) = wrapping_rules os patch facts
+
 -- table K
 abbrev pub rules_of : NewFacts → List Check
 rules_of facts =
     check 1 InvalidArgument facts.connected ∷  -- the client is connected
     check 2 InvalidArgument (names_new_key facts.descriptor) ∷  -- the descriptor may name a new key
     check 3 PermissionDenied (may_make facts.descriptor facts.row) ∷  -- SELINUX and BLOB: the policy lets the caller make keys there
-    bytes_rules facts.params ++
-    list_rules facts.import facts.descriptor.domain facts.early_ended (list_in facts.params)
+    wrapping_rules_if facts.os facts.patch facts.wrapped ++
+    (bytes_rules facts.params ++ list_rules facts.import facts.descriptor.domain facts.early_ended (list_in facts.params))
 
 -- the rules of a key that was made: the algorithm's and the cipher's, as an import of a material of so many bytes
 unfoldable pub key_rules : ℕ → List Param → List Check

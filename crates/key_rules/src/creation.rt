@@ -65,7 +65,14 @@ fn plan(alloc: Global, list: AuthList, facts: &NewFacts) -> Result<KeyPlan, NewF
     let size = drawn_size(facts.import, &list);
     let app_id = id_in(alloc, &list, Tag::ApplicationId)?;
     let app_bytes = id_in(alloc, &list, Tag::ApplicationData)?;
-    let list = kept(list, facts.import, facts.wall, facts.os, facts.patch)?;
+    let list = kept(
+        list,
+        facts.import,
+        facts.wrapped.is_some(),
+        facts.wall,
+        facts.os,
+        facts.patch,
+    )?;
     Ok(KeyPlan {
         list,
         app_id,

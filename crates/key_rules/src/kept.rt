@@ -11,7 +11,7 @@ ghost use Rattle.tags.specs.declared.limits.TheConstants.{LIST_BYTES};
 
 use crate::ImportFacts;
 use tag_lists::AuthList;
-use tags::values::{GENERATED, IMPORTED};
+use tags::values::{GENERATED, IMPORTED, SECURELY_IMPORTED};
 use tags::{NoMemory, Param, ParamValue, Tag};
 
 /// The list with this number as the tag's one parameter.
@@ -72,12 +72,13 @@ fn own(list: AuthList) -> AuthList
         .without(Tag::OsPatchlevel)
 }
 
-fn origin(import: Option<ImportFacts>) -> u64
-    ensures origin { result ≡ spec.origin import }
-    ensures small { result ≤ 2 }
+fn origin(import: Option<ImportFacts>, wrapped: bool) -> u64
+    ensures origin { result ≡ spec.origin import wrapped }
+    ensures small { result ≤ 4 }
 {
     match import {
         None => GENERATED,
+        Some(_) if wrapped => SECURELY_IMPORTED,
         Some(_) => IMPORTED,
     }
 }
@@ -87,18 +88,19 @@ fn origin(import: Option<ImportFacts>) -> u64
 pub(crate) fn kept(
     list: AuthList,
     import: Option<ImportFacts>,
+    wrapped: bool,
     wall: u64,
     os: u32,
     patch: u32,
 ) -> Result<AuthList, NoMemory>
     requires short { IfSome import (λ facts. facts.length ≤ 64) }
     requires few { length list ≤ LIST_BYTES }
-    ensures kept { IfOk result (λ new. new ≡ spec.kept import wall os patch list) }
+    ensures kept { IfOk result (λ new. new ≡ spec.kept import wrapped wall os patch list) }
     ensures small { IfOk result (λ new. length (spelling new) ≤ length (spelling list) + 44) }
 {
     let dated = set_missing(own(list), Tag::CreationDatetime, wall)?;
     let sized = with_size(dated, import)?;
-    let origined = set(sized, Tag::Origin, origin(import))?;
+    let origined = set(sized, Tag::Origin, origin(import, wrapped))?;
     origined.with_versions(os, patch)
 }
 

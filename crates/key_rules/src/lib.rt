@@ -17,6 +17,6 @@ mod values;
 
 pub use asked::read_asked;
 pub use creation::{check_new, usable};
-pub use facts::{ImportFacts, NewFacts};
+pub use facts::{ImportFacts, NewFacts, WrapFacts};
 pub use fault::NewFault;
 pub use plan::KeyPlan;

@@ -8,25 +8,37 @@ ghost use Rattle.key_rules.specs.Rules as spec;
 
 use crate::ImportFacts;
 use crate::values::{each_short, each_whole_bytes};
-use key_domains::{Permission, Permissions};
+use key_domains::{Permission, Permissions, is_by_alias};
 use tag_lists::{AuthList, ListFault};
 use tags::values::{
-    AES_PURPOSES, DIGESTS, GCM, HMAC_PURPOSES, MODES, PADDINGS, RAW, digest_bits, is_whole_bytes,
-    one_in,
+    DECRYPT, DIGESTS, ENCRYPT, GCM, HMAC_PURPOSES, MODES, PADDINGS, RAW, WRAP_KEY, digest_bits,
+    is_whole_bytes, one_in,
 };
-use tags::{Code, DOMAIN_APP, DOMAIN_BLOB, DOMAIN_SELINUX, Descriptor, Param, Tag};
-
-fn is_by_alias(domain: u32) -> bool
-    ensures { result ≡ spec.is_by_alias domain }
-{
-    domain == DOMAIN_APP || domain == DOMAIN_SELINUX
-}
+use tags::{Code, DOMAIN_BLOB, DOMAIN_SELINUX, Descriptor, Param, Tag};
 
 fn names_place(descriptor: &Descriptor) -> bool
     ensures { result ≡ spec.names_place descriptor.now }
 {
     is_by_alias(descriptor.domain) && descriptor.has_alias() || descriptor.domain == DOMAIN_BLOB
 }
+
+/// The purposes that a key of AES may have: to encipher, to decipher, and to unwrap other keys.
+const AES_KEY_PURPOSES: [u64; 3] = [ENCRYPT, DECRYPT, WRAP_KEY];
+
+/// What a key that unwraps others is kept from: limits of when, how often and for whom it works.
+const RESTRICTIONS: [Tag; 11] = [
+    Tag::EarlyBootOnly,
+    Tag::ActiveDatetime,
+    Tag::OriginationExpireDatetime,
+    Tag::UsageExpireDatetime,
+    Tag::MaxUsesPerBoot,
+    Tag::UserId,
+    Tag::UserSecureId,
+    Tag::UserAuthType,
+    Tag::AuthTimeout,
+    Tag::UnlockedDeviceRequired,
+    Tag::UsageCountLimit,
+];
 
 /// Whether the descriptor may name a new key.
 pub(crate) fn names_new_key(descriptor: &Descriptor) -> bool
@@ -141,7 +153,7 @@ pub(crate) fn has_own_size(import: Option<ImportFacts>, list: &AuthList) -> bool
 pub(crate) fn has_own_purposes(list: &AuthList) -> bool
     ensures { result ≡ spec.has_own_purposes list.now }
 {
-    let aes = !list.is_aes() || list.each_in(Tag::Purpose, &AES_PURPOSES);
+    let aes = !list.is_aes() || list.each_in(Tag::Purpose, &AES_KEY_PURPOSES);
     let hmac = !list.is_hmac() || list.each_in(Tag::Purpose, &HMAC_PURPOSES);
     aes && hmac
 }
@@ -244,4 +256,31 @@ pub(crate) fn is_early(list: &AuthList, early_ended: bool) -> bool
     ensures { result ≡ spec.is_early list.now early_ended }
 {
     !list.stands(Tag::EarlyBootOnly) || !early_ended
+}
+
+/// Whether a key unwraps other keys.
+pub(crate) fn wraps_keys(list: &AuthList) -> bool
+    ensures { result ≡ spec.wraps_keys list.now }
+{
+    list.has(Tag::Purpose, WRAP_KEY)
+}
+
+/// Whether none of the tags is in the list.
+fn has_none(list: &AuthList, tags: &[Tag]) -> bool
+    ensures { result ≡ spec.has_none list.now tags.now }
+{
+    tags.iter().all(|tag| !list.stands(*tag))
+}
+
+fn wraps_alone(list: &AuthList) -> bool
+    ensures { result ≡ spec.wraps_alone list.now }
+{
+    list.each_in(Tag::Purpose, &[WRAP_KEY]) && has_none(list, &RESTRICTIONS)
+}
+
+/// WRAP_KEY: whether it is the one purpose, and no limit of when, how often and for whom the key works is there.
+pub(crate) fn has_lone_wrapping(list: &AuthList) -> bool
+    ensures { result ≡ spec.has_lone_wrapping list.now }
+{
+    !wraps_keys(list) || wraps_alone(list)
 }

@@ -1,6 +1,6 @@
 //! Table K, walked in its order.
 
-ghost use Rattle.std.specs.Prelude.{◌≡◌, ℕ, ◌*◌, ◌≤◌, ◌∷◌, [], ◌++◌, true, List, length, IfOk, IfSome, OnOk, is_ok};
+ghost use Rattle.std.specs.Prelude.{◌≡◌, ℕ, ◌*◌, ◌≤◌, ◌∷◌, [], ◌++◌, true, List, Err, length, IfErr, IfOk, IfSome, OnOk, is_ok};
 ghost use Rattle.tags.specs.declared.rule.RuleTable.TheVariants.{K};
 ghost use Rattle.tags.specs.Table.{Check, check as row, first_broken, rule_of, where_all_hold};
 ghost use Rattle.tag_lists.specs.Reading.{listed};
@@ -12,11 +12,13 @@ ghost use Rattle.key_rules.specs.Table as spec;
 
 use crate::rules::{
     has_allowed_size, has_fit_length, has_known_modes, has_known_paddings, has_least_length,
-    has_one_authority, has_one_digest, has_own_counts, has_own_purposes, has_own_size,
-    has_short_ids, has_some_uses, is_early, list_code, may_make, names_algorithm, names_new_key,
-    takes_format,
+    has_lone_wrapping, has_one_authority, has_one_digest, has_own_counts, has_own_purposes,
+    has_own_size, has_short_ids, has_some_uses, is_early, list_code, may_make, names_algorithm,
+    names_new_key, takes_format, wraps_keys,
 };
-use crate::{ImportFacts, NewFacts, NewFault};
+use crate::{ImportFacts, NewFacts, NewFault, WrapFacts};
+use key_domains::{Permission, is_in_policy, names_key};
+use key_wrap::is_wrapped_length;
 use std::alloc::Global;
 use tag_lists::{AuthList, ListFault};
 use tags::values::RAW;
@@ -106,7 +108,8 @@ fn check_last(domain: u32, early_ended: bool, list: &AuthList) -> Ruling
     check(rule(13), Code::InvalidKeyArgument, has_one_authority(list))?;
     check(rule(14), Code::InvalidKeyArgument, has_some_uses(list))?;
     check(rule(14), Code::UnsupportedTag, has_own_counts(domain, list))?;
-    check(rule(15), Code::EarlyBootEnded, is_early(list, early_ended))
+    check(rule(15), Code::EarlyBootEnded, is_early(list, early_ended))?;
+    check(rule(17), Code::UnsupportedTag, has_lone_wrapping(list))
 }
 
 /// The rules of the cipher and those behind them.
@@ -171,6 +174,61 @@ fn check_params(
     }
 }
 
+/// The rules of the key under which an import comes wrapped, in the table's order.
+#[tactic(auto, unfolding(crate::specs::Table::wrapping_rules))]
+fn check_wrapping(os: u32, patch: u32, facts: &WrapFacts) -> Ruling
+    ensures stops { IfErr result (λ broken. (later : List Check) → first_broken K (spec.wrapping_rules os patch facts.now ++ later) ≡ Err broken) }
+    ensures goes_on { OnOk result ((later : List Check) → first_broken K (spec.wrapping_rules os patch facts.now ++ later) ≡ first_broken K later) }
+{
+    check(
+        rule(18),
+        Code::InvalidArgument,
+        names_key(&facts.descriptor),
+    )?;
+    check(
+        rule(18),
+        Code::PermissionDenied,
+        is_in_policy(facts.descriptor.domain, facts.row),
+    )?;
+    check(rule(19), Code::KeyNotFound, facts.found)?;
+    check(
+        rule(20),
+        Code::PermissionDenied,
+        facts.bits.has(Permission::Use),
+    )?;
+    if let Err(code) = &facts.asked {
+        return Err((rule(21), *code));
+    }
+    let Some(list) = &facts.opened else {
+        return Err((rule(21), Code::InvalidKeyBlob));
+    };
+    check(rule(21), Code::InvalidKeyBlob, facts.fits)?;
+    check(rule(21), Code::InvalidKeyBlob, list.is_no_newer(os, patch))?;
+    check(
+        rule(21),
+        Code::KeyRequiresUpgrade,
+        list.is_no_older(os, patch),
+    )?;
+    check(rule(22), Code::IncompatiblePurpose, wraps_keys(list))?;
+    check(
+        rule(23),
+        Code::InvalidInputLength,
+        is_wrapped_length(facts.length as usize),
+    )?;
+    check(rule(23), Code::VerificationFailed, facts.opens)
+}
+
+/// And none where nothing comes wrapped.
+fn check_wrapping_if(os: u32, patch: u32, facts: &Option<WrapFacts>) -> Ruling
+    ensures stops { IfErr result (λ broken. (later : List Check) → first_broken K (spec.wrapping_rules_if os patch facts.now ++ later) ≡ Err broken) }
+    ensures goes_on { OnOk result ((later : List Check) → first_broken K (spec.wrapping_rules_if os patch facts.now ++ later) ≡ first_broken K later) }
+{
+    match facts {
+        Some(facts) => check_wrapping(os, patch, facts),
+        None => Ok(()),
+    }
+}
+
 /// The table's rules, in its order, and the list that is read.
 pub(crate) fn check_facts(alloc: Global, facts: &NewFacts) -> Result<AuthList, NewFault>
     ensures list { Gives (λ list. list) result (where_all_hold (first_broken K (spec.rules_of facts.now)) (rules.list_in facts.now.params)) }
@@ -194,6 +252,7 @@ pub(crate) fn check_facts(alloc: Global, facts: &NewFacts) -> Result<AuthList, N
         Code::PermissionDenied,
         may_make(&facts.descriptor, facts.row),
     )?;
+    check_wrapping_if(facts.os, facts.patch, &facts.wrapped)?;
     check_params(
         alloc,
         facts.params.as_slice(),

@@ -1,3 +1,4 @@
 pub mod Creation
 pub mod Opening
 pub mod Begin
+pub mod Wrapped

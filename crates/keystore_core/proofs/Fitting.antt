@@ -45,7 +45,7 @@ use Rattle.journal_records.specs.Lookups.{alias_cmp, is_listed, least, lesser, n
 use Rattle.journal_records.specs.Storable.{IsStorable}
 use Rattle.rule_model.specs.declared.entry.Entry.TheVariants.{Settling}
 use Rattle.rule_model.specs.declared.event.Act.{Act}
-use Rattle.rule_model.specs.declared.event.Act.TheVariants.{GenerateKey, ImportKey, CreateOperation, EnterAad, EnterUpdate, EnterFinish, Abort, Disconnect, GetKeyEntry, DeleteKey, Grant, Ungrant, GetNumberOfEntries, ListEntriesBatched, ClearNamespace, UserRemoved, AddAuthToken, DeviceLocked, DeviceUnlocked, EarlyBootEnded, Leave, UpgradeKey}
+use Rattle.rule_model.specs.declared.event.Act.TheVariants.{GenerateKey, ImportKey, CreateOperation, EnterAad, EnterUpdate, EnterFinish, Abort, Disconnect, GetKeyEntry, DeleteKey, Grant, Ungrant, GetNumberOfEntries, ListEntriesBatched, ClearNamespace, UserRemoved, AddAuthToken, DeviceLocked, DeviceUnlocked, EarlyBootEnded, Leave, UpgradeKey, ImportWrappedKey}
 use Rattle.rule_model.specs.declared.event.Event.{Event}
 use Rattle.rule_model.specs.declared.facts.Caller.{Caller}
 use Rattle.rule_model.specs.declared.field_sizes.FieldSizes.{FieldSizes}
@@ -53,19 +53,22 @@ use Rattle.rule_model.specs.declared.reply.Reply.{Reply}
 use Rattle.rule_model.specs.declared.reply.Reply.TheVariants.{Done, Stopped}
 use Rattle.rule_model.specs.Access.{access_by, id_by, key_in, owner_of}
 use Rattle.rule_model.specs.Acts.{fixed_for, is_begin}
-use Rattle.rule_model.specs.Answer.{answer_by_rules, begun_with, drawn_nonce, given_or, leaving, upgraded_with}
+use Rattle.rule_model.specs.Answer.{answer_by_rules, begun_with, drawn_nonce, given_or, leaving, made_by, upgraded_with}
 use Rattle.rule_model.specs.BeginFacts.{blob_for}
 use Rattle.rule_model.specs.Blobs.{device_at, kept_as, opened_for, root_of}
 use Rattle.rule_model.specs.Boot.{has_early_ended, last_tokens, other_triples}
 use Rattle.rule_model.specs.Calls.{accepted_in, add_auth_token_ruling, clear_namespace_ruling, counted_in, delete_key_ruling, disconnect_ruling, early_boot_ended_ruling, get_key_entry_ruling, grant_ruling, granted_in, key_entry, listed_in, listing_ruling, ungrant_ruling, user_call_ruling}
-use Rattle.rule_model.specs.Changes.{grant_number, new_blob, owner_for}
+use Rattle.rule_model.specs.Changes.{grant_number, material_of, new_blob, owner_for}
 use Rattle.rule_model.specs.Clients.{caller_of}
-use Rattle.rule_model.specs.Drawn.{no_pieces, size_of, wanted_by_key, wanted_by_rules, wanted_by_upgrade}
+use Rattle.rule_model.specs.Drawn.{no_pieces, size_of, wanted_by_key, wanted_by_rules, wanted_by_upgrade, wanted_to_make}
 use Rattle.rule_model.specs.Entries.{History, count_of}
 use Rattle.rule_model.specs.Kept.{access_at, has_busy, kept, key_found, operation_at}
 use Rattle.rule_model.specs.Legal.{Legal, MayFollow, MayStep, Answered, WithoutMemory, WithoutEntropy, Faulted, NotSettled, NotRestarted}
 use Rattle.rule_model.specs.Listing.{listed_from}
-use Rattle.rule_model.specs.NewFacts.{import_of, new_facts}
+use Rattle.rule_model.specs.KeySources.{KeySource, generated, imported}
+use Rattle.rule_model.specs.NewFacts.{new_facts}
+use Rattle.rule_model.specs.WrappedKeys.{unwrapped_in}
+use Rattle.rule_model.proofs.WrappedTexts.{unwrapped_short}
 use Rattle.rule_model.specs.Operations.{challenge_of, nonce_size, output_of}
 use Rattle.rule_model.specs.Places.{has_grant_place, has_key_place}
 use Rattle.rule_model.specs.Replies.{broken_or, no_fields}
@@ -122,22 +125,23 @@ key_fits (Ok done) plan false handed blob number drawn few drew = tt
 key_fits (Ok done) plan true true blob number drawn few drew = record { alias = tt; nonce = tt; out = tt; blob = few refl drew; list = tt; entries = tt }
 key_fits (Ok done) plan true false blob number drawn few drew = record { alias = tt; nonce = tt; out = tt; blob = tt; list = tt; entries = tt }
 
-generated_fits : (setup : Setup) (past : History) (caller : Caller) (key : Descriptor) (params drawn : List ℕ) → length (root_of setup past) ≡ 32
-    → length drawn ≡ size_of (wanted_by_rules (GenerateKey key params) setup past caller) → Fits (sizes_of (GenerateKey key params) 0) (answer_by_rules (GenerateKey key params) setup past caller drawn)
-generated_fits setup past caller key params drawn long drew =
-    let facts : NewFacts = new_facts setup.device setup.policy caller key params None (has_early_ended setup past) in
-    let plan : KeyPlan = plan_of facts in
-    key_fits (first_broken K (rules_of facts)) plan (has_key_place (kept setup past) (owner_of caller) key) (key.domain == domain_blob) (new_blob (device_at setup past) plan None drawn) (kept setup past).next_key drawn
-    (λ through sized. let fit : IsFit facts plan = fit_if_ok facts through in blob_fits (device_at setup past) plan facts (take plan.size drawn) drawn long fit (omega (arith, take_few plan.size drawn, fit.small.drawn)) sized)
-    drew
+material_few : (material : Option (List ℕ)) (size : ℕ) (drawn : List ℕ) → IfSome material (λ bytes. length bytes ≤ 64) → size ≤ 64
+    → length (material_of material (take size drawn)) ≤ 64
+material_few None size drawn short few = omega (arith, take_few size drawn, few)
+material_few (Some material) size drawn short few = short
 
-imported_fits : (setup : Setup) (past : History) (caller : Caller) (key : Descriptor) (params : List ℕ) (format : ℕ) (material drawn : List ℕ) → length (root_of setup past) ≡ 32
-    → length drawn ≡ size_of (wanted_by_rules (ImportKey key params format material) setup past caller) → Fits (sizes_of (ImportKey key params format material) 0) (answer_by_rules (ImportKey key params format material) setup past caller drawn)
-imported_fits setup past caller key params format material drawn long drew =
-    let facts : NewFacts = new_facts setup.device setup.policy caller key params (import_of format material) (has_early_ended setup past) in
+-- by where the material comes from: one that comes in is as short as the rules of an import have it
+making_fits : (setup : Setup) (past : History) (caller : Caller) (key : Descriptor) (params : List ℕ) (source : KeySource) (drawn : List ℕ) → length (root_of setup past) ≡ 32
+    → (IfSome source.import (λ import. import.length ≤ 64) → IfSome source.material (λ material. length material ≤ 64))
+    → length drawn ≡ size_of (wanted_to_make setup past caller key params source) → Fits (record no_sizes { blob = BLOB_BYTES }) (made_by setup past caller key params source drawn)
+making_fits setup past caller key params source drawn long short drew =
+    let facts : NewFacts = new_facts setup.device setup.policy caller key params source (has_early_ended setup past) in
     let plan : KeyPlan = plan_of facts in
-    key_fits (first_broken K (rules_of facts)) plan (has_key_place (kept setup past) (owner_of caller) key) (key.domain == domain_blob) (new_blob (device_at setup past) plan (Some material) drawn) (kept setup past).next_key drawn
-    (λ through sized. let fit : IsFit facts plan = fit_if_ok facts through in blob_fits (device_at setup past) plan facts material drawn long fit fit.short sized)
+    key_fits (first_broken K (rules_of facts)) plan (has_key_place (kept setup past) (owner_of caller) key) (key.domain == domain_blob) (new_blob (device_at setup past) plan source drawn) (kept setup past).next_key drawn
+    (λ through sized.
+    let fit : IsFit facts plan = fit_if_ok facts through in
+    blob_fits (device_at setup past) plan facts (material_of source.material (take plan.size drawn)) drawn long fit
+    (material_few source.material plan.size drawn (short fit.short) fit.small.drawn) sized)
     drew
 
 -- ---- an upgrade
@@ -265,9 +269,12 @@ accepted_fits tokens token = if_fits no_sizes (length (other_triples token token
 -- each answer by the rules
 rules_fit : (act : Act) (setup : Setup) (past : History) (caller : Caller) (drawn : List ℕ) (out : ℕ) → AreShort (kept setup past) → length (root_of setup past) ≡ 32
     → length drawn ≡ size_of (if (fixed_for act).draws then wanted_by_rules act setup past caller else no_pieces) → HasOutRoom setup past act out → Fits (sizes_of act out) (answer_by_rules act setup past caller drawn)
-rules_fit (GenerateKey key params) setup past caller drawn out short long drew room = generated_fits setup past caller key params drawn long drew
+rules_fit (GenerateKey key params) setup past caller drawn out short long drew room = making_fits setup past caller key params generated drawn long (λ few. tt) drew
 rules_fit (ImportKey key params format material) setup past caller drawn out short long drew room =
-    imported_fits setup past caller key params format material drawn long drew
+    making_fits setup past caller key params (imported format material) drawn long (λ few. few) drew
+rules_fit (ImportWrappedKey key params wrapping wrapped unwrapping) setup past caller drawn out short long drew room =
+    making_fits setup past caller key params (unwrapped_in (device_at setup past) setup.policy (kept setup past) caller wrapping wrapped unwrapping) drawn long
+    (unwrapped_short (device_at setup past) setup.policy (kept setup past) caller wrapping wrapped unwrapping) drew
 rules_fit (CreateOperation key params forced) setup past caller drawn out short long drew room =
     broken_fits (record no_sizes { nonce = NONCE }) (begin_table.answer (begin_facts setup past caller key params forced)) (begun_with (count_of is_begin past + 1) (challenge_of (begin_facts setup past caller key params forced) drawn) (drawn_nonce (begin_facts setup past caller key params forced) drawn) (pruned_for setup past (owner_of caller) forced))
     (record { alias = tt; nonce = nonce_fits (nonce_size (begin_facts setup past caller key params forced)) drawn (wanted_few (asked_of (begin_facts setup past caller key params forced)) (key_of (begin_facts setup past caller key params forced))); out = tt; blob = tt; list = tt; entries = tt })

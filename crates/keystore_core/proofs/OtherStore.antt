@@ -3,7 +3,9 @@ use Rattle.rule_model.specs.Tickets.{next_ticket}
 use Rattle.rule_model.specs.StepFacts.{brought_by, brought_by_abort, step_facts}
 use Rattle.rule_model.specs.Slots.{begin_facts, pruned_for}
 use Rattle.rule_model.specs.Operations.{challenge_of}
-use Rattle.rule_model.specs.NewFacts.{import_of, new_facts}
+use Rattle.rule_model.specs.KeySources.{KeySource, generated, imported}
+use Rattle.rule_model.specs.NewFacts.{new_facts}
+use Rattle.rule_model.specs.WrappedKeys.{unwrapped_in}
 use Rattle.rule_model.specs.Kept.{has_busy, key_found}
 use Rattle.rule_model.specs.Access.{id_by}
 use Rattle.rule_model.specs.Entries.{count_of}
@@ -35,13 +37,13 @@ use Rattle.cipher_ops.specs.Output.{behind, coded, is_signature, verified, whole
 use Rattle.journal_records.specs.declared.record.KeyRecord.{KeyRecord}
 use Rattle.journal_records.specs.LastingPart.{Lasting}
 use Rattle.rule_model.specs.declared.event.Act.{Act}
-use Rattle.rule_model.specs.declared.event.Act.TheVariants.{GenerateKey, ImportKey, CreateOperation, EnterAad, EnterUpdate, EnterFinish, Abort, Disconnect, GetKeyEntry, DeleteKey, Grant, Ungrant, GetNumberOfEntries, ListEntriesBatched, ClearNamespace, UserRemoved, AddAuthToken, DeviceLocked, DeviceUnlocked, EarlyBootEnded, Leave, UpgradeKey}
+use Rattle.rule_model.specs.declared.event.Act.TheVariants.{GenerateKey, ImportKey, CreateOperation, EnterAad, EnterUpdate, EnterFinish, Abort, Disconnect, GetKeyEntry, DeleteKey, Grant, Ungrant, GetNumberOfEntries, ListEntriesBatched, ClearNamespace, UserRemoved, AddAuthToken, DeviceLocked, DeviceUnlocked, EarlyBootEnded, Leave, UpgradeKey, ImportWrappedKey}
 use Rattle.rule_model.specs.declared.event.Event.{Event}
 use Rattle.rule_model.specs.declared.facts.Caller.{Caller}
 use Rattle.rule_model.specs.declared.reply.Reply.{Reply}
 use Rattle.rule_model.specs.declared.reply.Reply.TheVariants.{Done, Stopped}
 use Rattle.rule_model.specs.Acts.{is_restart}
-use Rattle.rule_model.specs.Answer.{answer_by_rules, begun_with, drawn_nonce, given_or, leaving, made_in, upgraded_with}
+use Rattle.rule_model.specs.Answer.{answer_by_rules, begun_with, drawn_nonce, given_or, leaving, made_by, made_in, upgraded_with}
 use Rattle.rule_model.specs.Access.{owner_of}
 use Rattle.rule_model.specs.Boot.{last_tokens, other_triples}
 use Rattle.rule_model.specs.Calls.{accepted_in, granted_in, key_entry}
@@ -137,10 +139,19 @@ upgraded_not : (device : DeviceSecrets) (key : Descriptor) (drawn : List ℕ) (r
 upgraded_not device key drawn (Ok change) = refl
 upgraded_not device key drawn (Err (rule, code)) = refl
 
+making_not : (setup : Setup) (past : History) (caller : Caller) (key : Descriptor) (params : List ℕ) (source : KeySource) (drawn : List ℕ)
+    → is_other_store (made_by setup past caller key params source drawn) ≡ false
+making_not setup past caller key params source drawn =
+    broken_not (new_key (new_facts setup.device setup.policy caller key params source (has_early_ended setup past)))
+    (made_in (kept setup past) caller key (new_blob (device_at setup past) (planned setup.device setup.policy caller key params source) source drawn))
+    (made_not (kept setup past) caller key (new_blob (device_at setup past) (planned setup.device setup.policy caller key params source) source drawn))
+
 -- no answer by the rules is that
 rules_not : (act : Act) (setup : Setup) (past : History) (caller : Caller) (drawn : List ℕ) → is_other_store (answer_by_rules act setup past caller drawn) ≡ false
-rules_not (GenerateKey key params) setup past caller drawn = broken_not (new_key (new_facts setup.device setup.policy caller key params None (has_early_ended setup past))) (made_in (kept setup past) caller key (new_blob (device_at setup past) (planned setup.device setup.policy caller key params None) None drawn)) (made_not (kept setup past) caller key _)
-rules_not (ImportKey key params format material) setup past caller drawn = broken_not (new_key (new_facts setup.device setup.policy caller key params (import_of format material) (has_early_ended setup past))) (made_in (kept setup past) caller key (new_blob (device_at setup past) (planned setup.device setup.policy caller key params (import_of format material)) (Some material) drawn)) (made_not (kept setup past) caller key _)
+rules_not (GenerateKey key params) setup past caller drawn = making_not setup past caller key params generated drawn
+rules_not (ImportKey key params format material) setup past caller drawn = making_not setup past caller key params (imported format material) drawn
+rules_not (ImportWrappedKey key params wrapping wrapped unwrapping) setup past caller drawn =
+    making_not setup past caller key params (unwrapped_in (device_at setup past) setup.policy (kept setup past) caller wrapping wrapped unwrapping) drawn
 rules_not (CreateOperation key params forced) setup past caller drawn = broken_not (begin_table.answer (begin_facts setup past caller key params forced)) (begun_with (count_of is_begin past + 1) (challenge_of (begin_facts setup past caller key params forced) drawn) (drawn_nonce (begin_facts setup past caller key params forced) drawn) (pruned_for setup past (owner_of caller) forced)) refl
 rules_not (EnterAad op input) setup past caller drawn = broken_not (step_table.answer (step_facts setup past caller op (brought_by (Aad input)))) (Done (record no_fields { ticket = Some (next_ticket past) })) refl
 rules_not (EnterUpdate op input) setup past caller drawn = broken_not (step_table.answer (step_facts setup past caller op (brought_by (Text input)))) (Done (record no_fields { ticket = Some (next_ticket past) })) refl

@@ -15,7 +15,7 @@ use Rattle.cipher_ops.specs.declared.room.Work.{Work}
 use Rattle.journal_records.specs.declared.record.KeyRecord.{KeyRecord}
 use Rattle.journal_records.specs.LastingPart.{Lasting}
 use Rattle.rule_model.specs.declared.event.Act.{Act}
-use Rattle.rule_model.specs.declared.event.Act.TheVariants.{GenerateKey, ImportKey, CreateOperation, EnterAad, EnterUpdate, EnterFinish, Abort, Disconnect, GetKeyEntry, DeleteKey, Grant, Ungrant, GetNumberOfEntries, ListEntriesBatched, ClearNamespace, UserRemoved, AddAuthToken, DeviceLocked, DeviceUnlocked, EarlyBootEnded, Leave, UpgradeKey}
+use Rattle.rule_model.specs.declared.event.Act.TheVariants.{GenerateKey, ImportKey, CreateOperation, EnterAad, EnterUpdate, EnterFinish, Abort, Disconnect, GetKeyEntry, DeleteKey, Grant, Ungrant, GetNumberOfEntries, ListEntriesBatched, ClearNamespace, UserRemoved, AddAuthToken, DeviceLocked, DeviceUnlocked, EarlyBootEnded, Leave, UpgradeKey, ImportWrappedKey}
 use Rattle.rule_model.specs.declared.event.Event.{Event}
 use Rattle.rule_model.specs.declared.facts.Caller.{Caller}
 use Rattle.rule_model.specs.declared.reply.Fields.{Fields}
@@ -23,7 +23,7 @@ use Rattle.rule_model.specs.declared.reply.Reply.{Reply}
 use Rattle.rule_model.specs.declared.reply.Reply.TheVariants.{Done, Broken, Stopped}
 use Rattle.rule_model.specs.Access.{id_by, owner_of}
 use Rattle.rule_model.specs.Acts.{is_begin, is_enter}
-use Rattle.rule_model.specs.Answer.{answer_by_rules, begun_with, drawn_nonce, given_or, leaving, made_in, upgraded_with}
+use Rattle.rule_model.specs.Answer.{answer_by_rules, begun_with, drawn_nonce, given_or, leaving, made_by, made_in, upgraded_with}
 use Rattle.rule_model.specs.Blobs.{device_at}
 use Rattle.rule_model.specs.Boot.{has_early_ended, last_tokens, other_triples}
 use Rattle.rule_model.specs.Calls.{accepted_in, add_auth_token_ruling, clear_namespace_ruling, counted_in, delete_key_ruling, disconnect_ruling, early_boot_ended_ruling, get_key_entry_ruling, grant_ruling, granted_in, key_entry, listed_in, listing_ruling, ungrant_ruling, user_call_ruling}
@@ -32,7 +32,9 @@ use Rattle.rule_model.specs.Clients.{caller_of}
 use Rattle.rule_model.specs.Entries.{History, count_of}
 use Rattle.rule_model.specs.Kept.{has_busy, kept, key_found, operation_at}
 use Rattle.rule_model.specs.Legal.{IsAnswered, MayFollow}
-use Rattle.rule_model.specs.NewFacts.{import_of, new_facts}
+use Rattle.rule_model.specs.KeySources.{KeySource, generated, imported}
+use Rattle.rule_model.specs.NewFacts.{new_facts}
+use Rattle.rule_model.specs.WrappedKeys.{unwrapped_in}
 use Rattle.rule_model.specs.Operations.{challenge_of, output_of}
 use Rattle.rule_model.specs.Places.{has_grant_place, has_key_place}
 use Rattle.rule_model.specs.Replies.{broken_or, no_fields}
@@ -94,9 +96,18 @@ upgraded_untold device key drawn (Ok change) = by_domain (key.domain == domain_b
   by_domain false = refl
 upgraded_untold device key drawn (Err (rule, code)) = refl
 
+making_untold : (setup : Setup) (past : History) (caller : Caller) (key : Descriptor) (params : List ℕ) (source : KeySource) (drawn : List ℕ)
+    → tells_ticket (made_by setup past caller key params source drawn) ≡ false
+making_untold setup past caller key params source drawn =
+    broken_untold (new_key (new_facts setup.device setup.policy caller key params source (has_early_ended setup past)))
+    (made_in (kept setup past) caller key (new_blob (device_at setup past) (planned setup.device setup.policy caller key params source) source drawn))
+    (made_untold (kept setup past) caller key (new_blob (device_at setup past) (planned setup.device setup.policy caller key params source) source drawn))
+
 rules_untold : (act : Act) (setup : Setup) (past : History) (caller : Caller) (drawn : List ℕ) → is_enter act ≡ false → tells_ticket (answer_by_rules act setup past caller drawn) ≡ false
-rules_untold (GenerateKey key params) setup past caller drawn e = broken_untold (new_key (new_facts setup.device setup.policy caller key params None (has_early_ended setup past))) (made_in (kept setup past) caller key (new_blob (device_at setup past) (planned setup.device setup.policy caller key params None) None drawn)) (made_untold (kept setup past) caller key _)
-rules_untold (ImportKey key params format material) setup past caller drawn e = broken_untold (new_key (new_facts setup.device setup.policy caller key params (import_of format material) (has_early_ended setup past))) (made_in (kept setup past) caller key (new_blob (device_at setup past) (planned setup.device setup.policy caller key params (import_of format material)) (Some material) drawn)) (made_untold (kept setup past) caller key _)
+rules_untold (GenerateKey key params) setup past caller drawn e = making_untold setup past caller key params generated drawn
+rules_untold (ImportKey key params format material) setup past caller drawn e = making_untold setup past caller key params (imported format material) drawn
+rules_untold (ImportWrappedKey key params wrapping wrapped unwrapping) setup past caller drawn e =
+    making_untold setup past caller key params (unwrapped_in (device_at setup past) setup.policy (kept setup past) caller wrapping wrapped unwrapping) drawn
 rules_untold (CreateOperation key params forced) setup past caller drawn e = broken_untold (begin_table.answer (begin_facts setup past caller key params forced)) (begun_with (count_of is_begin past + 1) (challenge_of (begin_facts setup past caller key params forced) drawn) (drawn_nonce (begin_facts setup past caller key params forced) drawn) (pruned_for setup past (owner_of caller) forced)) refl
 rules_untold (EnterAad op input) setup past caller drawn e = cc
 rules_untold (EnterUpdate op input) setup past caller drawn e = cc

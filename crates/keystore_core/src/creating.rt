@@ -1,7 +1,8 @@
-//! A new key: generated, or imported.
+//! A new key: generated, imported, or imported wrapped.
 
-ghost use Rattle.std.specs.Prelude.{◌≡◌, ◌+◌, ◌^◌, ◌<◌, ◌≤◌, length, take, false, None, IfOk, OnOk};
+ghost use Rattle.std.specs.Prelude.{◌≡◌, ◌+◌, ◌^◌, ◌<◌, ◌≤◌, length, false, None, IfOk, IfSome, OnOk};
 ghost use Rattle.call_answers.specs.Creating as spec;
+ghost use Rattle.call_answers.specs.KeySources.{making};
 ghost use Rattle.lasting_table.specs.TableView.{HasRoomForKey};
 ghost use Rattle.key_database.specs.Stands.{SameStore, is_unsettled, lasting, table_of};
 ghost use Rattle.key_rules.specs.Creation.{IsSmall};
@@ -50,7 +51,7 @@ fn make_ready(alloc: Global, keys: &mut KeyDatabase, size: usize) -> Result<Draw
     DrawnRooms::of(alloc, pieces)
 }
 
-/// The blob of an admitted key, with what was drawn for it: its material, where that is not imported, and the blob's nonce.
+/// The blob of an admitted key, with what was drawn for it: its material, where none came in, and the blob's nonce.
 fn sealed(
     alloc: Global,
     device: &DeviceSecrets,
@@ -59,7 +60,7 @@ fn sealed(
     drawn: &[u8],
 ) -> Result<SealedKey, NoMemory>
     requires small { IsSmall admitted.new.plan }
-    requires short { length (spec.material_of admitted.import (take admitted.new.plan.size drawn.now)) ≤ 64 }
+    requires short { IfSome admitted.material (λ material. length material ≤ 64) }
     requires room { room_in room ≡ admitted.new.plan.size }
     requires whole { length drawn.now ≡ admitted.new.plan.size + 12 }
     ensures sealed { IfOk result (λ key. spec.IsMade device.now admitted drawn.now key) }
@@ -92,7 +93,7 @@ fn keep<D: Disk>(alloc: Global, keys: &mut KeyDatabase, disk: &mut D, sealed: Se
 }
 
 impl Tables {
-    /// A client makes a key: an imported one, or else a generated one.
+    /// A client makes a key, whose material is drawn, or comes in, in the clear or wrapped.
     pub fn make_key<D: Disk, N: Entropy>(
         &mut self,
         alloc: Global,
@@ -103,10 +104,10 @@ impl Tables {
     ) -> Result<Answered, NoMemory>
         requires caller { IsCaller self.old caller }
         requires settled { AreSettled self.old }
-        ensures serves { ServesAfter self.old self.new (event_by caller (spec.making asked.key asked.params asked.import)) result }
+        ensures serves { ServesAfter self.old self.new (event_by caller (making asked.key asked.params asked.source)) result }
         ensures job { IfOk result (λ answered. answered.job ≡ None) }
         ensures drew { DrewForResult N.Entropy entropy.old entropy.new result }
-        ensures store { StoreGoesAfter D.Disk self.old self.new disk.old disk.new caller (spec.making asked.key asked.params asked.import) result }
+        ensures store { StoreGoesAfter D.Disk self.old self.new disk.old disk.new caller (making asked.key asked.params asked.source) result }
     {
         let early_ended = self.boot.device.has_early_ended();
         let admitted = match asked.admit(

@@ -18,7 +18,7 @@ ghost use Rattle.tags.specs.declared.limits.TheConstants.{MOST_SLOTS};
 
 use crate::answered::Answered;
 use auth_tokens::AuthToken;
-use call_answers::{AskedKey, Import};
+use call_answers::{AskedKey, KeySource};
 use cipher_ops::{CipherState, Done, Work};
 use key_database::KeyDatabase;
 use ks_outside::{Disk, Entropy};
@@ -119,7 +119,7 @@ impl Tables {
                 let asked = AskedKey {
                     key,
                     params,
-                    import: None,
+                    source: KeySource::Generated,
                 };
                 self.make_key(alloc, disk, entropy, caller, asked)
             }
@@ -132,7 +132,7 @@ impl Tables {
                 let asked = AskedKey {
                     key,
                     params,
-                    import: Some(Import { format, material }),
+                    source: KeySource::Imported { format, material },
                 };
                 self.make_key(alloc, disk, entropy, caller, asked)
             }
@@ -196,6 +196,25 @@ impl Tables {
             Act::Restart { root } => self.restart(alloc, disk, caller, root),
             Act::UpgradeKey { key, params } => {
                 self.upgrade_key(alloc, disk, entropy, caller, key, &params)
+            }
+            Act::ImportWrappedKey {
+                key,
+                params,
+                wrapping,
+                wrapped,
+                unwrapping,
+            } => {
+                let source = KeySource::Wrapped {
+                    wrapping,
+                    wrapped,
+                    unwrapping,
+                };
+                let asked = AskedKey {
+                    key,
+                    params,
+                    source,
+                };
+                self.make_key(alloc, disk, entropy, caller, asked)
             }
         }
     }

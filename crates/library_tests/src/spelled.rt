@@ -196,6 +196,7 @@ pub fn new_facts(
         row: None,
         params,
         import,
+        wrapped: None,
         early_ended: false,
         wall,
         os: 0,

@@ -10,7 +10,7 @@ use tags::Bytes;
 
 /// Lines of one HMAC key, from the client to the mac, and a line of each act with all its members; the reading of the clock since boot and
 /// the client of each, and its act in words. A member that no act has is not looked at, and of two of one name the last counts.
-static LINES: [(&str, (u64, u64), &str); 32] = [
+static LINES: [(&str, (u64, u64), &str); 34] = [
     (
         r#"{"t":[0,1000],"do":"connect","uid":10001,"x":1}"#,
         (0, 0),
@@ -170,6 +170,16 @@ static LINES: [(&str, (u64, u64), &str); 32] = [
         r#"{"t":[0,1000],"c":1,"do":"upgradeKey","key":{"domain":3,"nspace":100,"blob":"4b53"},"params":[["APPLICATION_ID","6162"]]}"#,
         (0, 1),
         "UpgradeKey { key: Descriptor { domain: 3, nspace: 100, alias: None, blob: Some(Bytes { bytes: [75, 83] }) }, params: Bytes { bytes: [0, 1, 144, 0, 2, 89, 0, 2, 97, 98] } }",
+    ),
+    (
+        r#"{"t":[0,1000],"c":1,"do":"importWrappedKey","key":{"domain":0,"alias":"k"},"params":[["ALGORITHM",32]],"wrapping":{"domain":4,"nspace":9,"blob":"4b53"},"wrapped":"22Aa","unwrapping":[["APPLICATION_ID","6162"]]}"#,
+        (0, 1),
+        "ImportWrappedKey { key: Descriptor { domain: 0, nspace: 0, alias: Some(Bytes { bytes: [107] }), blob: None }, params: Bytes { bytes: [0, 1, 16, 0, 0, 2, 0, 0, 0, 32] }, wrapping: Descriptor { domain: 4, nspace: 9, alias: None, blob: Some(Bytes { bytes: [75, 83] }) }, wrapped: Bytes { bytes: [34, 170] }, unwrapping: Bytes { bytes: [0, 1, 144, 0, 2, 89, 0, 2, 97, 98] } }",
+    ),
+    (
+        r#"{"t":[0,1000],"c":1,"do":"importWrappedKey","key":{"domain":3},"wrapping":{"domain":2,"nspace":100,"alias":"w"},"wrapped":""}"#,
+        (0, 1),
+        "ImportWrappedKey { key: Descriptor { domain: 3, nspace: 0, alias: None, blob: None }, params: Bytes { bytes: [0, 0] }, wrapping: Descriptor { domain: 2, nspace: 100, alias: Some(Bytes { bytes: [119] }), blob: None }, wrapped: Bytes { bytes: [] }, unwrapping: Bytes { bytes: [0, 0] } }",
     ),
 ];
 

@@ -18,6 +18,13 @@ const IMPORT_KEY: &str =
 const IMPORT_ONCE: &str =
     r#"{"t":[0,1000],"c":1,"do":"importKey","key":{"domain":0,"alias":"o"},"params":[["PURPOSE",2],["ALGORITHM",128],["DIGEST",4],["MIN_MAC_LENGTH",64],["NO_AUTH_REQUIRED",true],["USAGE_COUNT_LIMIT",1]],"format":3,"material":"0b0b0b0b0b0b0b0b0b0b0b0b0b0b0b0b0b0b0b0b"}"#;
 
+/// A key that unwraps others, and that key as it comes under it (RFC 3394 section 4.1).
+const IMPORT_WRAPPING: &str =
+    r#"{"t":[0,1000],"c":1,"do":"importKey","key":{"domain":0,"alias":"w"},"params":[["PURPOSE",5],["ALGORITHM",32],["NO_AUTH_REQUIRED",true]],"format":3,"material":"000102030405060708090a0b0c0d0e0f"}"#;
+
+const IMPORT_WRAPPED: &str =
+    r#"{"t":[0,1000],"c":1,"do":"importWrappedKey","key":{"domain":0,"alias":"o"},"params":[["PURPOSE",2],["ALGORITHM",128],["DIGEST",4],["MIN_MAC_LENGTH",64],["NO_AUTH_REQUIRED",true],["USAGE_COUNT_LIMIT",1]],"wrapping":{"domain":0,"alias":"w"},"wrapped":"1fa68b0a8112b447aef34bd8fb5a7b829d3e862371d2cfe5"}"#;
+
 const BEGIN_ONCE: &str =
     r#"{"t":[0,1000],"c":1,"do":"createOperation","key":{"domain":0,"alias":"o"},"params":[["PURPOSE",2],["MAC_LENGTH",256]]}"#;
 
@@ -170,6 +177,20 @@ static USES: [Sweep; 3] = [
     },
 ];
 
+/// A key that comes wrapped and may be used once, its last use, and a begin on it then.
+static WRAPPED: Sweep = Sweep {
+    before: &[CONNECT, IMPORT_WRAPPING],
+    script: &[
+        (CONNECT, ""),
+        (IMPORT_WRAPPED, ""),
+        (BEGIN_ONCE, ""),
+        (FINISH_FIRST, ABORT_FIRST),
+        (BEGIN_ONCE, ""),
+    ],
+    last_uses: [3, NOWHERE],
+    ..FROM_EMPTY
+};
+
 /// A grant and its end, by itself and by that of its key.
 static GRANTS: [Sweep; 2] = [
     Sweep {
@@ -276,6 +297,11 @@ fn each_call_of_a_last_use_may_fail(rt: HostRuntime) {
         let wrong = wrong_calls(rt.alloc(), sweep);
         assert_eq!(rt; wrong, (None, None), "in row {row}");
     }
+}
+
+#[test]
+fn each_call_of_a_key_that_comes_wrapped_may_fail(rt: HostRuntime) {
+    assert_eq!(rt; wrong_calls(rt.alloc(), &WRAPPED), (None, None));
 }
 
 #[test]

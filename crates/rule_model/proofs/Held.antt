@@ -18,7 +18,7 @@ use Rattle.journal_records.specs.LastingPart.{Lasting, some_has_id}
 use Rattle.rule_model.specs.declared.entry.Entry.{Entry}
 use Rattle.rule_model.specs.declared.entry.Entry.TheVariants.{Acted, Settling}
 use Rattle.rule_model.specs.declared.event.Act.{Act}
-use Rattle.rule_model.specs.declared.event.Act.TheVariants.{GenerateKey, ImportKey, EnterFinish, DeleteKey, Grant, Ungrant, ClearNamespace, UserRemoved, Disconnect, Leave, UpgradeKey}
+use Rattle.rule_model.specs.declared.event.Act.TheVariants.{GenerateKey, ImportKey, EnterFinish, DeleteKey, Grant, Ungrant, ClearNamespace, UserRemoved, Disconnect, Leave, UpgradeKey, ImportWrappedKey}
 use Rattle.rule_model.specs.declared.event.Event.{Event}
 use Rattle.rule_model.specs.declared.facts.Caller.{Caller}
 use Rattle.rule_model.specs.declared.reply.Fields.{Fields}
@@ -28,12 +28,12 @@ use Rattle.rule_model.specs.Access.{id_by, owner_of}
 use Rattle.rule_model.specs.Acts.{fixed_for}
 use Rattle.rule_model.specs.Answer.{answer, answer_by_rules}
 use Rattle.rule_model.specs.Blobs.{device_at}
-use Rattle.rule_model.specs.Changes.{after_change, change_of, creating, grant_of, granting, planned, upgrading}
+use Rattle.rule_model.specs.Changes.{after_change, change_of, creating, grant_of, granting, making, planned, upgrading}
 use Rattle.rule_model.specs.Clients.{caller_of}
 use Rattle.rule_model.specs.Entries.{History, gives, is_done}
 use Rattle.rule_model.specs.Kept.{is_live, kept, kept_after, kept_settled, open_of}
 use Rattle.rule_model.specs.Legal.{LegalBefore, MayFollow}
-use Rattle.rule_model.specs.NewFacts.{import_of}
+use Rattle.rule_model.specs.KeySources.{KeySource, generated, imported}
 use Rattle.rule_model.specs.declared.operation.Open.{Open}
 use Rattle.rule_model.specs.Operations.{limited_key, used_key}
 use Rattle.rule_model.specs.Settling.{is_faulted, is_kept, is_unsettled}
@@ -41,6 +41,7 @@ use Rattle.rule_model.specs.Setup.{Setup}
 use Rattle.rule_model.specs.StepFacts.{has_ended}
 use Rattle.rule_model.specs.Stored.{May, MayWhere}
 use Rattle.rule_model.specs.Upgrades.{upgrade_in}
+use Rattle.rule_model.specs.WrappedKeys.{unwrapped_in}
 use Rattle.rule_model.specs.Uses.{HasLimit, Stood, one_if, used_by, uses_made}
 use Rattle.rule_model.proofs.Admitted.{IsEntered, answered_done, entered}
 use Rattle.rule_model.proofs.Bounds.{Bounded, Goes, TakesNext, goes_counted, goes_on, has_limit_within}
@@ -52,10 +53,15 @@ abbrev pub TakesNextIn : Lasting → Option Change → Type 0
 TakesNextIn part None = Unit {0}
 TakesNextIn part (Some change) = TakesNext part change
 
-takes_stored : (device : DeviceSecrets) (part : Lasting) (uid : ℕ) (key : Descriptor) (plan : KeyPlan) (import : Option (List ℕ)) (drawn : List ℕ) (blob : Bool)
-    → TakesNextIn part (if blob then None else Some (creating device part uid key plan import drawn))
-takes_stored device part uid key plan import drawn true = tt
-takes_stored device part uid key plan import drawn false = refl
+takes_stored : (device : DeviceSecrets) (part : Lasting) (uid : ℕ) (key : Descriptor) (plan : KeyPlan) (source : KeySource) (drawn : List ℕ) (blob : Bool)
+    → TakesNextIn part (if blob then None else Some (creating device part uid key plan source drawn))
+takes_stored device part uid key plan source drawn true = tt
+takes_stored device part uid key plan source drawn false = refl
+
+takes_making : (device : DeviceSecrets) (policy : List PolicyRow) (part : Lasting) (caller : Caller) (key : Descriptor) (params : List ℕ) (source : KeySource) (drawn : List ℕ)
+    → TakesNextIn part (making device policy part caller key params source drawn)
+takes_making device policy part caller key params source drawn =
+    takes_stored device part (owner_of caller) key (planned device policy caller key params source) source drawn (key.domain == domain_blob)
 
 takes_mapped : {X : Type 0} (part : Lasting) (change : X → Change) → ((x : X) → TakesNext part (change x)) → (found : Option X) → TakesNextIn part (option_map change found)
 takes_mapped part change takes None = tt
@@ -69,10 +75,11 @@ takes_upgrading device part drawn (Ok (Some sealed)) None = tt
 takes_upgrading device part drawn (Ok (Some sealed)) (Some id) = tt
 
 change_takes : (act : Act) (device : DeviceSecrets) (policy : List PolicyRow) (part : Lasting) (opened : List Open) (caller : Caller) (drawn : List ℕ) → TakesNextIn part (change_of act device policy part opened caller drawn)
-change_takes (GenerateKey key params) device policy part opened caller drawn =
-    takes_stored device part (owner_of caller) key (planned device policy caller key params None) None drawn (key.domain == domain_blob)
+change_takes (GenerateKey key params) device policy part opened caller drawn = takes_making device policy part caller key params generated drawn
 change_takes (ImportKey key params format material) device policy part opened caller drawn =
-    takes_stored device part (owner_of caller) key (planned device policy caller key params (import_of format material)) (Some material) drawn (key.domain == domain_blob)
+    takes_making device policy part caller key params (imported format material) drawn
+change_takes (ImportWrappedKey key params wrapping wrapped unwrapping) device policy part opened caller drawn =
+    takes_making device policy part caller key params (unwrapped_in device policy part caller wrapping wrapped unwrapping) drawn
 change_takes (EnterFinish op input signature) device policy part opened caller drawn = takes_mapped part changes.Use (λ id. tt) (used_key op opened)
 change_takes (DeleteKey key) device policy part opened caller drawn = takes_mapped part changes.Delete (λ id. tt) (id_by policy part caller key)
 change_takes (Grant key uid bits) device policy part opened caller drawn = takes_mapped part (granting part uid bits) (λ id. tt) (id_by policy part caller key)

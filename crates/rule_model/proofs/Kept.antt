@@ -12,7 +12,7 @@ use Rattle.journal_records.specs.Holding.{IsMember, Sure, Unsure, settled_in}
 use Rattle.journal_records.specs.LastingPart.{Lasting}
 use Rattle.rule_model.specs.declared.entry.Entry.TheVariants.{Acted, Settling}
 use Rattle.rule_model.specs.declared.event.Act.{Act}
-use Rattle.rule_model.specs.declared.event.Act.TheVariants.{GenerateKey, ImportKey, EnterFinish, DeleteKey, Grant, Ungrant, ClearNamespace, UserRemoved, Restart, UpgradeKey}
+use Rattle.rule_model.specs.declared.event.Act.TheVariants.{GenerateKey, ImportKey, EnterFinish, DeleteKey, Grant, Ungrant, ClearNamespace, UserRemoved, Restart, UpgradeKey, ImportWrappedKey}
 use Rattle.rule_model.specs.declared.event.Event.{Event}
 use Rattle.rule_model.specs.declared.facts.Caller.{Caller}
 use Rattle.rule_model.specs.declared.reply.Fields.{Fields}
@@ -41,6 +41,7 @@ changes_kept (ClearNamespace domain nspace) = true
 changes_kept (UserRemoved user) = true
 changes_kept (Restart root) = true
 changes_kept (UpgradeKey key params) = true
+changes_kept (ImportWrappedKey key params wrapping wrapped unwrapping) = true
 changes_kept _ = false
 
 pub none_changed : (act : Act) (device : DeviceSecrets) (policy : List PolicyRow) (part : Lasting) (opened : List Open) (caller : Caller) (drawn : List ℕ) → changes_kept act ≡ false → change_of act device policy part opened caller drawn ≡ None
@@ -54,6 +55,7 @@ none_changed (ClearNamespace domain nspace) device policy part opened caller dra
 none_changed (UserRemoved user) device policy part opened caller drawn e = cc
 none_changed (Restart root) device policy part opened caller drawn e = cc
 none_changed (UpgradeKey key params) device policy part opened caller drawn e = cc
+none_changed (ImportWrappedKey key params wrapping wrapped unwrapping) device policy part opened caller drawn e = cc
 none_changed _ device policy part opened caller drawn e = refl
 
 none_given : (act : Act) (before : List ℕ) → changes_kept act ≡ false → root_given act before ≡ before

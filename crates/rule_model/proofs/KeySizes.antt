@@ -34,13 +34,13 @@ use Rattle.call_rules.specs.declared.facts.KeyCallFacts.{KeyCallFacts}
 use Rattle.call_rules.specs.Table.{upgrade_key_rules}
 use Rattle.rule_model.specs.declared.entry.Entry.TheVariants.{Acted, Settling}
 use Rattle.rule_model.specs.declared.event.Act.{Act}
-use Rattle.rule_model.specs.declared.event.Act.TheVariants.{GenerateKey, ImportKey, EnterFinish, DeleteKey, Grant, Ungrant, ClearNamespace, UserRemoved, UpgradeKey}
+use Rattle.rule_model.specs.declared.event.Act.TheVariants.{GenerateKey, ImportKey, EnterFinish, DeleteKey, Grant, Ungrant, ClearNamespace, UserRemoved, UpgradeKey, ImportWrappedKey}
 use Rattle.rule_model.specs.declared.event.Event.{Event}
 use Rattle.rule_model.specs.declared.facts.Caller.{Caller}
 use Rattle.rule_model.specs.declared.reply.Reply.{Reply}
 use Rattle.rule_model.specs.declared.reply.Reply.TheVariants.{Done, Broken, Stopped}
 use Rattle.rule_model.specs.Access.{access_by, id_by, key_in, owner_of}
-use Rattle.rule_model.specs.Answer.{answer_by_rules, made_in}
+use Rattle.rule_model.specs.Answer.{answer_by_rules, made_by, made_in}
 use Rattle.rule_model.specs.BeginFacts.{blob_for}
 use Rattle.rule_model.specs.Blobs.{device_at, opened_for}
 use Rattle.rule_model.specs.Boot.{has_early_ended}
@@ -49,13 +49,15 @@ use Rattle.rule_model.specs.Clients.{caller_of}
 use Rattle.rule_model.specs.Entries.{History, is_done}
 use Rattle.rule_model.specs.Kept.{kept, kept_settled, open_of}
 use Rattle.rule_model.specs.Legal.{LegalBefore, MayFollow, Answered, WithoutMemory, WithoutEntropy, Faulted, NotSettled, NotRestarted}
-use Rattle.rule_model.specs.NewFacts.{import_of, new_facts}
+use Rattle.rule_model.specs.KeySources.{KeySource, generated, imported}
+use Rattle.rule_model.specs.NewFacts.{new_facts}
 use Rattle.rule_model.specs.declared.operation.Open.{Open}
 use Rattle.rule_model.specs.Operations.{used_key}
 use Rattle.rule_model.specs.Replies.{broken_or}
 use Rattle.rule_model.specs.Settling.{is_faulted, is_kept, is_unsettled}
 use Rattle.rule_model.specs.Setup.{Setup}
 use Rattle.rule_model.specs.Upgrades.{list_opened, upgrade_by, upgrade_call_facts, upgrade_facts, upgraded}
+use Rattle.rule_model.specs.WrappedKeys.{unwrapped_in}
 use Rattle.rule_model.proofs.Admitted.{answered_done, broken_done}
 use Rattle.rule_model.proofs.Bounds.{Each, each_as, each_changed, each_left, each_more}
 use Rattle.rule_model.proofs.Kept.{restart_unfaulted, waiting_unfaulted}
@@ -124,16 +126,24 @@ short_from part is = each_as (IsStorableKey part.next_key) IsShort (λ key one. 
 
 -- ---- the change of an act
 
+-- where the material of a wrapped key comes from, after a history
+abbrev unwrapped_at : Setup → History → Caller → Descriptor → List ℕ → List ℕ → KeySource
+unwrapped_at setup past caller wrapping wrapped unwrapping = unwrapped_in (device_at setup past) setup.policy (kept setup past) caller wrapping wrapped unwrapping
+
 -- the rules let a new key through
+abbrev pub IsLet : Setup → History → Caller → Descriptor → List ℕ → KeySource → Type 0
+IsLet setup past caller key params source = is_ok (new_key (new_facts setup.device setup.policy caller key params source (has_early_ended setup past))) ≡ true
+
 abbrev MakesKey : Act → Setup → History → Caller → Type 0
-MakesKey (GenerateKey key params) setup past caller = is_ok (new_key (new_facts setup.device setup.policy caller key params None (has_early_ended setup past))) ≡ true
-MakesKey (ImportKey key params format material) setup past caller = is_ok (new_key (new_facts setup.device setup.policy caller key params (import_of format material) (has_early_ended setup past))) ≡ true
+MakesKey (GenerateKey key params) setup past caller = IsLet setup past caller key params generated
+MakesKey (ImportKey key params format material) setup past caller = IsLet setup past caller key params (imported format material)
+MakesKey (ImportWrappedKey key params wrapping wrapped unwrapping) setup past caller = IsLet setup past caller key params (unwrapped_at setup past caller wrapping wrapped unwrapping)
 MakesKey _ setup past caller = Unit {0}
 
-short_new : (device : DeviceSecrets) (part : Lasting) (uid : ℕ) (facts : NewFacts) (import : Option (List ℕ)) (drawn : List ℕ) → is_ok (new_key facts) ≡ true → (b : Bool) → (facts.descriptor.domain == domain_blob) ≡ b
-    → IsShortIn (if b then None else Some (creating device part uid facts.descriptor (plan_of facts) import drawn))
-short_new device part uid facts import drawn through true e = tt
-short_new device part uid facts import drawn through false e =
+short_new : (device : DeviceSecrets) (part : Lasting) (uid : ℕ) (facts : NewFacts) (source : KeySource) (drawn : List ℕ) → is_ok (new_key facts) ≡ true → (b : Bool) → (facts.descriptor.domain == domain_blob) ≡ b
+    → IsShortIn (if b then None else Some (creating device part uid facts.descriptor (plan_of facts) source drawn))
+short_new device part uid facts source drawn through true e = tt
+short_new device part uid facts source drawn through false e =
     let fit = fit_if_ok facts through in
     (named_short facts.descriptor fit.named e, omega (arith, fit.small.listed))
 
@@ -156,9 +166,13 @@ short_upgrading device call key asked given opened found drawn =
 change_short : (act : Act) (setup : Setup) (past : History) (part : Lasting) (opened : List Open) (caller : Caller) (drawn : List ℕ) → MakesKey act setup past caller
     → IsShortIn (change_of act (device_at setup past) setup.policy part opened caller drawn)
 change_short (GenerateKey key params) setup past part opened caller drawn through =
-    short_new (device_at setup past) part (owner_of caller) (new_facts setup.device setup.policy caller key params None (has_early_ended setup past)) None drawn through (key.domain == domain_blob) refl
+    short_new (device_at setup past) part (owner_of caller) (new_facts setup.device setup.policy caller key params generated (has_early_ended setup past)) generated drawn through (key.domain == domain_blob) refl
 change_short (ImportKey key params format material) setup past part opened caller drawn through =
-    short_new (device_at setup past) part (owner_of caller) (new_facts setup.device setup.policy caller key params (import_of format material) (has_early_ended setup past)) (Some material) drawn through (key.domain == domain_blob) refl
+    short_new (device_at setup past) part (owner_of caller) (new_facts setup.device setup.policy caller key params (imported format material) (has_early_ended setup past)) (imported format material) drawn through (key.domain == domain_blob) refl
+change_short (ImportWrappedKey key params wrapping wrapped unwrapping) setup past part opened caller drawn through =
+    short_new (device_at setup past) part (owner_of caller)
+    (new_facts setup.device setup.policy caller key params (unwrapped_at setup past caller wrapping wrapped unwrapping) (has_early_ended setup past))
+    (unwrapped_in (device_at setup past) setup.policy part caller wrapping wrapped unwrapping) drawn through (key.domain == domain_blob) refl
 change_short (EnterFinish op input signature) setup past part opened caller drawn through = short_mapped changes.Use (λ id. tt) (used_key op opened)
 change_short (DeleteKey key) setup past part opened caller drawn through = short_mapped changes.Delete (λ id. tt) (id_by setup.policy part caller key)
 change_short (Grant key uid bits) setup past part opened caller drawn through = short_mapped (granting part uid bits) (λ id. tt) (id_by setup.policy part caller key)
@@ -172,14 +186,22 @@ change_short (UpgradeKey key params) setup past part opened caller drawn through
     (id_by setup.policy part caller key) drawn
 change_short _ setup past part opened caller drawn through = tt
 
+-- what stands behind the rules of a call that makes a key
+abbrev behind : Setup → History → Caller → Descriptor → List ℕ → KeySource → List ℕ → Reply
+behind setup past caller key params source drawn =
+    made_in (kept setup past) caller key (new_blob (device_at setup past) (planned setup.device setup.policy caller key params source) source drawn)
+
+pub let_done : (setup : Setup) (past : History) (caller : Caller) (key : Descriptor) (params : List ℕ) (source : KeySource) (drawn : List ℕ)
+    → is_done (made_by setup past caller key params source drawn) ≡ true → IsLet setup past caller key params source
+let_done setup past caller key params source drawn e =
+    broken_done (new_key (new_facts setup.device setup.policy caller key params source (has_early_ended setup past))) (behind setup past caller key params source drawn) e
+
 -- an act that is admitted
 makes_done : (act : Act) (setup : Setup) (past : History) (caller : Caller) (drawn : List ℕ) → is_done (answer_by_rules act setup past caller drawn) ≡ true → MakesKey act setup past caller
-makes_done (GenerateKey key params) setup past caller drawn e =
-    broken_done (new_key (new_facts setup.device setup.policy caller key params None (has_early_ended setup past)))
-    (made_in (kept setup past) caller key (new_blob (device_at setup past) (planned setup.device setup.policy caller key params None) None drawn)) e
-makes_done (ImportKey key params format material) setup past caller drawn e =
-    broken_done (new_key (new_facts setup.device setup.policy caller key params (import_of format material) (has_early_ended setup past)))
-    (made_in (kept setup past) caller key (new_blob (device_at setup past) (planned setup.device setup.policy caller key params (import_of format material)) (Some material) drawn)) e
+makes_done (GenerateKey key params) setup past caller drawn e = let_done setup past caller key params generated drawn e
+makes_done (ImportKey key params format material) setup past caller drawn e = let_done setup past caller key params (imported format material) drawn e
+makes_done (ImportWrappedKey key params wrapping wrapped unwrapping) setup past caller drawn e =
+    let_done setup past caller key params (unwrapped_at setup past caller wrapping wrapped unwrapping) drawn e
 makes_done _ setup past caller drawn e = tt
 
 -- an answer that is no broken rule
@@ -187,13 +209,16 @@ stopped_ok : {T : Type 0} (ruling : Result T (Rule × Code)) (reply : Reply) (co
 stopped_ok (Ok found) reply code e = refl
 stopped_ok (Err broken) reply code e = cc
 
+let_stopped : (setup : Setup) (past : History) (caller : Caller) (key : Descriptor) (params : List ℕ) (source : KeySource) (drawn : List ℕ) (code : Code)
+    → Stopped code ≡ made_by setup past caller key params source drawn → IsLet setup past caller key params source
+let_stopped setup past caller key params source drawn code e =
+    stopped_ok (new_key (new_facts setup.device setup.policy caller key params source (has_early_ended setup past))) (behind setup past caller key params source drawn) code e
+
 makes_stopped : (act : Act) (setup : Setup) (past : History) (caller : Caller) (drawn : List ℕ) (code : Code) → Stopped code ≡ answer_by_rules act setup past caller drawn → MakesKey act setup past caller
-makes_stopped (GenerateKey key params) setup past caller drawn code e =
-    stopped_ok (new_key (new_facts setup.device setup.policy caller key params None (has_early_ended setup past)))
-    (made_in (kept setup past) caller key (new_blob (device_at setup past) (planned setup.device setup.policy caller key params None) None drawn)) code e
-makes_stopped (ImportKey key params format material) setup past caller drawn code e =
-    stopped_ok (new_key (new_facts setup.device setup.policy caller key params (import_of format material) (has_early_ended setup past)))
-    (made_in (kept setup past) caller key (new_blob (device_at setup past) (planned setup.device setup.policy caller key params (import_of format material)) (Some material) drawn)) code e
+makes_stopped (GenerateKey key params) setup past caller drawn code e = let_stopped setup past caller key params generated drawn code e
+makes_stopped (ImportKey key params format material) setup past caller drawn code e = let_stopped setup past caller key params (imported format material) drawn code e
+makes_stopped (ImportWrappedKey key params wrapping wrapped unwrapping) setup past caller drawn code e =
+    let_stopped setup past caller key params (unwrapped_at setup past caller wrapping wrapped unwrapping) drawn code e
 makes_stopped _ setup past caller drawn code e = tt
 
 both_ways : {A : Type 0} (b : Bool) → b ≡ true → b ≡ false → A

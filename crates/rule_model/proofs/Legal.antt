@@ -3,7 +3,7 @@ use Rattle.std.proofs.Common.{◌≡◌, ℕ, Bool, true, false, not, ◌||◌, 
 use Rattle.tags.specs.declared.settled.Settled.{Settled}
 use Rattle.rule_model.specs.declared.entry.Entry.TheVariants.{Acted, Settling}
 use Rattle.rule_model.specs.declared.event.Act.{Act}
-use Rattle.rule_model.specs.declared.event.Act.TheVariants.{GenerateKey, ImportKey, EnterFinish, DeleteKey, Grant, Ungrant, ClearNamespace, UserRemoved, Restart, UpgradeKey}
+use Rattle.rule_model.specs.declared.event.Act.TheVariants.{GenerateKey, ImportKey, EnterFinish, DeleteKey, Grant, Ungrant, ClearNamespace, UserRemoved, Restart, UpgradeKey, ImportWrappedKey}
 use Rattle.rule_model.specs.declared.event.Event.{Event}
 use Rattle.rule_model.specs.declared.reply.Reply.{Reply}
 use Rattle.rule_model.specs.declared.reply.Reply.TheVariants.{Done, Broken, Stopped}
@@ -27,6 +27,7 @@ quiet_unsettling (ClearNamespace domain nspace) e = cc
 quiet_unsettling (UserRemoved user) e = cc
 quiet_unsettling (Restart root) e = cc
 quiet_unsettling (UpgradeKey key params) e = cc
+quiet_unsettling (ImportWrappedKey key params wrapping wrapped unwrapping) e = cc
 quiet_unsettling _ e = refl
 
 settles_not : (settled settles : Bool) → settled ≡ false → IsTrue (settled || not settles) → settles ≡ false

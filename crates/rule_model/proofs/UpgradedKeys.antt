@@ -1,5 +1,5 @@
 -- What an upgrade keeps to that the rules let through: its list and its blob are no longer than those of a key.
-use Rattle.std.proofs.Common.{◌≡◌, ℕ, ◌≤◌, Bool, true, false, if◌then◌else◌, List, [], ◌∷◌, ◌++◌, length, Result, Ok, Err, is_ok, refl, arith}
+use Rattle.std.proofs.Common.{◌≡◌, ℕ, ◌≤◌, Bool, true, false, if◌then◌else◌, List, [], ◌∷◌, ◌++◌, length, Result, Err, is_ok, refl, arith}
 use Rattle.std.specs.Prelude.{nat_le}
 use Rattle.std.proofs.lemmas.Bool.{and_parts, leb-false, leb-true}
 use Rattle.tags.specs.declared.code.Code.{Code}
@@ -17,7 +17,8 @@ use Rattle.key_blobs.specs.declared.sealed.Opened.{Opened}
 use Rattle.key_blobs.specs.Text.{blob_size}
 use Rattle.call_rules.specs.declared.facts.KeyCallFacts.{KeyCallFacts}
 use Rattle.call_rules.specs.declared.facts.UpgradeFacts.{UpgradeFacts}
-use Rattle.call_rules.specs.Rules.{has_room, is_in_policy, is_no_newer, names_any_key, upgrade_permission}
+use Rattle.key_domains.specs.Forms.{is_in_policy, names_any_key}
+use Rattle.call_rules.specs.Rules.{has_room, is_no_newer, upgrade_permission}
 use Rattle.call_rules.specs.Table.{key_call_rules, upgrade_key_rules, upgrade_rules}
 use Rattle.rule_model.specs.Upgrades.{longer, upgrade_facts, upgraded}
 

@@ -40,6 +40,7 @@ row_of kinds.UserRemoved = call 21
 row_of kinds.Leave = record (call 22) { asked = false; framed = false; has_client = false; takes_memory = false; settles = false }
 row_of kinds.Restart = record (call 23) { asked = false; framed = false; has_client = false }
 row_of kinds.UpgradeKey = record (call 24) { draws = true }
+row_of kinds.ImportWrappedKey = record (call 25) { draws = true }
 
 -- the name of each kind, as a script writes it
 abbrev pub text_of : ActKind → List ℕ
@@ -67,10 +68,11 @@ text_of kinds.UserRemoved = codes "userRemoved"
 text_of kinds.Leave = codes "leave"
 text_of kinds.Restart = codes "restart"
 text_of kinds.UpgradeKey = codes "upgradeKey"
+text_of kinds.ImportWrappedKey = codes "importWrappedKey"
 
 -- every kind of act, once
 abbrev pub all_kinds : List ActKind
-all_kinds = kinds.Connect ∷ kinds.Disconnect ∷ kinds.GenerateKey ∷ kinds.ImportKey ∷ kinds.CreateOperation ∷ kinds.UpdateAad ∷ kinds.Update ∷ kinds.Finish ∷ kinds.Abort ∷ kinds.GetKeyEntry ∷ kinds.DeleteKey ∷ kinds.Grant ∷ kinds.Ungrant ∷ kinds.GetNumberOfEntries ∷ kinds.ListEntriesBatched ∷ kinds.AddAuthToken ∷ kinds.DeviceLocked ∷ kinds.DeviceUnlocked ∷ kinds.EarlyBootEnded ∷ kinds.ClearNamespace ∷ kinds.UserRemoved ∷ kinds.Leave ∷ kinds.Restart ∷ kinds.UpgradeKey ∷ []
+all_kinds = kinds.Connect ∷ kinds.Disconnect ∷ kinds.GenerateKey ∷ kinds.ImportKey ∷ kinds.CreateOperation ∷ kinds.UpdateAad ∷ kinds.Update ∷ kinds.Finish ∷ kinds.Abort ∷ kinds.GetKeyEntry ∷ kinds.DeleteKey ∷ kinds.Grant ∷ kinds.Ungrant ∷ kinds.GetNumberOfEntries ∷ kinds.ListEntriesBatched ∷ kinds.AddAuthToken ∷ kinds.DeviceLocked ∷ kinds.DeviceUnlocked ∷ kinds.EarlyBootEnded ∷ kinds.ClearNamespace ∷ kinds.UserRemoved ∷ kinds.Leave ∷ kinds.Restart ∷ kinds.UpgradeKey ∷ kinds.ImportWrappedKey ∷ []
 
 -- the kind that a name stands for
 abbrev pub kind_named : List ℕ → Option ActKind
@@ -106,6 +108,7 @@ kind_of (acts.UserRemoved user) = kinds.UserRemoved
 kind_of (acts.Leave ticket) = kinds.Leave
 kind_of (acts.Restart root) = kinds.Restart
 kind_of (acts.UpgradeKey key params) = kinds.UpgradeKey
+kind_of (acts.ImportWrappedKey key params wrapping wrapped unwrapping) = kinds.ImportWrappedKey
 
 -- what is fixed for an act
 abbrev pub fixed_for : Act → ActRow

@@ -16,7 +16,7 @@ use Rattle.cipher_ops.specs.declared.room.Work.{Work}
 use Rattle.cipher_ops.specs.declared.room.Work.TheVariants.{Aad, Text, Last}
 use Rattle.rule_model.specs.declared.event.Event.{Event}
 use Rattle.rule_model.specs.declared.event.Act.{Act}
-use Rattle.rule_model.specs.declared.event.Act.TheVariants.{Connect, Disconnect, GenerateKey, ImportKey, CreateOperation, EnterAad, EnterUpdate, EnterFinish, Abort, GetKeyEntry, DeleteKey, Grant, Ungrant, GetNumberOfEntries, ListEntriesBatched, AddAuthToken, DeviceLocked, DeviceUnlocked, EarlyBootEnded, ClearNamespace, UserRemoved, Leave, Restart, UpgradeKey}
+use Rattle.rule_model.specs.declared.event.Act.TheVariants.{Connect, Disconnect, GenerateKey, ImportKey, CreateOperation, EnterAad, EnterUpdate, EnterFinish, Abort, GetKeyEntry, DeleteKey, Grant, Ungrant, GetNumberOfEntries, ListEntriesBatched, AddAuthToken, DeviceLocked, DeviceUnlocked, EarlyBootEnded, ClearNamespace, UserRemoved, Leave, Restart, UpgradeKey, ImportWrappedKey}
 use Rattle.rule_model.specs.declared.facts.Caller.{Caller}
 use Rattle.rule_model.specs.declared.reply.Reply.{Reply}
 use Rattle.rule_model.specs.declared.reply.Reply.TheVariants.{Broken, Done, Stopped}
@@ -30,7 +30,8 @@ use Rattle.rule_model.specs.Entries.{History, count_of}
 use Rattle.rule_model.specs.Access.{id_by, owner_of}
 use Rattle.rule_model.specs.Kept.{has_busy, kept, key_found, operation_at}
 use Rattle.rule_model.specs.Places.{has_key_place}
-use Rattle.rule_model.specs.NewFacts.{import_of, new_facts}
+use Rattle.rule_model.specs.KeySources.{KeySource, generated, imported}
+use Rattle.rule_model.specs.NewFacts.{new_facts}
 use Rattle.rule_model.specs.Operations.{challenge_of, nonce_size, output_of}
 use Rattle.rule_model.specs.Replies.{broken_or, no_fields}
 use Rattle.rule_model.specs.Setup.{Setup}
@@ -40,6 +41,7 @@ use Rattle.rule_model.specs.declared.operation.Entered.{Entered}
 use Rattle.rule_model.specs.Tickets.{next_ticket, ticket_at}
 use Rattle.rule_model.specs.Tokens.{token_of}
 use Rattle.rule_model.specs.Upgrades.{blob_behind, upgrade_in}
+use Rattle.rule_model.specs.WrappedKeys.{unwrapped_in}
 
 -- the nonce that a begin drew
 abbrev pub drawn_nonce : BeginFacts → List ℕ → Option (List ℕ)
@@ -77,6 +79,12 @@ made_in part caller key blob =
     then Done (if key.domain == domain_blob then record no_fields { blob = Some blob } else record no_fields { key = Some part.next_key })
     else Stopped StoreFull
 
+-- the answer to a call that makes a key: the first broken rule of table K, or what becomes of the key
+abbrev pub made_by : Setup → History → Caller → Descriptor → List ℕ → KeySource → List ℕ → Reply
+made_by setup past caller key params source drawn =
+    broken_or (new_key (new_facts setup.device setup.policy caller key params source (has_early_ended setup past)))
+    (made_in (kept setup past) caller key (new_blob (device_at setup past) (planned setup.device setup.policy caller key params source) source drawn))
+
 -- what an upgrade answers: the first broken rule, or in BLOB the blob, which is the given one where nothing is sealed anew
 abbrev pub upgraded_with : DeviceSecrets → Descriptor → List ℕ → Result (Option Sealed) (Rule × Code) → Reply
 upgraded_with device key drawn (Err (rule, code)) = Broken rule code
@@ -86,13 +94,10 @@ upgraded_with device key drawn (Ok change) =
 -- The answer by the rules: the first broken one of the call's table, or the reply with its fields.
 abbrev pub answer_by_rules : Act → Setup → History → Caller → List ℕ → Reply
 answer_by_rules (Connect uid) setup past caller drawn = Done (record no_fields { client = Some (count_of is_connect past + 1) })
-answer_by_rules (GenerateKey key params) setup past caller drawn =
-    broken_or (new_key (new_facts setup.device setup.policy caller key params None (has_early_ended setup past)))
-    (made_in (kept setup past) caller key (new_blob (device_at setup past) (planned setup.device setup.policy caller key params None) None drawn))
-answer_by_rules (ImportKey key params format material) setup past caller drawn =
-    broken_or (new_key (new_facts setup.device setup.policy caller key params (import_of format material) (has_early_ended setup past)))
-    (made_in (kept setup past) caller key
-    (new_blob (device_at setup past) (planned setup.device setup.policy caller key params (import_of format material)) (Some material) drawn))
+answer_by_rules (GenerateKey key params) setup past caller drawn = made_by setup past caller key params generated drawn
+answer_by_rules (ImportKey key params format material) setup past caller drawn = made_by setup past caller key params (imported format material) drawn
+answer_by_rules (ImportWrappedKey key params wrapping wrapped unwrapping) setup past caller drawn =
+    made_by setup past caller key params (unwrapped_in (device_at setup past) setup.policy (kept setup past) caller wrapping wrapped unwrapping) drawn
 answer_by_rules (CreateOperation key params forced) setup past caller drawn =
     broken_or (begin_table.answer (begin_facts setup past caller key params forced))
     (begun_with (count_of is_begin past + 1) (challenge_of (begin_facts setup past caller key params forced) drawn)

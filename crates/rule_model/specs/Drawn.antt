@@ -1,7 +1,8 @@
 -- The bytes that are drawn for an event, and those that were drawn for the entries of a history.
-use Rattle.std.specs.Prelude.{ℕ, ◌+◌, Bool, true, false, List, [], ◌∷◌, ◌++◌, Option, Some, None, Result, Ok, Err, if◌then◌else◌}
+use Rattle.std.specs.Prelude.{ℕ, ◌+◌, Bool, true, false, List, [], ◌∷◌, ◌++◌, Option, Some, Result, Ok, Err, if◌then◌else◌}
 use Rattle.tags.specs.declared.code.Code.{Code}
 use Rattle.tags.specs.declared.code.Code.TheVariants.{EntropyFault}
+use Rattle.tags.specs.declared.descriptor.Descriptor.{Descriptor}
 use Rattle.tags.specs.declared.plan.Plan.{Plan}
 use Rattle.tags.specs.declared.rule.Rule.{Rule}
 use Rattle.key_blobs.specs.declared.sealed.Sealed.{Sealed}
@@ -15,7 +16,7 @@ use Rattle.rule_model.specs.declared.entry.Entry.{Entry}
 use Rattle.rule_model.specs.declared.entry.Entry.TheVariants.{Acted, Settling}
 use Rattle.rule_model.specs.declared.event.Event.{Event}
 use Rattle.rule_model.specs.declared.event.Act.{Act}
-use Rattle.rule_model.specs.declared.event.Act.TheVariants.{GenerateKey, ImportKey, CreateOperation, UpgradeKey}
+use Rattle.rule_model.specs.declared.event.Act.TheVariants.{GenerateKey, ImportKey, CreateOperation, UpgradeKey, ImportWrappedKey}
 use Rattle.rule_model.specs.declared.facts.Caller.{Caller}
 use Rattle.rule_model.specs.declared.facts.Pieces.{Pieces}
 use Rattle.rule_model.specs.declared.reply.Reply.{Reply}
@@ -27,11 +28,13 @@ use Rattle.rule_model.specs.Boot.{has_early_ended}
 use Rattle.rule_model.specs.Clients.{caller_of}
 use Rattle.rule_model.specs.Entries.{History}
 use Rattle.rule_model.specs.Kept.{kept}
-use Rattle.rule_model.specs.NewFacts.{import_of, new_facts}
+use Rattle.rule_model.specs.KeySources.{KeySource, generated, imported}
+use Rattle.rule_model.specs.NewFacts.{new_facts}
 use Rattle.rule_model.specs.Places.{has_key_place}
 use Rattle.rule_model.specs.Setup.{Setup}
 use Rattle.rule_model.specs.Slots.{begin_facts}
 use Rattle.rule_model.specs.Upgrades.{upgrade_in}
+use Rattle.rule_model.specs.WrappedKeys.{unwrapped_in}
 
 -- how many bytes the pieces have
 abbrev pub size_of : Pieces → ℕ
@@ -47,6 +50,11 @@ wanted_by_key (Err broken) place = no_pieces
 wanted_by_key (Ok plan) false = no_pieces
 wanted_by_key (Ok plan) true = record { first = plan.size; second = 12 }
 
+-- what a call that makes a key draws, by where its material comes from
+abbrev pub wanted_to_make : Setup → History → Caller → Descriptor → List ℕ → KeySource → Pieces
+wanted_to_make setup past caller key params source =
+    wanted_by_key (new_key (new_facts setup.device setup.policy caller key params source (has_early_ended setup past))) (has_key_place (kept setup past) (owner_of caller) key)
+
 -- what a begin draws: the nonce, where one is wanted, and then the challenge, where one is
 abbrev pub wanted_by_begin : Result Plan (Rule × Code) → BeginFacts → Pieces
 wanted_by_begin (Err broken) facts = no_pieces
@@ -60,10 +68,10 @@ wanted_by_upgrade _ = no_pieces
 -- the lengths of what is drawn: for a new key its material and the nonce of its blob, for a begin its nonce and then its challenge,
 -- and for an upgrade a nonce
 abbrev pub wanted_by_rules : Act → Setup → History → Caller → Pieces
-wanted_by_rules (GenerateKey key params) setup past caller =
-    wanted_by_key (new_key (new_facts setup.device setup.policy caller key params None (has_early_ended setup past))) (has_key_place (kept setup past) (owner_of caller) key)
-wanted_by_rules (ImportKey key params format material) setup past caller =
-    wanted_by_key (new_key (new_facts setup.device setup.policy caller key params (import_of format material) (has_early_ended setup past))) (has_key_place (kept setup past) (owner_of caller) key)
+wanted_by_rules (GenerateKey key params) setup past caller = wanted_to_make setup past caller key params generated
+wanted_by_rules (ImportKey key params format material) setup past caller = wanted_to_make setup past caller key params (imported format material)
+wanted_by_rules (ImportWrappedKey key params wrapping wrapped unwrapping) setup past caller =
+    wanted_to_make setup past caller key params (unwrapped_in (device_at setup past) setup.policy (kept setup past) caller wrapping wrapped unwrapping)
 wanted_by_rules (CreateOperation key params forced) setup past caller =
     wanted_by_begin (begin_table.answer (begin_facts setup past caller key params forced)) (begin_facts setup past caller key params forced)
 wanted_by_rules (UpgradeKey key params) setup past caller = wanted_by_upgrade (upgrade_in (device_at setup past) setup.policy (kept setup past) caller key params)

@@ -3,6 +3,7 @@ pub mod Entries
 pub mod Clients
 pub mod Setup
 pub mod Access
+pub mod KeySources
 pub mod NewFacts
 pub mod Tokens
 pub mod Blobs
@@ -11,6 +12,7 @@ pub mod BeginFacts
 pub mod Tickets
 pub mod Operations
 pub mod Upgrades
+pub mod WrappedKeys
 pub mod Changes
 pub mod Kept
 pub mod Stored
@@ -24,6 +26,7 @@ pub mod Jobs
 pub mod StepFacts
 pub mod Drawn
 pub mod Answer
+pub mod Unwrapping
 pub mod Legal
 pub mod ReplyRooms
 pub mod Uses

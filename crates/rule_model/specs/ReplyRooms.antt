@@ -1,7 +1,7 @@
 -- Which fields of bytes the reply of an act may have, and how long each may be. The numbers of a reply take no room.
 use Rattle.std.specs.Prelude.{ℕ, ◌≤◌, List, length, All, Option, Some, None, ⊤}
 use Rattle.rule_model.specs.declared.event.Act.{Act}
-use Rattle.rule_model.specs.declared.event.Act.TheVariants.{GenerateKey, ImportKey, UpgradeKey, CreateOperation, GetKeyEntry, ListEntriesBatched, Leave}
+use Rattle.rule_model.specs.declared.event.Act.TheVariants.{GenerateKey, ImportKey, ImportWrappedKey, UpgradeKey, CreateOperation, GetKeyEntry, ListEntriesBatched, Leave}
 use Rattle.rule_model.specs.declared.reply.Fields.{Fields}
 use Rattle.rule_model.specs.declared.reply.Reply.{Reply}
 use Rattle.rule_model.specs.declared.reply.Reply.TheVariants.{Done, Broken, Stopped}
@@ -23,6 +23,7 @@ abbrev pub sizes_of : Act → ℕ → FieldSizes
 sizes_of (GenerateKey key params) out = record no_sizes { blob = BLOB_BYTES }
 sizes_of (UpgradeKey key params) out = record no_sizes { blob = BLOB_BYTES }
 sizes_of (ImportKey key params format material) out = record no_sizes { blob = BLOB_BYTES }
+sizes_of (ImportWrappedKey key params wrapping wrapped unwrapping) out = record no_sizes { blob = BLOB_BYTES }
 sizes_of (CreateOperation key params forced) out = record no_sizes { nonce = NONCE }
 sizes_of (GetKeyEntry key) out = record no_sizes { alias = ALIAS_BYTES; list = KEPT_LIST_BYTES }
 sizes_of (ListEntriesBatched domain nspace past) out = record no_sizes { entries = LISTED }

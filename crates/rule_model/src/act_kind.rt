@@ -33,6 +33,7 @@ pub enum ActKind {
     Leave,
     Restart,
     UpgradeKey,
+    ImportWrappedKey,
 }
 
 /// What is fixed for the acts of a kind.
@@ -73,7 +74,7 @@ const CALL: ActRow = ActRow {
 
 impl ActKind {
     /// The kinds in the order of their numbers.
-    pub const ALL: [ActKind; 24] = [
+    pub const ALL: [ActKind; 25] = [
         ActKind::Connect,
         ActKind::Disconnect,
         ActKind::GenerateKey,
@@ -98,6 +99,7 @@ impl ActKind {
         ActKind::Leave,
         ActKind::Restart,
         ActKind::UpgradeKey,
+        ActKind::ImportWrappedKey,
     ];
 
     /// What is fixed for the kind.
@@ -207,6 +209,11 @@ impl ActKind {
                 draws: true,
                 ..CALL
             },
+            ActKind::ImportWrappedKey => ActRow {
+                number: 25,
+                draws: true,
+                ..CALL
+            },
         }
     }
 
@@ -239,6 +246,7 @@ impl ActKind {
             ActKind::Leave => "leave",
             ActKind::Restart => "restart",
             ActKind::UpgradeKey => "upgradeKey",
+            ActKind::ImportWrappedKey => "importWrappedKey",
         }
     }
 
@@ -293,6 +301,7 @@ impl Act {
             Act::Leave { .. } => ActKind::Leave,
             Act::Restart { .. } => ActKind::Restart,
             Act::UpgradeKey { .. } => ActKind::UpgradeKey,
+            Act::ImportWrappedKey { .. } => ActKind::ImportWrappedKey,
         }
     }
 

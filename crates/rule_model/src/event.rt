@@ -112,6 +112,17 @@ pub enum Act {
         key: Descriptor,
         params: Bytes,
     },
+    /// A key comes in under another one.
+    ImportWrappedKey {
+        key: Descriptor,
+        params: Bytes,
+        /// where the key stands under which it comes
+        wrapping: Descriptor,
+        /// its material, wrapped (NIST SP 800-38F section 6.2, KW-AE)
+        wrapped: Bytes,
+        /// the list with the wrapping key's ids, encoded
+        unwrapping: Bytes,
+    },
 }
 
 /// An act, with who makes it and when. A connect, a leave and a restart have client 0.

@@ -69,6 +69,29 @@ fn import_key(
     })
 }
 
+fn import_wrapped_key(
+    alloc: Global,
+    key: &Descriptor,
+    params: &Bytes,
+    wrapping: &Descriptor,
+    wrapped: &Bytes,
+    unwrapping: &Bytes,
+) -> Result<Act, NoMemory>
+    ensures { IfOk result (λ copy. copy ≡ act.ImportWrappedKey key.now params.now wrapping.now wrapped.now unwrapping.now) }
+{
+    let params = Bytes::copy_of(alloc, params.as_slice())?;
+    let wrapped = Bytes::copy_of(alloc, wrapped.as_slice())?;
+    let unwrapping = Bytes::copy_of(alloc, unwrapping.as_slice())?;
+    let key = descriptor(alloc, key)?;
+    Ok(Act::ImportWrappedKey {
+        key,
+        params,
+        wrapping: descriptor(alloc, wrapping)?,
+        wrapped,
+        unwrapping,
+    })
+}
+
 fn create_operation(
     alloc: Global,
     key: &Descriptor,
@@ -188,6 +211,13 @@ fn act_of(alloc: Global, source: &Act) -> Result<Act, NoMemory>
         Act::Leave { ticket } => Ok(Act::Leave { ticket: *ticket }),
         Act::Restart { root } => Ok(Act::Restart { root: *root }),
         Act::UpgradeKey { key, params } => upgrade_key(alloc, key, params),
+        Act::ImportWrappedKey {
+            key,
+            params,
+            wrapping,
+            wrapped,
+            unwrapping,
+        } => import_wrapped_key(alloc, key, params, wrapping, wrapped, unwrapping),
     }
 }
 

@@ -46,6 +46,10 @@ impl FieldSizes {
                 blob: BLOB_BYTES,
                 ..NO_SIZES
             },
+            Act::ImportWrappedKey { .. } => FieldSizes {
+                blob: BLOB_BYTES,
+                ..NO_SIZES
+            },
             Act::CreateOperation { .. } => FieldSizes {
                 nonce: 16,
                 ..NO_SIZES

@@ -5,7 +5,7 @@ use Rattle.tags.specs.Rule.{rule_text}
 use Rattle.tags.specs.declared.descriptor.Descriptor.{Descriptor}
 use Rattle.rule_model.specs.Acts.{kind_of, row_of, text_of}
 use Rattle.rule_model.specs.declared.event.Act.{Act}
-use Rattle.rule_model.specs.declared.event.Act.TheVariants.{Connect, Disconnect, GenerateKey, ImportKey, CreateOperation, EnterAad, EnterUpdate, EnterFinish, Abort, GetKeyEntry, DeleteKey, Grant, Ungrant, GetNumberOfEntries, ListEntriesBatched, AddAuthToken, DeviceLocked, DeviceUnlocked, EarlyBootEnded, ClearNamespace, UserRemoved, Leave, Restart, UpgradeKey}
+use Rattle.rule_model.specs.declared.event.Act.TheVariants.{Connect, Disconnect, GenerateKey, ImportKey, CreateOperation, EnterAad, EnterUpdate, EnterFinish, Abort, GetKeyEntry, DeleteKey, Grant, Ungrant, GetNumberOfEntries, ListEntriesBatched, AddAuthToken, DeviceLocked, DeviceUnlocked, EarlyBootEnded, ClearNamespace, UserRemoved, Leave, Restart, UpgradeKey, ImportWrappedKey}
 use Rattle.rule_model.specs.declared.event.Event.{Event}
 use Rattle.rule_model.specs.declared.reply.Fields.{Fields}
 use Rattle.rule_model.specs.declared.reply.Reply.{Reply}
@@ -13,7 +13,7 @@ use Rattle.rule_model.specs.declared.reply.Reply.TheVariants.{Done, Broken, Stop
 use Rattle.serde_json.specs.Data.{string, object, Members, no_members, put, members_depth}
 use Rattle.line_members.specs.Values.{number_data, signed_data, hex_data, text_data, alias_data, entries_data, with_field}
 use Rattle.line_members.proofs.Depths.{put_depth, least, flat, if_there, an_alias, an_alias_deep, entries_depth}
-use Rattle.script_lines.specs.EventLines.{reading_data, key_members, with_key, with_act, with_client, event_members}
+use Rattle.script_lines.specs.EventLines.{reading_data, key_members, with_descriptor, with_key, with_act, with_client, event_members}
 use Rattle.script_lines.specs.Replies.{with_numbers, with_bytes, reply_members}
 
 -- ---- events
@@ -25,8 +25,11 @@ a_key key =
     (flat (codes "nspace") (number_data key.nspace) 1 (put (codes "domain") (number_data key.domain) no_members) refl
     (flat (codes "domain") (number_data key.domain) 1 no_members refl (least 1))))
 
+described : (name : List ℕ) (key : Descriptor) (ms : Members) → members_depth ms ≤ 2 → members_depth (with_descriptor name key ms) ≤ 2
+described name key ms h = let inner = a_key key in put_depth 2 name (object (key_members key)) ms (omega (arith, inner)) h
+
 keyed : (key : Descriptor) (ms : Members) → members_depth ms ≤ 2 → members_depth (with_key key ms) ≤ 2
-keyed key ms h = let inner = a_key key in put_depth 2 _ (object (key_members key)) ms (omega (arith, inner)) h
+keyed key ms h = described (codes "key") key ms h
 
 act_depth : (act : Act) (ms : Members) → members_depth ms ≤ 2 → members_depth (with_act act ms) ≤ 2
 act_depth (Connect uid) ms h = flat _ _ 2 _ refl h
@@ -54,6 +57,8 @@ act_depth (UserRemoved user) ms h = flat _ _ 2 _ refl h
 act_depth (Leave ticket) ms h = flat _ _ 2 _ refl h
 act_depth (Restart root) ms h = if_there hex_data _ root 2 _ (λ x. least 2) h
 act_depth (UpgradeKey key params) ms h = flat _ _ 2 _ refl (keyed key ms h)
+act_depth (ImportWrappedKey key params wrapping wrapped unwrapping) ms h =
+    flat _ _ 2 _ refl (flat _ _ 2 _ refl (described _ wrapping _ (flat _ _ 2 _ refl (keyed key ms h))))
 
 client_depth : (b : Bool) (with without : Members) → members_depth with ≤ 2 → members_depth without ≤ 2 → members_depth (if b then with else without) ≤ 2
 client_depth true with without h k = h

@@ -20,9 +20,9 @@ use Rattle.line_members.specs.Whole.{IsAlias, Is32Bytes}
 use Rattle.line_members.proofs.Finds.{both_found, some_is, short_found, hex_found, hex_32_found, alias_found, needed_found, defaulted_found, optional_found}
 use Rattle.script_lines.specs.Acts.{descriptor_of, key_of, act_of, client_of, hold_of, reading_of, name_of, event_in}
 use Rattle.script_lines.specs.Lines.{line_in}
-use Rattle.script_lines.specs.Params.{params_of}
+use Rattle.script_lines.specs.Params.{list_at, params_of}
 use Rattle.script_lines.specs.ToldWhole.{IsKey, AreFields, IsToldWhole}
-use Rattle.script_lines.proofs.ParamsFound.{params_found}
+use Rattle.script_lines.proofs.ParamsFound.{list_at_found, params_found}
 
 nothing : IsBytes []
 nothing i = omega arith
@@ -144,6 +144,22 @@ act_found names.UpgradeKey members act h =
     let key = both_found (key_of Text members) _ act h in
     let params = both_found (params_of members) _ act key.2 in
     given names.UpgradeKey (acts.UpgradeKey key.0 params.0) act params.2 (record { kind = refl; fields = (key_found members key.0 key.1, params_found members params.0 params.1) })
+act_found names.ImportWrappedKey members act h =
+    let key = both_found (key_of Text members) _ act h in
+    let params = both_found (params_of members) _ act key.2 in
+    let wrapping = both_found (needed (descriptor_of Text) (codes "wrapping") members) _ act params.2 in
+    let wrapped = both_found (needed hex_of (codes "wrapped") members) _ act wrapping.2 in
+    let unwrapping = both_found (list_at (codes "unwrapping") members) _ act wrapped.2 in
+    given names.ImportWrappedKey (acts.ImportWrappedKey key.0 params.0 wrapping.0 wrapped.0 unwrapping.0) act unwrapping.2 (record {
+      kind = refl;
+      fields = (
+        key_found members key.0 key.1,
+        params_found members params.0 params.1,
+        needed_found (IsKey Text) (descriptor_of Text) (codes "wrapping") members wrapping.0 descriptor_found wrapping.1,
+        needed_found IsBytes hex_of (codes "wrapped") members wrapped.0 hex_found wrapped.1,
+        list_at_found (codes "unwrapping") members unwrapping.0 unwrapping.1,
+      );
+    })
 
 -- ---- events
 

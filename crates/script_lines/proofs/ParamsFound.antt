@@ -20,7 +20,7 @@ use Rattle.tag_lists.specs.declared.shape.Shape.{Shape}
 use Rattle.tag_lists.specs.declared.shape.Shape.TheVariants as shapes
 use Rattle.line_members.specs.Members.{◌>>=◌, hex_of, u32_of, u64_of, two_of, each_of}
 use Rattle.line_members.proofs.Finds.{both_found, some_is, hex_found, hex_text_found}
-use Rattle.script_lines.specs.Params.{short_bytes, flag_of, value_of, param_of, params_in, list_of_params, text_or_pairs, list_of, params_of}
+use Rattle.script_lines.specs.Params.{short_bytes, flag_of, value_of, param_of, params_in, list_of_params, text_or_pairs, list_of, list_at, params_of}
 
 -- ---- bytes
 
@@ -126,5 +126,8 @@ list_found : (o : Option Data) (bytes : List ℕ) → list_of o ≡ Some bytes �
 list_found None bytes h = subst IsBytes (some_is (spelling []) bytes h) (of_spelling [] tt)
 list_found (Some value) bytes h = text_or_pairs_found (as_str value) (as_array value) bytes h
 
+pub list_at_found : (name : List ℕ) (members : Data) (bytes : List ℕ) → list_at name members ≡ Some bytes → IsBytes bytes
+list_at_found name members bytes h = list_found (get name members) bytes h
+
 pub params_found : (members : Data) (bytes : List ℕ) → params_of members ≡ Some bytes → IsBytes bytes
-params_found members bytes h = list_found (get (codes "params") members) bytes h
+params_found members bytes h = list_at_found (codes "params") members bytes h

@@ -6,7 +6,7 @@ use Rattle.ks_outside.specs.declared.clock.Reading.{Reading}
 use Rattle.tags.specs.declared.descriptor.Descriptor.{Descriptor}
 use Rattle.rule_model.specs.Acts.{kind_of, row_of}
 use Rattle.rule_model.specs.declared.event.Act.{Act}
-use Rattle.rule_model.specs.declared.event.Act.TheVariants.{Connect, Disconnect, GenerateKey, ImportKey, CreateOperation, EnterAad, EnterUpdate, EnterFinish, Abort, GetKeyEntry, DeleteKey, Grant, Ungrant, GetNumberOfEntries, ListEntriesBatched, AddAuthToken, DeviceLocked, DeviceUnlocked, EarlyBootEnded, ClearNamespace, UserRemoved, Leave, Restart, UpgradeKey}
+use Rattle.rule_model.specs.declared.event.Act.TheVariants.{Connect, Disconnect, GenerateKey, ImportKey, CreateOperation, EnterAad, EnterUpdate, EnterFinish, Abort, GetKeyEntry, DeleteKey, Grant, Ungrant, GetNumberOfEntries, ListEntriesBatched, AddAuthToken, DeviceLocked, DeviceUnlocked, EarlyBootEnded, ClearNamespace, UserRemoved, Leave, Restart, UpgradeKey, ImportWrappedKey}
 use Rattle.rule_model.specs.declared.event.Event.{Event}
 use Rattle.serde_json.proofs.OnLiterals.{serde_json_on_literals}
 use Rattle.serde_json.specs.Data.{object, depth}
@@ -71,6 +71,8 @@ act_back form reading client (Leave ticket) h none = rw (none refl) refl
 act_back form reading client (Restart None) h none = rw (none refl) refl
 act_back form reading client (Restart (Some root)) h none = rw (none refl, hex_32_back root h) refl
 act_back form reading client (UpgradeKey key params) h none = rw (key_back form key h.0, hex_back params h.1) refl
+act_back form reading client (ImportWrappedKey key params wrapping wrapped unwrapping) h none =
+    rw (key_back form key h.0, hex_back params h.1, key_back form wrapping h.2, hex_back wrapped h.3, hex_back unwrapping h.4) refl
 
 pub event_back : (form : AliasForm) (event : Event) → IsToldWhole form event → event_in form (object (event_members event)) ≡ Some event
 event_back form event h = act_back form event.reading event.client event.act h.fields h.client
@@ -104,6 +106,7 @@ no_hold reading client (UserRemoved user) = refl
 no_hold reading client (Leave ticket) = refl
 no_hold reading client (Restart root) = refl
 no_hold reading client (UpgradeKey key params) = refl
+no_hold reading client (ImportWrappedKey key params wrapping wrapped unwrapping) = refl
 
 line_back : (event : Event) → IsToldWhole Text event → line_in (object (event_members event)) ≡ Some (record { event = event; hold = false })
 line_back event h = rw (event_back Text event h, no_hold event.reading event.client event.act) refl

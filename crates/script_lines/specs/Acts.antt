@@ -11,9 +11,9 @@ use Rattle.serde_json.specs.Find.{as_bool, as_str}
 use Rattle.line_members.specs.Members.{◌>>=◌, u32_of, u64_of, hex_of, hex_32_of, two_of, needed, defaulted, optional, alias_of}
 use Rattle.line_members.specs.declared.alias_form.AliasForm.{AliasForm}
 use Rattle.line_members.specs.declared.alias_form.AliasForm.TheVariants.{Text}
-use Rattle.script_lines.specs.Params.{params_of}
+use Rattle.script_lines.specs.Params.{list_at, params_of}
 use Rattle.rule_model.specs.declared.act_kind.ActKind.{ActKind}
-use Rattle.rule_model.specs.declared.act_kind.ActKind.TheVariants.{Connect, Disconnect, GenerateKey, ImportKey, CreateOperation, UpdateAad, Update, Finish, Abort, GetKeyEntry, DeleteKey, Grant, Ungrant, GetNumberOfEntries, ListEntriesBatched, AddAuthToken, DeviceLocked, DeviceUnlocked, EarlyBootEnded, ClearNamespace, UserRemoved, Leave, Restart, UpgradeKey}
+use Rattle.rule_model.specs.declared.act_kind.ActKind.TheVariants.{Connect, Disconnect, GenerateKey, ImportKey, CreateOperation, UpdateAad, Update, Finish, Abort, GetKeyEntry, DeleteKey, Grant, Ungrant, GetNumberOfEntries, ListEntriesBatched, AddAuthToken, DeviceLocked, DeviceUnlocked, EarlyBootEnded, ClearNamespace, UserRemoved, Leave, Restart, UpgradeKey, ImportWrappedKey}
 
 -- a descriptor: an object with a domain, a namespace, an alias and a blob in hex
 abbrev pub descriptor_of : AliasForm → Data → Option Descriptor
@@ -48,6 +48,16 @@ import_key form members = do
   format ← needed u32_of (codes "format") members
   material ← needed hex_of (codes "material") members
   Some (acts.ImportKey key params format material)
+
+-- the wrapping key is named as a key is, and the list with its ids is written as another one
+abbrev pub import_wrapped_key : AliasForm → Data → Option Act
+import_wrapped_key form members = do
+  key ← key_of form members
+  params ← params_of members
+  wrapping ← needed (descriptor_of form) (codes "wrapping") members
+  wrapped ← needed hex_of (codes "wrapped") members
+  unwrapping ← list_at (codes "unwrapping") members
+  Some (acts.ImportWrappedKey key params wrapping wrapped unwrapping)
 
 abbrev pub create_operation : AliasForm → Data → Option Act
 create_operation form members = do
@@ -161,6 +171,7 @@ act_of form UserRemoved members = user_of members >>= λ user. Some (acts.UserRe
 act_of form Leave members = needed u64_of (codes "ticket") members >>= λ ticket. Some (acts.Leave ticket)
 act_of form Restart members = optional hex_32_of (codes "root") members >>= λ root. Some (acts.Restart root)
 act_of form UpgradeKey members = upgrade_key form members
+act_of form ImportWrappedKey members = import_wrapped_key form members
 
 -- an act without an alias, which is read alike in both forms
 abbrev pub plain_act_of : ActKind → Data → Option Act

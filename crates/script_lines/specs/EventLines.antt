@@ -4,7 +4,7 @@ use Rattle.ks_outside.specs.declared.clock.Reading.{Reading}
 use Rattle.tags.specs.declared.descriptor.Descriptor.{Descriptor}
 use Rattle.rule_model.specs.Acts.{kind_of, row_of, text_of}
 use Rattle.rule_model.specs.declared.event.Act.{Act}
-use Rattle.rule_model.specs.declared.event.Act.TheVariants.{Connect, Disconnect, GenerateKey, ImportKey, CreateOperation, EnterAad, EnterUpdate, EnterFinish, Abort, GetKeyEntry, DeleteKey, Grant, Ungrant, GetNumberOfEntries, ListEntriesBatched, AddAuthToken, DeviceLocked, DeviceUnlocked, EarlyBootEnded, ClearNamespace, UserRemoved, Leave, Restart, UpgradeKey}
+use Rattle.rule_model.specs.declared.event.Act.TheVariants.{Connect, Disconnect, GenerateKey, ImportKey, CreateOperation, EnterAad, EnterUpdate, EnterFinish, Abort, GetKeyEntry, DeleteKey, Grant, Ungrant, GetNumberOfEntries, ListEntriesBatched, AddAuthToken, DeviceLocked, DeviceUnlocked, EarlyBootEnded, ClearNamespace, UserRemoved, Leave, Restart, UpgradeKey, ImportWrappedKey}
 use Rattle.rule_model.specs.declared.event.Event.{Event}
 use Rattle.serde_json.specs.Data.{Data, string, boolean, array, object, item, no_items, Members, no_members, put}
 use Rattle.serde_json.specs.Written.{compact_text}
@@ -26,8 +26,11 @@ key_members key =
 
 -- ---- the fields of each act
 
+abbrev pub with_descriptor : List ℕ → Descriptor → Members → Members
+with_descriptor name key members = put name (object (key_members key)) members
+
 abbrev pub with_key : Descriptor → Members → Members
-with_key key members = put (codes "key") (object (key_members key)) members
+with_key key members = with_descriptor (codes "key") key members
 
 abbrev pub with_params : List ℕ → Members → Members
 with_params params members = put (codes "params") (hex_data params) members
@@ -75,6 +78,11 @@ with_act (UserRemoved user) members = with_number (codes "user") user members
 with_act (Leave ticket) members = with_number (codes "ticket") ticket members
 with_act (Restart root) members = with_field hex_data (codes "root") root members
 with_act (UpgradeKey key params) members = with_params params (with_key key members)
+with_act (ImportWrappedKey key params wrapping wrapped unwrapping) members =
+    with_hex (codes "unwrapping") unwrapping
+    (with_hex (codes "wrapped") wrapped
+    (with_descriptor (codes "wrapping") wrapping
+    (with_params params (with_key key members))))
 
 -- ---- an event
 

@@ -59,6 +59,9 @@ abbrev pub list_of : Option Data → Option (List ℕ)
 list_of None = Some (spelling [])
 list_of (Some value) = text_or_pairs (as_str value) (as_array value)
 
--- the encoded list of the member `params`; the empty list where it is absent
+-- the encoded list of a member; the empty list where it is absent
+abbrev pub list_at : List ℕ → Data → Option (List ℕ)
+list_at name members = list_of (get name members)
+
 abbrev pub params_of : Data → Option (List ℕ)
-params_of members = list_of (get (codes "params") members)
+params_of members = list_at (codes "params") members

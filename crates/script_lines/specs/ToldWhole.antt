@@ -5,7 +5,7 @@ use Rattle.hex.specs.Hex.{IsBytes}
 use Rattle.tags.specs.declared.descriptor.Descriptor.{Descriptor}
 use Rattle.rule_model.specs.Acts.{kind_of, row_of}
 use Rattle.rule_model.specs.declared.event.Act.{Act}
-use Rattle.rule_model.specs.declared.event.Act.TheVariants.{Connect, Disconnect, GenerateKey, ImportKey, CreateOperation, EnterAad, EnterUpdate, EnterFinish, Abort, GetKeyEntry, DeleteKey, Grant, Ungrant, GetNumberOfEntries, ListEntriesBatched, AddAuthToken, DeviceLocked, DeviceUnlocked, EarlyBootEnded, ClearNamespace, UserRemoved, Leave, Restart, UpgradeKey}
+use Rattle.rule_model.specs.declared.event.Act.TheVariants.{Connect, Disconnect, GenerateKey, ImportKey, CreateOperation, EnterAad, EnterUpdate, EnterFinish, Abort, GetKeyEntry, DeleteKey, Grant, Ungrant, GetNumberOfEntries, ListEntriesBatched, AddAuthToken, DeviceLocked, DeviceUnlocked, EarlyBootEnded, ClearNamespace, UserRemoved, Leave, Restart, UpgradeKey, ImportWrappedKey}
 use Rattle.rule_model.specs.declared.event.Event.{Event}
 use Rattle.line_members.specs.Whole.{IsAlias, Is32Bytes}
 use Rattle.line_members.specs.declared.alias_form.AliasForm.{AliasForm}
@@ -38,6 +38,8 @@ AreFields form (UserRemoved user) = user < 2 ^ 32
 AreFields form (Leave ticket) = Unit {0}
 AreFields form (Restart root) = IfSome root Is32Bytes
 AreFields form (UpgradeKey key params) = IsKey form key × IsBytes params
+AreFields form (ImportWrappedKey key params wrapping wrapped unwrapping) =
+    IsKey form key × IsBytes params × IsKey form wrapping × IsBytes wrapped × IsBytes unwrapping
 
 pub record IsToldWhole (form : AliasForm) (event : Event) : Type 0 where
   pub fields : AreFields form event.act

@@ -5,8 +5,8 @@ ghost use Rattle.script_lines.specs.EventLines.{with_act};
 ghost use Rattle.line_members.specs.Objects.{members_in};
 
 use crate::key_acts::{
-    put_create_operation, put_grant, put_import_key, put_key, put_key_and_params,
-    put_list_entries_batched, put_owner, put_ungrant,
+    put_create_operation, put_grant, put_import_key, put_import_wrapped_key, put_key,
+    put_key_and_params, put_list_entries_batched, put_owner, put_ungrant,
 };
 use crate::service_acts::{put_auth_token, put_restart, put_user};
 use crate::step_acts::{put_finish, put_update};
@@ -66,5 +66,12 @@ pub fn put_act(object: &mut WrittenObject, act: &Act) -> Result<(), AllocError>
         Act::Leave { ticket } => object.put_number("ticket", *ticket),
         Act::Restart { root } => put_restart(object, root),
         Act::UpgradeKey { key, params } => put_key_and_params(object, key, params),
+        Act::ImportWrappedKey {
+            key,
+            params,
+            wrapping,
+            wrapped,
+            unwrapping,
+        } => put_import_wrapped_key(object, key, params, wrapping, wrapped, unwrapping),
     }
 }

@@ -11,7 +11,8 @@ ghost use Rattle.script_lines.specs.Lines.{event_of as spec_event_of, line_in as
 use crate::act_name::name_of;
 use crate::key_acts::{
     clear_namespace, create_operation, delete_key, generate_key, get_key_entry,
-    get_number_of_entries, grant, import_key, list_entries_batched, ungrant, upgrade_key,
+    get_number_of_entries, grant, import_key, import_wrapped_key, list_entries_batched, ungrant,
+    upgrade_key,
 };
 use crate::service_acts::{
     add_auth_token, connect, device_locked, device_unlocked, restart, user_removed,
@@ -124,5 +125,6 @@ fn act_of(alloc: Global, form: AliasForm, name: ActKind, object: &Value) -> Resu
         ActKind::Leave => leave(object),
         ActKind::Restart => restart(alloc, object),
         ActKind::UpgradeKey => upgrade_key(alloc, form, object),
+        ActKind::ImportWrappedKey => import_wrapped_key(alloc, form, object),
     }
 }

@@ -1,15 +1,16 @@
 //! The acts on keys.
 
 ghost use Rattle.std.specs.Prelude.{◌≡◌, IfOk, OnOk};
+ghost use Rattle.line_members.specs.Members.{needed};
 ghost use Rattle.serde_json.specs.View.{view};
 ghost use Rattle.line_members.specs.Reads.{Gives};
 ghost use Rattle.rule_model.specs.declared.act_kind.ActKind.TheVariants as names;
 ghost use Rattle.script_lines.specs.Acts.{act_of, plain_act_of, descriptor_of as spec_descriptor_of, key_of as spec_key_of};
 ghost use Rattle.rule_model.specs.declared.event.Act.TheVariants as acts;
-ghost use Rattle.script_lines.specs.EventLines.{key_members, with_act, with_key, with_owner, with_params};
+ghost use Rattle.script_lines.specs.EventLines.{key_members, with_act, with_descriptor, with_key, with_owner, with_params};
 ghost use Rattle.line_members.specs.Objects.{members_in};
 
-use crate::params::params_of;
+use crate::params::{list_at, params_of};
 use line_members::{
     AliasForm, LineFault, WrittenObject, flag_or_false, needed_hex, needed_u32, optional_alias,
     optional_hex, u64_or_zero,
@@ -34,13 +35,25 @@ fn descriptor_of(alloc: Global, form: AliasForm, object: &Value) -> Result<Descr
     })
 }
 
-fn key_of(alloc: Global, form: AliasForm, object: &Value) -> Result<Descriptor, LineFault>
-    ensures { Gives result (spec_key_of form (view object.now)) }
+/// A member that has to be there, a descriptor.
+fn needed_descriptor(
+    alloc: Global,
+    form: AliasForm,
+    object: &Value,
+    name: &str,
+) -> Result<Descriptor, LineFault>
+    ensures { Gives result (needed (spec_descriptor_of form) name.now (view object.now)) }
 {
-    let Some(value) = object.get("key") else {
+    let Some(value) = object.get(name) else {
         return Err(LineFault::Malformed);
     };
     descriptor_of(alloc, form, value)
+}
+
+fn key_of(alloc: Global, form: AliasForm, object: &Value) -> Result<Descriptor, LineFault>
+    ensures { Gives result (spec_key_of form (view object.now)) }
+{
+    needed_descriptor(alloc, form, object, "key")
 }
 
 fn key_object(alloc: Global, key: &Descriptor) -> Result<WrittenObject, AllocError>
@@ -54,12 +67,22 @@ fn key_object(alloc: Global, key: &Descriptor) -> Result<WrittenObject, AllocErr
     Ok(object)
 }
 
+fn put_descriptor(
+    object: &mut WrittenObject,
+    name: &str,
+    key: &Descriptor,
+) -> Result<(), AllocError>
+    ensures { OnOk result (members_in object.new ≡ with_descriptor name.now key.now (members_in object.old)) }
+{
+    let told = key_object(object.alloc(), key)?;
+    object.put_object(name, told)
+}
+
 /// The member `key`.
 pub fn put_key(object: &mut WrittenObject, key: &Descriptor) -> Result<(), AllocError>
     ensures { OnOk result (members_in object.new ≡ with_key key.now (members_in object.old)) }
 {
-    let told = key_object(object.alloc(), key)?;
-    object.put_object("key", told)
+    put_descriptor(object, "key", key)
 }
 
 /// A generateKey: its members `key` and `params`.
@@ -112,6 +135,42 @@ pub fn put_import_key(
     put_key_and_params(object, key, params)?;
     object.put_number("format", u64::from(format))?;
     object.put_hex("material", material.as_slice())
+}
+
+/// An importWrappedKey: its members `key`, `params`, `wrapping` (written as `key` is), `wrapped` (hex), and `unwrapping` (written as
+/// `params` is), the empty list where it is not there.
+pub fn import_wrapped_key(alloc: Global, form: AliasForm, object: &Value) -> Result<Act, LineFault>
+    ensures { Gives result (act_of form names.ImportWrappedKey (view object.now)) }
+{
+    let key = key_of(alloc, form, object)?;
+    let params = params_of(alloc, object)?;
+    let wrapping = needed_descriptor(alloc, form, object, "wrapping")?;
+    let wrapped = needed_hex(alloc, object, "wrapped")?;
+    let unwrapping = list_at(alloc, object, "unwrapping")?;
+    Ok(Act::ImportWrappedKey {
+        key,
+        params,
+        wrapping,
+        wrapped,
+        unwrapping,
+    })
+}
+
+/// The members of an importWrappedKey.
+pub fn put_import_wrapped_key(
+    object: &mut WrittenObject,
+    key: &Descriptor,
+    params: &Bytes,
+    wrapping: &Descriptor,
+    wrapped: &Bytes,
+    unwrapping: &Bytes,
+) -> Result<(), AllocError>
+    ensures { OnOk result (members_in object.new ≡ with_act (acts.ImportWrappedKey key.now params.now wrapping.now wrapped.now unwrapping.now) (members_in object.old)) }
+{
+    put_key_and_params(object, key, params)?;
+    put_descriptor(object, "wrapping", wrapping)?;
+    object.put_hex("wrapped", wrapped.as_slice())?;
+    object.put_hex("unwrapping", unwrapping.as_slice())
 }
 
 /// A createOperation: its members `key` and `params`, and `forced`, a truth value that is false where it is not there.

@@ -1,4 +1,4 @@
-//! The member `params`: pairs by the tags' names, or hex text of an encoded authorization list.
+//! A member that is a list: pairs by the tags' names, or hex text of an encoded authorization list.
 
 ghost use Rattle.std.specs.Prelude.{◌≡◌, IfOk};
 ghost use Rattle.std.specs.List.{AllByRecursion};
@@ -18,7 +18,14 @@ use tags::{Bytes, Param, ParamValue, Tag, TagType};
 pub fn params_of(alloc: Global, object: &Value) -> Result<Bytes, LineFault>
     ensures { Gives result (spec.params_of (view object.now)) }
 {
-    let Some(value) = object.get("params") else {
+    list_at(alloc, object, "params")
+}
+
+/// The encoded list of a member; the empty list where it is absent.
+pub fn list_at(alloc: Global, object: &Value, name: &str) -> Result<Bytes, LineFault>
+    ensures { Gives result (spec.list_at name.now (view object.now)) }
+{
+    let Some(value) = object.get(name) else {
         return Ok(spelled(alloc, &[])?);
     };
     if let Some(text) = value.as_str() {

@@ -14,6 +14,7 @@ pub mod Truncating
 pub mod Seeing
 pub mod Calling
 pub mod Answering
+pub mod Asking
 pub mod Longer
 pub mod Naming
 pub mod FirstTurn

@@ -8,7 +8,7 @@ use Rattle.tags.specs.declared.rule.RuleTable.{RuleTable}
 use Rattle.tags.specs.declared.rule.RuleTable.TheVariants.{K, B, S, A, L}
 use Rattle.tags.specs.Rule.{letter_of}
 use Rattle.rule_model.specs.declared.event.Act.{Act}
-use Rattle.rule_model.specs.declared.event.Act.TheVariants.{GenerateKey, ImportKey, UpgradeKey, CreateOperation, GetKeyEntry, ListEntriesBatched, Leave}
+use Rattle.rule_model.specs.declared.event.Act.TheVariants.{GenerateKey, ImportKey, UpgradeKey, ImportWrappedKey, CreateOperation, GetKeyEntry, ListEntriesBatched, Leave}
 use Rattle.rule_model.specs.declared.field_sizes.FieldSizes.{FieldSizes}
 use Rattle.rule_model.specs.declared.reply.Fields.{Fields}
 use Rattle.rule_model.specs.declared.reply.Reply.{Reply}
@@ -69,6 +69,7 @@ pub small_sizes : (act : Act) (out : ℕ) → out ≤ 1048656 → AreSmall (size
 small_sizes (GenerateKey key params) out few = record { alias = omega arith; nonce = omega arith; out = omega arith; blob = omega arith; list = omega arith; entries = omega arith }
 small_sizes (ImportKey key params format material) out few = record { alias = omega arith; nonce = omega arith; out = omega arith; blob = omega arith; list = omega arith; entries = omega arith }
 small_sizes (UpgradeKey key params) out few = record { alias = omega arith; nonce = omega arith; out = omega arith; blob = omega arith; list = omega arith; entries = omega arith }
+small_sizes (ImportWrappedKey key params wrapping wrapped unwrapping) out few = record { alias = omega arith; nonce = omega arith; out = omega arith; blob = omega arith; list = omega arith; entries = omega arith }
 small_sizes (CreateOperation key params forced) out few = record { alias = omega arith; nonce = omega arith; out = omega arith; blob = omega arith; list = omega arith; entries = omega arith }
 small_sizes (GetKeyEntry key) out few = record { alias = omega arith; nonce = omega arith; out = omega arith; blob = omega arith; list = omega arith; entries = omega arith }
 small_sizes (ListEntriesBatched domain nspace past) out few = record { alias = omega arith; nonce = omega arith; out = omega arith; blob = omega arith; list = omega arith; entries = omega arith }

@@ -18,7 +18,7 @@ use Rattle.cipher_ops.specs.declared.room.Work.TheVariants.{Aad, Text, Last}
 use Rattle.journal_records.specs.declared.record.KeyRecord.{KeyRecord}
 use Rattle.journal_records.specs.LastingPart.{Lasting}
 use Rattle.rule_model.specs.declared.event.Act.{Act}
-use Rattle.rule_model.specs.declared.event.Act.TheVariants.{Connect, Disconnect, GenerateKey, ImportKey, CreateOperation, EnterAad, EnterUpdate, EnterFinish, Abort, GetKeyEntry, DeleteKey, Grant, Ungrant, GetNumberOfEntries, ListEntriesBatched, AddAuthToken, DeviceLocked, DeviceUnlocked, EarlyBootEnded, ClearNamespace, UserRemoved, Leave, UpgradeKey}
+use Rattle.rule_model.specs.declared.event.Act.TheVariants.{Connect, Disconnect, GenerateKey, ImportKey, CreateOperation, EnterAad, EnterUpdate, EnterFinish, Abort, GetKeyEntry, DeleteKey, Grant, Ungrant, GetNumberOfEntries, ListEntriesBatched, AddAuthToken, DeviceLocked, DeviceUnlocked, EarlyBootEnded, ClearNamespace, UserRemoved, Leave, UpgradeKey, ImportWrappedKey}
 use Rattle.rule_model.specs.declared.event.Event.{Event}
 use Rattle.rule_model.specs.declared.facts.Caller.{Caller}
 use Rattle.rule_model.specs.declared.reply.Fields.{Fields}
@@ -203,6 +203,7 @@ upgrade_no device key drawn (Ok change) = done_lacks _
 rules_no : (act : Act) (setup : Setup) (past : History) (caller : Caller) (drawn : List ℕ) → is_leave act ≡ false → Lacks (answer_by_rules act setup past caller drawn)
 rules_no (GenerateKey key params) setup past caller drawn l = broken_no _ _ (made_no _ _)
 rules_no (ImportKey key params format material) setup past caller drawn l = broken_no _ _ (made_no _ _)
+rules_no (ImportWrappedKey key params wrapping wrapped unwrapping) setup past caller drawn l = broken_no _ _ (made_no _ _)
 rules_no (CreateOperation key params forced) setup past caller drawn l = broken_no _ _ (done_lacks _)
 rules_no (EnterAad op input) setup past caller drawn l = broken_no _ _ (done_lacks _)
 rules_no (EnterUpdate op input) setup past caller drawn l = broken_no _ _ (done_lacks _)

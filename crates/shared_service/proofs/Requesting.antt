@@ -14,7 +14,7 @@ use Rattle.key_blobs.specs.declared.sealed.Sealed.{Sealed}
 use Rattle.journal_records.specs.declared.record.KeyRecord.{KeyRecord}
 use Rattle.journal_records.specs.LastingPart.{Lasting}
 use Rattle.rule_model.specs.declared.event.Act.{Act}
-use Rattle.rule_model.specs.declared.event.Act.TheVariants.{Connect, Disconnect, GenerateKey, ImportKey, CreateOperation, EnterAad, EnterUpdate, EnterFinish, Abort, GetKeyEntry, DeleteKey, Grant, Ungrant, GetNumberOfEntries, ListEntriesBatched, AddAuthToken, DeviceLocked, DeviceUnlocked, EarlyBootEnded, ClearNamespace, UserRemoved, Leave, Restart, UpgradeKey}
+use Rattle.rule_model.specs.declared.event.Act.TheVariants.{Connect, Disconnect, GenerateKey, ImportKey, CreateOperation, EnterAad, EnterUpdate, EnterFinish, Abort, GetKeyEntry, DeleteKey, Grant, Ungrant, GetNumberOfEntries, ListEntriesBatched, AddAuthToken, DeviceLocked, DeviceUnlocked, EarlyBootEnded, ClearNamespace, UserRemoved, Leave, Restart, UpgradeKey, ImportWrappedKey}
 use Rattle.rule_model.specs.declared.event.Event.{Event}
 use Rattle.rule_model.specs.declared.facts.Caller.{Caller}
 use Rattle.rule_model.specs.declared.field_sizes.FieldSizes.{FieldSizes}
@@ -121,6 +121,8 @@ ticket_enters setup past event drawn fields ticket l may given = by_act event.ac
   by_act (Connect uid) caller l e = differ (ticket_of_done (record no_fields { client = Some (count_of is_connect past + 1) }) fields e)
   by_act (GenerateKey key params) caller l e = differ (ticket_of_done _ fields (if_done _ _ fields _ (broken_reply _ _ fields e)) ∙ made_ticket _ _ _ refl refl)
   by_act (ImportKey key params format material) caller l e = differ (ticket_of_done _ fields (if_done _ _ fields _ (broken_reply _ _ fields e)) ∙ made_ticket _ _ _ refl refl)
+  by_act (ImportWrappedKey key params wrapping wrapped unwrapping) caller l e =
+      differ (ticket_of_done _ fields (if_done _ _ fields _ (broken_reply _ _ fields e)) ∙ made_ticket _ _ _ refl refl)
   by_act (CreateOperation key params forced) caller l e = differ (none_given _ _ fields refl e)
   by_act (Abort op) caller l e = differ (none_given _ _ fields refl e)
   by_act Disconnect caller l e = differ (none_given _ _ fields refl e)

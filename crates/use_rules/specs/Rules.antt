@@ -4,38 +4,23 @@ use Rattle.std.specs.Prelude.{ℕ, Bool, true, not, ◌&&◌, ◌||◌, ◌==◌
 use Rattle.std.specs.Option.{option_or}
 use Rattle.key_domains.specs.declared.permission.Permission.TheVariants.{ManageBlob, ReqForcedOp, Use}
 use Rattle.key_domains.specs.Bits.{has}
-use Rattle.key_domains.specs.Domains.{domain_app, domain_blob, domain_grant, domain_key_id, domain_selinux}
+use Rattle.key_domains.specs.Domains.{domain_blob}
+use Rattle.key_domains.specs.Forms.{is_in_policy}
 use Rattle.tags.specs.declared.descriptor.Descriptor.{Descriptor}
 use Rattle.tags.specs.declared.param.Param.{Param}
 use Rattle.tags.specs.declared.tag.Tag.{Tag}
 use Rattle.tags.specs.declared.tag.Tag.TheVariants.{Purpose, BlockMode, Digest, Padding, CallerNonce, MinMacLength, EarlyBootOnly, ActiveDatetime, OriginationExpireDatetime, UsageExpireDatetime, MaxUsesPerBoot, UserId, UserSecureId, AuthTimeout, UnlockedDeviceRequired, Nonce, MacLength}
-use Rattle.tags.specs.Descriptor.{has_alias}
 use Rattle.tags.specs.Values.{AES_PURPOSES, CBC, CTR, DECRYPT, DIGESTS, ENCRYPT, GCM, HMAC_PURPOSES, MODES, PADDINGS, SIGN, UNPADDED, digest_bits, implies, is_whole_bytes, one_in, passes}
 use Rattle.tag_lists.specs.Lookups.{bytes_of, has_number, is_aes, is_hmac, is_only, number_of, only_number, stands}
-
--- APP and SELINUX find a key by its alias, GRANT and KEY_ID by a number
-abbrev pub is_by_alias : ℕ → Bool
-is_by_alias domain = (domain == domain_app) || (domain == domain_selinux)
-
-abbrev pub is_by_number : ℕ → Bool
-is_by_number domain = (domain == domain_grant) || (domain == domain_key_id)
-
--- BLOB with a blob, of any bytes
-abbrev pub hands_blob : Descriptor → Bool
-hands_blob descriptor = (descriptor.domain == domain_blob) && is_some descriptor.blob
-
--- the domain is APP or SELINUX with an alias of 1 to 256 bytes of UTF-8, or GRANT or KEY_ID, or BLOB with a blob
-abbrev pub names_key : Descriptor → Bool
-names_key descriptor = (is_by_alias descriptor.domain && has_alias descriptor) || (is_by_number descriptor.domain || hands_blob descriptor)
 
 -- the policy's row is there and has MANAGE_BLOB
 abbrev pub has_manage_blob : Option ℕ → Bool
 has_manage_blob row = passes (λ bits. has bits ManageBlob) row
 
 -- SELINUX: the policy has a row of the caller's uid and the namespace; BLOB: and it has MANAGE_BLOB
-abbrev pub is_in_policy : Descriptor → Option ℕ → Bool
-is_in_policy descriptor row =
-    implies (descriptor.domain == domain_selinux) (is_some row) &&
+abbrev pub may_enter : Descriptor → Option ℕ → Bool
+may_enter descriptor row =
+    is_in_policy descriptor.domain row &&
     implies (descriptor.domain == domain_blob) (has_manage_blob row)
 
 -- the caller's bits have USE, and REQ_FORCED_OP where the begin forces

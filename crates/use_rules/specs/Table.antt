@@ -7,9 +7,10 @@ use Rattle.tags.specs.declared.plan.Plan.{Plan}
 use Rattle.tags.specs.declared.rule.Rule.{Rule}
 use Rattle.tags.specs.declared.rule.RuleTable.TheVariants.{B}
 use Rattle.tags.specs.Table.{Check, check, first_broken, where_all_hold}
+use Rattle.key_domains.specs.Forms.{names_any_key}
 use Rattle.tag_lists.specs.Versions.{is_no_newer, is_no_older}
 use Rattle.use_rules.specs.declared.facts.BeginFacts.{BeginFacts}
-use Rattle.use_rules.specs.Rules.{names_key, is_in_policy, may_begin, names_purpose, key_has_purpose, is_active, is_unexpired, is_of_user, is_early, is_unlocked, is_authenticated, has_begins_left, names_mode, key_has_mode, names_padding, takes_padding, names_digest, key_has_digest, gives_length, takes_length, reaches_least, may_give_nonce, has_nonce, fits_nonce}
+use Rattle.use_rules.specs.Rules.{may_enter, may_begin, names_purpose, key_has_purpose, is_active, is_unexpired, is_of_user, is_early, is_unlocked, is_authenticated, has_begins_left, names_mode, key_has_mode, names_padding, takes_padding, names_digest, key_has_digest, gives_length, takes_length, reaches_least, may_give_nonce, has_nonce, fits_nonce}
 use Rattle.use_rules.specs.Plans.{plan_of}
 
 -- the operation's list, where it was read
@@ -33,8 +34,8 @@ key_of facts = unwrap_or facts.opened []
 abbrev pub call_rules : BeginFacts → List Check
 call_rules facts =
     check 1 InvalidArgument facts.connected ∷  -- the client is connected
-    check 2 InvalidArgument (names_key facts.descriptor) ∷  -- the descriptor has the form of its domain
-    check 3 PermissionDenied (is_in_policy facts.descriptor facts.row) ∷  -- SELINUX and BLOB: the policy knows the caller there
+    check 2 InvalidArgument (names_any_key facts.descriptor) ∷  -- the descriptor has the form of its domain
+    check 3 PermissionDenied (may_enter facts.descriptor facts.row) ∷  -- SELINUX and BLOB: the policy knows the caller there
     check 4 KeyNotFound facts.found ∷  -- the key is found; a blob that is handed in always is
     check 5 PermissionDenied (may_begin facts.bits facts.forced) ∷  -- the caller may use it, and force where it forces
     check 6 (fault_of facts.asked) (is_ok facts.asked) ∷  -- the operation's list reads

@@ -3,40 +3,13 @@
 ghost use Rattle.std.specs.Prelude.{◌≡◌};
 ghost use Rattle.use_rules.specs.Rules as spec;
 
-use key_domains::{Permission, Permissions};
+use key_domains::{Permission, Permissions, is_in_policy};
 use tag_lists::AuthList;
 use tags::values::{
     AES_PURPOSES, CBC, CTR, DECRYPT, DIGESTS, ENCRYPT, GCM, HMAC_PURPOSES, MODES, PADDINGS, SIGN,
     UNPADDED, digest_bits, is_whole_bytes, one_in,
 };
-use tags::{DOMAIN_APP, DOMAIN_BLOB, DOMAIN_GRANT, DOMAIN_KEY_ID, DOMAIN_SELINUX, Descriptor, Tag};
-
-fn is_by_alias(domain: u32) -> bool
-    ensures { result ≡ spec.is_by_alias domain }
-{
-    domain == DOMAIN_APP || domain == DOMAIN_SELINUX
-}
-
-fn is_by_number(domain: u32) -> bool
-    ensures { result ≡ spec.is_by_number domain }
-{
-    domain == DOMAIN_GRANT || domain == DOMAIN_KEY_ID
-}
-
-fn hands_blob(descriptor: &Descriptor) -> bool
-    ensures { result ≡ spec.hands_blob descriptor.now }
-{
-    descriptor.domain == DOMAIN_BLOB && descriptor.blob.is_some()
-}
-
-/// Whether the descriptor has the form of its domain.
-pub fn names_key(descriptor: &Descriptor) -> bool
-    ensures { result ≡ spec.names_key descriptor.now }
-{
-    is_by_alias(descriptor.domain) && descriptor.has_alias()
-        || is_by_number(descriptor.domain)
-        || hands_blob(descriptor)
-}
+use tags::{DOMAIN_BLOB, Descriptor, Tag};
 
 fn has_manage_blob(row: Option<u32>) -> bool
     ensures { result ≡ spec.has_manage_blob row }
@@ -48,10 +21,10 @@ fn has_manage_blob(row: Option<u32>) -> bool
 }
 
 /// SELINUX: whether the policy has a row of the caller and the namespace; BLOB: whether that row lets it hand in blobs.
-pub fn is_in_policy(descriptor: &Descriptor, row: Option<u32>) -> bool
-    ensures { result ≡ spec.is_in_policy descriptor.now row }
+pub fn may_enter(descriptor: &Descriptor, row: Option<u32>) -> bool
+    ensures { result ≡ spec.may_enter descriptor.now row }
 {
-    let stored = descriptor.domain != DOMAIN_SELINUX || row.is_some();
+    let stored = is_in_policy(descriptor.domain, row);
     let handed = descriptor.domain != DOMAIN_BLOB || has_manage_blob(row);
     stored && handed
 }

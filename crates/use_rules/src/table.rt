@@ -14,10 +14,11 @@ use crate::BeginFacts;
 use crate::plans::plan_of;
 use crate::rules::{
     fits_nonce, gives_length, has_begins_left, has_nonce, is_active, is_authenticated, is_early,
-    is_in_policy, is_of_user, is_unexpired, is_unlocked, key_has_digest, key_has_mode,
-    key_has_purpose, may_begin, may_give_nonce, names_digest, names_key, names_mode, names_padding,
-    names_purpose, reaches_least, takes_length, takes_padding,
+    is_of_user, is_unexpired, is_unlocked, key_has_digest, key_has_mode, key_has_purpose,
+    may_begin, may_enter, may_give_nonce, names_digest, names_mode, names_padding, names_purpose,
+    reaches_least, takes_length, takes_padding,
 };
+use key_domains::names_any_key;
 use tag_lists::AuthList;
 use tags::{Code, Plan, Rule, RuleTable, Ruling, check};
 
@@ -171,11 +172,15 @@ pub fn check_begin(facts: &BeginFacts) -> Result<Plan, (Rule, Code)>
     ensures nonce { IfOk result (λ plan. NonceFits (spec.asked_of facts.now) (spec.key_of facts.now) plan) }
 {
     check(rule(1), Code::InvalidArgument, facts.connected)?;
-    check(rule(2), Code::InvalidArgument, names_key(&facts.descriptor))?;
+    check(
+        rule(2),
+        Code::InvalidArgument,
+        names_any_key(&facts.descriptor),
+    )?;
     check(
         rule(3),
         Code::PermissionDenied,
-        is_in_policy(&facts.descriptor, facts.row),
+        may_enter(&facts.descriptor, facts.row),
     )?;
     check(rule(4), Code::KeyNotFound, facts.found)?;
     check(

@@ -39,12 +39,16 @@ flag_one false = refl
 pub size_exact : (a m : ℕ) → a ≡ m → IsSize a m
 size_exact a m is = record { exact = λ lt. is; great = λ le. omega (arith, is, le) }
 
-pub size_six : (a b c d e f m n o p q r l : ℕ) → IsSize a m → IsSize b n → IsSize c o → IsSize d p → IsSize e q → IsSize f r → l ≡ m + n + o + p + q + r → IsSize (a + b + c + d + e + f) l
-size_six a b c d e f m n o p q r l s t u v w x is =
+pub size_five : (a b c d e m n o p q l : ℕ) → IsSize a m → IsSize b n → IsSize c o → IsSize d p → IsSize e q → l ≡ m + n + o + p + q → IsSize (a + b + c + d + e) l
+size_five a b c d e m n o p q l s t u v w is =
     let two = size_sum a b m n (m + n) s t (omega arith) in
     let three = size_sum (a + b) c (m + n) o (m + n + o) two u (omega arith) in
     let four = size_sum (a + b + c) d (m + n + o) p (m + n + o + p) three v (omega arith) in
-    let five = size_sum (a + b + c + d) e (m + n + o + p) q (m + n + o + p + q) four w (omega arith) in
+    size_sum (a + b + c + d) e (m + n + o + p) q l four w is
+
+pub size_six : (a b c d e f m n o p q r l : ℕ) → IsSize a m → IsSize b n → IsSize c o → IsSize d p → IsSize e q → IsSize f r → l ≡ m + n + o + p + q + r → IsSize (a + b + c + d + e + f) l
+size_six a b c d e f m n o p q r l s t u v w x is =
+    let five = size_five a b c d e m n o p q (m + n + o + p + q) s t u v w (omega arith) in
     size_sum (a + b + c + d + e) f (m + n + o + p + q) r l five x is
 
 -- a size that is too great may be any other one

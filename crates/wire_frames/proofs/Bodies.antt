@@ -9,13 +9,13 @@ use Rattle.byte_strings.proofs.Fields.{byte_codec, u32_codec, u64_codec, bytes_c
 use Rattle.byte_strings.proofs.Rows.{made_read, field_read, last_read, field_again, last_again, row_codec, whole_takes, whole_again}
 use Rattle.tags.specs.declared.descriptor.Descriptor.{Descriptor}
 use Rattle.rule_model.specs.declared.event.Act.{Act}
-use Rattle.rule_model.specs.declared.event.Act.TheVariants.{Connect, Disconnect, GenerateKey, ImportKey, CreateOperation, EnterAad, EnterUpdate, EnterFinish, Abort, GetKeyEntry, DeleteKey, Grant, Ungrant, GetNumberOfEntries, ListEntriesBatched, AddAuthToken, DeviceLocked, DeviceUnlocked, EarlyBootEnded, ClearNamespace, UserRemoved, Leave, Restart, UpgradeKey}
+use Rattle.rule_model.specs.declared.event.Act.TheVariants.{Connect, Disconnect, GenerateKey, ImportKey, CreateOperation, EnterAad, EnterUpdate, EnterFinish, Abort, GetKeyEntry, DeleteKey, Grant, Ungrant, GetNumberOfEntries, ListEntriesBatched, AddAuthToken, DeviceLocked, DeviceUnlocked, EarlyBootEnded, ClearNamespace, UserRemoved, Leave, Restart, UpgradeKey, ImportWrappedKey}
 use Rattle.rule_model.specs.declared.act_kind.ActKind.{ActKind}
 use Rattle.rule_model.specs.declared.act_kind.ActKind.TheVariants as kinds
 use Rattle.rule_model.specs.Acts.{all_kinds, is_asked, kind_numbered, row_of}
 use Rattle.wire_frames.specs.Spelling.{optional, key_of, body_of, IsShort, IsKey, AreFields}
 use Rattle.wire_frames.specs.Spelling.{fields_of as fields_spelled}
-use Rattle.wire_frames.specs.Reading.{key_at, connected_at, generated_at, imported_at, created_at, aad_at, update_at, finish_at, aborted_at, found_at, deleted_at, granted_at, ungranted_at, counted_entries_at, listed_at, token_at, locked_at, unlocked_at, booted_at, cleared_at, removed_at, upgraded_at, nothing_at, fields_of, fields_at, act_at, act_in}
+use Rattle.wire_frames.specs.Reading.{key_at, connected_at, generated_at, imported_at, created_at, aad_at, update_at, finish_at, aborted_at, found_at, deleted_at, granted_at, ungranted_at, counted_entries_at, listed_at, token_at, locked_at, unlocked_at, booted_at, cleared_at, removed_at, upgraded_at, wrapped_at, nothing_at, fields_of, fields_at, act_at, act_in}
 
 -- ---- fields
 
@@ -113,6 +113,13 @@ booted_read = made_read EarlyBootEnded (refl, tt)
 upgraded_read : IsAct kinds.UpgradeKey upgraded_at
 upgraded_read = field_read key_codec (λ key is_key. last_read counted_u32_codec _ (λ params is_params. (refl, (is_key, is_params))))
 
+wrapped_read : IsAct kinds.ImportWrappedKey wrapped_at
+unfolding wrapped_at
+wrapped_read =
+    field_read key_codec (λ key is_key. field_read counted_u32_codec (λ params is_params. field_read key_codec (λ wrapping is_wrapping.
+    field_read counted_u32_codec (λ wrapped is_wrapped. last_read counted_u32_codec _ (λ unwrapping is_unwrapping.
+    (refl, (is_key, is_params, is_wrapping, is_wrapped, is_unwrapping)))))))
+
 none_read : {IsSo : List ℕ → Act → Type 0} → IsRead nothing_at IsSo
 none_read = record { takes = λ bytes x rest fits e. absurd (let never : ◌≡◌ {A = Option (Act × List ℕ)} None (Some (x, rest)) = e in cc) }
 
@@ -141,6 +148,7 @@ kind_read kinds.Disconnect = none_read
 kind_read kinds.Leave = none_read
 kind_read kinds.Restart = none_read
 kind_read kinds.UpgradeKey = upgraded_read
+kind_read kinds.ImportWrappedKey = wrapped_read
 
 -- what a search finds passes its test
 find_holds : {A : Type 0} (p : A → Bool) (xs : List A) (x : A) → find p xs ≡ Some x → p x ≡ true
@@ -237,6 +245,13 @@ removed_again user h = last_again u32_codec _ user h
 upgraded_again : (key : Descriptor) (params : List ℕ) → AreFields (UpgradeKey key params) → IsReadAgain upgraded_at (UpgradeKey key params)
 upgraded_again key params h = field_again key_codec _ key h.0 (last_again counted_u32_codec _ params h.1)
 
+wrapped_again : (key : Descriptor) (params : List ℕ) (wrapping : Descriptor) (wrapped unwrapping : List ℕ) → AreFields (ImportWrappedKey key params wrapping wrapped unwrapping)
+    → IsReadAgain wrapped_at (ImportWrappedKey key params wrapping wrapped unwrapping)
+unfolding wrapped_at
+wrapped_again key params wrapping wrapped unwrapping h =
+    field_again key_codec _ key h.0 (field_again counted_u32_codec _ params h.1 (field_again key_codec _ wrapping h.2
+    (field_again counted_u32_codec _ wrapped h.3 (last_again counted_u32_codec _ unwrapping h.4))))
+
 body_again : (act : Act) → AreFields act → IsAgain act_at (body_of act) act
 body_again (Connect uid) h = record { again = λ rest. (connected_again uid h).again rest }
 body_again (GenerateKey key params) h = record { again = λ rest. (generated_again key params h).again rest }
@@ -262,6 +277,7 @@ body_again Disconnect h = absurd h
 body_again (Leave ticket) h = absurd h
 body_again (Restart root) h = absurd h
 body_again (UpgradeKey key params) h = record { again = λ rest. (upgraded_again key params h).again rest }
+body_again (ImportWrappedKey key params wrapping wrapped unwrapping) h = record { again = λ rest. (wrapped_again key params wrapping wrapped unwrapping h).again rest }
 
 pub act_again : (act : Act) → AreFields act → act_in (body_of act) ≡ Some act
 unfolding act_in

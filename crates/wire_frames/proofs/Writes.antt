@@ -1,5 +1,5 @@
 -- Several writes, one behind the other.
-use Rattle.std.proofs.Common.{◌≡◌, ℕ, ◌+◌, ◌<◌, ◌≤◌, ◌^◌, List, [], ◌∷◌, ◌++◌, length, get_or, take, flat_map, Result, Ok, Err, refl, ap, ◌∙◌, arith}
+use Rattle.std.proofs.Common.{◌≡◌, ℕ, ◌+◌, ◌<◌, ◌≤◌, ◌^◌, List, [], ◌∷◌, ◌++◌, length, get_or, take, flat_map, Result, Ok, Err, refl, ap, ◌∙◌, arith, append_assoc}
 use Rattle.std.specs.Prelude.{OnOk}
 use Rattle.std.proofs.lemmas.List.{take_more, length-append}
 use Rattle.std.proofs.lemmas.List.Folds.{length-flat_map-take}
@@ -13,6 +13,11 @@ use Rattle.wire_frames.specs.Replies.{entry_of, entries_of}
 pub at_last : {A E : Type 0} (r : Result A E) (now before piece all : List ℕ) → before ++ piece ≡ all → OnOk r (now ≡ before ++ piece) → OnOk r (now ≡ all)
 at_last (Ok x) now before piece all e h = h ∙ e
 at_last (Err x) now before piece all e h = tt
+
+-- five fields, the last of which makes the whole
+pub five_fields : {A E : Type 0} (r : Result A E) (old a b c d e one two three four five : List ℕ) → one ≡ old ++ a → two ≡ one ++ b → three ≡ two ++ c → four ≡ three ++ d
+    → OnOk r (five ≡ four ++ e) → OnOk r (five ≡ old ++ (a ++ (b ++ (c ++ (d ++ e)))))
+five_fields r old a b c d e one two three four five p q s t h = at_last r five four e (old ++ (a ++ (b ++ (c ++ (d ++ e))))) (simp (t, s, q, p, append_assoc)) h
 
 abbrev Entry : Type 0
 Entry = List ℕ × ℕ

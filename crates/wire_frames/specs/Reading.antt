@@ -6,7 +6,7 @@ use Rattle.rule_model.specs.declared.act_kind.ActKind.{ActKind}
 use Rattle.rule_model.specs.declared.act_kind.ActKind.TheVariants as kinds
 use Rattle.rule_model.specs.Acts.{kind_numbered}
 use Rattle.rule_model.specs.declared.event.Act.{Act}
-use Rattle.rule_model.specs.declared.event.Act.TheVariants.{Connect, GenerateKey, ImportKey, CreateOperation, EnterAad, EnterUpdate, EnterFinish, Abort, GetKeyEntry, DeleteKey, Grant, Ungrant, GetNumberOfEntries, ListEntriesBatched, AddAuthToken, DeviceLocked, DeviceUnlocked, EarlyBootEnded, ClearNamespace, UserRemoved, UpgradeKey}
+use Rattle.rule_model.specs.declared.event.Act.TheVariants.{Connect, GenerateKey, ImportKey, CreateOperation, EnterAad, EnterUpdate, EnterFinish, Abort, GetKeyEntry, DeleteKey, Grant, Ungrant, GetNumberOfEntries, ListEntriesBatched, AddAuthToken, DeviceLocked, DeviceUnlocked, EarlyBootEnded, ClearNamespace, UserRemoved, UpgradeKey, ImportWrappedKey}
 use Rattle.wire_frames.specs.declared.fault.BodyFault.{BodyFault}
 use Rattle.wire_frames.specs.declared.fault.BodyFault.TheVariants.{Bad, Memory}
 
@@ -161,6 +161,15 @@ upgraded_at = do
   params ← counted_at 4
   done (UpgradeKey key params)
 
+unfoldable pub wrapped_at : Reader Act
+wrapped_at = do
+  key ← key_at
+  params ← counted_at 4
+  wrapping ← key_at
+  wrapped ← counted_at 4
+  unwrapping ← counted_at 4
+  done (ImportWrappedKey key params wrapping wrapped unwrapping)
+
 -- no frame has such an act
 abbrev pub nothing_at : Reader Act
 nothing_at bytes = None
@@ -191,6 +200,7 @@ fields_of kinds.UserRemoved = removed_at
 fields_of kinds.Leave = nothing_at
 fields_of kinds.Restart = nothing_at
 fields_of kinds.UpgradeKey = upgraded_at
+fields_of kinds.ImportWrappedKey = wrapped_at
 
 -- ---- bodies
 

@@ -6,7 +6,7 @@ use Rattle.byte_strings.specs.Fields.{flag}
 use Rattle.tags.specs.declared.descriptor.Descriptor.{Descriptor}
 use Rattle.rule_model.specs.Acts.{fixed_for, is_framed}
 use Rattle.rule_model.specs.declared.event.Act.{Act}
-use Rattle.rule_model.specs.declared.event.Act.TheVariants.{Connect, Disconnect, GenerateKey, ImportKey, CreateOperation, EnterAad, EnterUpdate, EnterFinish, Abort, GetKeyEntry, DeleteKey, Grant, Ungrant, GetNumberOfEntries, ListEntriesBatched, AddAuthToken, DeviceLocked, DeviceUnlocked, EarlyBootEnded, ClearNamespace, UserRemoved, Leave, Restart, UpgradeKey}
+use Rattle.rule_model.specs.declared.event.Act.TheVariants.{Connect, Disconnect, GenerateKey, ImportKey, CreateOperation, EnterAad, EnterUpdate, EnterFinish, Abort, GetKeyEntry, DeleteKey, Grant, Ungrant, GetNumberOfEntries, ListEntriesBatched, AddAuthToken, DeviceLocked, DeviceUnlocked, EarlyBootEnded, ClearNamespace, UserRemoved, Leave, Restart, UpgradeKey, ImportWrappedKey}
 use Rattle.tags.specs.declared.limits.TheConstants.{FRAME_BYTES}
 
 -- ---- fields
@@ -51,6 +51,8 @@ fields_of (UserRemoved user) = big_bytes 4 user
 fields_of (Leave ticket) = []
 fields_of (Restart root) = []
 fields_of (UpgradeKey key params) = key_of key ++ counted params
+fields_of (ImportWrappedKey key params wrapping wrapped unwrapping) =
+    key_of key ++ (counted params ++ (key_of wrapping ++ (counted wrapped ++ counted unwrapping)))
 
 -- the number of the act and its fields, where it has a frame
 abbrev pub body_of : Act → List ℕ
@@ -95,6 +97,8 @@ AreFields (UserRemoved user) = user < 2 ^ 32
 AreFields (Leave ticket) = ⊥
 AreFields (Restart root) = ⊥
 AreFields (UpgradeKey key params) = IsKey key × (length params < 2 ^ 32)
+AreFields (ImportWrappedKey key params wrapping wrapped unwrapping) =
+    IsKey key × (length params < 2 ^ 32) × IsKey wrapping × (length wrapped < 2 ^ 32) × (length unwrapping < 2 ^ 32)
 
 -- one on a key that a descriptor names
 abbrev pub is_on_key : Act → Bool
@@ -106,6 +110,7 @@ is_on_key (DeleteKey key) = true
 is_on_key (Grant key uid bits) = true
 is_on_key (Ungrant key uid) = true
 is_on_key (UpgradeKey key params) = true
+is_on_key (ImportWrappedKey key params wrapping wrapped unwrapping) = true
 is_on_key act = false
 
 -- one that brings a token

@@ -116,6 +116,25 @@ fn upgraded_at(alloc: Global, bytes: &[u8]) -> Result<(Act, &[u8]), BodyFault>
     Ok((Act::UpgradeKey { key, params }, rest))
 }
 
+#[tactic(auto, unfolding(crate::specs::Reading::wrapped_at))]
+fn wrapped_at(alloc: Global, bytes: &[u8]) -> Result<(Act, &[u8]), BodyFault>
+    ensures { Says (λ x. (x.0, x.1.now)) result (spec.wrapped_at bytes.now) }
+{
+    let (key, rest) = key_at(alloc, bytes)?;
+    let (params, rest) = copied_at(alloc, rest)?;
+    let (wrapping, rest) = key_at(alloc, rest)?;
+    let (wrapped, rest) = copied_at(alloc, rest)?;
+    let (unwrapping, rest) = copied_at(alloc, rest)?;
+    let act = Act::ImportWrappedKey {
+        key,
+        params,
+        wrapping,
+        wrapped,
+        unwrapping,
+    };
+    Ok((act, rest))
+}
+
 fn granted_at(alloc: Global, bytes: &[u8]) -> Result<(Act, &[u8]), BodyFault>
     ensures { Says (λ x. (x.0, x.1.now)) result (spec.granted_at bytes.now) }
 {
@@ -267,6 +286,7 @@ fn fields_at(alloc: Global, kind: ActKind, bytes: &[u8]) -> Result<(Act, &[u8]),
             Ok((Act::UserRemoved { user }, rest))
         }
         ActKind::UpgradeKey => upgraded_at(alloc, bytes),
+        ActKind::ImportWrappedKey => wrapped_at(alloc, bytes),
         ActKind::Disconnect => Err(BodyFault::Bad),
         ActKind::Leave => Err(BodyFault::Bad),
         ActKind::Restart => Err(BodyFault::Bad),

@@ -5,6 +5,7 @@ ghost use Rattle.byteorder.specs.Endian.{big_bytes};
 ghost use Rattle.wire_frames.specs.Spelling as spec;
 ghost use Rattle.tags.specs.declared.limits.TheConstants.{FRAME_BYTES};
 ghost use Rattle.rule_model.specs.Acts.{is_framed};
+ghost use Rattle.rule_model.specs.declared.event.Act.TheVariants as acts;
 ghost use Rattle.wire_frames.specs.Spelling.{body_of, fields_of, is_on_key, is_token};
 
 use super::fields::{put_key, put_optional};
@@ -54,6 +55,34 @@ fn put_token(out: &mut Vec<u8>, act: &Act) -> Result<(), AllocError>
     put_bytes(out, mac)
 }
 
+/// A key and its list.
+fn put_key_and_params(out: &mut Vec<u8>, key: &Descriptor, params: &Bytes) -> Result<(), AllocError>
+    requires { length (spec.key_of key.now ++ spec.counted params.now) < FRAME_BYTES }
+    ensures { OnOk result (out.new.items ≡ out.old.items ++ (spec.key_of key.now ++ spec.counted params.now)) }
+{
+    put_key(out, key)?;
+    put_counted_u32(out, params.as_slice())
+}
+
+/// A key and its list, and what it comes wrapped under: another key, the wrapped text and the list with that key's ids.
+fn put_wrapped(
+    out: &mut Vec<u8>,
+    key: &Descriptor,
+    params: &Bytes,
+    wrapping: &Descriptor,
+    wrapped: &Bytes,
+    unwrapping: &Bytes,
+) -> Result<(), AllocError>
+    requires { length (fields_of (acts.ImportWrappedKey key.now params.now wrapping.now wrapped.now unwrapping.now)) < FRAME_BYTES }
+    ensures { OnOk result (out.new.items ≡ out.old.items ++ fields_of (acts.ImportWrappedKey key.now params.now wrapping.now wrapped.now unwrapping.now)) }
+{
+    put_key(out, key)?;
+    put_counted_u32(out, params.as_slice())?;
+    put_key(out, wrapping)?;
+    put_counted_u32(out, wrapped.as_slice())?;
+    put_counted_u32(out, unwrapping.as_slice())
+}
+
 /// The fields of an act on a key that a descriptor names.
 fn put_key_fields(out: &mut Vec<u8>, act: &Act) -> Result<(), AllocError>
     requires named { is_on_key act.now ≡ true }
@@ -61,10 +90,7 @@ fn put_key_fields(out: &mut Vec<u8>, act: &Act) -> Result<(), AllocError>
     ensures written { OnOk result (out.new.items ≡ out.old.items ++ fields_of act.now) }
 {
     match act {
-        Act::GenerateKey { key, params } => {
-            put_key(out, key)?;
-            put_counted_u32(out, params.as_slice())
-        }
+        Act::GenerateKey { key, params } => put_key_and_params(out, key, params),
         Act::ImportKey {
             key,
             params,
@@ -85,10 +111,14 @@ fn put_key_fields(out: &mut Vec<u8>, act: &Act) -> Result<(), AllocError>
             put_counted_u32(out, params.as_slice())?;
             put_flag(out, *forced)
         }
-        Act::UpgradeKey { key, params } => {
-            put_key(out, key)?;
-            put_counted_u32(out, params.as_slice())
-        }
+        Act::UpgradeKey { key, params } => put_key_and_params(out, key, params),
+        Act::ImportWrappedKey {
+            key,
+            params,
+            wrapping,
+            wrapped,
+            unwrapping,
+        } => put_wrapped(out, key, params, wrapping, wrapped, unwrapping),
         Act::GetKeyEntry { key } => put_key(out, key),
         Act::DeleteKey { key } => put_key(out, key),
         Act::Grant { key, uid, bits } => {

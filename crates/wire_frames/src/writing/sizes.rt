@@ -2,7 +2,8 @@
 
 ghost use Rattle.std.specs.Prelude.{◌≡◌, ℕ, ◌≤◌, ◌<◌, length};
 ghost use Rattle.wire_frames.specs.Spelling as spec;
-ghost use Rattle.wire_frames.specs.Spelling.{body_of};
+ghost use Rattle.wire_frames.specs.Spelling.{body_of, fields_of};
+ghost use Rattle.rule_model.specs.declared.event.Act.TheVariants as acts;
 ghost use Rattle.wire_frames.specs.Sizes.{IsSize};
 
 use rule_model::Act;
@@ -50,6 +51,24 @@ fn key_size(key: &Descriptor) -> usize
     12 + optional_size(&key.alias) + optional_size(&key.blob)
 }
 
+/// The size of the fields of an act that brings a wrapped key.
+fn wrapped_size(
+    key: &Descriptor,
+    params: &Bytes,
+    wrapping: &Descriptor,
+    wrapped: &Bytes,
+    unwrapping: &Bytes,
+) -> usize
+    ensures size { IsSize result (length (fields_of (acts.ImportWrappedKey key.now params.now wrapping.now wrapped.now unwrapping.now))) }
+    ensures small { result ≤ 30064771128 }
+{
+    key_size(key)
+        + counted_size(params)
+        + key_size(wrapping)
+        + counted_size(wrapped)
+        + counted_size(unwrapping)
+}
+
 /// The size of a body, which is none where the act has no frame.
 pub(crate) fn body_size(act: &Act) -> usize
     ensures { IsSize result (length (body_of act.now)) }
@@ -85,6 +104,13 @@ pub(crate) fn body_size(act: &Act) -> usize
         Act::ClearNamespace { .. } => 13,
         Act::UserRemoved { .. } => 5,
         Act::UpgradeKey { key, params } => 1 + key_size(key) + counted_size(params),
+        Act::ImportWrappedKey {
+            key,
+            params,
+            wrapping,
+            wrapped,
+            unwrapping,
+        } => 1 + wrapped_size(key, params, wrapping, wrapped, unwrapping),
         Act::Disconnect => 0,
         Act::Leave { .. } => 0,
         Act::Restart { .. } => 0,

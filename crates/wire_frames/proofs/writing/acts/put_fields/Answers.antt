@@ -2,7 +2,7 @@ use Rattle.std.proofs.Common.{◌≡◌, true, refl, subst}
 use Rattle.std.proofs.lemmas.Bool.{false≢true}
 use Rattle.rule_model.specs.Acts.{is_framed}
 use Rattle.rule_model.specs.declared.event.Act.{Act}
-use Rattle.rule_model.specs.declared.event.Act.TheVariants.{Connect, Disconnect, GenerateKey, ImportKey, CreateOperation, EnterAad, EnterUpdate, EnterFinish, Abort, GetKeyEntry, DeleteKey, Grant, Ungrant, GetNumberOfEntries, ListEntriesBatched, AddAuthToken, DeviceLocked, DeviceUnlocked, EarlyBootEnded, ClearNamespace, UserRemoved, Leave, Restart, UpgradeKey}
+use Rattle.rule_model.specs.declared.event.Act.TheVariants.{Connect, Disconnect, GenerateKey, ImportKey, CreateOperation, EnterAad, EnterUpdate, EnterFinish, Abort, GetKeyEntry, DeleteKey, Grant, Ungrant, GetNumberOfEntries, ListEntriesBatched, AddAuthToken, DeviceLocked, DeviceUnlocked, EarlyBootEnded, ClearNamespace, UserRemoved, Leave, Restart, UpgradeKey, ImportWrappedKey}
 use Rattle.wire_frames.specs.Spelling.{is_on_key}
 use Rattle.wire_frames.proofs.writing.acts.put_fields.Goals as goal
 
@@ -33,3 +33,4 @@ put_key_fields-requires-clause-named c = by_act c.args.act.now refl where
   by_act (Leave ticket) e = absurd (false≢true (subst (λ a. is_framed a ≡ true) e c.requires.framed))
   by_act (Restart root) e = absurd (false≢true (subst (λ a. is_framed a ≡ true) e c.requires.framed))
   by_act (UpgradeKey key params) e = refl
+  by_act (ImportWrappedKey key params wrapping wrapped unwrapping) e = refl

@@ -1,7 +1,8 @@
 use Rattle.std.proofs.Common.{◌≡◌, ◌++◌, arith, length, length-append}
 use Rattle.byteorder.specs.Endian.{big_bytes}
 use Rattle.byte_strings.specs.Fields.{flag}
-use Rattle.wire_frames.specs.Spelling.{counted, optional, key_of}
+use Rattle.rule_model.specs.declared.event.Act.TheVariants.{ImportWrappedKey}
+use Rattle.wire_frames.specs.Spelling.{counted, optional, key_of, fields_of}
 use Rattle.wire_frames.proofs.Adding.{size_one, size_two, size_three, flag_one}
 use Rattle.wire_frames.proofs.writing.sizes.body_size.Goals as goal
 
@@ -29,6 +30,11 @@ pub returns-in-UpgradeKey : goal.returns-in-UpgradeKey
 returns-in-UpgradeKey c =
     let a = c.in-UpgradeKey in
     rw a.is (size_two 1 c.key_size-in-UpgradeKey.result c.counted_size-in-UpgradeKey.result (length (key_of a.key)) (length (counted a.params)) _ c.key_size-in-UpgradeKey.ensures.size c.counted_size-in-UpgradeKey.ensures.size (omega (arith, length-append (key_of a.key) (counted a.params))))
+
+pub returns-in-ImportWrappedKey : goal.returns-in-ImportWrappedKey
+returns-in-ImportWrappedKey c =
+    let a = c.in-ImportWrappedKey in
+    rw a.is (size_one 1 c.wrapped_size.result (length (fields_of (ImportWrappedKey a.key a.params a.wrapping a.wrapped a.unwrapping))) _ c.wrapped_size.ensures.size (omega arith))
 
 pub returns-in-EnterAad : goal.returns-in-EnterAad
 returns-in-EnterAad c =
