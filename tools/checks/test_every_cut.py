@@ -2,10 +2,9 @@
 
 The published vectors of `make/vectors.py`, both ways, in two pieces; the padding of every length from 0 to 33, and
 counters that wrap, so too; each GCM vector with tags of 12 to 16 bytes, and with each byte of its tag changed; RFC
-4231's macs, and each byte of a signature changed; and a text of 37 bytes in each mode and under an HMAC key in three
-pieces, also under keys with a use limit, which give all output at the finish. An update tells the front of the output
-that its mode gives by then, less what came before. Outputs that no standard prints are those of the Python package
-`cryptography`."""
+4231's macs; and a text of 37 bytes in each mode and under an HMAC key in three pieces, also under keys with a use
+limit, which give all output at the finish. An update tells the front of the output that its mode gives by then, less
+what came before. Outputs that no standard prints are those of the Python package `cryptography`."""
 import itertools
 
 from keystore.cases import Case, each
@@ -214,16 +213,6 @@ def macs():
     return rows.rows
 
 
-def signatures():
-    rows = Keys()
-    key, text, known = MACS[0]
-    for digest, mac in enumerate(known, 3):
-        alias = rows.alias(key, mac_list(digest))
-        for place in range(len(mac) // 2):
-            operation(rows, alias, [["PURPOSE", 3]], text, {"code": -30}, (), signature=turned(mac, place))
-    return rows.rows
-
-
 def pairs_of(text):
     return itertools.combinations_with_replacement(range(len(text) // 2 + 1), 2)
 
@@ -261,7 +250,6 @@ def least(params, bits):
         ("each length with a padding and counters that wrap", lengths_and_counters),
         ("tags of each length and each byte of a tag changed", tags),
         ("macs in two pieces", macs),
-        ("each byte of a signature changed", signatures),
         ("each plan in three pieces", works),
     ]
 )

@@ -227,8 +227,7 @@ def sealed_pieces(data):
 
 
 WRONG_TAG = (
-    "VERIFICATION_FAILED (-30): a token's mac is wrong; a wrapped key does not open under the wrapping key; at a finish, "
-    "without a rule, the tag or the signature is wrong"
+    "VERIFICATION_FAILED (-30): a token's mac is wrong; at a finish, without a rule, the tag or the signature is wrong"
 )
 IS_CUT, NO_FILE, ENDS = (
     "a sealed file that is cut or changed",

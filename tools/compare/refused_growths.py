@@ -183,14 +183,6 @@ def next_growth(growth):
     return growth + 1
 
 
-def refused_in(growth):
-    """How many growths were refused before a run that had enough. A program with an allocator of its own, as the
-    checked one has, asks the library for none."""
-    if growth == 1:
-        sys.exit("refused_growths: the program asks for no memory that this refuses: it wants the proved one")
-    return growth - 1
-
-
 def check_script(program, library, script):
     """Refuses each growth of a script, and counts the faults."""
     lines = [f"{line}\n" for line in script.read_text(encoding="utf-8").splitlines()]
@@ -204,8 +196,7 @@ def check_script(program, library, script):
         if fault := fault_of(replies, given_up, status, right, expected):
             faults += 1
             print(f"{script.name}, growth {growths}: {fault}")
-    growths = refused_in(growths)
-    print(f"{script.name}: {growths} growths, {stopped} end the run with status 1, {wanted} are answered -41")
+    print(f"{script.name}: {growths - 1} growths, {stopped} end the run with status 1, {wanted} are answered -41")
     return faults
 
 
@@ -225,8 +216,7 @@ def check_enter(program, library, members, reply, begun):
         if fault := fault_of(replies, given_up, status, right, FULL_REPLIES + entered):
             faults += 1
             print(f"{members}, growth {refused}: {fault}")
-    refused = refused_in(refused)
-    print(f"{members}: {refused} growths, {stopped} end the run with status 1, {wanted} are answered -41")
+    print(f"{members}: {stopped} end the run with status 1, {wanted} are answered -41")
     return faults
 
 
@@ -317,9 +307,8 @@ def check_service(program, library):
         if fault is not None:
             faults += 1
             print(f"a connection, growth {refused}: {fault}")
-    refused = refused_in(refused)
     print(
-        f"a connection: {refused} growths, {stopped} end the service with status 1, {ended} end the connection, "
+        f"a connection: {refused - 1} growths, {stopped} end the service with status 1, {ended} end the connection, "
         f"{wanted} are answered -41"
     )
     return faults

@@ -196,7 +196,6 @@ pub fn new_facts(
         row: None,
         params,
         import,
-        wrapped: None,
         early_ended: false,
         wall,
         os: 0,

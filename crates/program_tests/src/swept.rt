@@ -177,7 +177,7 @@ static USES: [Sweep; 3] = [
     },
 ];
 
-/// A key that comes wrapped and may be used once, its last use, and a begin on it then.
+/// A key that comes wrapped and may be used once, its last use, and the same key again.
 static WRAPPED: Sweep = Sweep {
     before: &[CONNECT, IMPORT_WRAPPING],
     script: &[
@@ -186,6 +186,7 @@ static WRAPPED: Sweep = Sweep {
         (BEGIN_ONCE, ""),
         (FINISH_FIRST, ABORT_FIRST),
         (BEGIN_ONCE, ""),
+        (IMPORT_WRAPPED, ""),
     ],
     last_uses: [3, NOWHERE],
     ..FROM_EMPTY

@@ -131,7 +131,7 @@ abbrev unwrapped_at : Setup → History → Caller → Descriptor → List ℕ �
 unwrapped_at setup past caller wrapping wrapped unwrapping = unwrapped_in (device_at setup past) setup.policy (kept setup past) caller wrapping wrapped unwrapping
 
 -- the rules let a new key through
-abbrev pub IsLet : Setup → History → Caller → Descriptor → List ℕ → KeySource → Type 0
+abbrev IsLet : Setup → History → Caller → Descriptor → List ℕ → KeySource → Type 0
 IsLet setup past caller key params source = is_ok (new_key (new_facts setup.device setup.policy caller key params source (has_early_ended setup past))) ≡ true
 
 abbrev MakesKey : Act → Setup → History → Caller → Type 0
@@ -191,7 +191,7 @@ abbrev behind : Setup → History → Caller → Descriptor → List ℕ → Key
 behind setup past caller key params source drawn =
     made_in (kept setup past) caller key (new_blob (device_at setup past) (planned setup.device setup.policy caller key params source) source drawn)
 
-pub let_done : (setup : Setup) (past : History) (caller : Caller) (key : Descriptor) (params : List ℕ) (source : KeySource) (drawn : List ℕ)
+let_done : (setup : Setup) (past : History) (caller : Caller) (key : Descriptor) (params : List ℕ) (source : KeySource) (drawn : List ℕ)
     → is_done (made_by setup past caller key params source drawn) ≡ true → IsLet setup past caller key params source
 let_done setup past caller key params source drawn e =
     broken_done (new_key (new_facts setup.device setup.policy caller key params source (has_early_ended setup past))) (behind setup past caller key params source drawn) e

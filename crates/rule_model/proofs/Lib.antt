@@ -14,7 +14,6 @@ pub mod Operations
 pub mod Outputs
 pub mod Returned
 pub mod Tickets
-pub mod Unwrapped
 pub mod UpgradedKeys
 pub mod Uses
 pub mod UsesMet

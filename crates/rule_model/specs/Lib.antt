@@ -26,7 +26,6 @@ pub mod Jobs
 pub mod StepFacts
 pub mod Drawn
 pub mod Answer
-pub mod Unwrapping
 pub mod Legal
 pub mod ReplyRooms
 pub mod Uses

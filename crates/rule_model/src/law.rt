@@ -1,6 +1,5 @@
 //! What follows from the rules alone.
 
-ghost use Rattle.rule_model.specs.Unwrapping.{WrappedLaw};
 ghost use Rattle.rule_model.specs.Uses.{UsesLaw};
 
 /// A key with a use limit gives output at most so many times, over all runs on one store, whenever crashes come. Take any legal
@@ -10,11 +9,4 @@ ghost use Rattle.rule_model.specs.Uses.{UsesLaw};
 /// it. A key is one number: a key that a crash undid was none, and its number is given again.
 pub fn uses_law()
     ensures { UsesLaw }
-{}
-
-/// A key that comes wrapped and is admitted has as its material the text of the wrapped bytes under the material of the wrapping key
-/// (KW-AD of NIST SP 800-38F section 6.2), and the wrapping key is one that unwraps others. That another key would not open the bytes is
-/// no promise: the eight bytes of KW's initial value alone tell it.
-pub fn wrapped_law()
-    ensures { WrappedLaw }
 {}

@@ -24,7 +24,7 @@ pub use event::{Act, Event, Line};
 pub use facts::{Brought, Caller, Conditions, NO_PIECES, Pieces};
 pub use field_sizes::{FieldSizes, NO_SIZES};
 pub use ks_outside::Reading;
-pub use law::{uses_law, wrapped_law};
+pub use law::uses_law;
 pub use operation::{Entered, Open, Operation};
 pub use reply::{Entries, Fields, NO_FIELDS, Reply};
 pub use reply_room::ReplyRoom;

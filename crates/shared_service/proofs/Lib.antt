@@ -14,7 +14,6 @@ pub mod Truncating
 pub mod Seeing
 pub mod Calling
 pub mod Answering
-pub mod Asking
 pub mod Longer
 pub mod Naming
 pub mod FirstTurn

@@ -1,15 +1,9 @@
 use Rattle.std.proofs.Common.{sym, subst}
-use Rattle.service_book.specs.Book.{log_of}
 use Rattle.shared_service.specs.Names.{IsSetupOf}
 use Rattle.shared_service.specs.DeskWords.{desk_book, desk_places}
-use Rattle.shared_service.proofs.Asking.{may_make}
 use Rattle.shared_service.proofs.Requesting.{requested_made}
 use Rattle.shared_service.proofs.Truncating.{three}
 use Rattle.shared_service.proofs.desk.Desk.go.Goals as goal
-
-pub step-step-requires-clause-may : goal.step-step-requires-clause-may
-step-step-requires-clause-may g c =
-    ∣ may_make c.args.self.now.name c.args.pass c.args.prepared.event (log_of (desk_book c.args.self.now)) (desk_places c.args.self.now) c.args.prepared.room c.requires.may c.requires.ready.room_is ∣₁
 
 pub returns-clause-requested : goal.returns-clause-requested
 returns-clause-requested g c =
