@@ -1,15 +1,18 @@
 """Clients that go away in any way, a machine that has little, clocks that are moved and signals: the service goes on
 for the others or ends, and no use of a key and nothing that was acknowledged is lost.
 
-Thousands of connections are reset at once, amid a connect and behind a bad frame, and one amid a reply of 256
-entries; as many are opened as the system takes: then another client is answered, and the process has as many threads
-and descriptors as before, and little more memory. Forty clients come at once to a service that has sixteen
-descriptors. With less and less memory, down to where it does not start, each call has its reply, -41 or an end, and a
-key has as many uses less as macs were given, and those whose reply did not come at most. A token is refused while
-the clocks say a time before its own, by a library before the C library, and lets its user in when they go on. Behind
-SIGTERM, SIGINT and SIGHUP amid imports the store has each key that was acknowledged."""
+Thousands of connections are reset at once, amid a connect and behind a bad frame, and one amid a reply of 256 entries;
+as many are opened as the system takes: then another client is answered, and the process has as many threads and
+descriptors as before, and little more memory. Forty clients come at once to a service that has sixteen descriptors.
+With less and less memory, down to where it does not start, each call has its reply, -41 or an end, and a key has as
+many uses less as macs were given; where the service ended, also those whose reply did not come, at most. A token is
+refused while the clocks say a time before its own, by a library before the C library, and lets its user in when they go
+on. Behind SIGTERM, SIGINT and SIGHUP amid imports the store has each key that was acknowledged. A run that one client
+fills with the longest frames still answers short calls of the next one, and at its end the service says how full it
+was."""
 import concurrent.futures
 import contextlib
+import os
 import resource
 import signal
 import socket
@@ -20,8 +23,18 @@ import threading
 import time
 
 from keystore.cases import Case, each, needs_compiler, times
-from keystore.harness import TOOLS, check
-from keystore.runs import PATIENCE, Run, check_held, free_port, held_by, make_store, once_it_listens, service_process
+from keystore.harness import SLOWER, TOOLS, check
+from keystore.runs import (
+    PATIENCE,
+    Run,
+    check_held,
+    free_port,
+    held_by,
+    make_store,
+    memory_of,
+    once_it_listens,
+    service_process,
+)
 from keystore.session import BAD_FRAMES, CONNECT
 from keystore.spelling import counted, u32, u64
 from keystore.tokens import DEMO_KEY, mac_of
@@ -45,10 +58,16 @@ USES, TURNS = 1000, 60
 ROOMS = [2 << 20, 1 << 18, 1 << 17, 0, -(1 << 16)]
 # How it may have ended: it goes on, want of memory, a fault of the disk or of the listener, or the system found no room
 # for its libraries, or none for its stack to grow.
+# The checked program aborts there.
 ENDS, MEMORY = {None, 1, 6, 9, 127, -signal.SIGSEGV}, -41
+if os.environ.get(SLOWER):
+    ENDS.add(-signal.SIGABRT)
 USER, HOUR = 7, 3_600_000
 SOURCE = TOOLS / "checks/other_clocks.c"
 ACKNOWLEDGED = 50
+# The longest frame, an import whose list is none; the code of a run that is full; and how many fit at the least.
+LONGEST = counted(b"\x04" + Key("m").spelled() + counted(bytes(262_112)) + u32(3) + counted(b""))
+RUN_FULL, FITTING = 1001, 2000
 
 
 def reset(stream):
@@ -64,12 +83,6 @@ def connected(port, uid=UID):
 def count_at(port):
     with connected(port) as client:
         return client.getNumberOfEntries().count
-
-
-def memory_of(process, kind):
-    """What a process has of its memory, in bytes."""
-    with open(f"/proc/{process.pid}/status", encoding="utf-8") as lines:
-        return next(int(line.split()[1]) * 1024 for line in lines if line.startswith(f"{kind}:"))
 
 
 def held_beside(port, process):
@@ -170,16 +183,18 @@ class LittleMemory(Case):
             with connected(port) as client:
                 client.importKey(Key("m"), parameters(**MAC, NO_AUTH_REQUIRED=True, USAGE_COUNT_LIMIT=USES), MATERIAL)
             least = memory_of(process, "VmSize")
-        told = self.told(least + room)
+        told, goes_on = self.told(least + room)
         if room in (ROOMS[0], ROOMS[-1]):
             check("the macs", set(told), {room == ROOMS[0]})
         with service_process(self.program, self.folder, MANY) as (port, _), connected(port) as client:
             spent = USES - client.getKeyEntry(Key("m")).uses
         self.assertLessEqual(told.count(True), spent)
         self.assertLessEqual(spent, len(told) - told.count(False))
+        if goes_on:
+            check("the uses that are spent, each of which gave its mac", spent, told.count(True))
 
     def told(self, most):
-        """What came of each mac, over a service with so much memory."""
+        """What came of each mac, over a service with so much memory, and whether it goes on."""
         limits = [(resource.RLIMIT_AS, most)]
         with service_process(self.program, self.folder, MANY, limits=limits) as (port, process):
             while process.poll() is None:
@@ -191,7 +206,7 @@ class LittleMemory(Case):
                 with Client.connect(UID, port=port, timeout=PATIENCE, patience=0) as client:
                     told += [one_mac(client) for _ in range(1 + turn % 3)]
             self.assertIn(process.poll(), ENDS, "the end of the service")
-        return told
+            return told, process.poll() is None
 
 
 @needs_compiler
@@ -253,6 +268,36 @@ class Signals(Case):
             run.reply({"t": [0, 0], "do": "connect", "uid": UID})
             found = run.reply({"t": [0, 0], "c": 1, "do": "getNumberOfEntries", "domain": 0})["count"]
         self.assertIn(found - len(acknowledged), (0, 1))
+
+
+def filled(port):
+    """How many of the longest frames were answered before the run was full."""
+    with socket.create_connection(("127.0.0.1", port), PATIENCE) as stream, stream.makefile("rb") as replies:
+        stream.sendall(CONNECT)
+        replies.read(int.from_bytes(replies.read(4), "big"))
+        count, code = -1, 0
+        while code != RUN_FULL:
+            stream.sendall(LONGEST)
+            reply = replies.read(int.from_bytes(replies.read(4), "big"))
+            count, code = count + 1, int.from_bytes(reply[:4], "big", signed=True)
+        check("what comes behind it", replies.read(), b"")
+    return count
+
+
+class FullRun(Case):
+    def test_what_a_service_says_whose_run_was_full(self):
+        make_store(self.program, self.folder)
+        port = free_port()
+        words = [self.program, "serve", str(port), "2", "1"]
+        with subprocess.Popen(words, cwd=self.folder, stdout=subprocess.DEVNULL, stderr=subprocess.PIPE) as process:
+            try:
+                self.assertGreater(once_it_listens(filled, port), FITTING)
+                check("a short call of the next client", count_at(port), 0)
+                _, said = process.communicate(timeout=PATIENCE)
+            finally:
+                process.kill()
+        check("the end of the service", process.returncode, 0)
+        self.assertIn(b"keystore2: the run was full: ", said)
 
 
 class KeptServing(Case):

@@ -10,10 +10,12 @@ out or doubled, a length is at one of its bounds, the act is another number, or 
 One connection is behind the other, so the model's replies are the service's; those bytes that are drawn are
 compared by their lengths, and the time at which a key was made is not. With several connections at once nobody knows
 the order of their calls: then each reply is looked at alone, its form, its code, and whether its rule is one of the
-act's table (docs/RULES.md). At the end the service has as many threads and descriptors as at its beginning, and its
-store opens. The exit status is 1 where something is otherwise."""
+act's table (docs/RULES.md). At the end the service has as many threads and descriptors as at its beginning, no more
+memory than the calls that it keeps account for, and its store opens. The exit status is 1 where something is
+otherwise."""
 import concurrent.futures
 import contextlib
+import os
 import random
 import re
 import socket
@@ -23,11 +25,12 @@ import tempfile
 import time
 
 from compare.second_server import ACTS, NUMBERS, TEXTS, Connection
-from keystore.harness import add_program, check, parser_of
+from keystore.harness import SLOWER, add_program, check, parser_of
 from keystore.rules_page import CODES, RULES
-from keystore.runs import PATIENCE, check_held, held_by, once_it_listens, service_process
+from keystore.runs import PATIENCE, check_held, held_by, memory_of, once_it_listens, service_process
 from keystore.spelling import Reader, counted, number, optional, u32, u64
 from keystore_client import parameters
+from make.made_lists import Draws, made_up
 from model.second_model import Service
 
 CONNECTIONS = 65_536
@@ -53,6 +56,9 @@ LISTS = [
     b"",
     b"\0\1",
 ]
+# How many bytes of memory a service may take: for a call that it keeps, for a byte of its frames, and besides.
+# The checked program takes more for a call, as it takes longer.
+A_CALL, A_BYTE, BESIDES = 16_384 * int(os.environ.get(SLOWER) or 1), 4, 8 << 20
 # The fields of a reply whose bytes are drawn, and those that are numbers, by their numbers in a frame.
 DRAWN = {TEXTS["nonce"], TEXTS["blob"]}
 CHALLENGE = NUMBERS["challenge"][0]
@@ -68,6 +74,7 @@ class Maker:
 
     def __init__(self, seed):
         self.draws = random.Random(seed)
+        self.lists = Draws(self.draws.randrange(1, 1 << 64))
 
     def key(self):
         draws = self.draws
@@ -75,6 +82,10 @@ class Maker:
         nspace = draws.choice([0, 1, 2, 3, 100]) if domain else 0
         alias = draws.choice(ALIASES) if domain in (0, 2) or draws.random() < 0.1 else None
         return u32(domain) + u64(nspace) + optional(alias) + optional(None)
+
+    def a_list(self):
+        """An encoded list, or bytes that are nearly one."""
+        return made_up(self.lists) if self.draws.random() < 0.1 else self.draws.choice(LISTS)
 
     def text(self):
         return self.draws.randbytes(self.draws.choice([0, 1, 15, 16, 17, 64, 1000]))
@@ -86,7 +97,7 @@ class Maker:
             if kind == "key":
                 fields += self.key()
             elif kind == "params":
-                fields += counted(draws.choice(LISTS))
+                fields += counted(self.a_list())
             elif kind == "token":
                 fields += draws.randbytes(68)
             elif kind == "flag":
@@ -141,7 +152,7 @@ class Maker:
         key = u32(0) + u64(0) + optional(alias) + optional(None)
         yield b"\x04" + key + counted(WRAPPING) + u32(3) + counted(WRAPPING_KEY)
         wrapped = counted(self.data("wrapped")) + counted(self.draws.choice([b"\0\0", b"\0\0", b"\0\1"]))
-        yield b"\x19" + self.key() + counted(self.draws.choice(LISTS)) + key + wrapped
+        yield b"\x19" + self.key() + counted(self.a_list()) + key + wrapped
 
     def frames(self):
         """The bytes of some frames, of which one may be changed."""
@@ -256,7 +267,7 @@ class Fuzz:
 
     def __init__(self, program, folder, seed):
         self.program, self.folder, self.maker = program, folder, Maker(seed)
-        self.connections, self.frames, self.resets = 0, 0, 0
+        self.connections, self.frames, self.resets, self.bytes = 0, 0, 0, 0
 
     def run(self, seconds, clients=1):
         end = time.monotonic() + seconds
@@ -270,15 +281,22 @@ class Fuzz:
     def service(self, workers):
         """A service over an empty store, which has as much at its end as at its beginning, and whose store opens."""
         check("init", subprocess.run([self.program, "init"], cwd=self.folder, check=False).returncode, 0)
+        kept = self.kept()
         with service_process(self.program, self.folder, CONNECTIONS, workers) as (port, process):
             answers(port, [], 0, False)
-            before = held_by(process)
+            before, room = held_by(process), memory_of(process, "VmRSS")
             yield port
             answers(port, [], 0, False)
             check_held(process, before)
+            grown, most = memory_of(process, "VmRSS") - room, self.kept() - kept + BESIDES
+            check(f"{grown} bytes of memory more, and {most} may be", grown <= most, True)
             check("the end of the service", process.poll(), None)
         done = subprocess.run([self.program, "run"], input=b"", cwd=self.folder, capture_output=True, check=False)
         check("an opening of the store", done.returncode, 0)
+
+    def kept(self):
+        """How much memory the calls so far may take, in bytes."""
+        return A_BYTE * self.bytes + A_CALL * self.frames
 
     def serve(self, end):
         """One service, until the time is over or it has had its connections, of which the last one looks at it."""
@@ -292,23 +310,25 @@ class Fuzz:
         makers = [Maker(self.maker.draws.random()) for _ in range(clients)]
         with self.service(clients) as port, concurrent.futures.ThreadPoolExecutor(clients) as pool:
             counts = pool.map(lambda maker: self.come(port, maker, end, CONNECTIONS // clients - 1), makers)
-            for connections, frames in counts:
+            for connections, frames, size in counts:
                 self.connections += connections
                 self.frames += frames
+                self.bytes += size
 
     def come(self, port, maker, end, most):
-        """The connections of one client; gives how many there were, and how many replies."""
-        connections = frames = 0
+        """The connections of one client; gives how many there were, how many replies, and the bytes of both ways."""
+        connections = frames = size = 0
         while time.monotonic() < end and connections < most:
             stream = maker.stream()
-            replies, left = frames_in(answers(port, maker.pieces(stream), 0, False))
+            data = answers(port, maker.pieces(stream), 0, False)
+            replies, left = frames_in(data)
             check(f"the bytes behind the replies to {stream.hex()}", left, 0)
             requests, _ = frames_in(stream)
             check(f"more replies than requests to {stream.hex()}", len(replies) <= len(requests), True)
             for request, reply in zip(requests, replies):
                 check_form(request, reply)
-            connections, frames = connections + 1, frames + len(replies)
-        return connections, frames
+            connections, frames, size = connections + 1, frames + len(replies), size + len(stream) + len(data)
+        return connections, frames, size
 
     def one(self, port, stream, is_reset):
         """One connection."""
@@ -318,6 +338,7 @@ class Fuzz:
         frames, left = frames_in(data)
         self.connections += 1
         self.frames += len(told.replies)
+        self.bytes += len(stream) + len(data)
         self.resets += is_reset
         check(f"the replies to {stream.hex()}", [masked(it) for it in frames], [masked(it) for it in told.replies])
         check(f"the bytes behind them to {stream.hex()}", left, 0)

@@ -262,6 +262,12 @@ def held_by(process: subprocess.Popen[bytes]) -> tuple[int, int]:
     return len(list((folder / "task").iterdir())), len(list((folder / "fd").iterdir()))
 
 
+def memory_of(process: subprocess.Popen[bytes], kind: str) -> int:
+    """What a process has of its memory, in bytes; `VmRSS` is what is in the machine's, `VmSize` its addresses."""
+    with open(f"/proc/{process.pid}/status", encoding="utf-8") as lines:
+        return next(int(line.split()[1]) * 1024 for line in lines if line.startswith(f"{kind}:"))
+
+
 def check_held(process: subprocess.Popen[bytes], before: tuple[int, int]) -> None:
     """In the end a process has no more threads and no more descriptors than before."""
 

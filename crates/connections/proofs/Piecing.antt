@@ -50,7 +50,7 @@ ends_so : (end : End) (place : ℕ) (joined : Bool) (talk more : List Exchange) 
     → place ≡ size_of talk → joined ≡ has_joined false talk → AllByRecursion IsRequest left → EndsAmong end place joined more left missing
     → EndsSo end (talk ++ more) (stream_of left rest) missing over
 ends_so LinkFault place joined talk more left missing rest over unfull place_same joined_same each ends = inr (ends.0, cut_append talk more ends.0 missing unfull ends.1)
-ends_so Memory place joined talk more left missing rest over unfull place_same joined_same each ends = inr (cut_append talk more [] missing unfull ends)
+ends_so Memory place joined talk more left missing rest over unfull place_same joined_same each ends = absurd ends
 ends_so RunFull place joined talk more left missing rest over unfull place_same joined_same each ends = (full_append talk more unfull ends.0, ends.1)
 ends_so EndOfInput place joined talk more left missing rest over unfull place_same joined_same each ends = absurd ends
 ends_so Truncated place joined talk more left missing rest over unfull place_same joined_same each ends = absurd ends
@@ -104,7 +104,7 @@ module _ {L A : Type 0} (g : LinkGhosts L) (answers : A → Act → Reply → A 
   piece_memory link before =
       let rest : List ℕ = follows.stands.rest in
       let whole : stream ≡ stream_of (asked talk) rest = follows.stands.whole in
-      at_once link before Memory (rest ++ piece) (ap (λ (l : List ℕ). l ++ piece) whole ∙ append_assoc (flat_map frame_of (asked talk)) rest piece) refl (λ over. inl (follows.unfull, refl))
+      at_once link before Memory (rest ++ piece) (ap (λ (l : List ℕ). l ++ piece) whole ∙ append_assoc (flat_map frame_of (asked talk)) rest piece) refl (λ over. (follows.unfull, refl))
 
   -- the places of the requests are within what was taken
   pub place_fits : (frames : Frames) (requests : List Act) → Stands (stream ++ piece) (asked talk ++ requests) frames → length stream + length piece < 2 ^ 62

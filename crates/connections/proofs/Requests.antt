@@ -25,8 +25,7 @@ cut_last talk x part missing unfull frame some = record { front = talk; last = x
 ends_among : (end : End) (place : ℕ) (joined : Bool) (talk : List Exchange) (x : Exchange) (left : List Act) (part missing : List ℕ) → NoneFull talk
     → reply_of x.reply ≡ part ++ missing → EndsOne end x.reply part missing → EndsAmong end place joined (talk ++ x ∷ []) left missing
 ends_among LinkFault place joined talk x left part missing unfull frame ends = (part, cut_last talk x part missing unfull frame ends)
-ends_among Memory place joined talk x left part missing unfull frame ends =
-    subst (λ (p : List ℕ). IsCut (talk ++ x ∷ []) p missing) ends.0 (cut_last talk x part missing unfull frame ends.1)
+ends_among Memory place joined talk x left part missing unfull frame ends = absurd ends
 ends_among RunFull place joined talk x left part missing unfull frame ends = ((talk, x, refl, unfull, ends.0), ends.1)
 ends_among EndOfInput place joined talk x left part missing unfull frame ends = absurd ends
 ends_among Truncated place joined talk x left part missing unfull frame ends = absurd ends

@@ -114,7 +114,7 @@ module _ {L A : Type 0} (g : LinkGhosts L) (answers : A → Act → Reply → A 
         ends_here after LinkFault going.follows.stands.rest last going.follows.stands.whole (inl ((going.follows.unfull, refl), (is_part f going.follows.stands.rest going.follows.good going.follows.stands.left).1))
 
     pub serves_limit : Talked g answers link now before then p.joined Memory
-    serves_limit = ends_here now Memory going.follows.stands.rest (carried_none g now) going.follows.stands.whole (inl (going.follows.unfull, refl))
+    serves_limit = ends_here now Memory going.follows.stands.rest (carried_none g now) going.follows.stands.whole (going.follows.unfull, refl)
 
     pub serves_input : (after : L) → Carried g now after [] [] false → IsAtEnd (g.incoming after) → going.stream ≡ stream_of (asked going.talk) []
         → Talked g answers link after before then p.joined EndOfInput

@@ -49,7 +49,7 @@ EndsSo (BadFrame offset) talk rest missing left =
     IsWhole talk missing × (offset ≡ size_of talk) × (IsBad rest ⊎ IsUndue (has_joined false talk) rest)
 EndsSo RunFull talk rest missing left = EndsFull talk × (missing ≡ [])
 EndsSo LinkFault talk rest missing left = (IsWhole talk missing × IsPart rest) ⊎ ((piece : List ℕ) × IsCut talk piece missing)
-EndsSo Memory talk rest missing left = IsWhole talk missing ⊎ IsCut talk [] missing
+EndsSo Memory talk rest missing left = IsWhole talk missing
 
 module _ {L A : Type 0} (g : LinkGhosts L) (answers : A → Act → Reply → A → Type 0) (link after : L) (before now : A) where
   -- The requests of a connection were answered, until this end: `taken` came from the link, and `part` of the replies went into it.

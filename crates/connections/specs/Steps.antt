@@ -9,12 +9,11 @@ use Rattle.connections.specs.Talks.{Exchange, asked, size_of, told, Talks, has_j
 use Rattle.connections.specs.Ends.{is_link_fault, IsWhole, IsCut}
 use Rattle.connections.specs.declared.answering.Progress.{Progress}
 use Rattle.connections.specs.declared.end.End.{End}
-use Rattle.connections.specs.declared.end.End.TheVariants.{BadFrame, LinkFault, RunFull, Memory}
+use Rattle.connections.specs.declared.end.End.TheVariants.{BadFrame, LinkFault, RunFull}
 
 -- what an end says of the one reply, of which a part was written and the rest is missing
 abbrev pub EndsOne : End → Reply → List ℕ → List ℕ → Type 0
 EndsOne LinkFault reply part missing = 0 < length missing
-EndsOne Memory reply part missing = (part ≡ []) × (0 < length missing)
 EndsOne RunFull reply part missing = (says_full reply ≡ true) × (missing ≡ [])
 EndsOne end reply part missing = ⊥
 
@@ -24,7 +23,6 @@ EndsAmong (BadFrame offset) place joined talk left missing =
     IsWhole talk missing × (offset ≡ place + size_of talk)
     × ((act : Act) × (more : List Act) × (left ≡ act ∷ more) × (is_due (has_joined joined talk) act ≡ false))
 EndsAmong LinkFault place joined talk left missing = (piece : List ℕ) × IsCut talk piece missing
-EndsAmong Memory place joined talk left missing = IsCut talk [] missing
 EndsAmong RunFull place joined talk left missing = EndsFull talk × (missing ≡ [])
 EndsAmong end place joined talk left missing = ⊥
 

@@ -9,13 +9,12 @@ ghost use Rattle.connections.specs.Steps.{Goes, StopsAmong, Tells, TellsLast};
 
 use crate::answerer::Answerer;
 use crate::end::End;
-use crate::writing::write_all;
+use crate::writing::write_reply;
 use ks_outside::Link;
 use rule_model::{Act, Reply, Request};
-use std::alloc::Global;
 use std::sync::Wait;
 use tags::Code;
-use wire_frames::{frame_length, reply_frame};
+use wire_frames::{FrameWindow, frame_length};
 
 /// Where a connection stands before its next request.
 #[derive(Clone, Copy, Debug)]
@@ -60,15 +59,12 @@ fn answer_one<R: Wait, A: Answerer>(rt: &R, answerer: A, request: Request) -> (A
 }
 
 /// Writes a reply. The connection ends where it is not written, and behind one that says that the run is full.
-fn tell<L: Link>(alloc: Global, link: &mut L, reply: Reply) -> Result<(), End>
+fn tell<L: Link>(link: &mut L, window: &mut FrameWindow, reply: Reply) -> Result<(), End>
     requires short { length (reply_body reply) < 2 ^ 32 }
     ensures ok { OnOk result (Tells L.Link link.old link.new reply) }
     ensures err { IfErr result (λ end. TellsLast L.Link link.old link.new reply end) }
 {
-    let Ok(frame) = reply_frame(alloc, &reply) else {
-        return Err(End::Memory);
-    };
-    let Ok(()) = write_all(link, frame.as_slice()) else {
+    let Ok(()) = write_reply(link, window, &reply) else {
         return Err(End::LinkFault);
     };
     if says_full(&reply) {
@@ -80,8 +76,8 @@ fn tell<L: Link>(alloc: Global, link: &mut L, reply: Reply) -> Result<(), End>
 /// Answers the requests in turn, and goes on in the progress. Whatever comes, the progress knows whether a client has come.
 pub(crate) fn answer_all<R: Wait, L: Link, A: Answerer>(
     rt: &R,
-    alloc: Global,
     link: &mut L,
+    window: &mut FrameWindow,
     mut answerer: A,
     progress: &mut Progress,
     requests: Vec<Request>,
@@ -104,7 +100,7 @@ pub(crate) fn answer_all<R: Wait, L: Link, A: Answerer>(
         let (next, reply, joins) = answer_one(rt, answerer, request);
         answerer = next;
         progress.joined |= joins;
-        if let Err(end) = tell(alloc, link, reply) {
+        if let Err(end) = tell(link, window, reply) {
             return (answerer, Err(end));
         }
         progress.place += size;

@@ -17,12 +17,12 @@ use ks_outside::Link;
 use rule_model::{Act, Request};
 use std::alloc::Global;
 use std::sync::Wait;
-use wire_frames::{FrameFault, Frames, whole_frames};
+use wire_frames::{FrameFault, FrameWindow, Frames, whole_frames};
 
 /// How many bytes are taken at once.
 const PIECE: usize = 16384;
 
-/// So many bytes are taken at most; only a run of replies that want memory can come so far.
+/// So many bytes are taken at most.
 const MOST_TAKEN: u64 = 1 << 61;
 
 /// Answers what a piece of the stream completes.
@@ -30,6 +30,7 @@ fn serve_piece<R: Wait, L: Link, A: Answerer>(
     rt: &R,
     alloc: Global,
     link: &mut L,
+    window: &mut FrameWindow,
     answerer: A,
     frames: &mut Frames,
     progress: &mut Progress,
@@ -50,7 +51,7 @@ fn serve_piece<R: Wait, L: Link, A: Answerer>(
         Err(FrameFault::Bad { offset }) => return (answerer, Err(End::BadFrame { offset })),
         Err(FrameFault::Memory) => return (answerer, Err(End::Memory)),
     };
-    let (answerer, answered) = answer_all(rt, alloc, link, answerer, progress, requests);
+    let (answerer, answered) = answer_all(rt, link, window, answerer, progress, requests);
     if let Err(end) = answered {
         return (answerer, Err(end));
     }
@@ -75,6 +76,7 @@ fn serve_requests<R: Wait, L: Link, A: Answerer>(
     ensures client { A.connected result.0 ≡ progress.new.joined }
 {
     let mut frames = Frames::new(alloc);
+    let mut window = FrameWindow::new();
     let mut buffer = [0; PIECE];
     let mut taken = 0;
     'reads: while taken < MOST_TAKEN {
@@ -90,7 +92,16 @@ fn serve_requests<R: Wait, L: Link, A: Answerer>(
             return (answerer, end);
         }
         let piece = &buffer[..count];
-        let (next, served) = serve_piece(rt, alloc, link, answerer, &mut frames, progress, piece);
+        let (next, served) = serve_piece(
+            rt,
+            alloc,
+            link,
+            &mut window,
+            answerer,
+            &mut frames,
+            progress,
+            piece,
+        );
         answerer = next;
         if let Err(end) = served {
             return (answerer, end);

@@ -14,6 +14,6 @@ pub enum End {
     LinkFault,
     /// A reply said that the run is full; it was written.
     RunFull,
-    /// Memory was wanting, or 2^61 bytes were taken.
+    /// Memory was wanting for a frame that came, or 2^61 bytes were taken; each request that was answered has its reply.
     Memory,
 }

@@ -1,5 +1,5 @@
 //! The tests of what a connection crosses, in a crate above it, so that none of its functions is proved a second time: frames and
-//! connections, a port of this machine, the turn lock in one thread, and comparing strings. The files of a device and the loads of a
+//! connections, a port of this machine, the turn lock in one thread and in three, and comparing strings. The files of a device and the loads of a
 //! seed are shown over the program (`tools/ks check device help`).
 #![tactic(auto)]
 

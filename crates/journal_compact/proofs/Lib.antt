@@ -5,6 +5,7 @@ pub mod Kept
 pub mod Olders
 pub mod OneFormat
 pub mod Single
+pub mod Surely
 pub mod Telling
 pub mod Turns
 pub mod Walk

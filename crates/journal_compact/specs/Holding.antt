@@ -11,7 +11,7 @@ use Rattle.journal_records.specs.declared.fault.StoreFault.{StoreFault}
 use Rattle.journal_records.specs.declared.fault.StoreFault.TheVariants as faults
 use Rattle.journal_records.specs.Commits.{CommitState, Committed, InDoubt}
 use Rattle.journal_records.specs.Spelling.{spelled}
-use Rattle.record_areas.specs.Frames.{AreRecords, Frame, IsBeforeOrAfter, IsMarked, IsStore, past_of, placed}
+use Rattle.record_areas.specs.Frames.{AreRecords, Frame, HasRecords, IsBeforeOrAfter, IsMarked, IsStore, past_of, placed}
 use Rattle.record_areas.specs.Holding as lower
 use Rattle.record_areas.specs.declared.area.Area.{Area}
 use Rattle.journal_compact.specs.declared.areas.Areas.{Areas}
@@ -19,7 +19,9 @@ use Rattle.journal_compact.specs.declared.areas.Turn.{Turn}
 use Rattle.journal_compact.specs.declared.areas.Turn.TheVariants.{Idle, Copying, Selecting}
 use Rattle.journal_compact.specs.declared.places.Selected.{Selected}
 use Rattle.journal_compact.specs.declared.places.TheConstants.{AREA_A, SELECTOR}
-use Rattle.journal_compact.specs.Stores.{IsAreas, IsCorrupted, IsFrameOf, other, start_of}
+use Rattle.journal_compact.specs.declared.store_place.StorePlace.{StorePlace}
+use Rattle.journal_compact.specs.Counts.{IsCounted}
+use Rattle.journal_compact.specs.Stores.{IsAreas, IsCorrupted, IsFrameOf, limit_of, other, start_of}
 use Rattle.journal_compact.specs.Turning.{IsEither}
 use Rattle.journal_compact.specs.Waiting.{is_turn}
 
@@ -48,6 +50,18 @@ end_with areas = lower.end_with (area_of areas)
 -- how many bytes they have
 abbrev pub record_bytes : Areas → ℕ
 record_bytes areas = end_of areas - start_of (selected_of areas)
+
+-- how often the store was written anew since it was opened
+abbrev pub compactions_of : Areas → ℕ
+compactions_of areas = areas.compactions
+
+-- where the store is
+abbrev pub place_of : Areas → StorePlace
+place_of areas = record { selected = selected_of areas; bytes = record_bytes areas; compactions = compactions_of areas }
+
+-- it is where it was, or one compaction more was counted
+abbrev pub StaysOrCounts : StorePlace → StorePlace → Type 0
+StaysOrCounts old new = (new ≡ old) ⊎ IsCounted old.compactions new.compactions
 
 -- whether a compaction that failed waits to be settled
 abbrev pub is_turning : Areas → Bool
@@ -100,7 +114,18 @@ pub record IsTurningOn {D : Type 0} (g : Ghosts D) (areas : Areas) (disk : D) (f
   pub rows_are : AreRecords frame.kinds rows
   pub images : MayHold g disk frame is_frame.version (selected_of areas) past rows (turn_of areas)
 
+-- Surely: on each image of a sure disk the selected area has these records, and no others; also where something waits to be settled.
+pub record HoldsSurely {D : Type 0} (g : Ghosts D) (areas : Areas) (disk : D) (past : List Record) : Type 0 where
+  pub sure : g.is_sure disk
+  pub place : end_of areas ≡ start_of (selected_of areas) + length (spelled past)
+  pub images : AllImages g disk (HasRecords (start_of (selected_of areas)) (limit_of (selected_of areas)) past)
+
 -- ---- what a call leaves
+
+-- the records after a call that writes: those with what it was to write, or those before, by its answer
+abbrev pub records_after : {T : Type 0} → Result T Failed → List Record → List Record → List Record
+records_after (Ok done) past later = later
+records_after (Err fault) past later = past
 
 abbrev pub write_state : {T : Type 0} → Result T Failed → CommitState
 write_state (Ok done) = Committed
@@ -112,11 +137,12 @@ Appended g areas disk frame past it (Ok done) = IsSettledOn g areas disk frame (
 Appended g areas disk frame past it (Err fault) = IsUnsettledOn g areas disk frame past it
 
 -- An append of a record, between the old disk and the new one: what it leaves; at each moment each image has the records from before or
--- those with the new one; and where a sure disk's call failed, the new one is on no image.
+-- those with the new one; and where a sure disk's call failed, the new one is on no image, and the store is where it was.
 pub record Appends {D T : Type 0} (g : Ghosts D) (areas : Areas) (old new : D) (frame : Frame) (past : List Record) (it : Record) (result : Result T Failed) : Type 0 where
   pub left : Appended g areas new frame past it result
   pub passes : Passes g old new (IsBeforeOrAfter frame past it)
   pub nothing : g.is_sure old → OnErr result (AllImages g new (IsStore frame past))
+  pub surely : g.is_sure old → HoldsSurely g areas new (records_after result past (it ∷ past))
 
 -- what the settling of a record leaves, by its answer
 abbrev pub SettlesTo : {D : Type 0} → Ghosts D → Areas → D → Frame → List Record → Record → Result Settled Failed → Type 0
@@ -138,10 +164,12 @@ Compacted g areas disk frame past rows (Err fault) = IsTurningOn g areas disk fr
 abbrev pub IsOneOf : List Record → List Record → List ℕ → Type 0
 IsOneOf past rows image = IsAreas past image ⊎ IsAreas rows image
 
--- a compaction, between the old disk and the new one: what it leaves; and at each moment each image has the records, or their snapshot
+-- A compaction, between the old disk and the new one: what it leaves; at each moment each image has the records, or their snapshot; and where
+-- a sure disk's call failed, the area that was selected has its records on each image.
 pub record Compacts {D T : Type 0} (g : Ghosts D) (areas : Areas) (old new : D) (frame : Frame) (past rows : List Record) (result : Result T Failed) : Type 0 where
   pub left : Compacted g areas new frame past rows result
   pub passes : Passes g old new (IsOneOf past rows)
+  pub surely : g.is_sure old → HoldsSurely g areas new (records_after result past rows)
 
 -- settled, with these records or with those
 pub record IsSettledAs {D : Type 0} (g : Ghosts D) (areas : Areas) (disk : D) (past rows : List Record) : Type 0 where

@@ -1,4 +1,5 @@
 pub mod Adopting
+pub mod Counts
 pub mod Formats
 pub mod Gathering
 pub mod Holding

@@ -23,6 +23,7 @@ ghost use Rattle.journal_compact.specs.Turning.{seal};
 use crate::older::{put_beside_journal, turn_journal};
 use crate::opening::find_marks;
 use crate::places::{AREA_A, SELECTOR, SELECTS_A, Selected};
+use crate::store_place::{StorePlace, counted};
 use crate::turning::{put_beside, turn_from};
 use disk_calls::{read_synced_byte, sync_ahead, write_synced};
 use gated_records::CLOSED;
@@ -44,13 +45,14 @@ enum Turn {
     Selecting { next: Area },
 }
 
-/// Which area of a store is selected, and the records in it. While a compaction that failed waits to be settled, also the other area, as far as
-/// it has come.
+/// Which area of a store is selected, and the records in it; and how often it was written anew. While a compaction that failed waits to be
+/// settled, also the other area, as far as it has come.
 #[derive(Clone, Copy, Debug)]
 pub struct Areas {
     selected: Selected,
     area: Area,
     turn: Turn,
+    compactions: u64,
     ghost starts: { lower.start_of area ≡ start_of selected },
     ghost ends: { lower.limit_of area ≡ limit_of selected },
     ghost begins: { lower.start_of area ≤ lower.end_of area },
@@ -68,8 +70,9 @@ const FRESH: [u8; 13] = [
 ];
 
 impl Areas {
-    ghost use Rattle.journal_compact.specs.Holding.{area_of, end_of, end_with, is_turning, is_waiting, record_bytes, selected_of, turn_of, SameTurn};
-    ghost use Rattle.journal_compact.specs.Holding.{Appends, Compacts, FindsAreas, IsSettledIn, IsSettledOn, IsTurningOn, IsUnsettledOn, ReadsAreas, ReformedFrom, SettlesTo, SettlesTurn, write_state};
+    ghost use Rattle.journal_compact.specs.Holding.{area_of, compactions_of, end_of, end_with, is_turning, is_waiting, place_of, record_bytes, selected_of, turn_of, SameTurn, StaysOrCounts};
+    ghost use Rattle.journal_compact.specs.Holding.{Appends, Compacts, HoldsSurely, FindsAreas, IsSettledIn, IsSettledOn, IsTurningOn, IsUnsettledOn, ReadsAreas, ReformedFrom, SettlesTo, SettlesTurn, write_state};
+    ghost use Rattle.journal_compact.specs.Counts.{IsCounted};
     ghost use Rattle.journal_compact.specs.Adopting.{Adopts, Comes};
     ghost use Rattle.journal_compact.specs.Older.{new_frame};
     ghost use Rattle.journal_compact.specs.declared.places.Selected.TheVariants.{A};
@@ -104,11 +107,13 @@ impl Areas {
         ensures limit { lower.limit_of (area_of result) ≡ limit_of selected }
         ensures end { end_of result ≡ readings.place_of reading }
         ensures idle { is_waiting result ≡ false }
+        ensures new { compactions_of result ≡ 0 }
     {
         Areas {
             selected,
             area: reading.into_area(),
             turn: Turn::Idle,
+            compactions: 0,
         }
     }
 
@@ -117,6 +122,7 @@ impl Areas {
     pub fn open<D: Disk>(alloc: Global, disk: &mut D) -> Result<(Areas, Records), StoreFault>
         ensures settled { IfOk result (λ opened. IsSettledIn D.Disk opened.0 disk.new (past_of opened.1)) }
         ensures places { IfOk result (λ opened. opened.1 ≡ placed (start_of (selected_of opened.0)) (past_of opened.1)) }
+        ensures new { IfOk result (λ opened. compactions_of opened.0 ≡ 0) }
         ensures reads { AllImages D.Disk disk.new (λ image. ReadsAreas image result) }
         ensures stands { (past : List Record) → AreAreaRecords past → AllImages D.Disk disk.old (IsAreas past)
             → tells D.Disk disk.old ≡ true → FindsAreas past result }
@@ -130,6 +136,7 @@ impl Areas {
                     selected,
                     area,
                     turn: Turn::Idle,
+                    compactions: 0,
                 },
                 records,
             )),
@@ -149,6 +156,32 @@ impl Areas {
         ensures { result ≡ record_bytes self.now }
     {
         self.area.end() - self.area.start()
+    }
+
+    /// Where the store is. It takes no memory.
+    pub fn place(&self) -> StorePlace
+        ensures { result ≡ place_of self.now }
+    {
+        StorePlace {
+            selected: self.selected,
+            bytes: self.record_bytes(),
+            compactions: self.compactions,
+        }
+    }
+
+    /// The same areas, of a store that was read again: the compactions that were made before count on. It takes no memory.
+    pub fn going_on(self, before: &Areas) -> Areas
+        ensures selected { selected_of result ≡ selected_of self }
+        ensures area { area_of result ≡ area_of self }
+        ensures turn { turn_of result ≡ turn_of self }
+        ensures compactions { compactions_of result ≡ compactions_of before.now }
+    {
+        Areas {
+            selected: self.selected,
+            area: self.area,
+            turn: self.turn,
+            compactions: before.compactions,
+        }
     }
 
     /// Whether neither a record nor a compaction waits to be settled. It takes no memory.
@@ -173,6 +206,7 @@ impl Areas {
         ensures waiting { is_waiting self.new ≡ is_err result }
         ensures end { end_of self.new ≡ end_after (length closed.now) (write_state result) (end_of self.old) }
         ensures pending { end_with self.new ≡ pending_after (length closed.now) (write_state result) (end_of self.old) }
+        ensures compactions { compactions_of self.new ≡ compactions_of self.old }
         ensures goes { Goes D.Disk disk.old disk.new (is_err result) }
     {
         match self.area.append(disk, closed) {
@@ -194,6 +228,8 @@ impl Areas {
         ensures bytes { OnOk result (record_bytes self.new ≡ snapshot_length (K.part keys.now)) }
         ensures sealed { OnOk result (AllImages D.Disk disk.new (HoldsAt (start_of (selected_of self.old)) seal)) }
         ensures kept { OnErr result ((selected_of self.new ≡ selected_of self.old) × (area_of self.new ≡ area_of self.old)) }
+        ensures counted { OnOk result (IsCounted (compactions_of self.old) (compactions_of self.new)) }
+        ensures place { OnErr result (place_of self.new ≡ place_of self.old) }
         ensures turning { is_turning self.new ≡ is_err result }
         ensures waiting { is_waiting self.new ≡ is_err result }
         ensures goes { Goes D.Disk disk.old disk.new (is_err result) }
@@ -213,6 +249,7 @@ impl Areas {
             selected,
             area,
             turn: Turn::Idle,
+            compactions: counted(self.compactions),
         };
         Ok(())
     }
@@ -228,6 +265,7 @@ impl Areas {
         ensures selected { IfOk result (λ areas. selected_of areas ≡ A) }
         ensures bytes { IfOk result (λ areas. record_bytes areas ≡ snapshot_length (K.part keys.now)) }
         ensures idle { IfOk result (λ areas. is_waiting areas ≡ false) }
+        ensures new { IfOk result (λ areas. compactions_of areas ≡ 0) }
         ensures sealed { OnOk result (AllImages D.Disk disk.new (HoldsAt JOURNAL_RECORDS seal)) }
         ensures comes { Comes D.Disk disk.old disk.new }
         ensures goes { Goes D.Disk disk.old disk.new (is_err result) }
@@ -245,6 +283,7 @@ impl Areas {
             selected,
             area,
             turn: Turn::Idle,
+            compactions: 0,
         })
     }
 
@@ -256,6 +295,7 @@ impl Areas {
         ensures selected { selected_of result ≡ selected_in byte }
         ensures same { selected_in byte ≡ selected_of self.now → area_of result ≡ area_of self.now }
         ensures other { (selected_in byte ≡ selected_of self.now → ⊥) → area_of result ≡ next }
+        ensures place { StaysOrCounts (place_of self.now) (place_of result) }
     {
         let selected = Selected::at(byte);
         if selected == self.selected {
@@ -263,12 +303,14 @@ impl Areas {
                 selected,
                 area: self.area,
                 turn: Turn::Idle,
+                compactions: self.compactions,
             };
         }
         Areas {
             selected,
             area: next,
             turn: Turn::Idle,
+            compactions: counted(self.compactions),
         }
     }
 
@@ -280,6 +322,7 @@ impl Areas {
         ensures lost { IfOk result (λ settled. settled ≡ Lost) }
         ensures waiting { is_waiting self.new ≡ is_err result }
         ensures kept { OnErr result (self.new ≡ self.old) }
+        ensures place { StaysOrCounts (place_of self.old) (place_of self.new) }
         ensures goes { Reads D.Disk disk.old disk.new (is_err result) }
     {
         let Ok(()) = sync_ahead(disk) else {
@@ -297,6 +340,7 @@ impl Areas {
         ensures lost { IfOk result (λ settled. settled ≡ Lost) }
         ensures waiting { is_waiting self.new ≡ is_err result }
         ensures kept { OnErr result (self.new ≡ self.old) }
+        ensures place { StaysOrCounts (place_of self.old) (place_of self.new) }
         ensures goes { Reads D.Disk disk.old disk.new (is_err result) }
     {
         let Ok(byte) = read_synced_byte(disk, SELECTOR) else {
@@ -307,7 +351,8 @@ impl Areas {
     }
 
     /// Finds out what became of a record or of a compaction whose writing failed: syncs, and reads the record's gate or the selector. A
-    /// compaction is always lost: its table is the one that is held, whichever area is selected then. It takes no memory.
+    /// compaction is always lost: its table is the one that is held, whichever area is selected then; and so is a record over a sure disk that
+    /// tells its bytes. It takes no memory.
     pub fn settle<D: Disk>(&mut self, disk: &mut D) -> Result<Settled, Failed>
         requires { is_waiting self.old ≡ true }
         ensures settles { (frame : Frame) (past : List Record) (it : Record) → IsUnsettledOn D.Disk self.old disk.old frame past it
@@ -317,8 +362,12 @@ impl Areas {
         ensures turned { (frame : Frame) (past rows : List Record) → IsTurningOn D.Disk self.old disk.old frame past rows
             → SettlesTurn D.Disk self.new disk.new frame past rows result }
         ensures lost { is_turning self.old ≡ true → IfOk result (λ settled. settled ≡ Lost) }
+        ensures unfound { (frame : Frame) (past kept : List Record) (it : Record) → IsUnsettledOn D.Disk self.old disk.old frame past it
+            → AreAreaRecords kept → HoldsSurely D.Disk self.old disk.old kept → tells D.Disk disk.old ≡ true → IfOk result (λ settled. settled ≡ Lost) }
         ensures waiting { is_waiting self.new ≡ is_err result }
         ensures kept { OnErr result (self.new ≡ self.old) }
+        ensures place { is_turning self.old ≡ true → StaysOrCounts (place_of self.old) (place_of self.new) }
+        ensures compactions { is_turning self.old ≡ false → compactions_of self.new ≡ compactions_of self.old }
         ensures goes { Reads D.Disk disk.old disk.new (is_err result) }
     {
         match self.turn {

@@ -10,7 +10,8 @@
 //! `Areas::open` gives the records of the selected area, or the place of what is wrong first; bytes stand for one thing (`one_reading`),
 //! whatever stands elsewhere (`quiet_law`). `find_store` finds a store of areas, or a journal, which is the older format (`one_format`);
 //! `Areas::adopt` brings a journal to areas, which at each moment is the journal or a store of areas with its snapshot (`older_law`). The needs
-//! of the records are not tested here. The formats are the service's own.
+//! of the records are not tested here. Over a sure disk what failed left nothing (`HoldsSurely` of `specs/Holding.antt`), and `Areas::place`
+//! tells where the store is. The formats are the service's own.
 //!
 //! ```rust
 //! use journal_compact::Areas;
@@ -30,6 +31,7 @@ mod older;
 mod opening;
 mod places;
 mod snapshot;
+mod store_place;
 mod turning;
 
 pub use areas::Areas;
@@ -37,3 +39,4 @@ pub use format::{Format, find_store};
 pub use law::{older_law, one_format, one_reading, quiet_law};
 pub use places::{AREA_BYTES, Selected};
 pub use snapshot::write_snapshot;
+pub use store_place::StorePlace;

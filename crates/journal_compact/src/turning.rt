@@ -1,12 +1,12 @@
 //! Turning a store from one of its areas to the other, a sync behind each step.
 
-ghost use Rattle.std.specs.Prelude.{◌≡◌, ◌+◌, ℕ, List, reverse, is_err, IfOk, OnOk};
+ghost use Rattle.std.specs.Prelude.{◌≡◌, ◌+◌, ℕ, List, reverse, is_err, IfOk, OnErr, OnOk};
 ghost use Rattle.ks_outside.specs.Images.{AllImages, Goes, Passes};
 ghost use Rattle.gated_records.specs.Areas.{HoldsAt};
 ghost use Rattle.journal_records.specs.declared.record.Record.{Record};
 ghost use Rattle.journal_records.specs.Storable.{IsStorable, snapshot, snapshot_length};
-ghost use Rattle.record_areas.specs.Frames.{Frame, IsStore};
-ghost use Rattle.journal_compact.specs.Stores.{IsFrameOf, byte_of, frame_of, other, start_of};
+ghost use Rattle.record_areas.specs.Frames.{Frame, HasRecords, IsStore};
+ghost use Rattle.journal_compact.specs.Stores.{IsFrameOf, byte_of, frame_of, limit_of, other, start_of};
 ghost use Rattle.journal_compact.specs.Turning.{IsBoth, IsEither, seal};
 
 use crate::places::{SELECTOR, Selected};
@@ -56,6 +56,8 @@ fn select_other<D: Disk>(disk: &mut D, selected: Selected) -> Result<(), Failed>
         → AllImages D.Disk disk.new (IsEither is.version selected past rows) }
     ensures passes { (frame : Frame) (past rows : List Record) (is : IsFrameOf selected frame) → AllImages D.Disk disk.old (IsBoth frame selected past rows)
         → Passes D.Disk disk.old disk.new (IsEither is.version selected past rows) }
+    ensures beside { (frame : Frame) (past rows : List Record) → IsFrameOf selected frame → AllImages D.Disk disk.old (IsBoth frame selected past rows)
+        → AllImages D.Disk disk.new (HasRecords (start_of selected) (limit_of selected) past) }
     ensures goes { Goes D.Disk disk.old disk.new (is_err result) }
 {
     write_synced(disk, SELECTOR, &[selected.other().byte()])
@@ -68,12 +70,14 @@ fn seal_other<D: Disk>(disk: &mut D, selected: Selected) -> Result<(), Failed>
         → AllImages D.Disk disk.new (IsStore frame past) }
     ensures passes { (frame : Frame) (past : List Record) → IsFrameOf selected frame → AllImages D.Disk disk.old (IsStore frame past)
         → Passes D.Disk disk.old disk.new (IsStore frame past) }
+    ensures nothing { D.is_sure disk.old → OnErr result (AllImages D.Disk disk.new (D.images disk.old)) }
     ensures goes { Goes D.Disk disk.old disk.new (is_err result) }
 {
     write_synced(disk, selected.other().start(), &SEAL)
 }
 
-/// Selects the other area, in which records stand too, syncs, seals the one that is left, and syncs.
+/// Selects the other area, in which records stand too, syncs, seals the one that is left, and syncs. Where a sure disk's call fails, the one
+/// that is left still has its records.
 pub(crate) fn turn_from<D: Disk>(disk: &mut D, selected: Selected) -> Result<(), Failed>
     ensures turned { (frame : Frame) (past rows : List Record) (is : IsFrameOf selected frame) → AllImages D.Disk disk.old (IsBoth frame selected past rows)
         → OnOk result (AllImages D.Disk disk.new (IsStore (frame_of (other selected) is.version (byte_of (other selected))) rows)) }
@@ -82,6 +86,8 @@ pub(crate) fn turn_from<D: Disk>(disk: &mut D, selected: Selected) -> Result<(),
     ensures passes { (frame : Frame) (past rows : List Record) (is : IsFrameOf selected frame) → AllImages D.Disk disk.old (IsBoth frame selected past rows)
         → Passes D.Disk disk.old disk.new (IsEither is.version selected past rows) }
     ensures sealed { OnOk result (AllImages D.Disk disk.new (HoldsAt (start_of selected) seal)) }
+    ensures nothing { (frame : Frame) (past rows : List Record) → IsFrameOf selected frame → AllImages D.Disk disk.old (IsBoth frame selected past rows)
+        → D.is_sure disk.old → OnErr result (AllImages D.Disk disk.new (HasRecords (start_of selected) (limit_of selected) past)) }
     ensures goes { Goes D.Disk disk.old disk.new (is_err result) }
 {
     let Ok(()) = select_other(disk, selected) else {

@@ -1,5 +1,6 @@
 pub mod Bodies
 pub mod BothWays
+pub mod Carryings
 pub mod KeyLists
 pub mod Leaving
 pub mod Lists

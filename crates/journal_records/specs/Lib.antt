@@ -1,3 +1,4 @@
+pub mod Carrying
 pub mod Commits
 pub mod Effects
 pub mod Holding

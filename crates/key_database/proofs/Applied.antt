@@ -15,6 +15,7 @@ use Rattle.journal_records.specs.declared.record.Record.TheVariants as records
 use Rattle.journal_records.specs.Holding.{Holding, Sure, Unsure, torn_in, settled_in}
 use Rattle.record_areas.specs.Frames.{Frame}
 use Rattle.journal_compact.specs.Holding.{IsSettledAs, IsSettledOn, IsTurningOn, IsUnsettledOn, is_turning}
+use Rattle.journal_compact.specs.declared.areas.Areas.{Areas}
 use Rattle.key_database.specs.Store.{Between, MayBe, left_by}
 use Rattle.key_database.specs.Stands.{BeginsChange, Commits, Holds, IsSure, IsUnsure, KeepsPart, StandsAround, TurnsPart, WaitsOn, Writes, areas_of, held_images, is_unsettled, lasting, left_after, pending_of}
 use Rattle.key_database.specs.declared.database.KeyDatabase.{KeyDatabase}
@@ -57,6 +58,29 @@ module _ {D : Type 0} (g : Ghosts D) (old new : KeyDatabase) (disk disk' : D) (c
       }
   commits_torn fault (Unsure part later) met s writes same pending = absurd (not_idle g (areas_of old) disk part s.change s.waits idle)
 
+-- ---- a settling
+
+module _ {D : Type 0} (g : Ghosts D) (areas later : Areas) (disk disk' : D) where
+  -- a record that waited was not found, or a compaction waited
+  pub lost_of : (part : Lasting) (change : Change) → WaitsOn g areas disk part change
+      → ((frame : Frame) (past : List Record) (it : Record) → IsUnsettledOn g areas disk frame past it → IsSettledOn g later disk' frame past)
+      → ((frame : Frame) (past rows : List Record) → IsTurningOn g areas disk frame past rows → IsSettledAs g later disk' past rows) → KeepsPart g later disk' part
+  lost_of part change waits_on settles turned =
+      ⊎_elim (λ (begun : BeginsChange g areas disk part change). record {
+        frame = begun.frame;
+        past = begun.past;
+        settled = settles begun.frame begun.past (records.Change change) begun.unsettled;
+        left = begun.left;
+      })
+      (λ (turning : TurnsPart g areas disk part).
+      let found = turned turning.frame turning.past turning.rows turning.turning in
+      record {
+        frame = found.frame;
+        past = found.kept;
+        settled = found.settled;
+        left = ⊎_elim (λ (is : found.kept ≡ turning.past). ap left_by is ∙ turning.left) (λ (is : found.kept ≡ turning.rows). ap left_by is ∙ turning.same) found.which;
+      }) waits_on
+
 module _ {D : Type 0} (g : Ghosts D) (old new : KeyDatabase) (disk disk' : D) (waits : is_unsettled old ≡ true) where
   -- a record that waited was found
   kept_of : (part later : Lasting) → IsUnsure g old disk part later → (is_turning (areas_of old) ≡ true → ⊥)
@@ -79,32 +103,12 @@ module _ {D : Type 0} (g : Ghosts D) (old new : KeyDatabase) (disk disk' : D) (w
     held = made s.change s.pending ∙ ap (λ (p : Lasting). after p s.change) s.held ∙ s.after_it;
   }
 
-  -- it was not, or a compaction waited
-  lost_of : (part : Lasting) (change : Change) → WaitsOn g (areas_of old) disk part change
-      → ((frame : Frame) (past : List Record) (it : Record) → IsUnsettledOn g (areas_of old) disk frame past it → IsSettledOn g (areas_of new) disk' frame past)
-      → ((frame : Frame) (past rows : List Record) → IsTurningOn g (areas_of old) disk frame past rows → IsSettledAs g (areas_of new) disk' past rows) → KeepsPart g (areas_of new) disk' part
-  lost_of part change waits_on settles turned =
-      ⊎_elim (λ (begun : BeginsChange g (areas_of old) disk part change). record {
-        frame = begun.frame;
-        past = begun.past;
-        settled = settles begun.frame begun.past (records.Change change) begun.unsettled;
-        left = begun.left;
-      })
-      (λ (turning : TurnsPart g (areas_of old) disk part).
-      let found = turned turning.frame turning.past turning.rows turning.turning in
-      record {
-        frame = found.frame;
-        past = found.kept;
-        settled = found.settled;
-        left = ⊎_elim (λ (is : found.kept ≡ turning.past). ap left_by is ∙ turning.left) (λ (is : found.kept ≡ turning.rows). ap left_by is ∙ turning.same) found.which;
-      }) waits_on
-
   pub holds_lost : (before : Holding) → Holds g old disk before
       → ((frame : Frame) (past : List Record) (it : Record) → IsUnsettledOn g (areas_of old) disk frame past it → IsSettledOn g (areas_of new) disk' frame past)
       → ((frame : Frame) (past rows : List Record) → IsTurningOn g (areas_of old) disk frame past rows → IsSettledAs g (areas_of new) disk' past rows)
       → lasting new ≡ lasting old → Holds g new disk' (settled_in Lost before)
   holds_lost (Sure part) s settles turned same = absurd (cc (s.kept.settled.idle, waits))
-  holds_lost (Unsure part later) s settles turned same = record { kept = lost_of part s.change s.waits settles turned; held = same ∙ s.held }
+  holds_lost (Unsure part later) s settles turned same = record { kept = lost_of g (areas_of old) (areas_of new) disk disk' part s.change s.waits settles turned; held = same ∙ s.held }
 
   -- that is not known yet
   still_waits : (part : Lasting) (change : Change) → WaitsOn g (areas_of old) disk part change

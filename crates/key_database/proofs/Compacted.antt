@@ -20,7 +20,7 @@ use Rattle.key_database.specs.Store.{StandsFor, left_by}
 use Rattle.key_database.specs.Stands.{KeepsPart, StandsAround, TurnedTo, TurnsPart, Writes, left_after, stands_in, turning_stands}
 use Rattle.key_database.proofs.Storables.{area_records, frame_records}
 
-frame_is : {D : Type 0} (g : Ghosts D) (areas : Areas) (disk : D) (part : Lasting) (kept : KeepsPart g areas disk part) → IsAreasFrame kept.frame
+pub frame_is : {D : Type 0} (g : Ghosts D) (areas : Areas) (disk : D) (part : Lasting) (kept : KeepsPart g areas disk part) → IsAreasFrame kept.frame
 frame_is g areas disk part kept = record { selected = selected_of areas; of = kept.settled.is_frame }
 
 -- a store of areas with records that leave a part

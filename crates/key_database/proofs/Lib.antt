@@ -10,3 +10,5 @@ pub mod Replayed
 pub mod Rereading
 pub mod Storables
 pub mod Waiting
+pub mod Addings
+pub mod Steps

@@ -121,16 +121,6 @@ bad_image g disk faults.Device image r left = tt
 bad_image g disk (faults.Corrupted offset) image r left = r image left
 bad_image g disk faults.Memory image r left = tt
 
--- a disk that tells what a read gives has an image
-some_told : (told : Option (List ℕ)) → is_some told ≡ true → (c : List ℕ) × (told ≡ Some c)
-some_told None e = absurd cc
-some_told (Some c) e = (c, refl)
-
-pub told_image : {D : Type 0} (g : Ghosts D) (disk : D) → ((disk : D) (c : List ℕ) → g.content disk ≡ Some c → g.images disk c) → tells g disk ≡ true → (c : List ℕ) × g.images disk c
-told_image g disk law told =
-    let c = some_told (g.content disk) told in
-    (c.0, law disk c.0 c.1)
-
 pub no_fault_found : (part : Lasting) (fault : StoreFault) (image : List ℕ) → ((offset : ℕ) → IsBadStore image offset → ⊥) → ReadsStore image (Err fault) → FindsStore part (Err fault)
 no_fault_found part faults.Device image sound r = tt
 no_fault_found part (faults.Corrupted offset) image sound r = sound offset r

@@ -1,3 +1,4 @@
+pub mod Adding
 pub mod Compacting
 pub mod Frames
 pub mod Stands

@@ -1,6 +1,6 @@
 -- What the bytes of a store stand for.
 use Rattle.std.specs.Prelude.{◌≡◌, ◌⊎◌, ℕ, ◌+◌, false, List, ◌∷◌, ◌++◌, length, Option, Some}
-use Rattle.std.specs.Option.{option_map}
+use Rattle.journal_records.specs.Carrying.{part_left}
 use Rattle.journal_records.specs.declared.record.Record.{Record}
 use Rattle.journal_records.specs.LastingPart.{Lasting}
 use Rattle.journal_records.specs.Holding.{Holding, Sure, Unsure}
@@ -16,7 +16,7 @@ part_of state = state.part
 -- the lasting part that records leave, the newest first: read in turn from the empty lasting part, each with its need met; None where a
 -- need is not
 abbrev pub left_by : List Record → Option Lasting
-left_by past = option_map part_of (state_of past)
+left_by past = part_left past
 
 -- The image stands for the lasting part: it is a store of a frame that a store may have, and its records leave this one.
 pub record StandsFor (part : Lasting) (image : List ℕ) : Type 0 where

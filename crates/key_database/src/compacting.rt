@@ -1,11 +1,12 @@
 //! Writing a store anew where it has grown.
 
-ghost use Rattle.std.specs.Prelude.{◌≡◌, ◌≤◌, ◌+◌, ℕ, List, length, false, OnOk, is_err};
-ghost use Rattle.ks_outside.specs.Images.{Goes, Passes};
+ghost use Rattle.std.specs.Prelude.{◌≡◌, ◌≤◌, ◌+◌, ℕ, List, length, true, false, OnOk, is_err};
+ghost use Rattle.ks_outside.specs.Images.{Goes, Passes, tells};
 ghost use Rattle.journal_records.specs.Storable.{snapshot_length};
 ghost use Rattle.journal_compact.specs.Holding.{is_turning, is_waiting, record_bytes};
 ghost use Rattle.journal_compact.specs.declared.places.TheConstants.{AREA_BYTES};
 ghost use Rattle.lasting_table.specs.TableView.{lasting_in};
+ghost use Rattle.key_database.specs.Adding.{StepsSurely};
 ghost use Rattle.key_database.specs.Compacting as spec;
 ghost use Rattle.key_database.specs.Compacting.{TurnsIf, extent_of};
 ghost use Rattle.key_database.specs.Stands.{KeepsPart, TurnedTo};
@@ -43,6 +44,8 @@ pub(crate) fn compact_if_due<D: Disk>(
     requires small { count ≤ RECORD_BYTES }
     ensures turned { KeepsPart D.Disk areas.old disk.old (lasting_in table.now) → TurnedTo D.Disk areas.new disk.new (lasting_in table.now) result }
     ensures passes { KeepsPart D.Disk areas.old disk.old (lasting_in table.now) → Passes D.Disk disk.old disk.new (StandsFor (lasting_in table.now)) }
+    ensures surely { KeepsPart D.Disk areas.old disk.old (lasting_in table.now) → D.is_sure disk.old → tells D.Disk disk.old ≡ true
+        → StepsSurely D.Disk areas.old areas.new disk.old disk.new (lasting_in table.now) (lasting_in table.now) }
     ensures compacts { TurnsIf (spec.is_due (record_bytes areas.old) (snapshot_length (lasting_in table.now)) count)
         (snapshot_length (lasting_in table.now)) (extent_of areas.old) (extent_of areas.new) result }
     ensures bounded { OnOk result (record_bytes areas.new ≤ spec.most_bytes (snapshot_length (lasting_in table.now))) }

@@ -8,11 +8,12 @@ ghost use Rattle.journal_records.specs.declared.change.Change.{Change};
 ghost use Rattle.journal_records.specs.Commits.{apply_failed, apply_state, open_failed};
 ghost use Rattle.journal_records.specs.LastingPart.{Lasting, empty_lasting};
 ghost use Rattle.journal_records.specs.Needs.{is_met};
-ghost use Rattle.journal_records.specs.Holding.{Holding, Sure, after_settle};
+ghost use Rattle.journal_records.specs.Holding.{Holding, Sure, after_commit, after_settle, known};
 ghost use Rattle.journal_records.specs.Storable.{IsStorable, snapshot_length};
 ghost use Rattle.journal_compact.specs.Formats.{IsOlder};
-ghost use Rattle.journal_compact.specs.Holding.{ReformedFrom, is_turning, is_waiting, record_bytes, write_state};
+ghost use Rattle.journal_compact.specs.Holding.{ReformedFrom, is_turning, is_waiting, place_of, record_bytes, write_state};
 ghost use Rattle.lasting_table.specs.TableView.{CanMake, HasRoomForGrant, HasRoomForKey, KeepsRoom, takes_memory};
+ghost use Rattle.key_database.specs.Adding.{KeepsSurely, StepsSurely};
 ghost use Rattle.key_database.specs.Compacting.{ExtentAfter, extent_of, is_due, most_bytes};
 ghost use Rattle.key_database.specs.Store.{MayBe, StandsFor};
 
@@ -20,7 +21,7 @@ use crate::adopting::to_areas;
 use crate::appending::write_change;
 use crate::law::one_store;
 use crate::opening::{Found, read_store};
-use journal_compact::{Areas, one_format};
+use journal_compact::{Areas, StorePlace, one_format};
 use journal_records::{ApplyFault, Change, StoreFault};
 use ks_outside::{Disk, Failed};
 use lasting_table::LastingTable;
@@ -93,6 +94,13 @@ impl KeyDatabase {
         self.areas.is_settled()
     }
 
+    /// Where the store is. It takes no memory.
+    pub fn place(&self) -> StorePlace
+        ensures { result ≡ place_of (areas_of self.now) }
+    {
+        self.areas.place()
+    }
+
     /// Writes an empty store, a sync behind each write: a crash leaves the store that was, or the empty one. It takes no memory.
     pub fn format<D: Disk>(disk: &mut D) -> Result<(), Failed>
         ensures formatted { OnOk result (AllImages D.Disk disk.new (StandsFor empty_lasting)) }
@@ -132,6 +140,8 @@ impl KeyDatabase {
         requires can { CanMake (table_of self.old) change }
         ensures commits { (before : Holding) → Holds D.Disk self.old disk.old before
             → Commits D.Disk self.new disk.old disk.new change (write_state result) before }
+        ensures surely { (before : Holding) → Holds D.Disk self.old disk.old before → D.is_sure disk.old → tells D.Disk disk.old ≡ true
+            → StepsSurely D.Disk (areas_of self.old) (areas_of self.new) disk.old disk.new (known before) (known (after_commit change (write_state result) before)) }
         ensures made { lasting self.new ≡ part_after change (write_state result) (lasting self.old) }
         ensures waiting { is_unsettled self.new ≡ is_err result }
         ensures pending { pending_of self.new ≡ waiting_after change (write_state result) }
@@ -160,6 +170,8 @@ impl KeyDatabase {
         requires met { is_met (lasting self.old) change ≡ true }
         ensures commits { (before : Holding) → Holds D.Disk self.old disk.old before
             → Commits D.Disk self.new disk.old disk.new change (apply_state result) before }
+        ensures surely { (before : Holding) → Holds D.Disk self.old disk.old before → D.is_sure disk.old → tells D.Disk disk.old ≡ true
+            → StepsSurely D.Disk (areas_of self.old) (areas_of self.new) disk.old disk.new (known before) (known (after_commit change (apply_state result) before)) }
         ensures made { lasting self.new ≡ part_after change (apply_state result) (lasting self.old) }
         ensures waiting { is_unsettled self.new ≡ apply_failed result }
         ensures pending { pending_of self.new ≡ waiting_after change (apply_state result) }
@@ -187,6 +199,8 @@ impl KeyDatabase {
             → Passes D.Disk disk.old disk.new (MayBe held) }
         ensures same { (held : Holding) → Holds D.Disk self.old disk.old held → tells D.Disk disk.old ≡ true
             → IsReadAgain result }
+        ensures surely { (held : Holding) → Holds D.Disk self.old disk.old held → D.is_sure disk.old → tells D.Disk disk.old ≡ true
+            → StepsSurely D.Disk (areas_of self.old) (areas_of self.new) disk.old disk.new (known held) (known held) }
         ensures reads { AllImages D.Disk disk.new (λ image. Rereads (lasting self.old) image result) }
         ensures settled { is_unsettled self.new ≡ false }
         ensures part { SamePart self.old self.new }
@@ -202,7 +216,7 @@ impl KeyDatabase {
                 if !same {
                     return Ok(false);
                 }
-                self.areas = areas;
+                self.areas = areas.going_on(&self.areas);
                 Ok(true)
             }
             Ok((Found::Journal, table)) => {
@@ -214,7 +228,8 @@ impl KeyDatabase {
     }
 
     /// Finds out what became of a change that waits, and makes it here where the disk has it. Where a call of the disk fails,
-    /// the database stays unsettled. A change before which the store was to be written anew is lost. It takes no memory.
+    /// the database stays unsettled. A change before which the store was to be written anew is lost, and over a sure disk that tells its bytes
+    /// each one is. It takes no memory.
     pub fn settle<D: Disk>(&mut self, disk: &mut D) -> Result<Settled, Failed>
         requires { is_unsettled self.old ≡ true }
         ensures holds { (before : Holding) → Holds D.Disk self.old disk.old before
@@ -224,6 +239,10 @@ impl KeyDatabase {
         ensures kept { OnErr result (SameStore self.old self.new) }
         ensures settled { (change : Change) → pending_of self.old ≡ Some change → SettledBy change result self.old self.new }
         ensures lost { is_turning (areas_of self.old) ≡ true → IfOk result (λ settled. settled ≡ Lost) }
+        ensures unfound { (before : Holding) → Holds D.Disk self.old disk.old before → KeepsSurely D.Disk (areas_of self.old) disk.old (known before)
+            → IfOk result (λ settled. settled ≡ Lost) }
+        ensures surely { (before : Holding) → Holds D.Disk self.old disk.old before → KeepsSurely D.Disk (areas_of self.old) disk.old (known before)
+            → StepsSurely D.Disk (areas_of self.old) (areas_of self.new) disk.old disk.new (known before) (known (after_settle result before)) }
         ensures waiting { is_unsettled self.new ≡ is_err result }
         ensures goes { Reads D.Disk disk.old disk.new (is_err result) }
     {

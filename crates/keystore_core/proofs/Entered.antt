@@ -1,4 +1,7 @@
 -- An enter that is let through: the key that a finish uses, its work that goes out, and a finish whose key could not be used.
+use Rattle.key_database.specs.Adding.{StepsSurely}
+use Rattle.journal_records.specs.Holding.{known}
+use Rattle.journal_compact.specs.declared.areas.Areas.{Areas}
 use Rattle.std.proofs.Common.{◌≡◌, ℕ, ◌+◌, ◌≤◌, Bool, true, false, not, ◌==◌, if◌then◌else◌, List, [], ◌∷◌, length, find, Option, Some, None, option_map, Ok, refl, sym, ap, ◌∙◌, subst, arith}
 use Rattle.std.specs.Option.{option_and_then, option_or}
 use Rattle.std.proofs.lemmas.Bool.{eqb-true, eq-eqb}
@@ -21,7 +24,7 @@ use Rattle.journal_records.specs.declared.change.Change.{Change}
 use Rattle.journal_records.specs.declared.change.Change.TheVariants as changes
 use Rattle.journal_records.specs.Needs.{is_met}
 use Rattle.key_database.specs.declared.database.KeyDatabase.{KeyDatabase}
-use Rattle.key_database.specs.Stands.{SameStore, lasting}
+use Rattle.key_database.specs.Stands.{SameStore, lasting, areas_of}
 use Rattle.key_database.proofs.Rereading.{same_holds}
 use Rattle.keystore_core.proofs.SameStores.{one_store_same}
 use Rattle.rule_model.specs.declared.entry.Entry.TheVariants.{Acted}
@@ -362,4 +365,7 @@ goes_into g old middle new disk later restarts change reply same goes = record {
   holds = λ held h. same_holds g middle new later (Rattle.rule_model.specs.Stored.after_reply restarts change reply held) same (goes.holds held h);
   passes = goes.passes;
   goes = goes.goes;
+  surely = λ held h keeps.
+      subst (λ (a : Areas). StepsSurely g (areas_of old) a disk later (known held) (known (Rattle.rule_model.specs.Stored.after_reply restarts change reply held))) (sym same.areas_is)
+      (goes.surely held h keeps);
 }

@@ -1,16 +1,17 @@
 -- A restart: the tables after one that is admitted, and after one that has not happened.
+use Rattle.key_database.specs.Adding.{StepsSurely}
 use Rattle.std.proofs.Common.{◌≡◌, inl, ℕ, Bool, true, false, ◌&&◌, if◌then◌else◌, List, [], ◌∷◌, Option, None, refl, sym, ap, ◌∙◌, subst}
 use Rattle.tags.specs.declared.code.Code.{Code}
 use Rattle.tags.specs.declared.secrets.DeviceSecrets.{DeviceSecrets}
 use Rattle.tags.specs.declared.code.Code.TheVariants.{SystemError, ValueCorrupted}
 use Rattle.ks_outside.specs.declared.disk.Disk.{Ghosts}
-use Rattle.ks_outside.specs.Images.{Goes, Passes}
+use Rattle.ks_outside.specs.Images.{Goes, Passes, tells}
 use Rattle.ks_outside.proofs.Joins.{passes_as}
 use Rattle.journal_records.specs.Effects.{after}
-use Rattle.journal_records.specs.Holding.{Holding}
+use Rattle.journal_records.specs.Holding.{Holding, known}
 use Rattle.journal_records.specs.LastingPart.{Lasting}
 use Rattle.key_database.specs.declared.database.KeyDatabase.{KeyDatabase}
-use Rattle.key_database.specs.Stands.{Holds, SamePart, SameStore, is_unsettled, lasting}
+use Rattle.key_database.specs.Stands.{Holds, SamePart, SameStore, is_unsettled, lasting, areas_of}
 use Rattle.key_database.specs.Store.{Between, MayBe}
 use Rattle.cipher_ops.specs.declared.state.CipherState.{CipherState}
 use Rattle.operation_slots.specs.Table.{SlotTable, held, operations_of}
@@ -153,9 +154,13 @@ restart_stays (Stopped code) held = by_code (is_system_error code) where
   by_code false = refl
 
 pub restart_goes : {D : Type 0} (g : Ghosts D) (old new : KeyDatabase) (disk later : D) (reply : Reply) → ((held : Holding) → Holds g old disk held → Holds g new later held)
-    → ((held : Holding) → Holds g old disk held → Passes g disk later (MayBe held)) → Goes g disk later (is_disk_fault reply) → StoreGoes g old new disk later true None reply
-restart_goes g old new disk later reply holds passes goes = record {
+    → ((held : Holding) → Holds g old disk held → Passes g disk later (MayBe held)) → Goes g disk later (is_disk_fault reply)
+    → ((held : Holding) → Holds g old disk held → g.is_sure disk → tells g disk ≡ true → StepsSurely g (areas_of old) (areas_of new) disk later (known held) (known held))
+    → StoreGoes g old new disk later true None reply
+restart_goes g old new disk later reply holds passes goes surely = record {
   holds = λ held h. subst (λ k. Holds g new later k) (sym (restart_stays reply held)) (holds held h);
   passes = λ held h. passes_as g disk later (MayBe held) (Between held (after_reply true None reply held)) (passes held h) (λ c may. inl may);
   goes = goes;
+  surely = λ held h keeps.
+      subst (λ (k : Holding). StepsSurely g (areas_of old) (areas_of new) disk later (known held) (known k)) (sym (restart_stays reply held)) (surely held h keeps.holds.sure keeps.told);
 }

@@ -1,4 +1,6 @@
 -- A step of the engine: what it settles first, and then the entry of its event.
+use Rattle.key_database.proofs.Addings.{steps_on}
+use Rattle.key_database.specs.Adding.{KeepsSurely, StepsSurely}
 use Rattle.std.proofs.Common.{◌≡◌, inl, inr, ℕ, ◌+◌, true, false, List, [], ◌∷◌, length, Option, Some, None, Ok, ⊎_elim, refl, sym, ◌∙◌, subst, arith}
 use Rattle.tags.specs.declared.code.Code.TheVariants.{SystemError}
 use Rattle.tags.specs.declared.settled.Settled.{Settled}
@@ -6,8 +8,8 @@ use Rattle.tags.specs.declared.settled.Settled.TheVariants.{Kept, Lost}
 use Rattle.ks_outside.specs.declared.disk.Disk.{Ghosts}
 use Rattle.ks_outside.specs.Images.{Passes}
 use Rattle.ks_outside.proofs.Joins.{passes_on}
-use Rattle.journal_records.specs.Holding.{Holding, Sure, Unsure, settled_in}
-use Rattle.key_database.specs.Stands.{Holds, is_unsettled}
+use Rattle.journal_records.specs.Holding.{Holding, Sure, Unsure, settled_in, known}
+use Rattle.key_database.specs.Stands.{Holds, is_unsettled, areas_of}
 use Rattle.key_database.specs.Store.{Between, MayBe}
 use Rattle.cipher_ops.specs.declared.job.Done.{Done as JobDone}
 use Rattle.rule_model.specs.declared.entry.Entry.TheVariants.{Acted, Settling}
@@ -35,7 +37,7 @@ use Rattle.keystore_core.specs.Settling.{HasNotSettled, HasSettled, after_first}
 use Rattle.keystore_core.specs.Tables.{AnswersAfter, IsAt, StandsAt, TablesStand}
 use Rattle.keystore_core.specs.Writing.{StoreAnswers}
 use Rattle.keystore_core.proofs.Standing.{not_made}
-use Rattle.keystore_core.proofs.Storing.{store_goes_on, store_passes}
+use Rattle.keystore_core.proofs.Storing.{store_goes_on, store_passes, surely_goes_on}
 
 -- ---- the history after a settling
 
@@ -135,6 +137,19 @@ module _ {D : Type 0} (g : Ghosts D) (setup : Setup) (past : History) (old mid n
   pub store_steps : Holds g new.keys later (holding_of setup (after_step settled event answered.drawn answered.reply past))
   store_steps = store_goes_on g setup (after_settling settled past) mid new between later event answered has.stands ready goes held_mid
 
+  -- what is surely kept, where the settling kept it so
+  pub surely_steps : ((before : Holding) → Holds g old.keys disk before → KeepsSurely g (areas_of old.keys) disk (known before)
+      → StepsSurely g (areas_of old.keys) (areas_of mid.keys) disk between (known before) (known (after_first {E = Unit {0}} (Ok settled) before)))
+      → KeepsSurely g (areas_of old.keys) disk (known (holding_of setup past))
+      → StepsSurely g (areas_of old.keys) (areas_of new.keys) disk later (known (holding_of setup past)) (known (holding_of setup (after_step settled event answered.drawn answered.reply past)))
+  surely_steps settles keeps =
+      let one : StepsSurely g (areas_of old.keys) (areas_of mid.keys) disk between (known (holding_of setup past)) (known (holding_of setup (after_settling settled past))) =
+      subst (λ (h : Holding). StepsSurely g (areas_of old.keys) (areas_of mid.keys) disk between (known (holding_of setup past)) (known h)) (first_holding setup past mid event.act settled has)
+      (settles (holding_of setup past) held keeps) in
+      steps_on g (areas_of old.keys) (areas_of mid.keys) (areas_of new.keys) disk between later (known (holding_of setup past)) (known (holding_of setup (after_settling settled past)))
+      (known (holding_of setup (after_step settled event answered.drawn answered.reply past))) one
+      (surely_goes_on g setup (after_settling settled past) mid new between later event answered has.stands ready goes held_mid one.keeps)
+
   pub store_moments : ((before : Holding) → Holds g old.keys disk before → Passes g disk between (MayBe before))
       → Passes g disk later (MayHoldEither setup past (after_step settled event answered.drawn answered.reply past))
   store_moments passes =
@@ -173,3 +188,10 @@ module _ (setup : Setup) (past : History) (old : Engine) (mid : Tables) (event :
 
   pub held_not : {D : Type 0} (g : Ghosts D) (disk : D) (later : Engine) → later.tables ≡ mid → Holds g mid.keys disk (holding_of setup past) → Holds g later.tables.keys disk (holding_of setup Unmade)
   held_not g disk later tables held = subst (λ (t : Tables). Holds g t.keys disk (holding_of setup Unmade)) (sym tables) (subst (λ h. Holds g mid.keys disk h) (sym holding_not) held)
+
+  pub surely_not : {D : Type 0} (g : Ghosts D) (disk between : D) (later : Engine) → later.tables ≡ mid
+      → StepsSurely g (areas_of old.tables.keys) (areas_of mid.keys) disk between (known (holding_of setup past)) (known (holding_of setup past))
+      → StepsSurely g (areas_of old.tables.keys) (areas_of later.tables.keys) disk between (known (holding_of setup past)) (known (holding_of setup Unmade))
+  surely_not g disk between later tables steps =
+      subst (λ (t : Tables). StepsSurely g (areas_of old.tables.keys) (areas_of t.keys) disk between (known (holding_of setup past)) (known (holding_of setup Unmade))) (sym tables)
+      (subst (λ (h : Holding). StepsSurely g (areas_of old.tables.keys) (areas_of mid.keys) disk between (known (holding_of setup past)) (known h)) (sym holding_not) steps)

@@ -1,4 +1,5 @@
 -- What is known of the store goes on over an act, and over a step.
+use Rattle.key_database.specs.Adding.{KeepsSurely, StepsSurely}
 use Rattle.std.proofs.Common.{◌≡◌, ℕ, Bool, true, false, ◌&&◌, not, if◌then◌else◌, List, [], ◌∷◌, Option, None, option_map, Result, Ok, Err, refl, sym, ap, ◌∙◌, subst}
 use Rattle.std.specs.Prelude.{IfOk}
 use Rattle.std.specs.Option.{option_or}
@@ -11,10 +12,10 @@ use Rattle.ks_outside.specs.declared.disk.Disk.{Ghosts}
 use Rattle.ks_outside.specs.Images.{Passes}
 use Rattle.journal_records.specs.declared.change.Change.{Change}
 use Rattle.journal_records.specs.declared.change.Change.TheVariants as changes
-use Rattle.journal_records.specs.Holding.{Holding, Sure, Unsure}
+use Rattle.journal_records.specs.Holding.{Holding, Sure, Unsure, known}
 use Rattle.journal_records.specs.LastingPart.{Lasting}
 use Rattle.key_database.specs.declared.database.KeyDatabase.{KeyDatabase}
-use Rattle.key_database.specs.Stands.{Holds, is_unsettled, lasting}
+use Rattle.key_database.specs.Stands.{Holds, is_unsettled, lasting, areas_of}
 use Rattle.key_database.specs.Store.{Between}
 use Rattle.cipher_ops.specs.declared.job.Done.{Done as JobDone}
 use Rattle.rule_model.specs.declared.entry.Entry.TheVariants.{Acted, Settling}
@@ -70,6 +71,7 @@ memory_goes g old new disk later restarts change goes = record {
   holds = goes.holds;
   passes = goes.passes;
   goes = goes.goes;
+  surely = goes.surely;
 }
 
 -- ---- a step
@@ -156,6 +158,11 @@ module _ {D : Type 0} (g : Ghosts D) (setup : Setup) (past : History) (old new :
 
   pub store_goes_on : Holds g old.keys disk (holding_of setup past) → Holds g new.keys later (holding_of setup After)
   store_goes_on held = subst (λ h. Holds g new.keys later h) next (goes.holds (holding_of setup past) held)
+
+  pub surely_goes_on : Holds g old.keys disk (holding_of setup past) → KeepsSurely g (areas_of old.keys) disk (known (holding_of setup past))
+      → StepsSurely g (areas_of old.keys) (areas_of new.keys) disk later (known (holding_of setup past)) (known (holding_of setup After))
+  surely_goes_on held keeps =
+      subst (λ (h : Holding). StepsSurely g (areas_of old.keys) (areas_of new.keys) disk later (known (holding_of setup past)) (known h)) next (goes.surely (holding_of setup past) held keeps)
 
   pub store_passes : Holds g old.keys disk (holding_of setup past) → Passes g disk later (Between (holding_of setup past) (holding_of setup After))
   store_passes held = subst (λ h. Passes g disk later (Between (holding_of setup past) h)) next (goes.passes (holding_of setup past) held)

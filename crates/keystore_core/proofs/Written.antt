@@ -1,4 +1,8 @@
 -- What an act does to the store: the keys after it, and how what is known of the disk goes on.
+use Rattle.journal_records.specs.LastingPart.{Lasting}
+use Rattle.key_database.specs.Adding.{KeepsSurely, Nothing, StepsSurely, records_at}
+use Rattle.journal_compact.specs.Holding.{place_of}
+use Rattle.journal_compact.specs.declared.areas.Areas.{Areas}
 use Rattle.std.proofs.Common.{◌≡◌, ℕ, Bool, false, List, [], ◌∷◌, length, Option, Some, None, refl, sym, ap, ◌∙◌, subst}
 use Rattle.std.specs.Prelude.{is_some}
 use Rattle.tags.specs.declared.code.Code.{Code}
@@ -9,9 +13,9 @@ use Rattle.ks_outside.proofs.Goings.{goes_none}
 use Rattle.ks_outside.proofs.Joins.{passes_none}
 use Rattle.journal_records.specs.declared.change.Change.{Change}
 use Rattle.journal_records.specs.Effects.{after}
-use Rattle.journal_records.specs.Holding.{Holding}
+use Rattle.journal_records.specs.Holding.{Holding, known}
 use Rattle.key_database.specs.declared.database.KeyDatabase.{KeyDatabase}
-use Rattle.key_database.specs.Stands.{Holds, SameStore, lasting}
+use Rattle.key_database.specs.Stands.{Holds, SameStore, lasting, areas_of}
 use Rattle.key_database.specs.Store.{Between}
 use Rattle.key_database.proofs.Rereading.{same_holds}
 use Rattle.keystore_core.proofs.SameStores.{same_twice}
@@ -117,6 +121,20 @@ module _ (setup : Setup) (past : History) (tables : Tables) (middle new : KeyDat
 
 -- ---- what is known of the disk
 
+-- what a read gives is one list
+one_told : (content : Option (List ℕ)) (before now : List ℕ) → content ≡ Some before → content ≡ Some now → now ≡ before
+one_told None before now was is = cc
+one_told (Some bytes) before now was is = let one : bytes ≡ before = cc in let other : bytes ≡ now = cc in sym other ∙ one
+
+-- a store that is as it was, on the same disk, keeps what it kept
+pub stays_surely : {D : Type 0} (g : Ghosts D) (disk : D) (old new : KeyDatabase) (part : Lasting) → SameStore old new → KeepsSurely g (areas_of old) disk part
+    → StepsSurely g (areas_of old) (areas_of new) disk disk part part
+stays_surely g disk old new part same keeps =
+    subst (λ (a : Areas). StepsSurely g (areas_of old) a disk disk part part) (sym same.areas_is) (record {
+      keeps = keeps;
+      adds = λ before now was is. Nothing refl (ap (records_at (place_of (areas_of old))) (one_told (g.content disk) before now was is)) refl;
+    })
+
 module _ {D : Type 0} (g : Ghosts D) (disk : D) where
   -- nothing was done to the disk, and what is known stays
   still_goes : (old new : KeyDatabase) (restarts : Bool) (change : Option Change) (reply : Reply) → SameStore old new → is_disk_fault reply ≡ false → ((held : Holding) → after_reply restarts change reply held ≡ held)
@@ -125,6 +143,8 @@ module _ {D : Type 0} (g : Ghosts D) (disk : D) where
     holds = λ held h. subst (λ k. Holds g new disk k) (sym (stays held)) (same_holds g old new disk held same h);
     passes = λ held h. passes_none g disk (Between held (after_reply restarts change reply held));
     goes = subst (λ b. Goes g disk disk b) (sym no_fault) (goes_none g disk);
+    surely = λ held h keeps.
+        subst (λ (k : Holding). StepsSurely g (areas_of old) (areas_of new) disk disk (known held) (known k)) (sym (stays held)) (stays_surely g disk old new (known held) same keeps);
   }
 
   no_system_stays : (code : Code) (restarts : Bool) (change : Option Change) → is_system_error code ≡ false → (held : Holding) → after_reply restarts change (Stopped code) held ≡ held
@@ -162,4 +182,7 @@ goes_from g old middle new disk later restarts change reply same goes = record {
   holds = λ held h. goes.holds held (same_holds g old middle disk held same h);
   passes = λ held h. goes.passes held (same_holds g old middle disk held same h);
   goes = goes.goes;
+  surely = λ held h keeps.
+      subst (λ (a : Areas). StepsSurely g a (areas_of new) disk later (known held) (known (after_reply restarts change reply held))) same.areas_is
+      (goes.surely held (same_holds g old middle disk held same h) (subst (λ (a : Areas). KeepsSurely g a disk (known held)) (sym same.areas_is) keeps));
 }

@@ -1,4 +1,7 @@
 -- When an engine stands for a history.
+use Rattle.rule_model.specs.Kept.{kept}
+use Rattle.journal_compact.specs.declared.areas.Areas.{Areas}
+use Rattle.key_database.specs.Adding.{KeepsSurely}
 use Rattle.std.specs.Prelude.{◌≡◌, ◌⊎◌, ℕ, List, [], length, Option, Some, None, Result, Ok, Err}
 use Rattle.rule_model.specs.Entries.{History}
 use Rattle.rule_model.specs.Legal.{Legal}
@@ -11,7 +14,7 @@ use Rattle.journal_records.specs.declared.fault.StoreFault.{StoreFault}
 use Rattle.journal_records.specs.declared.fault.StoreFault.TheVariants as faults
 use Rattle.journal_records.specs.Storable.{IsStorable}
 use Rattle.key_database.specs.declared.database.KeyDatabase.{KeyDatabase}
-use Rattle.key_database.specs.Stands.{Holds, lasting}
+use Rattle.key_database.specs.Stands.{Holds, lasting, areas_of}
 use Rattle.key_database.specs.Store.{IsBadStore, MayBe, StandsFor}
 use Rattle.rule_model.specs.Stored.{holding_of}
 use Rattle.rule_model.specs.Setup.{Setup}
@@ -71,6 +74,14 @@ pub record Stands (setup : Setup) (engine : Engine) (past : History) : Type 0 wh
 -- the engine's store and the disk hold what is known by a history
 abbrev pub StoreStands : {D : Type 0} → Ghosts D → Setup → Engine → D → History → Type 0
 StoreStands g setup engine disk past = Holds g engine.tables.keys disk (holding_of setup past)
+
+-- the areas of an engine's store
+abbrev pub areas_in : Engine → Areas
+areas_in engine = areas_of engine.tables.keys
+
+-- surely: the disk is sure and tells its bytes, and each image of it stands for what the history keeps, also where a change waits to be settled
+abbrev pub StandsSurely : {D : Type 0} → Ghosts D → Setup → Engine → D → History → Type 0
+StandsSurely g setup engine disk past = KeepsSurely g (areas_in engine) disk (kept setup past)
 
 -- an image stands for a lasting part that may be that of a history
 abbrev pub MayHold : Setup → History → List ℕ → Type 0

@@ -8,9 +8,10 @@ use Rattle.ks_outside.specs.Images.{Goes, Passes}
 use Rattle.journal_records.specs.declared.change.Change.{Change}
 use Rattle.journal_records.specs.declared.change.Change.TheVariants as changes
 use Rattle.journal_records.specs.Effects.{after}
-use Rattle.journal_records.specs.Holding.{Holding}
+use Rattle.journal_records.specs.Holding.{Holding, known}
 use Rattle.key_database.specs.declared.database.KeyDatabase.{KeyDatabase}
-use Rattle.key_database.specs.Stands.{Holds, SameStore, is_unsettled, lasting, pending_of}
+use Rattle.key_database.specs.Adding.{KeepsSurely, StepsSurely}
+use Rattle.key_database.specs.Stands.{Holds, SameStore, areas_of, is_unsettled, lasting, pending_of}
 use Rattle.key_database.specs.Store.{Between}
 use Rattle.rule_model.specs.declared.event.Act.{Act}
 use Rattle.rule_model.specs.declared.event.Act.TheVariants.{EnterFinish}
@@ -52,11 +53,14 @@ IsWrittenIf old new None fields reply = SameStore old new × (reply ≡ Done fie
 IsWrittenIf old new (Some change) fields reply = IsWritten old new change fields reply
 
 -- What is known of the store goes on by the change that the entry would make and its reply. At each moment each image stands for
--- what may have been before, or may be after. The disk failed exactly where the reply says so.
+-- what may have been before, or may be after. The disk failed exactly where the reply says so. And on a sure disk that tells its bytes
+-- what is surely kept goes on with what is known, and the places tell what was added.
 pub record StoreGoes {D : Type 0} (g : Ghosts D) (old new : KeyDatabase) (disk later : D) (restarts : Bool) (change : Option Change) (reply : Reply) : Type 0 where
   pub holds : (held : Holding) → Holds g old disk held → Holds g new later (after_reply restarts change reply held)
   pub passes : (held : Holding) → Holds g old disk held → Passes g disk later (Between held (after_reply restarts change reply held))
   pub goes : Goes g disk later (is_disk_fault reply)
+  pub surely : (held : Holding) → Holds g old disk held → KeepsSurely g (areas_of old) disk (known held)
+      → StepsSurely g (areas_of old) (areas_of new) disk later (known held) (known (after_reply restarts change reply held))
 
 -- an act leaves the store alone: the keys and grants are as they were, and no device call failed
 pub record LeavesStore (old new : Tables) (answered : Answered) : Type 0 where

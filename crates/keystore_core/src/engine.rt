@@ -1,20 +1,23 @@
 //! The engine's step.
 
-ghost use Rattle.std.specs.Prelude.{◌≡◌, ℕ, ◌+◌, ◌^◌, ◌<◌, ◌≤◌, [], List, None, true, false, is_err, length, IfOk, IfSome, OnOk};
+ghost use Rattle.std.specs.Prelude.{◌≡◌, ◌≢◌, ℕ, ◌+◌, ◌^◌, ◌<◌, ◌≤◌, [], List, Some, None, true, false, is_err, length, IfOk, IfSome, OnOk};
 ghost use Rattle.cipher_ops.specs.Jobs.{ticket_of};
 ghost use Rattle.ks_outside.specs.Shown.{Drew};
 ghost use Rattle.tags.specs.declared.code.Code.TheVariants.{SystemError};
+ghost use Rattle.tags.specs.declared.settled.Settled.TheVariants.{Kept};
 ghost use Rattle.rule_model.specs.declared.reply.Reply.TheVariants as replies;
 ghost use Rattle.rule_model.specs.Acts.{is_restart};
 ghost use Rattle.rule_model.specs.Drawn.{is_entropy_fault};
 ghost use Rattle.rule_model.specs.Entries.{History, after_settling, after_step};
 ghost use Rattle.rule_model.specs.Jobs.{HasDone, HasJob, Stays};
+ghost use Rattle.rule_model.specs.Kept.{kept};
 ghost use Rattle.rule_model.specs.Legal.{MayStep};
 ghost use Rattle.rule_model.specs.ReplyRooms.{Fits, sizes_of};
 ghost use Rattle.rule_model.specs.Setup.{Setup};
 ghost use Rattle.rule_model.specs.Settling.{is_disk_fault};
-ghost use Rattle.journal_compact.specs.Holding.{ReformedFrom};
+ghost use Rattle.journal_compact.specs.Holding.{ReformedFrom, place_of};
 ghost use Rattle.journal_records.specs.LastingPart.{Lasting, empty_lasting};
+ghost use Rattle.key_database.specs.Adding.{StepsSurely};
 ghost use Rattle.key_database.specs.Store.{StandsFor};
 ghost use Rattle.ks_outside.specs.Images.{AllImages, Goes, Passes, tells};
 ghost use Rattle.journal_records.specs.Commits.{open_failed};
@@ -28,6 +31,7 @@ ghost use Rattle.tags.specs.declared.limits.TheConstants.{MOST_SLOTS};
 
 use crate::tables::Tables;
 use cipher_ops::Done;
+use journal_compact::StorePlace;
 use journal_records::StoreFault;
 use key_database::KeyDatabase;
 use ks_outside::{Disk, Entropy, Failed};
@@ -76,7 +80,7 @@ fn root_is_whole(device: &DeviceSecrets)
 }
 
 impl Engine {
-    ghost use Rattle.keystore_core.specs.Engine.{IsOpened, MayHoldEither, MayTake, OpensFor, OpensStore, Stands, StandsAtFirst, StandsForSome, StoreStands, entries_made, entries_of, lasting_of, tickets_of};
+    ghost use Rattle.keystore_core.specs.Engine.{IsOpened, MayHoldEither, MayTake, OpensFor, OpensStore, Stands, StandsAtFirst, StandsForSome, StandsSurely, StoreStands, areas_in, entries_made, entries_of, lasting_of, tickets_of};
 
     /// Writes an empty store, a sync behind each write: a crash leaves the store that was, or the empty one. It takes no memory.
     pub fn format<D: Disk>(disk: &mut D) -> Result<(), Failed>
@@ -106,6 +110,7 @@ impl Engine {
         ensures holds { IfOk result (λ engine. (setup : Setup) → IsOpened setup device.now policy.now slots engine → StoreStands D.Disk setup engine disk.new []) }
         ensures first { IfOk result StandsAtFirst }
         ensures store { IfOk result (λ engine. (setup : Setup) → Stands setup engine [] → StoreStands D.Disk setup engine disk.new []) }
+        ensures surely { IfOk result (λ engine. (setup : Setup) → Stands setup engine [] → D.is_sure disk.new → tells D.Disk disk.new ≡ true → StandsSurely D.Disk setup engine disk.new []) }
         ensures reads { AllImages D.Disk disk.new (λ image. OpensStore image result) }
         ensures finds { (part : Lasting) → AllImages D.Disk disk.old (StandsFor part) → tells D.Disk disk.old ≡ true → OpensFor part result }
         ensures entries { IfOk result (λ engine. entries_of engine ≡ 0) }
@@ -128,6 +133,13 @@ impl Engine {
             }),
             Err(NoMemory) => Err(StoreFault::Memory),
         }
+    }
+
+    /// Where the store is. It takes no memory.
+    pub fn place(&self) -> StorePlace
+        ensures { result ≡ place_of (areas_in self.now) }
+    {
+        self.tables.keys.place()
     }
 
     /// The number that the next ticket takes.
@@ -163,6 +175,8 @@ impl Engine {
     /// stays so as long as the ticket is out. The bytes are those that the entropy gave, and a draw failed exactly where the
     /// reply says so. Where no call failed, the reply is that of the rules, or memory was wanting. Each
     /// reply fits the room that can be taken for it before the step, by the act and for a leave by what its work puts out.
+    /// Over a sure disk that tells its bytes, each image goes on to stand for what the history keeps, no settling says kept, and the places
+    /// before and after the step tell what it added to the store's records.
     pub fn step<D: Disk, N: Entropy>(
         &mut self,
         disk: &mut D,
@@ -188,6 +202,11 @@ impl Engine {
             StoreStands D.Disk setup self.new disk.new (after_step result.settled event result.drawn result.reply past) }
         ensures passes { (setup : Setup) (past : History) → Stands setup self.old past → StoreStands D.Disk setup self.old disk.old past →
             Passes D.Disk disk.old disk.new (MayHoldEither setup past (after_step result.settled event result.drawn result.reply past)) }
+        ensures surely { (setup : Setup) (past : History) → Stands setup self.old past → StoreStands D.Disk setup self.old disk.old past →
+            StandsSurely D.Disk setup self.old disk.old past →
+            StepsSurely D.Disk (areas_in self.old) (areas_in self.new) disk.old disk.new (kept setup past) (kept setup (after_step result.settled event result.drawn result.reply past)) }
+        ensures unfound { (setup : Setup) (past : History) → Stands setup self.old past → StoreStands D.Disk setup self.old disk.old past →
+            StandsSurely D.Disk setup self.old disk.old past → result.settled ≢ Some Kept }
         ensures same { (setup : Setup) (past : History) → Stands setup self.old past → StoreStands D.Disk setup self.old disk.old past →
             tells D.Disk disk.old ≡ true → is_other_store result.reply ≡ false }
         ensures reads { is_restart event.act ≡ true → HasRead D.Disk disk.new (lasting_of self.new) result.reply }

@@ -5,13 +5,15 @@ ghost use Rattle.std.specs.Prelude.{◌≡◌, ⊤, is_some};
 
 use crate::announced::Announced;
 use crate::help::{help_text, version_text};
-use crate::notices::{tell_counts, tell_device, tell_file, tell_misuse, tell_port, tell_store};
+use crate::notices::{
+    tell_counts, tell_device, tell_file, tell_full, tell_misuse, tell_port, tell_store,
+};
 use crate::tally::ReplyTally;
 use device_files::{FileTrouble, read_file};
 use file_disk::{FileDisk, StoreFile, open_store};
 use keystore_process::{DEVICE, Device, RunEnd, System, TextAsked, begins_with};
 use keystore_run::Status;
-use keystore_server::ServeEnd;
+use keystore_server::{ServeEnd, serve_form_of};
 use ks_outside::{DeviceEntropy, MachineClock, ReaderSource, WriterSink, open_device};
 use outside_net::{Patience, PortListener, listen};
 use std::io::{Input as Standard, Printer, StdinLock};
@@ -205,6 +207,9 @@ impl<'a, W: Print> System for Host<'a, W> {
     ) {
         self.tell(status, words);
         tell_store(self.rt, status, &end.disk);
+        if let (Some(form), Some(book)) = (serve_form_of(words), &end.book) {
+            tell_full(self.rt, book, form.workers);
+        }
         if status == Status::ListenFault {
             self.tell_port(end.listener.asked(), &end.listener);
         }

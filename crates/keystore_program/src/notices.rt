@@ -7,12 +7,17 @@ use file_disk::{FileDisk, StoreFile};
 use keystore_process::{DEVICE, STORE};
 use keystore_run::Status;
 use outside_net::PortListener;
+use service_book::{Book, CALL_BYTES, MOST_BYTES, MOST_ENTRIES};
 use std::fs;
 use std::os::unix::fs::PermissionsExt;
 use std::rt::Files;
+use tags::FRAME_BYTES;
 
 /// The permissions of a file for others than its owner.
 const FOR_OTHERS: u32 = 0o077;
+
+/// The most entries that a call makes.
+const CALL_ENTRIES: u64 = 3;
 
 /// Why a run or a service that ended so could not use its store.
 pub fn tell_store<R: Files<File = fs::File>>(
@@ -93,4 +98,24 @@ pub fn tell_counts(rt: &HostRuntime, counts: ReplyCounts) {
         "replies after a failed call of the store (code 4)",
     );
     tell_one(rt, counts.wanting, "replies for want of memory (code -41)");
+}
+
+/// Whether a call may have been answered that the run is full, with so many workers: of the others each may have had a call under way, for
+/// whose reply bytes were set aside.
+fn may_have_filled(entries: u64, bytes: u64, workers: u32) -> bool {
+    let aside = CALL_BYTES
+        .saturating_mul(u64::from(workers))
+        .saturating_add(FRAME_BYTES as u64);
+    entries.saturating_add(CALL_ENTRIES) > MOST_ENTRIES || bytes.saturating_add(aside) > MOST_BYTES
+}
+
+/// How full the run of a service was, where a call may have been answered that it is full.
+pub fn tell_full(rt: &HostRuntime, book: &Book, workers: u32) {
+    let entries = book.entries().len() as u64;
+    let bytes = book.bytes();
+    if may_have_filled(entries, bytes, workers) {
+        let _ = eprintln!(rt;
+            "keystore2: the run was full: {entries} of {MOST_ENTRIES} entries, {bytes} of {MOST_BYTES} bytes; the next one begins empty, and fewer connections keep it from filling"
+        );
+    }
 }

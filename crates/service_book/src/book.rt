@@ -1,6 +1,8 @@
 //! The entries of a service's history.
 
 ghost use Rattle.std.specs.Prelude.{◌≡◌};
+ghost use Rattle.service_book.specs.Book.{log_of};
+ghost use Rattle.service_book.specs.Limits.{recorded};
 
 use crate::BookEntry;
 use std::marker::Model;
@@ -9,6 +11,9 @@ use std::marker::Model;
 #[derive(Debug, Drop)]
 pub struct Book {
     entries: Vec<BookEntry>,
+    /// how many bytes of requests and replies they record
+    bytes: u64,
+    ghost counted: { bytes ≡ recorded (log_of entries.items) },
 }
 
 impl Model for Book {
@@ -21,11 +26,12 @@ impl Model for Book {
 }
 
 impl Book {
-    /// The book of these entries. It takes no memory.
-    pub fn of(entries: Vec<BookEntry>) -> Book
+    /// The book of these entries, which record so many bytes of requests and replies. It takes no memory.
+    pub fn of(entries: Vec<BookEntry>, bytes: u64) -> Book
+        requires counted { bytes ≡ recorded (log_of entries.items) }
         ensures { result ≡ entries.items }
     {
-        Book { entries }
+        Book { entries, bytes }
     }
 
     /// Its entries, the oldest first.
@@ -33,5 +39,12 @@ impl Book {
         ensures { result.now ≡ self.now }
     {
         self.entries.as_slice()
+    }
+
+    /// How many bytes of requests and replies they record.
+    pub fn bytes(&self) -> u64
+        ensures { result ≡ recorded (log_of self.now) }
+    {
+        self.bytes
     }
 }

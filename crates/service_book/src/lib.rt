@@ -11,4 +11,4 @@ mod tally;
 
 pub use book::Book;
 pub use entry::BookEntry;
-pub use tally::Tally;
+pub use tally::{CALL_BYTES, MOST_BYTES, MOST_ENTRIES, Tally};

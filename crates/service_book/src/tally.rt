@@ -8,13 +8,13 @@ ghost use Rattle.service_book.specs.Limits.{bytes_of, clients_in, passes_limit, 
 use rule_model::{Act, Entry};
 
 /// The most entries of a book.
-const MOST_ENTRIES: u64 = 1_048_576;
+pub const MOST_ENTRIES: u64 = 1_048_576;
 
 /// The most bytes of requests and replies that a book records.
-const MOST_BYTES: u64 = 536_870_912;
+pub const MOST_BYTES: u64 = 536_870_912;
 
 /// The bytes that are set aside for the replies of a call.
-const CALL_BYTES: u64 = 1_114_112;
+pub const CALL_BYTES: u64 = 1_114_112;
 
 /// How many entries a book has and how many bytes it records, and how many of its entries bring a client, end one, give a
 /// ticket out and bring one back.
@@ -76,6 +76,13 @@ impl Tally {
         if event.act.is_leave() {
             self.leaves += 1;
         }
+    }
+
+    /// How many bytes the entries record.
+    pub fn bytes(&self) -> u64
+        ensures { result ≡ bytes_in self.now }
+    {
+        self.bytes
     }
 
     /// How many clients are connected.

@@ -7,6 +7,7 @@ use disk_model::{DiskRoom, MemoryDisk};
 use journal_records::{ApplyFault, Change, parse};
 use key_database::KeyDatabase;
 use key_domains::{GrantedRow, KeyLookups, KeyRow, Permissions};
+use ks_outside::Disk;
 use lasting_table::LastingTable;
 use std::alloc::Global;
 use std::test::Fail;
@@ -148,10 +149,10 @@ pub(crate) fn make(alloc: Global, table: &mut LastingTable, record: &[u8]) -> bo
 }
 
 /// Makes a change of a database, where it is settled and the need is met.
-pub(crate) fn apply(
+pub(crate) fn apply<D: Disk>(
     alloc: Global,
     database: &mut KeyDatabase,
-    disk: &mut MemoryDisk,
+    disk: &mut D,
     record: &[u8],
 ) -> Option<Result<(), ApplyFault>> {
     let Ok(change) = parse(alloc, record) else {
@@ -175,7 +176,7 @@ pub(crate) fn told(table: &LastingTable) -> Told {
 }
 
 /// What the database of a disk tells, opened anew.
-pub(crate) fn told_anew(alloc: Global, disk: &mut MemoryDisk) -> Option<Told> {
+pub(crate) fn told_anew<D: Disk>(alloc: Global, disk: &mut D) -> Option<Told> {
     match KeyDatabase::open(alloc, disk) {
         Ok(database) => {
             let told = told(database.table());
@@ -187,7 +188,7 @@ pub(crate) fn told_anew(alloc: Global, disk: &mut MemoryDisk) -> Option<Told> {
 }
 
 /// Makes an empty store on a disk, and opens its database.
-pub(crate) fn fresh(alloc: Global, disk: &mut MemoryDisk) -> Option<KeyDatabase> {
+pub(crate) fn fresh<D: Disk>(alloc: Global, disk: &mut D) -> Option<KeyDatabase> {
     match KeyDatabase::format(disk) {
         Ok(()) => KeyDatabase::open(alloc, disk).ok(),
         Err(_) => None,

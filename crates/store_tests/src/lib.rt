@@ -26,4 +26,8 @@ mod rows;
 #[cfg(test)]
 mod snapshots;
 #[cfg(test)]
+mod sure_disk;
+#[cfg(test)]
+mod sure_stores;
+#[cfg(test)]
 mod two_areas;

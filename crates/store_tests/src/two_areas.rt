@@ -3,6 +3,7 @@ use disk_calls::write_synced;
 use disk_model::{Choice, DiskRoom, MemoryDisk};
 use journal_compact::{AREA_BYTES, Areas, Selected};
 use journal_records::{Change, Record, StoreFault};
+use ks_outside::Disk;
 use record_areas::Records;
 use std::alloc::Global;
 use tags::Settled;
@@ -35,14 +36,14 @@ pub(crate) fn disk_of<'a>(alloc: Global, failing: &'a [u64]) -> Option<MemoryDis
 }
 
 /// Writes the store anew, with the key that was imported anew so many times; whether that was done.
-fn compact(areas: &mut Areas, disk: &mut MemoryDisk, times: u32) -> bool {
+pub(crate) fn compact<D: Disk>(areas: &mut Areas, disk: &mut D, times: u32) -> bool {
     let table = Rebound { times };
     table.storable();
     areas.is_settled() && areas.compact(disk, &table).is_ok()
 }
 
 /// Adds the record of the key that was imported anew so many times; whether that was done.
-fn add(areas: &mut Areas, disk: &mut MemoryDisk, times: u32) -> bool {
+pub(crate) fn add<D: Disk>(areas: &mut Areas, disk: &mut D, times: u32) -> bool {
     let mut closed = CREATE;
     closed[6..14].copy_from_slice(&(u64::from(times) + 1).to_be_bytes());
     if !areas.is_settled() || areas.record_bytes() > AREA_BYTES - 46 {
@@ -60,7 +61,7 @@ fn import(areas: &mut Areas, disk: &mut MemoryDisk, times: u32) -> bool {
 }
 
 /// A store that is formatted, and opened.
-pub(crate) fn fresh(alloc: Global, disk: &mut MemoryDisk) -> Option<Areas> {
+pub(crate) fn fresh<D: Disk>(alloc: Global, disk: &mut D) -> Option<Areas> {
     if Areas::format(disk).is_err() {
         return None;
     }

@@ -7,3 +7,4 @@ pub mod Giving
 pub mod Going
 pub mod OneReading
 pub mod Writes
+pub mod Windows

@@ -1,5 +1,5 @@
 -- Several writes, one behind the other.
-use Rattle.std.proofs.Common.{◌≡◌, ℕ, ◌+◌, ◌<◌, ◌≤◌, ◌^◌, List, [], ◌∷◌, ◌++◌, length, get_or, take, flat_map, Result, Ok, Err, refl, ap, ◌∙◌, arith, append_assoc}
+use Rattle.std.proofs.Common.{◌≡◌, ℕ, ◌+◌, ◌<◌, ◌≤◌, ◌^◌, List, [], ◌∷◌, ◌++◌, length, get_or, take, flat_map, Result, Ok, Err, refl, ap, sym, ◌∙◌, arith, append_assoc}
 use Rattle.std.specs.Prelude.{OnOk}
 use Rattle.std.proofs.lemmas.List.{take_more, length-append}
 use Rattle.std.proofs.lemmas.List.Folds.{length-flat_map-take}
@@ -8,6 +8,8 @@ use Rattle.byteorder.specs.Numbers.{length-bytes_high_first}
 use Rattle.byteorder.specs.Endian.{big_bytes}
 use Rattle.wire_frames.specs.Spelling.{counted}
 use Rattle.wire_frames.specs.Replies.{entry_of, entries_of}
+use Rattle.wire_frames.specs.Windows.{Window, window_after}
+use Rattle.wire_frames.proofs.Windows.{then}
 
 -- the last write makes the whole
 pub at_last : {A E : Type 0} (r : Result A E) (now before piece all : List ℕ) → before ++ piece ≡ all → OnOk r (now ≡ before ++ piece) → OnOk r (now ≡ all)
@@ -48,3 +50,13 @@ entry_more entries i d inside =
     only : (xs : List ℕ) → xs ++ [] ≡ xs
     only [] = refl
     only (x ∷ xs) = ap (λ (l : List ℕ). x ∷ l) (only xs)
+
+-- one entry more goes by a window
+pub entry_put : (start before between behind : Window) (head : List ℕ) (entries : List Entry) (i : ℕ) (d : Entry) → i < length entries
+    → before ≡ window_after start (head ++ flat_map entry_of (take i entries)) → between ≡ window_after before (counted (get_or entries i d).0)
+    → behind ≡ window_after between (big_bytes 8 (get_or entries i d).1) → behind ≡ window_after start (head ++ flat_map entry_of (take (i + 1) entries))
+entry_put start before between behind head entries i d inside so_far alias key =
+    let gone : List ℕ = flat_map entry_of (take i entries) in
+    let one : List ℕ = counted (get_or entries i d).0 ++ big_bytes 8 (get_or entries i d).1 in
+    let all : behind ≡ window_after start ((head ++ gone) ++ one) = then start before behind (head ++ gone) one so_far (then before between behind _ _ alias key) in
+    all ∙ ap (λ (l : List ℕ). window_after start l) (append_assoc head gone one ∙ ap (λ (l : List ℕ). head ++ l) (sym (entry_more entries i d inside)))

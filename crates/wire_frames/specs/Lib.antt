@@ -7,3 +7,4 @@ pub mod Standing
 pub mod Sizes
 pub mod Apart
 pub mod PartialFrames
+pub mod Windows

@@ -1,5 +1,5 @@
 -- Reading the body of a frame from left to right.
-use Rattle.std.specs.Prelude.{◌≡◌, ℕ, List, [], ◌∷◌, Option, Some, None, Result, Ok, Err}
+use Rattle.std.specs.Prelude.{◌≡◌, ℕ, List, Option, Some, None, Result, Ok, Err}
 use Rattle.byte_strings.specs.Readers.{Reader, byte_at, number_at, bytes_at, counted_at, optional_at, flag_at, ◌>>=◌, done, ended}
 use Rattle.tags.specs.declared.descriptor.Descriptor.{Descriptor}
 use Rattle.rule_model.specs.declared.act_kind.ActKind.{ActKind}

@@ -5,6 +5,7 @@ ghost use Rattle.rule_model.specs.Acts.{is_framed};
 ghost use Rattle.wire_frames.specs.Spelling.{body_of, frame_of};
 ghost use Rattle.wire_frames.specs.Replies.{reply_body, reply_of};
 
+use crate::window::FrameWindow;
 use byteorder::{BigEndian, ByteOrder};
 use rule_model::{Reply, Request};
 use std::alloc::Global;
@@ -15,6 +16,8 @@ mod fields;
 mod replies;
 mod reply_sizes;
 pub(crate) mod sizes;
+
+pub(crate) use replies::put_reply_frame;
 
 /// The frame of a request. `None` says that it has none: a disconnect, and what a body of 262,144 bytes cannot hold.
 #[tactic(auto, unfolding(crate::specs::Spelling::frame_of))]
@@ -47,9 +50,15 @@ pub fn reply_frame(alloc: Global, reply: &Reply) -> Result<Bytes, NoMemory>
     requires short { length (reply_body reply.now) < 2 ^ 32 }
     ensures frame { IfOk result (λ bytes. bytes ≡ reply_of reply.now) }
 {
-    let mut out = Vec::from_slice(alloc, &[0; 4])?;
-    replies::put_reply(&mut out, reply)?;
-    let body = out.len() - 4;
-    BigEndian::write_u32(&mut out, body as u32);
+    let size = reply_length(reply) as usize;
+    let mut out = Vec::new(alloc);
+    let mut window = FrameWindow::new();
+    let mut place = 0;
+    'windows: while place < size {
+        window.show(reply, place);
+        let piece = window.bytes();
+        out.extend_from_slice(piece)?;
+        place += piece.len();
+    }
     Ok(Bytes::of(out))
 }

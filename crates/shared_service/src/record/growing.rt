@@ -90,6 +90,7 @@ impl Record {
     pub(crate) fn into_book(self) -> Book
         ensures { result ≡ book_in self }
     {
-        Book::of(self.book)
+        let bytes = self.tally.bytes();
+        Book::of(self.book, bytes)
     }
 }

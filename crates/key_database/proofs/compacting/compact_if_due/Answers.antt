@@ -10,6 +10,8 @@ use Rattle.key_database.specs.Compacting.{extent_of, is_due}
 use Rattle.key_database.specs.Store.{StandsFor, left_by, part_of}
 use Rattle.key_database.proofs.Compacted.{turned_passes, turned_to}
 use Rattle.key_database.proofs.Extents.{not_due, stays, turned_fits, turned_within, turns_if}
+use Rattle.key_database.proofs.Addings.{kept_surely}
+use Rattle.key_database.proofs.Steps.{stays_surely, turned_surely}
 use Rattle.key_database.proofs.compacting.compact_if_due.Goals as goal
 
 pub returns-then-not-is_due-clause-passes : goal.returns-then-not-is_due-clause-passes
@@ -54,3 +56,16 @@ pub returns-clause-fits : goal.returns-clause-fits
 returns-clause-fits g c =
     let part = lasting_in c.args.table.now in
     turned_fits c.compact.result c.compact.new.self (snapshot_length part) c.args.count (omega (arith, snapshot_within part c.storable.ensures, c.requires.small)) c.compact.ensures.bytes
+
+pub returns-then-not-is_due-clause-surely : goal.returns-then-not-is_due-clause-surely
+returns-then-not-is_due-clause-surely g c = λ kept sure told.
+    let part = lasting_in c.args.table.now in
+    stays_surely g.D.Disk g.met.D.Disk.content_is_image c.args.areas.now c.args.disk.now part (kept_surely g.D.Disk c.args.areas.now c.args.disk.now part sure told kept)
+
+pub returns-clause-surely : goal.returns-clause-surely
+returns-clause-surely g c = λ kept sure told.
+    let part = lasting_in c.args.table.now in
+    let rows = reverse (snapshot part) in
+    let same : left_by rows ≡ Some part = ap (option_map part_of) (c.storable_law.ensures.restores part c.storable.ensures) in
+    turned_surely g.D.Disk g.met.D.Disk.content_is_image c.args.areas.now c.compact.new.self c.args.disk.now c.compact.new.disk part sure (c.compact.ensures.goes.telling ∙ told) kept rows same
+    (c.storable_law.ensures.spells part c.storable.ensures).0 c.compact.result c.compact.ensures.compacts (c.compact.ensures.goes.sure sure) c.compact.ensures.counted c.compact.ensures.place

@@ -2,7 +2,8 @@
 use Rattle.std.proofs.Common.{◌∙◌}
 use Rattle.lasting_table.specs.TableView.{lasting_in}
 use Rattle.key_database.proofs.Adopted.{brings_open, brings_read, reads_newer, stays_open}
-use Rattle.key_database.proofs.Opened.{bad_image, found_stands, no_fault_found, told_image}
+use Rattle.journal_compact.proofs.Surely.{told_image}
+use Rattle.key_database.proofs.Opened.{bad_image, found_stands, no_fault_found}
 use Rattle.key_database.proofs.database.KeyDatabase.open.Goals as goal
 
 pub returns-in-Err-clause-reads : goal.returns-in-Err-clause-reads

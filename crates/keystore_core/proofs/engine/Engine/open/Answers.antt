@@ -5,6 +5,11 @@ use Rattle.key_database.specs.Stands.{Holds, lasting}
 use Rattle.key_database.specs.Store.{StandsFor}
 use Rattle.rule_model.specs.Setup.{Setup}
 use Rattle.keystore_core.specs.Engine.{IsOver}
+use Rattle.journal_records.specs.LastingPart.{Lasting}
+use Rattle.key_database.specs.declared.database.KeyDatabase.{KeyDatabase}
+use Rattle.key_database.specs.Adding.{KeepsSurely}
+use Rattle.key_database.specs.Stands.{areas_of}
+use Rattle.key_database.proofs.Steps.{held_surely}
 use Rattle.keystore_core.proofs.engine.Engine.open.Goals as goal
 
 pub returns-in-Ok-new-clause-stands : goal.returns-in-Ok-new-clause-stands
@@ -33,3 +38,9 @@ returns-in-Ok-new-clause-finds g c = λ part images told. ap lasting c.in-Ok-new
 
 pub returns-in-Ok-new-clause-reads : goal.returns-in-Ok-new-clause-reads
 returns-in-Ok-new-clause-reads g c = λ image left. subst (λ keys. StandsFor (lasting keys) image) (sym c.in-Ok-new.ensures.keys) (c.in-Ok-open.ensures.reads image left)
+
+pub returns-in-Ok-new-clause-surely : goal.returns-in-Ok-new-clause-surely
+returns-in-Ok-new-clause-surely g c = λ setup stands sure told.
+    subst (λ (part : Lasting). KeepsSurely g.D.Disk (areas_of c.in-Ok-new.tables.keys) c.open.new.disk part) stands.tables.keys.lasting_is
+    (subst (λ (keys : KeyDatabase). KeepsSurely g.D.Disk (areas_of keys) c.open.new.disk (lasting keys)) (sym c.in-Ok-new.ensures.keys)
+    (held_surely g.D.Disk c.in-Ok-open.keys c.open.new.disk (Sure (lasting c.in-Ok-open.keys)) c.in-Ok-open.ensures.holds.kept.settled.idle c.in-Ok-open.ensures.holds sure told))

@@ -1,7 +1,7 @@
-use Rattle.std.proofs.Common.{◌≡◌, length, refl, sym, ap, ◌∙◌}
+use Rattle.std.proofs.Common.{◌≡◌, [], ◌∷◌, length, refl, sym, ap, ◌∙◌, subst}
 use Rattle.ks_outside.proofs.Goings.{goes_on}
 use Rattle.tags.specs.declared.secrets.DeviceSecrets.{DeviceSecrets}
-use Rattle.rule_model.specs.Entries.{after_settling}
+use Rattle.rule_model.specs.Entries.{History, after_settling, after_step}
 use Rattle.rule_model.specs.Stored.{holding_of}
 use Rattle.keystore_core.specs.declared.engine.Engine.{Engine}
 use mathlib.Core.Logic.{∥∥₁_elim, ∥∥₁_map}
@@ -9,7 +9,17 @@ use Rattle.std.proofs.Math.Bool.{Bool-set}
 use Rattle.keystore_core.proofs.Completing.{gives_answer, none_failed, none_rose}
 use Rattle.keystore_core.proofs.Fitting.{step_fits}
 use Rattle.keystore_core.proofs.OtherStore.{never_other}
-use Rattle.keystore_core.proofs.Steps.{held_mid, held_not, is_at, may_not, may_step, stands_mid, stands_not, stands_on, stays_not, stays_on, store_moments, store_steps}
+use Rattle.keystore_core.proofs.Steps.{held_mid, held_not, is_at, may_not, may_step, stands_mid, stands_not, stands_on, stays_not, stays_on, store_moments, store_steps, surely_not, surely_steps}
+use Rattle.journal_records.specs.LastingPart.{Lasting}
+use Rattle.key_database.specs.Adding.{KeepsSurely, StepsSurely}
+use Rattle.rule_model.specs.Kept.{kept}
+use Rattle.keystore_core.specs.Engine.{areas_in}
+use Rattle.keystore_core.proofs.SurelyKept.{known_kept}
+use Rattle.tags.specs.declared.code.Code.TheVariants.{SystemError}
+use Rattle.journal_records.specs.Holding.{known}
+use Rattle.key_database.specs.Stands.{areas_of}
+use Rattle.rule_model.specs.declared.entry.Entry.TheVariants.{Acted}
+use Rattle.rule_model.specs.declared.reply.Reply.TheVariants.{Stopped}
 use Rattle.keystore_core.proofs.engine.Engine.step.Goals as goal
 
 pub returns-in-Err-clause-stands : goal.returns-in-Err-clause-stands
@@ -115,3 +125,33 @@ returns-clause-fits g c = λ setup past out stands done room.
     (c.answer-answered.ensures.answers setup (after_settling c.in-Ok.settled past) (rw c.entries_made.ensures (stands_mid setup past c.args.self.now c.settle_first.new.self c.args.event c.in-Ok.settled c.args.done stands has done))) in
     let long : length c.args.self.now.tables.device.root ≡ 32 = c.root_is_whole.ensures in
     step_fits setup past c.in-Ok.settled c.args.event c.answer-answered.result.drawn c.answer-answered.result.reply out stands.legal stands.storable (sym (ap (λ (d : DeviceSecrets). length d.root) stands.tables.keys.device_is) ∙ long) room may
+
+pub returns-in-Err-clause-surely : goal.returns-in-Err-clause-surely
+returns-in-Err-clause-surely g c = λ setup past stands held keeps.
+    let old = c.args.self.now in
+    let new = c.not_settled.new.self in
+    let later : History = Acted c.args.event [] (Stopped SystemError) ∷ past in
+    rw c.not_settled.ensures.reply
+    (subst (λ (part : Lasting). StepsSurely g.D.Disk (areas_in old) (areas_in new) c.args.disk.now c.settle_first.new.disk (kept setup past) part) (known_kept setup later)
+    (subst (λ (part : Lasting). StepsSurely g.D.Disk (areas_in old) (areas_in new) c.args.disk.now c.settle_first.new.disk part (known (holding_of setup later))) (known_kept setup past)
+    (surely_not setup past old c.settle_first.new.self c.args.event stands (c.in-Err.ensures.stands setup past stands.tables) g.D.Disk c.args.disk.now c.settle_first.new.disk new
+    (ap (λ (e : Engine). e.tables) c.not_settled.ensures.entries)
+    (c.in-Err.ensures.surely (holding_of setup past) held (subst (λ (part : Lasting). KeepsSurely g.D.Disk (areas_in old) c.args.disk.now part) (sym (known_kept setup past)) keeps)))))
+
+pub returns-in-Err-clause-unfound : goal.returns-in-Err-clause-unfound
+returns-in-Err-clause-unfound g c = λ setup past stands held keeps. rw c.not_settled.ensures.reply (λ e. cc)
+
+pub returns-clause-surely : goal.returns-clause-surely
+returns-clause-surely g c = λ setup past stands held keeps.
+    let old = c.args.self.now in
+    let has = c.in-Ok.ensures.stands setup past stands.tables in
+    let later : History = after_step c.in-Ok.settled c.args.event c.answer-answered.result.drawn c.answer-answered.result.reply past in
+    subst (λ (part : Lasting). StepsSurely g.D.Disk (areas_in old) (areas_of c.answer-answered.new.self.keys) c.args.disk.now c.answer-answered.new.disk (kept setup past) part) (known_kept setup later)
+    (subst (λ (part : Lasting). StepsSurely g.D.Disk (areas_in old) (areas_of c.answer-answered.new.self.keys) c.args.disk.now c.answer-answered.new.disk part (known (holding_of setup later))) (known_kept setup past)
+    (surely_steps g.D.Disk setup past old.tables c.settle_first.new.self c.answer-answered.new.self c.args.disk.now c.settle_first.new.disk c.answer-answered.new.disk c.args.event c.in-Ok.settled c.answer-answered.result
+    has c.in-Ok.ensures.ready c.in-Ok.ensures.holds c.answer-answered.ensures.store held c.in-Ok.ensures.surely
+    (subst (λ (part : Lasting). KeepsSurely g.D.Disk (areas_in old) c.args.disk.now part) (sym (known_kept setup past)) keeps)))
+
+pub returns-clause-unfound : goal.returns-clause-unfound
+returns-clause-unfound g c = λ setup past stands held keeps.
+    c.in-Ok.ensures.unfound (holding_of setup past) held (subst (λ (part : Lasting). KeepsSurely g.D.Disk (areas_in c.args.self.now) c.args.disk.now part) (sym (known_kept setup past)) keeps)

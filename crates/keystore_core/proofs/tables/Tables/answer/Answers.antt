@@ -1,10 +1,12 @@
-use Rattle.std.proofs.Common.{◌≡◌, [], inl, refl, sym, ◌∙◌, arith, subst}
+use Rattle.std.proofs.Common.{◌≡◌, [], inl, refl, sym, ap, ◌∙◌, arith, subst}
 use Rattle.rule_model.specs.Legal.{WithoutMemory}
 use Rattle.keystore_core.proofs.Standing.{at_none, leave_is, no_leave, stands_none, without_memory}
 use Rattle.rule_model.specs.declared.event.Act.TheVariants.{Leave}
 use Rattle.rule_model.specs.declared.event.Event.{Event}
 use Rattle.keystore_core.specs.Tables.{AnswersAt, IsAt, event_by}
-use Rattle.keystore_core.specs.Writing.{StoreGoesFor}
+use Rattle.rule_model.proofs.Kept.{changes_kept}
+use Rattle.keystore_core.specs.Writing.{StoreGoesFor, caller_by}
+use Rattle.keystore_core.proofs.Written.{leaves_goes}
 use Rattle.keystore_core.proofs.Storing.{caller_told, memory_goes}
 use Rattle.keystore_core.proofs.tables.Tables.answer.Goals as goal
 
@@ -47,3 +49,8 @@ returns-in-Ok-clause-store g c =
 pub returns-in-Err-clause-store : goal.returns-in-Err-clause-store
 returns-in-Err-clause-store g c =
     rw c.without_memory.ensures.reply (memory_goes g.D.Disk c.args.self.now.keys c.serve.new.self.keys c.args.disk.now c.serve.new.disk _ _ c.in-Err.ensures.store)
+
+pub returns-in-Some-clause-store : goal.returns-in-Some-clause-store
+returns-in-Some-clause-store g c =
+    leaves_goes g.D.Disk c.args.disk.now c.args.self.now c.leave.new.self (caller_by c.args.self.now c.args.event) c.args.event.act c.leave.result c.leave.ensures.store
+    (ap changes_kept (leave_is c.args.event.act c.in-Some.ticket (sym c.ticket.ensures ∙ c.in-Some.is)))

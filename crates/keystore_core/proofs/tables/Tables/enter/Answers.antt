@@ -1,4 +1,4 @@
-use Rattle.std.proofs.Common.{false, Some, ap, sym, subst, ◌∙◌}
+use Rattle.std.proofs.Common.{false, Some, ap, refl, sym, subst, ◌∙◌}
 use Rattle.rule_model.specs.Replies.{no_fields}
 use mathlib.Core.Logic.{∥∥₁_elim}
 use denote.Struct.Props.{≡_prop}
@@ -11,7 +11,11 @@ use Rattle.rule_model.specs.Settling.{is_disk_fault}
 use Rattle.std.proofs.Math.Bool.{Bool-set}
 use Rattle.rule_model.specs.StepFacts.{brought_by}
 use Rattle.keystore_core.specs.Stepping.{used_by, used_in}
-use Rattle.keystore_core.specs.Writing.{StoreGoes}
+use Rattle.rule_model.specs.Acts.{is_restart}
+use Rattle.rule_model.specs.declared.reply.Reply.TheVariants.{Broken}
+use Rattle.keystore_core.specs.Stepping.{entering}
+use Rattle.keystore_core.specs.Writing.{StoreGoes, change_for}
+use Rattle.keystore_core.proofs.Written.{denied_goes}
 use Rattle.keystore_core.proofs.Entered.{closes_store, entered_after, entering_change, entering_restarts, goes_into, is_told, unspent_after, use_met}
 use Rattle.keystore_core.proofs.Standing.{few_tickets, same_but_tickets, still}
 use Rattle.keystore_core.proofs.Stepped.{CanWork-prop, MayGrow-prop, can_work, ends_idle, idle_facts, may_grow, refused, row_found, slot_found, step_enters}
@@ -97,3 +101,9 @@ returns-then-not-is_done-clause-store g c =
     rw (entering_change c.args.self.now c.args.caller c.args.op c.args.work c.unspent.result, entering_restarts c.args.op c.args.work, c.unspent.ensures.reply)
     (goes_into g.D.Disk c.args.self.now.keys c.spend-reply.new.keys c.unspent.new.self.keys c.args.disk.now c.spend-reply.new.disk false (used_by (used_in c.args.self.now c.args.op (brought_by c.args.work).kind)) c.spend-reply.result
     (closes_store (is_disk_fault c.spend-reply.result) c.args.op _ c.unspent.new.self c.unspent.ensures.closes) used)
+
+pub returns-in-Err-clause-store : goal.returns-in-Err-clause-store
+returns-in-Err-clause-store g c =
+    rw c.deny.ensures.reply
+    (denied_goes g.D.Disk c.args.disk.now c.args.self.now.keys c.deny.new.self.keys (is_restart (entering c.args.op c.args.work)) (change_for c.args.self.now c.args.caller (entering c.args.op c.args.work) c.deny.result)
+    (Broken c.in-Err.rule c.in-Err.code) (closes_store _ c.args.op c.args.self.now c.deny.new.self c.deny.ensures.closes) refl refl)

@@ -1,4 +1,4 @@
-use Rattle.std.proofs.Common.{◌≡◌, Some, true, ap, refl, rules, sym, ◌∙◌}
+use Rattle.std.proofs.Common.{◌≡◌, Option, Some, true, false, ap, refl, rules, subst, sym, ◌∙◌}
 use Rattle.std.specs.Option.{option_copied}
 use Rattle.key_database.specs.Stands.{lasting}
 use Rattle.journal_records.specs.LastingPart.{Lasting, some_has_id}
@@ -8,6 +8,9 @@ use Rattle.rule_model.specs.Places.{has_grant_place}
 use Rattle.keystore_core.proofs.KeyTable.{found_live, may_grant}
 use Rattle.rule_model.specs.declared.event.Act.TheVariants as acts
 use Rattle.rule_model.specs.Replies.{no_fields}
+use Rattle.journal_records.specs.declared.change.Change.{Change}
+use Rattle.keystore_core.specs.Writing.{StoreGoes}
+use Rattle.keystore_core.proofs.Written.{goes_from}
 use Rattle.keystore_core.proofs.Reading.{writes}
 use Rattle.keystore_core.proofs.tables.Tables.grant.Goals as goal
 
@@ -30,3 +33,10 @@ returns-clause-serves g c = λ setup past stands. rw (c.undrawn.ensures.reply, c
     (record { draws = refl; clients = refl; operations = refl; tickets = refl; restarts = refl; root = λ before. refl; boot = refl })
     c.reserve_grant.new.self c.write_change-reply.new.keys (record no_fields { grant = Some c.in-Some-grant_place.grant }) _ c.write_change-reply.result
     c.in_ok-reserve_grant.ensures.same c.requires.settled (search rules) c.write_change-reply.ensures.written (search rules) refl)
+
+pub returns-clause-store : goal.returns-clause-store
+returns-clause-store g c =
+    rw c.undrawn.ensures.reply
+    (subst (λ (change : Option Change). StoreGoes g.D.Disk c.args.self.now.keys c.write_change-reply.new.keys c.args.disk.now c.write_change-reply.new.disk false change c.write_change-reply.result) (search rules)
+    (goes_from g.D.Disk c.args.self.now.keys c.reserve_grant.new.self c.write_change-reply.new.keys c.args.disk.now c.write_change-reply.new.disk false _ c.write_change-reply.result
+    c.in_ok-reserve_grant.ensures.same c.write_change-reply.ensures.store))

@@ -2,6 +2,8 @@ use Rattle.std.proofs.Common.{◌≡◌, Bool, true, false, not, refl, sym, ◌�
 use Rattle.ks_outside.proofs.Goings.{goes_none}
 use Rattle.key_database.specs.Stands.{is_unsettled}
 use Rattle.keystore_core.proofs.Settled.{settled_tables}
+use Rattle.keystore_core.proofs.SameStores.{one_store_same}
+use Rattle.keystore_core.proofs.Written.{stays_surely}
 use Rattle.keystore_core.proofs.tables.Tables.settle_first.Goals as goal
 
 not_false : (b : Bool) → false ≡ not b → b ≡ true
@@ -30,3 +32,18 @@ returns-in-Ok-clause-stands g c = λ setup past stands.
 
 pub returns-then-is_settled-clause-stands : goal.returns-then-is_settled-clause-stands
 returns-then-is_settled-clause-stands g c = λ setup past stands. record { stands = stands; ready = search rules; waits = λ told e. cc; settles = λ told e. cc }
+
+pub returns-then-is_settled-clause-surely : goal.returns-then-is_settled-clause-surely
+returns-then-is_settled-clause-surely g c = λ held h keeps. stays_surely g.D.Disk c.args.disk.now c.args.self.now.keys c.args.self.now.keys _ (one_store_same c.args.self.now.keys) keeps
+
+pub returns-then-is_settled-clause-unfound : goal.returns-then-is_settled-clause-unfound
+returns-then-is_settled-clause-unfound g c = λ held h keeps e. cc
+
+pub returns-in-Ok-clause-surely : goal.returns-in-Ok-clause-surely
+returns-in-Ok-clause-surely g c = λ held h keeps. c.in-Ok.ensures.surely held h keeps
+
+pub returns-in-Ok-clause-unfound : goal.returns-in-Ok-clause-unfound
+returns-in-Ok-clause-unfound g c = λ held h keeps e. let lost = c.in-Ok.ensures.unfound held h keeps in cc
+
+pub returns-in-Err-clause-surely : goal.returns-in-Err-clause-surely
+returns-in-Err-clause-surely g c = λ held h keeps. c.in-Err.ensures.surely held h keeps
